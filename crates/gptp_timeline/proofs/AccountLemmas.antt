@@ -14,12 +14,14 @@ use Rattle.gptp_timeline.specs.Jumps.{error_before}
 use Rattle.gptp_timeline.specs.Looks.{events_left, left_after, looked_all, looked_in, looked_over, measured_times, measured_with, nothing_looked, nothing_read}
 use Rattle.gptp_timeline.specs.Passing.{times_before}
 use Rattle.gptp_timeline.specs.Readings.{new_in, reading_error, no_reading, read_after, readings_after}
-use Rattle.gptp_timeline.specs.Receipts.{is_follow_up, offset_error, received_by}
+use Rattle.gptp_timeline.specs.Compared.{compared_by_expiry, compared_by_frame}
+use Rattle.gptp_timeline.specs.Receipts.{offset_error, received_by}
 use Rattle.gptp_timeline.specs.Shown.{live_system}
 use Rattle.gptp_timeline.specs.Stretch.{at_of}
 use Rattle.gptp_timeline.specs.TimeWatch.{TimeState, times_after, times_begun}
 use Rattle.gptp_timeline.specs.Timeline.{asks_lines, exact_time, line_of_times, none_carried, reads_if, reads_kept, StretchTrace, stretch_reading_lines, times_ended, tracks}
 use Rattle.gptp_timeline.specs.Watch.{event_look, own_look, place_of, places_of, see_act, see_at, see_delivery, see_each, see_one, see_placed, see_receipt_if, see_receipt_of, see_system, take_error, times_lines_if, WatchState}
+use Rattle.gptp_timeline.specs.declared.compared.Compared.{Compared}
 use Rattle.gptp_timeline.specs.declared.exact_reads.ExactReads.{ExactReads}
 use Rattle.gptp_timeline.specs.declared.exact_reads.SystemReads.{SystemReads}
 use Rattle.gptp_timeline.specs.declared.looks.TimeMeasures.{TimeMeasures}
@@ -62,26 +64,28 @@ receipt_if_times : (received : Bool) (at : ℕ) (w : WorldState) (clock place : 
 receipt_if_times true at w clock place o = receipt_times at w place (live_system clock w) o
 receipt_if_times false at w clock place o = refl
 
-placed_times : (at : ℕ) (w : WorldState) (clock : ℕ) (received alone : Bool) (place : Option ℕ) (o : WatchState)
-    → (see_placed at w clock received alone place o).times ≡ o.times
-placed_times at w clock received alone None o = refl
-placed_times at w clock received alone (Some place) o =
-    receipt_if_times received at w clock place (see_at (own_look at received alone) w place o)
-    ∙ at_times (own_look at received alone) w place o
+placed_times : (at : ℕ) (w : WorldState) (clock : ℕ) (received : Bool) (compared : Compared)
+    (place : Option ℕ) (o : WatchState)
+    → (see_placed at w clock received compared place o).times ≡ o.times
+placed_times at w clock received compared None o = refl
+placed_times at w clock received compared (Some place) o =
+    receipt_if_times received at w clock place (see_at (own_look at received compared) w place o)
+    ∙ at_times (own_look at received compared) w place o
 
-system_times : (at : ℕ) (w : WorldState) (clock : ℕ) (received alone : Bool) (o : WatchState)
-    → (see_system at w clock received alone o).times ≡ o.times
-system_times at w clock received alone o = placed_times at w clock received alone (place_of clock o) o
+system_times : (at : ℕ) (w : WorldState) (clock : ℕ) (received : Bool) (compared : Compared) (o : WatchState)
+    → (see_system at w clock received compared o).times ≡ o.times
+system_times at w clock received compared o = placed_times at w clock received compared (place_of clock o) o
 
 delivery_times : (at : ℕ) (w : WorldState) (done : Done) (o : WatchState) → (see_delivery at w done o).times ≡ o.times
 delivery_times at w Quiet o = refl
 delivery_times at w (Heard clock port answer frame) o =
-    system_times at w clock (is_some (received_by (Heard clock port answer frame))) (is_follow_up frame.items) o
+    system_times at w clock (is_some (received_by (Heard clock port answer frame)))
+    (compared_by_frame port frame.items) o
 
 pub act_times : (at : ℕ) (act : Act) (done : Done) (w : WorldState) (o : WatchState)
     → (see_act at act done w o).times ≡ o.times
 act_times at (Deliver link direction) done w o = delivery_times at w done o
-act_times at (Expire clock timer) done w o = system_times at w clock false false o
+act_times at (Expire clock timer) done w o = system_times at w clock false (compared_by_expiry timer) o
 act_times at (Changing change) done w o = each_times (event_look at) w (places_of o) o
 
 -- ---- the account after acts

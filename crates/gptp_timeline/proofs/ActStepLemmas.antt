@@ -14,6 +14,7 @@ use Rattle.gptp_timeline.specs.Shown.{live_system, shown}
 use Rattle.gptp_timeline.specs.Stretch.{at_of, error_at, error_in, is_event, receives, waits}
 use Rattle.gptp_timeline.specs.Timeline.{all_changes, stretch_receipt_lines}
 use Rattle.gptp_timeline.specs.Watch.{counts_from, error_after, one_lines, own_look, place_from, placed_lines, receipt_lines_if, receipt_lines_of, see_one, see_placed, see_receipt_if, see_receipt_of, see_system, watched_lines, taken, unless, WatchState}
+use Rattle.gptp_timeline.specs.declared.compared.Compared.TheVariants.{All}
 use Rattle.gptp_timeline.specs.declared.watched.Watched.{Watched}
 use Rattle.gptp_timeline.proofs.OwnLemmas.{own_taken, TakesOne}
 use Rattle.gptp_timeline.proofs.ReceiptLemmas.{nothing_received, received as received_one}
@@ -54,7 +55,7 @@ module _ (summary offsets : Bool) (from : Option ℕ) (names : List ℕ) (rising
 
   -- what is kept of it, before the error of a receipt is taken
   abbrev looked_at : Bool → WatchState → WatchState
-  looked_at received o = taken (own_look (at_of t) received false) i (kept (waits ts begun) errors t.before clock)
+  looked_at received o = taken (own_look (at_of t) received All) i (kept (waits ts begun) errors t.before clock)
       (shown clock t.after) o
 
   takes : (o : WatchState) (received : Bool) → Tracks summary offsets from names begun errors ts t.before o
@@ -67,18 +68,18 @@ module _ (summary offsets : Bool) (from : Option ℕ) (names : List ℕ) (rising
       quiet own
 
   sees : (o : WatchState) (received : Bool) → Tracks summary offsets from names begun errors ts t.before o
-      → see_system (at_of t) t.after clock received false o
+      → see_system (at_of t) t.after clock received All o
       ≡ see_receipt_if received (at_of t) t.after clock i (looked_at received o)
   sees o received tracks =
-      ap (λ p. see_placed (at_of t) t.after clock received false p o)
+      ap (λ p. see_placed (at_of t) t.after clock received All p o)
       (kept_place names rising clock i member (waits ts begun) errors t.before o.systems tracks.stands)
       ∙ ap (λ x. see_receipt_if received (at_of t) t.after clock i
-      (see_one (own_look (at_of t) received false) t.after i x o))
+      (see_one (own_look (at_of t) received All) t.after i x o))
       (kept_there names rising clock i member (waits ts begun) errors t.before o.systems tracks.stands)
 
   -- nobody receives time
   pub own_step : (o : WatchState) → Tracks summary offsets from names begun errors ts t.before o
-      → received_by t.told.done ≡ None → behind_it (see_system (at_of t) t.after clock false false o)
+      → received_by t.told.done ≡ None → behind_it (see_system (at_of t) t.after clock false All o)
   own_step o tracks nobody =
       let none : (name : ℕ) → receives name t ≡ false =
       λ name. ap (λ r. option_map_or (λ c. c == name) r false) nobody in
@@ -92,7 +93,7 @@ module _ (summary offsets : Bool) (from : Option ℕ) (names : List ℕ) (rising
 
   -- it receives time
   pub receipt_step : (o : WatchState) → Tracks summary offsets from names begun errors ts t.before o
-      → received_by t.told.done ≡ Some clock → behind_it (see_system (at_of t) t.after clock true false o)
+      → received_by t.told.done ≡ Some clock → behind_it (see_system (at_of t) t.after clock true All o)
   receipt_step o tracks it =
       subst behind_it (sym (sees o true tracks)) (by (live_system clock t.after) refl)
     where
@@ -156,13 +157,13 @@ module _ (summary offsets : Bool) (from : Option ℕ) (names : List ℕ) (rising
       (sym (ap (option_and_then (λ x. offset_error (at_of t) x t.after)) is))
 
   pub own_lines : (o : WatchState) (received : Bool) → Tracks summary offsets from names begun errors ts t.before o
-      → watched_lines (at_of t) t.after clock received false o
+      → watched_lines (at_of t) t.after clock received All o
       ≡ unless summary (all_changes names t)
       ++ (if received then unless (not offsets) (stretch_receipt_lines clock t (live_system clock t.after)) else [])
   own_lines o received tracks =
-      ap (λ p. placed_lines (at_of t) t.after clock received false p o)
+      ap (λ p. placed_lines (at_of t) t.after clock received All p o)
       (kept_place names rising clock i member (waits ts begun) errors t.before o.systems tracks.stands)
-      ∙ ap (λ x. unless o.summary (one_lines (own_look (at_of t) received false) t.after x)
+      ∙ ap (λ x. unless o.summary (one_lines (own_look (at_of t) received All) t.after x)
       ++ receipt_lines_if received (at_of t) t.after clock o)
       (kept_there names rising clock i member (waits ts begun) errors t.before o.systems tracks.stands)
       ∙ ap (λ s. unless s (change_lines (at_of t) clock (shown clock t.before) (shown clock t.after))

@@ -17,16 +17,19 @@ use Rattle.gptp_scenario.specs.declared.change.Act.TheVariants.{Change as Changi
 use Rattle.gptp_world.specs.Transitions.{ActTrace}
 use Rattle.gptp_system.specs.declared.answer.Answer.{Answer}
 use Rattle.gptp_timeline.specs.EventLine.{event_line}
-use Rattle.gptp_timeline.specs.Receipts.{is_follow_up, received_by, receiver_clock}
+use Rattle.gptp_timeline.specs.Compared.{compared_by_expiry, compared_by_frame}
+use Rattle.gptp_timeline.specs.Receipts.{received_by, receiver_clock}
 use Rattle.gptp_timeline.specs.Stretch.{at_of, is_change, is_event, receives}
 use Rattle.gptp_timeline.specs.Timeline.{all_changes, event_lines, offset_lines}
 use Rattle.gptp_timeline.specs.Watch.{event_look, lines_all, see_act, see_system, seen_lines, watched_lines, unless, WatchState}
+use Rattle.gptp_timeline.specs.declared.compared.Compared.TheVariants.{All}
 use Rattle.gptp_timeline.specs.declared.timeline.TimelineOptions.{TimelineOptions}
 use Rattle.gptp_timeline.proofs.ActLemmas.{delivery_others, delivery_stands, expiry_others, OthersStay}
 use Rattle.gptp_timeline.proofs.ActStepLemmas.{own_lines, own_step, receipt_step}
 use Rattle.gptp_timeline.proofs.HeardLemmas.{receiver_is}
-use Rattle.gptp_timeline.proofs.LeavingLemmas.{follow_up_leaves}
-use Rattle.gptp_timeline.proofs.StillLemmas.{alone_same}
+use Rattle.gptp_timeline.proofs.AtRestLemmas.{AllFollow}
+use Rattle.gptp_timeline.proofs.ComparedLemmas.{delivery_left, expiry_left}
+use Rattle.gptp_timeline.proofs.StillLemmas.{looked_same}
 use Rattle.gptp_timeline.proofs.NameLemmas.{AreNamed, one_named, same_named}
 use Rattle.gptp_timeline.proofs.StepLemmas.{errors_next, event_changes, event_step, Tracks}
 use Rattle.gptp_timeline.proofs.TrackLemmas.{unless_both}
@@ -71,8 +74,8 @@ module _ (options : TimelineOptions) (from : Option ℕ) (names : List ℕ) (ris
   own_quiet : (clock i : ℕ) → slice_get names i ≡ Some clock → is_event t ≡ false → OthersStay clock t.before t.after
       → received_by t.told.done ≡ None
       → Tracks options.summary options.offsets from names begun (errors_next from t errors) (ts ++ t ∷ []) t.after
-      (see_system (at_of t) t.after clock false false o)
-      × (watched_lines (at_of t) t.after clock false false o
+      (see_system (at_of t) t.after clock false All o)
+      × (watched_lines (at_of t) t.after clock false All o
       ≡ unless options.summary (all_changes names t) ++ unless (not options.offsets) [])
   own_quiet clock i member act others nobody = (
     own_step options.summary options.offsets from names rising begun errors ts t clock i member act others
@@ -87,8 +90,8 @@ module _ (options : TimelineOptions) (from : Option ℕ) (names : List ℕ) (ris
   own_receipt : (clock i : ℕ) → slice_get names i ≡ Some clock → is_event t ≡ false → OthersStay clock t.before t.after
       → received_by t.told.done ≡ Some clock
       → Tracks options.summary options.offsets from names begun (errors_next from t errors) (ts ++ t ∷ []) t.after
-      (see_system (at_of t) t.after clock true false o)
-      × (watched_lines (at_of t) t.after clock true false o
+      (see_system (at_of t) t.after clock true All o)
+      × (watched_lines (at_of t) t.after clock true All o
       ≡ unless options.summary (all_changes names t) ++ unless (not options.offsets) (offset_lines t (Some clock)))
   own_receipt clock i member act others it = (
     receipt_step options.summary options.offsets from names rising begun errors ts t clock i member act others
@@ -102,8 +105,8 @@ module _ (options : TimelineOptions) (from : Option ℕ) (names : List ℕ) (ris
       → OthersStay clock t.before t.after → received_by t.told.done ≡ received
       → (received ≡ Some clock) ⊎ (received ≡ None)
       → Tracks options.summary options.offsets from names begun (errors_next from t errors) (ts ++ t ∷ []) t.after
-      (see_system (at_of t) t.after clock (is_some received) false o)
-      × (watched_lines (at_of t) t.after clock (is_some received) false o
+      (see_system (at_of t) t.after clock (is_some received) All o)
+      × (watched_lines (at_of t) t.after clock (is_some received) All o
       ≡ unless options.summary (all_changes names t) ++ unless (not options.offsets) (offset_lines t received))
   own_stepped clock i received member act others is (inl it) =
       rw it (own_receipt clock i member act others (is ∙ it))
@@ -111,17 +114,18 @@ module _ (options : TimelineOptions) (from : Option ℕ) (names : List ℕ) (ris
       rw none (own_quiet clock i member act others (is ∙ none))
 
   -- an act that was done
-  pub done_step : (act : Act) (done : Done) (draws : List Draw) → AreNamed names t.before → t.told.timed.act ≡ act
-      → t.told.done ≡ done → Acts act (at (at_of t) t.before) draws done t.after → Stepped act done
-  done_step (Deliver link direction) Quiet draws named act_is done_is d = absurd d.told
-  done_step (Deliver link direction) (Heard clock port answer frame) draws named act_is done_is d =
+  pub done_step : (act : Act) (done : Done) (draws : List Draw) → AreNamed names t.before
+      → AllFollow t.before.stations → t.told.timed.act ≡ act → t.told.done ≡ done
+      → Acts act (at (at_of t) t.before) draws done t.after → Stepped act done
+  done_step (Deliver link direction) Quiet draws named follow act_is done_is d = absurd d.told
+  done_step (Deliver link direction) (Heard clock port answer frame) draws named follow act_is done_is d =
       let (i, member) = slice_get-In clock names
       (one_named names (at (at_of t) t.before) clock AnySystem
       (same_named names t.before (at (at_of t) t.before) refl named)
       (delivery_stands link direction (Heard clock port answer frame) (at (at_of t) t.before) draws t.after d)) in
-      let (sees, tells) = alone_same options.summary options.offsets from names begun errors ts t o tracks clock
-      (is_some (receiver_clock clock answer frame.items)) (is_follow_up frame.items)
-      (follow_up_leaves link direction clock port answer frame (at (at_of t) t.before) draws t.after d) in
+      let (sees, tells) = looked_same options.summary options.offsets from names begun errors ts t o tracks clock
+      (is_some (receiver_clock clock answer frame.items)) (compared_by_frame port frame.items)
+      (delivery_left link direction clock port answer frame (at (at_of t) t.before) draws t.after follow d) in
       let (tracked, told) = own_stepped clock i (receiver_clock clock answer frame.items) member (ap is_change act_is)
       (delivery_others link direction (Heard clock port answer frame) (at (at_of t) t.before) draws t.after d)
       (ap received_by done_is) (receiver_is clock answer frame.items) in (
@@ -129,14 +133,21 @@ module _ (options : TimelineOptions) (from : Option ℕ) (names : List ℕ) (ris
             t.after) (sym sees) tracked,
         tells ∙ told,
       )
-  done_step (Expire clock timer) done draws named act_is done_is (quiet, stands) =
+  done_step (Expire clock timer) done draws named follow act_is done_is (quiet, stands) =
       let (i, member) = slice_get-In clock names (one_named names (at (at_of t) t.before) clock
       (λ place station. TimerRunsOut place timer (at (at_of t) t.before) draws t.after)
       (same_named names t.before (at (at_of t) t.before) refl named) stands) in
-      subst (Stepped (Expire clock timer)) (sym quiet)
-      (own_quiet clock i member (ap is_change act_is)
-      (expiry_others clock timer (at (at_of t) t.before) draws t.after stands) (ap received_by (done_is ∙ quiet)))
-  done_step (Changing change) done draws named act_is done_is (quiet, changes) =
+      let (sees, tells) = looked_same options.summary options.offsets from names begun errors ts t o tracks clock false
+      (compared_by_expiry timer)
+      (expiry_left clock timer (at (at_of t) t.before) draws t.after follow stands) in
+      let (tracked, told) = own_quiet clock i member (ap is_change act_is)
+      (expiry_others clock timer (at (at_of t) t.before) draws t.after stands) (ap received_by (done_is ∙ quiet)) in
+      subst (Stepped (Expire clock timer)) (sym quiet) (
+        subst (Tracks options.summary options.offsets from names begun (errors_next from t errors) (ts ++ t ∷ [])
+            t.after) (sym sees) tracked,
+        tells ∙ told,
+      )
+  done_step (Changing change) done draws named follow act_is done_is (quiet, changes) =
       subst (Stepped (Changing change)) (sym quiet) (by_event change act_is (done_is ∙ quiet))
 
 -- ---- no other system receives time

@@ -111,7 +111,7 @@ heard_follow_up place port octets w draws (Some told) w' hears used is = by hear
 abbrev pub receives_by : ℕ → Done → Bool
 receives_by name done = option_map_or (λ clock. clock == name) (received_by done) false
 
-pub nobody : {X : Type 0} (name : ℕ) (done : Done) → done ≡ Quiet → receives_by name done ≡ true → X
+nobody : {X : Type 0} (name : ℕ) (done : Done) → done ≡ Quiet → receives_by name done ≡ true → X
 nobody name done quiet own = absurd (let no : false ≡ true = sym (ap (receives_by name) quiet) ∙ own in cc)
 
 -- where each Follow_Up that is used leaves an exact offset, so does each act by which a system receives time

@@ -6,7 +6,6 @@ use Rattle.std.specs.Option.{option_map_or}
 use Rattle.std.proofs.lemmas.Bool.Decides.{nat_tests}
 use Rattle.std.proofs.lemmas.Option.{same_Some, slice_get-map}
 use Rattle.gptp_model.specs.Act.{in_state, Calls, Hears}
-use Rattle.gptp_model.specs.Acts.{Delivery}
 use Rattle.gptp_model.specs.World.{WorldState, receiver}
 use Rattle.gptp_model.specs.declared.done.Done.{Done}
 use Rattle.gptp_model.specs.declared.done.Done.TheVariants.{Heard, Quiet}
@@ -33,7 +32,7 @@ use Rattle.gptp_system.specs.Selection.{announced_again}
 use Rattle.gptp_system.specs.Start.{role_at}
 use Rattle.gptp_system.specs.State.{SystemState, change, change_at, clock, is_capable_at, local_time, number, on_port, with_peer}
 use Rattle.gptp_system.specs.Steps.{HearsFrame, HearsMessage}
-use Rattle.gptp_system.specs.Syncing.{is_followed, is_leading, restarted, telling, timer_stopped, HearsSync, HearsSyncIf, KeepsIf, RelaysBy, RelaysIf, SyncsIf, delay_at, root_rate_at, said_on, HearsFollowUp, HearsFollowUpIf, KnowsBy, KnowsIf}
+use Rattle.gptp_system.specs.Syncing.{is_followed, is_leading, restarted, telling, timer_stopped, HearsSync, HearsSyncIf, KeepsIf, RelaysBy, RelaysIf, SyncsIf}
 use Rattle.gptp_system.specs.declared.answer.Answer.{Answer}
 use Rattle.gptp_system.specs.declared.answer.Answer.TheVariants as answers
 use Rattle.gptp_system.specs.declared.port.Port.{Port}
@@ -41,18 +40,19 @@ use Rattle.gptp_system.specs.declared.sending.Sending.{Sending}
 use Rattle.gptp_system.proofs.PortLemmas.{counted-map}
 use Rattle.gptp_system.proofs.TypeLemmas.{type_is, type_number}
 use Rattle.gptp_messages.specs.declared.follow_up.FollowUp.{FollowUp}
-use Rattle.gptp_timeline.proofs.SameLemmas.{same_truth}
-use Rattle.gptp_timeline.specs.Leaving.{FrameLeaves, LeavesAll, TimerLeaves, TypeLeaves, left_known}
-use Rattle.gptp_timeline.specs.Ports.{shown_port, shown_ports, same_bool}
+use Rattle.gptp_timeline.specs.Leaving.{FrameLeaves, LeavesAll, TimerLeaves, TypeLeaves, can_take_over}
+use Rattle.gptp_timeline.specs.Readings.{by_expiry, by_receipt}
+use Rattle.gptp_timeline.specs.declared.readings.SystemReading.{SystemReading}
+use Rattle.gptp_timeline.specs.Ports.{shown_port, shown_ports}
 use Rattle.gptp_timeline.specs.Receipts.{is_follow_up, received_by, receiver_clock}
-use Rattle.gptp_timeline.specs.Shown.{live_among, shown, shown_of, live_system}
+use Rattle.gptp_timeline.specs.Shown.{live_among, shown_of, live_system}
 use Rattle.gptp_timeline.specs.declared.ports.ShownPort.{ShownPort}
 use Rattle.gptp_timeline.specs.declared.shown.Shown.{Shown}
 
 -- ---- what is shown of a system
 
 -- whether a port is asCapable
-abbrev capable : Port → Bool
+abbrev pub capable : Port → Bool
 capable q = is_capable q.peer
 
 -- what is shown of a port and of all ports, by which of them are asCapable
@@ -65,7 +65,7 @@ port_by s capables p = record {
 abbrev ports_by : SystemState → List Bool → List ShownPort
 ports_by s capables = map (port_by s capables) (range_with_len 1 (length capables))
 
-capable_number : (qs : List Port) (p : ℕ)
+pub capable_number : (qs : List Port) (p : ℕ)
     → option_map_or (λ (q : Port). is_capable q.peer) (number qs p) false
     ≡ option_map_or (λ c. c) (number (map capable qs) p) false
 capable_number qs zero = refl
@@ -94,7 +94,7 @@ ports_shown s =
     ∙ ap (λ n. map (port_by s (map capable s.ports)) (range_with_len 1 n)) (count_same s.ports)
 
 -- where the rest stays, and the same ports are asCapable
-ports_leave : (s s' : SystemState) → s'.root ≡ s.root → s'.steps ≡ s.steps → s'.slave ≡ s.slave
+pub ports_leave : (s s' : SystemState) → s'.root ≡ s.root → s'.steps ≡ s.steps → s'.slave ≡ s.slave
     → s'.offset ≡ s.offset → ((p : ℕ) → role_at s' p ≡ role_at s p)
     → map capable s'.ports ≡ map capable s.ports → shown_of s' ≡ shown_of s
 ports_leave s s' root steps slave offset role ports =
@@ -119,13 +119,13 @@ ports_leave s s' root steps slave offset role ports =
     }
 
 -- one port is changed, and stays asCapable or not
-changed_at : (f : Port → Port) → ((q : Port) → capable (f q) ≡ capable q) → (i : ℕ) (qs : List Port)
+pub changed_at : (f : Port → Port) → ((q : Port) → capable (f q) ≡ capable q) → (i : ℕ) (qs : List Port)
     → map capable (change_at f i qs) ≡ map capable qs
 changed_at f same i [] = refl
 changed_at f same zero (q ∷ qs) = ap (λ c. c ∷ map capable qs) (same q)
 changed_at f same (suc i) (q ∷ qs) = ap (λ cs. capable q ∷ cs) (changed_at f same i qs)
 
-port_leaves : (p : ℕ) (f : Port → Port) (s : SystemState) → ((q : Port) → capable (f q) ≡ capable q)
+pub port_leaves : (p : ℕ) (f : Port → Port) (s : SystemState) → ((q : Port) → capable (f q) ≡ capable q)
     → shown_of (on_port p f s) ≡ shown_of s
 port_leaves p f s same = ports_leave s (on_port p f s) refl refl refl refl (λ n. refl) (by p)
   where
@@ -177,10 +177,6 @@ relay_leaves now s s' sends k = by s.known k
 
 -- ---- frames
 
--- what is shown of a system but whether its offset is known
-abbrev but_known : SystemState → Shown
-but_known s = record (shown_of s) { known = false }
-
 module _ (p now : ℕ) (s s' : SystemState) (sends : List Sending) (answer : Answer) where
   hears_sync : (head : Head) → HearsSync p head now s s' sends answer → shown_of s' ≡ shown_of s
   hears_sync head k = by (is_capable_at s p) k
@@ -220,44 +216,6 @@ module _ (p now : ℕ) (s s' : SystemState) (sends : List Sending) (answer : Ans
   hears_message (messages.FollowUp m) quiet k = absurd cc
   hears_message (messages.PdelayRespFollowUp m) quiet k = absurd cc
   hears_message (messages.Announce a) quiet k = absurd cc
-
-  -- a Follow_Up
-  hears_follow_up : (m : FollowUp) → HearsFollowUp p m now s s' sends answer → but_known s' ≡ but_known s
-  hears_follow_up m k = by (is_capable_at s p) k
-    where
-      became_known : (u : SystemState) → s' ≡ u → but_known u ≡ but_known s → but_known s' ≡ but_known s
-      became_known u is same = ap but_known is ∙ same
-
-      knows : (held : Bool) (info : _) → KnowsBy held info (delay_at s p) (root_rate_at s p) now s s' sends answer
-          → but_known s' ≡ but_known s
-      knows true info k = became_known _ k.becomes.state refl
-      knows false info (inl k) = became_known _ k.becomes.state refl
-      knows false info (inr k) = became_known _ k.becomes.state refl
-
-      said : (info : Option _) → KnowsIf info (delay_at s p) (root_rate_at s p) now s s' sends answer
-          → but_known s' ≡ but_known s
-      said None k = ap but_known k.becomes.state
-      said (Some info) k = knows (has_sync_timeout s.params) info k
-
-      by : (on : Bool) → HearsFollowUpIf on p m now s s' sends answer → but_known s' ≡ but_known s
-      by false k = ap but_known k.becomes.state
-      by true k = said (said_on p m s) k
-
-  hears_late : (m : Message) → type_number m == 8 ≡ true → HearsMessage p m now s s' sends answer
-      → but_known s' ≡ but_known s
-  hears_late (messages.Sync head) late k = absurd cc
-  hears_late (messages.PdelayReq head) late k = absurd cc
-  hears_late (messages.PdelayResp m) late k = absurd cc
-  hears_late (messages.FollowUp m) late k = hears_follow_up m k
-  hears_late (messages.PdelayRespFollowUp m) late k = absurd cc
-  hears_late (messages.Announce a) late k = absurd cc
-
-  hears_late_frame : (octets : List ℕ) → is_follow_up octets ≡ true → HearsFrame p octets now s s' sends answer
-      → but_known s' ≡ but_known s
-  hears_late_frame [] late k = absurd cc
-  hears_late_frame (octet ∷ octets) late (inl k) =
-      hears_late k.message (subst (λ n. n == 8 ≡ true) (type_is (octet ∷ octets) k.message k.reads) late) k.hears
-  hears_late_frame (octet ∷ octets) late (inr k) = ap but_known k.becomes.state
 
   hears_frame : (octets : List ℕ) → IsQuiet (message_type octets) → HearsFrame p octets now s s' sends answer
       → shown_of s' ≡ shown_of s
@@ -344,6 +302,17 @@ module _ {X : Type 0} (f : SystemState → X) where
       calls_leave place (FrameHeard port octets) w draws answer w'
       (λ s s' sends steps. leaves s s' sends answer steps) calls name
 
+-- no system takes over by an expiry of another timer than Sync
+pub none_takes_over : (number : ℕ) (timer : Timer) (w : WorldState) (systems : List SystemReading)
+    → can_take_over (Expire number timer) ≡ false → by_expiry w systems number timer ≡ None
+none_takes_over number timers.Sync w systems other = absurd cc
+none_takes_over number timers.Relay w systems other = refl
+none_takes_over number timers.Lapse w systems other = refl
+none_takes_over number (timers.Announce p) w systems other = refl
+none_takes_over number (timers.Age p) w systems other = refl
+none_takes_over number (timers.Pdelay p) w systems other = refl
+none_takes_over number (timers.Respond p) w systems other = refl
+
 pub expiry_leaves : (number : ℕ) (timer : Timer) (done : Done) → TimerLeaves timer
     → LeavesAll (Expire number timer) done
 expiry_leaves number timer done leaves = record {
@@ -353,6 +322,7 @@ expiry_leaves number timer done leaves = record {
         (λ s s' sends steps. leaves w.time s s' sends steps) at.so.calls name;
     nobody = ap received_by quiet;
   };
+  reads_on = λ other w systems. none_takes_over number timer w systems other;
 }
 
 -- nobody receives time by what is no Follow_Up
@@ -388,33 +358,5 @@ delivery_leaves link direction (Heard clock port answer frame) leaves = record {
         d.delivers.hears name;
     nobody = none_receives clock answer frame.items leaves.other;
   };
+  reads_on = λ other w systems. ap (by_receipt w systems) (none_receives clock answer frame.items leaves.other);
 }
-
--- ---- a Follow_Up
-
-left_alone : (live before : Option SystemState) → option_map but_known live ≡ option_map but_known before
-    → left_known live (option_map shown_of before) ≡ option_map shown_of live
-left_alone None before same = refl
-left_alone (Some s) None same = refl
-left_alone (Some s) (Some r) same = by (same_bool (is_some s.offset) (is_some r.offset)) refl
-  where
-    by : (t : Bool) → same_bool (is_some s.offset) (is_some r.offset) ≡ t
-        → (if t then Some (shown_of r) else Some (shown_of s)) ≡ Some (shown_of s)
-    by false test = refl
-    by true test =
-        let rest : but_known s ≡ but_known r = same_Some (but_known s) (but_known r) same in
-        let known = same_truth (is_some s.offset) (is_some r.offset) test in
-        ap (λ (x : Shown). Some (record x { known = is_some r.offset })) (sym rest)
-        ∙ ap (λ (k : Bool). Some (record (shown_of s) { known = k })) (sym known)
-
--- it leaves nothing another but whether the offset of the system is known that hears it
-pub follow_up_leaves : (link : ℕ) (direction : Direction) (clock port : ℕ) (answer : Option Answer) (frame : _)
-    (w : WorldState) (draws : List Draw) (w' : WorldState)
-    → Delivery link direction (Heard clock port answer frame) w draws w' → is_follow_up frame.items ≡ true → (name : ℕ)
-    → left_known (live_system name w') (shown name w) ≡ shown name w'
-follow_up_leaves link direction clock port answer frame w draws w' d late name =
-    let (clock_is, port_is, told, octets_are) = d.told in
-    left_alone (live_system name w') (live_system name w)
-    (hears_leaves but_known d.delivers.place (receiver direction d.delivers.channel).port d.octets _ draws d.answer w'
-    (λ s s' sends heard. hears_late_frame (receiver direction d.delivers.channel).port w.time s s' sends heard d.octets
-    (subst (λ os. is_follow_up os ≡ true) octets_are late)) d.delivers.hears name)

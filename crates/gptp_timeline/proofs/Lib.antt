@@ -20,6 +20,8 @@ pub mod EventLemmas
 pub mod CountLemmas
 pub mod RootLemmas
 pub mod HeardLemmas
+mod AtRestLemmas
+mod ComparedLemmas
 pub mod LeavingLemmas
 pub mod LookLemmas
 pub mod ChainStepLemmas

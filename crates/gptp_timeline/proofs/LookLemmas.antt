@@ -4,10 +4,11 @@ use Rattle.std.proofs.lemmas.List.{length-set}
 use Rattle.gptp_model.specs.World.{WorldState}
 use Rattle.gptp_system.specs.State.{SystemState}
 use Rattle.gptp_words.specs.Lines.{text_of}
-use Rattle.gptp_timeline.specs.Leaving.{left_by}
+use Rattle.gptp_timeline.specs.Compared.{left_by}
 use Rattle.gptp_timeline.specs.Changes.{change_lines}
-use Rattle.gptp_timeline.specs.Shown.{live_system, shown_of}
+use Rattle.gptp_timeline.specs.Shown.{live_system}
 use Rattle.gptp_timeline.specs.Watch.{lines_at, one_lines, own_look, placed_lines, receipt_lines_if, receipt_lines_of, see_at, see_one, see_placed, see_receipt_if, see_receipt_of, taken, unless, watched_after, WatchState}
+use Rattle.gptp_timeline.specs.declared.compared.Compared.{Compared}
 use Rattle.gptp_timeline.specs.declared.shown.Shown.{Shown}
 use Rattle.gptp_timeline.specs.declared.watched.ActView.{ActView}
 use Rattle.gptp_timeline.specs.declared.watched.Watched.{Watched}
@@ -20,15 +21,15 @@ taken_count look place x after o = length-set o.systems place (watched_after loo
 
 module _ (look : ActView) (w : WorldState) (place : ℕ) (x : Watched) (o : WatchState)
     (there : slice_get o.systems place ≡ Some x) (live : Option SystemState) (is : live_system x.clock w ≡ live) where
-  pub sees_it : see_at look w place o ≡ taken look place x (left_by look.known_alone live x.shown) o
+  pub sees_it : see_at look w place o ≡ taken look place x (left_by look.compared live x.shown) o
   sees_it =
-      ap (λ y. see_one look w place y o) there ∙ ap (λ l. taken look place x (left_by look.known_alone l x.shown) o) is
+      ap (λ y. see_one look w place y o) there ∙ ap (λ l. taken look place x (left_by look.compared l x.shown) o) is
 
   pub tells_it : lines_at look w place o
-      ≡ unless o.summary (change_lines look.at x.clock x.shown (left_by look.known_alone live x.shown))
+      ≡ unless o.summary (change_lines look.at x.clock x.shown (left_by look.compared live x.shown))
   tells_it =
       ap (λ y. unless o.summary (one_lines look w y)) there
-      ∙ ap (λ l. unless o.summary (change_lines look.at x.clock x.shown (left_by look.known_alone l x.shown))) is
+      ∙ ap (λ l. unless o.summary (change_lines look.at x.clock x.shown (left_by look.compared l x.shown))) is
 
 -- ---- a delivery or an expiry at the system with a clock
 
@@ -41,20 +42,21 @@ nothing_told true true = refl
 nothing_told true false = refl
 nothing_told false left_out = refl
 
-module _ (at : ℕ) (w : WorldState) (clock : ℕ) (received alone : Bool) (place : ℕ) (x : Watched) (o : WatchState)
+module _ (at : ℕ) (w : WorldState) (clock : ℕ) (received : Bool) (compared : Compared)
+    (place : ℕ) (x : Watched) (o : WatchState)
     (there : slice_get o.systems place ≡ Some x) (named : x.clock ≡ clock) where
   abbrev look : ActView
-  look = own_look at received alone
+  look = own_look at received compared
 
   own : (live : Option SystemState) → live_system clock w ≡ live → live_system x.clock w ≡ live
   own live is = ap (λ n. live_system n w) named ∙ is
 
   -- it lives: it is looked at, and then its receipt
   module _ (s : SystemState) (live : live_system clock w ≡ Some s) (between : WatchState)
-      (first : between ≡ taken look place x (left_by alone (Some s) x.shown) o) where
+      (first : between ≡ taken look place x (left_by compared (Some s) x.shown) o) where
     pub sees_placed : (after : WatchState)
         → after ≡ (if received then see_receipt_of at w place (Some s) between else between)
-        → after ≡ see_placed at w clock received alone (Some place) o
+        → after ≡ see_placed at w clock received compared (Some place) o
     sees_placed after second =
         second
         ∙ sym (ap (λ l. if received then see_receipt_of at w place l between else between) live)
@@ -62,10 +64,10 @@ module _ (at : ℕ) (w : WorldState) (clock : ℕ) (received alone : Bool) (plac
         (first ∙ sym (sees_it look w place x o there (Some s) (own (Some s) live)))
 
     pub tells_placed : (text mid after : List ℕ)
-        → mid ≡ text ++ text_of (unless o.summary (change_lines at x.clock x.shown (left_by alone (Some s) x.shown)))
+        → mid ≡ text ++ text_of (unless o.summary (change_lines at x.clock x.shown (left_by compared (Some s) x.shown)))
         → after ≡ mid ++ text_of (if received then unless (not between.offsets) (receipt_lines_of at w clock (Some s))
         else [])
-        → after ≡ text ++ text_of (placed_lines at w clock received alone (Some place) o)
+        → after ≡ text ++ text_of (placed_lines at w clock received compared (Some place) o)
     tells_placed text mid after changes receipt =
         lines_on text mid after (lines_at look w place o) (receipt_lines_if received at w clock o)
         (changes ∙ ap (λ ls. text ++ text_of ls)
@@ -78,8 +80,8 @@ module _ (at : ℕ) (w : WorldState) (clock : ℕ) (received alone : Bool) (plac
 
   -- it doesn't: there is no receipt
   module _ (none : live_system clock w ≡ None) where
-    pub sees_none_placed : (after : WatchState) → after ≡ taken look place x (left_by alone None x.shown) o
-        → after ≡ see_placed at w clock received alone (Some place) o
+    pub sees_none_placed : (after : WatchState) → after ≡ taken look place x (left_by compared None x.shown) o
+        → after ≡ see_placed at w clock received compared (Some place) o
     sees_none_placed after left =
         left ∙ sym (sees_it look w place x o there None (own None none))
         ∙ sym (no_receipt received (see_at look w place o))
@@ -87,8 +89,8 @@ module _ (at : ℕ) (w : WorldState) (clock : ℕ) (received alone : Bool) (plac
         none)
 
     pub tells_none_placed : (text after : List ℕ)
-        → after ≡ text ++ text_of (unless o.summary (change_lines at x.clock x.shown (left_by alone None x.shown)))
-        → after ≡ text ++ text_of (placed_lines at w clock received alone (Some place) o)
+        → after ≡ text ++ text_of (unless o.summary (change_lines at x.clock x.shown (left_by compared None x.shown)))
+        → after ≡ text ++ text_of (placed_lines at w clock received compared (Some place) o)
     tells_none_placed text after changes =
         changes
         ∙ ap (λ ls. text ++ text_of ls)
@@ -96,13 +98,3 @@ module _ (at : ℕ) (w : WorldState) (clock : ℕ) (received alone : Bool) (plac
         ∙ ap (λ ls. lines_at look w place o ++ ls)
         (sym (ap (λ l. if received then unless (not o.offsets) (receipt_lines_of at w clock l) else []) none
         ∙ nothing_told received (not o.offsets))))
-
--- ---- a system that isn't live, or wasn't
-
-pub left_none : (alone : Bool) (before : Option Shown) → left_by alone None before ≡ None
-left_none true before = refl
-left_none false before = refl
-
-pub left_new : (alone : Bool) (s : SystemState) → left_by alone (Some s) None ≡ Some (shown_of s)
-left_new true s = refl
-left_new false s = refl

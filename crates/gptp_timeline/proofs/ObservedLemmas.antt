@@ -1,11 +1,11 @@
 -- What an observer keeps and tells is what is defined over the acts: as systems start, and stretch by stretch.
-use Rattle.std.proofs.Common.{◌≡◌, ◌⊎◌, ℕ, Bool, true, false, List, [], ◌∷◌, ◌++◌, map, Option, Some, None, inl, inr, length, option_map, refl, sym, ap, subst, ◌∙◌, append_assoc, append-nil}
+use Rattle.std.proofs.Common.{◌≡◌, ℕ, Bool, false, List, [], ◌∷◌, ◌++◌, map, Option, Some, None, inl, inr, length, option_map, refl, sym, ap, subst, ◌∙◌, append_assoc, append-nil}
 use Rattle.std.specs.List.{filter_map, flat_map}
 use Rattle.std.proofs.lemmas.List.Folds.{flat_map-map}
 use Rattle.gptp_model.specs.declared.station.Station.{Station}
 use Rattle.gptp_model.specs.Acts.{at}
 use Rattle.gptp_model.specs.Course.{Begun}
-use Rattle.gptp_model.specs.Sound.{IsWired}
+use Rattle.gptp_model.specs.Sound.{IsSound}
 use Rattle.gptp_model.specs.Views.{rising_clocks}
 use Rattle.gptp_model.specs.World.{WorldState}
 use Rattle.gptp_links.specs.declared.bounds.Bounds.{Bounds}
@@ -15,8 +15,6 @@ use Rattle.gptp_scenario.specs.Network.{NetworkState}
 use Rattle.gptp_scenario.specs.declared.change.Act.{Act}
 use Rattle.gptp_scenario.specs.declared.change.Act.TheVariants.{Change as Changing, Deliver, Expire}
 use Rattle.gptp_scenario.specs.declared.change.Timed.{Timed}
-use Rattle.gptp_setup.specs.declared.timer.Timer.{Timer}
-use Rattle.gptp_setup.specs.declared.timer.Timer.TheVariants.{Age, Announce, Lapse, Pdelay, Relay, Respond, Sync}
 use Rattle.gptp_world.specs.Observing.{Tells}
 use Rattle.gptp_world.specs.Transitions.{ActTrace}
 use Rattle.gptp_report.specs.Transitions.{Courses, CoursesSoFar}
@@ -31,8 +29,7 @@ use Rattle.gptp_timeline.specs.Shown.{is_expecting, live_among, shown, shown_of}
 use Rattle.gptp_timeline.specs.Stretch.{at_of, counted, ended, error_from, is_change, roots_of, shown_of_all, under_way, waits}
 use Rattle.gptp_timeline.specs.StretchText.{after_line, ended_stretch, error_among, system_accuracy, wait_of}
 use Rattle.gptp_timeline.specs.Looks.{measured_times}
-use Rattle.gptp_timeline.specs.Readings.{by_expiry, by_receipt, new_reading, read_after, readings_after}
-use Rattle.gptp_timeline.specs.Receipts.{received_by}
+use Rattle.gptp_timeline.specs.Readings.{read_after, readings_after}
 use Rattle.gptp_timeline.specs.TimeWatch.{reading_lines, times_after, times_with, TimeState}
 use Rattle.gptp_timeline.specs.Timeline.{StretchTrace, accuracy_at, act_lines, acts_lines, asks_lines, Carried, carry, end_lines, ended_of, exact_time, is_begun, kept_accuracy, kept_accuracy_at, line_of_times, none_carried, none_waits, reads_if, reads_kept, start_lines, stretch_of, stretch_reading_lines, timeline_accuracy_lines, times_ended, tracks}
 use Rattle.gptp_timeline.specs.Watch.{GetsNone, WatchState, watch_begun, event_look, lines_all, see_act, see_all, see_times, seen_lines, tells_changes, TellsSeen, times_lines_if, unless, unseen, without_error}
@@ -47,6 +44,7 @@ use Rattle.gptp_timeline.specs.declared.timeline.Plan.{Plan}
 use Rattle.gptp_timeline.specs.declared.timeline.TimelineOptions.{TimelineOptions}
 use Rattle.gptp_timeline.specs.declared.watched.Watched.{Watched}
 use Rattle.gptp_timeline.proofs.AccountLemmas.{account_ended, account_if, account_if_more, account_told, act_times, line_kept, reads_are, readings_more, rest_after, rest_begun, rest_first, RestTimes}
+use Rattle.gptp_timeline.proofs.AtRestLemmas.{AllFollow, acts_follow, first_follow}
 use Rattle.gptp_timeline.proofs.BeginLemmas.{none_expects}
 use Rattle.gptp_timeline.proofs.ChainLemmas.{broken_chain, Chain, courses_chain, IsDone}
 use Rattle.gptp_timeline.proofs.ChainStepLemmas.{done_step, strangers}
@@ -69,6 +67,7 @@ one_kept name since error s = record { clock = name; shown = s; since = since; e
 pub record Rests (options : TimelineOptions) (names : List ℕ) (carried : Carried) (w : WorldState) (o : WatchState) :
     Type 0 where
   pub named : AreNamed names w
+  pub follow : AllFollow w.stations
   pub summary_is : o.summary ≡ options.summary
   pub offsets_is : o.offsets ≡ options.offsets
   pub errors : ℕ → Option ℕ
@@ -80,6 +79,7 @@ pub record Rests (options : TimelineOptions) (names : List ℕ) (carried : Carri
 pub record Observes (options : TimelineOptions) (names : List ℕ) (carried : Carried) (from : Option ℕ) (events : ℕ)
     (ts : List ActTrace) (w : WorldState) (o : WatchState) : Type 0 where
   pub named : AreNamed names w
+  pub follow : AllFollow w.stations
   pub tracks : Tracks options.summary options.offsets from names carried.since (λ name. error_from name from ts) ts w o
   pub times_are : o.times ≡ account_if options from names events ts carried.readings
   pub others : (name : ℕ) → (In name names → ⊥) → error_from name from ts ≡ None
@@ -126,12 +126,13 @@ seen_first w (n ∷ ns) nobody =
 -- the observer saw how they are
 pub start_rests : {F : Type 0} (answers : Bounds → ℕ → F → Option ℕ → F → Type 0) (n : NetworkState)
     (fate fate_after : F) (options : TimelineOptions) (w : WorldState) (o : WatchState)
-    → Begun answers n fate fate_after w → IsWired w → o ≡ watch_before options w
+    → Begun answers n fate fate_after w → IsSound w → o ≡ watch_before options w
     → Rests options (rising_clocks w) (none_carried (tracks options) (rising_clocks w)) w (see_all (event_look 0) w o)
-start_rests answers n fate fate_after options w o starts wired first =
+start_rests answers n fate fate_after options w o starts sound first =
     subst (Rests options (rising_clocks w) (none_carried (tracks options) (rising_clocks w)) w)
     (sym (all_looked (event_look 0) w o)) (record {
-      named = first_names w wired;
+      named = first_names w sound.wired;
+      follow = first_follow w sound.on_time;
       summary_is = ap (λ (v : WatchState). v.summary) first;
       offsets_is = ap (λ (v : WatchState). v.offsets) first;
       errors = λ name. None;
@@ -209,6 +210,7 @@ module _ (options : TimelineOptions) (names : List ℕ) (carried : Carried) wher
       → Observes options names carried from events [] w (watch_begun from events o)
   stretch_begins from events w o rests = record {
     named = rests.named;
+    follow = rests.follow;
     tracks = record {
       summary_is = rests.summary_is;
       offsets_is = rests.offsets_is;
@@ -230,6 +232,7 @@ module _ (options : TimelineOptions) (names : List ℕ) (carried : Carried) wher
         → Observes options names carried from events ts w o → Observes options names carried from events ts w' o
     moved ts w w' o same observes = record {
       named = same_named names w w' same observes.named;
+      follow = subst AllFollow (sym same) observes.follow;
       tracks = record {
         summary_is = observes.tracks.summary_is;
         offsets_is = observes.tracks.offsets_is;
@@ -272,13 +275,15 @@ module _ (options : TimelineOptions) (names : List ℕ) (carried : Carried) wher
         let more : (name : ℕ) → error_from name from (ts ++ t ∷ []) ≡ errors_next from t errors name =
         λ name. errors_more name from t ts in
         let stepped = done_step options from names observes.named.rising since errors ts t o observes.tracks
-        t.told.timed.act t.told.done done.draws observes.named refl refl done.acts in
+        t.told.timed.act t.told.done done.draws observes.named observes.follow refl refl done.acts in
         let seen : WatchState = see_act (at_of t) t.told.timed.act t.told.done t.after o in
         let tracked = retrack options.summary options.offsets from names since (errors_next from t errors)
         (λ name. error_from name from (ts ++ t ∷ [])) (ts ++ t ∷ []) t.after seen more stepped.0 in (
           record {
             named = acts_named names t.told.timed.act (at (at_of t) t.before) done.draws t.told.done t.after done.acts
                 (same_named names t.before (at (at_of t) t.before) refl observes.named);
+            follow = acts_follow t.told.timed.act (at (at_of t) t.before) done.draws t.told.done t.after done.acts
+                observes.follow;
             tracks = record {
               summary_is = tracked.summary_is;
               offsets_is = tracked.offsets_is;
@@ -499,6 +504,7 @@ module _ (options : TimelineOptions) (names : List ℕ) (carried : Carried) wher
       → Observes options names carried from events ts w o → Rests options names (carry ts carried) w o
   stretch_rests from events ts w o observes = record {
     named = observes.named;
+    follow = observes.follow;
     summary_is = observes.tracks.summary_is;
     offsets_is = observes.tracks.offsets_is;
     errors = λ name. error_from name from ts;

@@ -6,6 +6,7 @@ use Rattle.gptp_timeline.specs.Measures.{better_if, ended_by, greatest, greatest
 use Rattle.gptp_timeline.specs.Shown.{is_expecting, same_choice, same_roles, shown}
 use Rattle.gptp_timeline.specs.Stretch.{at_of, ended, ended_in, is_event, last_at, leaves_another, receives, same_known, waits, worst_error}
 use Rattle.gptp_timeline.specs.Watch.{measures_after, own_look, taken, wait_behind, watched_after, WatchState}
+use Rattle.gptp_timeline.specs.declared.compared.Compared.TheVariants.{All}
 use Rattle.gptp_timeline.specs.declared.measures.Greatest.{Greatest}
 use Rattle.gptp_timeline.specs.declared.shown.Shown.{Shown}
 use Rattle.gptp_timeline.specs.declared.watched.Watched.{Watched}
@@ -78,9 +79,9 @@ module _ (summary offsets : Bool) (from : Option ℕ) (names : List ℕ) (rising
         → is_event t ≡ false → slice_get o.systems place ≡ Some x → x.clock ≡ clock
         → ((name : ℕ) → (name ≡ clock → ⊥) → shown name t.after ≡ shown name t.before)
         → ((name : ℕ) → (name ≡ clock → ⊥) → receives name t ≡ false) → receives clock t ≡ received
-        → TakesOne errors ts t (taken (own_look (at_of t) received false) place x (shown x.clock t.after) o)
+        → TakesOne errors ts t (taken (own_look (at_of t) received All) place x (shown x.clock t.after) o)
     own_taken errors ts t o received place clock x tracks act there named others quiet own =
-        let look = own_look (at_of t) received false in
+        let look = own_look (at_of t) received All in
         let since = waits ts begun in
         let (name, here, is) = from_map (kept since errors t.before) names place x
         (ap (λ xs. slice_get xs place) (sym tracks.stands.are) ∙ there) in

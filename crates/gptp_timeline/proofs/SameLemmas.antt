@@ -65,6 +65,18 @@ both false b is = absurd cc
 pub same_number : (a b : ℕ) → a == b ≡ true → a ≡ b
 same_number a b is = grind (arith, nat_tests)
 
+same_slave_is : (a b : Option ℕ) → same_slave a b ≡ true → a ≡ b
+same_slave_is None None is = refl
+same_slave_is None (Some q) is = absurd cc
+same_slave_is (Some p) None is = absurd cc
+same_slave_is (Some p) (Some q) is = ap Some (same_number p q is)
+
+pub way_is : (a b : Shown) → same_way a b ≡ true → (a.root ≡ b.root) × (a.steps ≡ b.steps) × (a.slave ≡ b.slave)
+way_is a b is =
+    let (root, rest) = both (a.root == b.root) (a.steps == b.steps && same_slave a.slave b.slave) is in
+    let (steps, slave) = both (a.steps == b.steps) (same_slave a.slave b.slave) rest in
+    (same_number a.root b.root root, same_number a.steps b.steps steps, same_slave_is a.slave b.slave slave)
+
 pub same_truth : (a b : Bool) → same_bool a b ≡ true → a ≡ b
 same_truth true true is = refl
 same_truth true false is = absurd cc

@@ -115,16 +115,6 @@ module _ (since errors : ℕ → Option ℕ) (w w' : WorldState) (at : ℕ) (rec
     still_next name none =
         still_after at (receives name) (is_expecting (shown name w)) (is_expecting (shown name w')) (since name) none
 
-    -- where none is another and none receives, nothing changes
-    pub nobody : ((i name : ℕ) → slice_get names i ≡ Some name → shown name w' ≡ shown name w)
-        → ((i name : ℕ) → slice_get names i ≡ Some name → receives name ≡ false)
-        → Stands names next errors w' systems
-    nobody same quiet = record {
-      are = stands.are ∙ map_same (kept since errors w) (kept next errors w') names
-          (λ i name there. passed_over name (stands.still name) (quiet i name there) (same i name there));
-      still = still_next;
-    }
-
     -- one system alone is looked at
     pub one : (look : ActView) (place clock : ℕ) (x : Watched) → IsRising names → slice_get systems place ≡ Some x
         → x.clock ≡ clock → look.at ≡ at → look.received ≡ receives clock

@@ -1,5 +1,5 @@
 -- An act that leaves all that is shown as it was changes nothing that is kept, and no line tells of it.
-use Rattle.std.proofs.Common.{◌≡◌, ◌&&◌, ◌||◌, ℕ, zero, suc, not, Bool, true, false, List, [], ◌∷◌, Option, Some, None, is_none, is_some, slice_get, slice_set, refl, sym, ap, subst, ◌∙◌, append-nil, if◌then◌else◌, option_map, ◌++◌}
+use Rattle.std.proofs.Common.{◌≡◌, ◌&&◌, ◌||◌, ℕ, zero, suc, not, Bool, true, false, List, [], ◌∷◌, Option, Some, None, is_none, is_some, slice_get, slice_set, refl, sym, ap, subst, ◌∙◌, append-nil, ◌++◌}
 use Rattle.std.proofs.lemmas.Option.{same_Some}
 use Rattle.gptp_model.specs.World.{WorldState}
 use Rattle.gptp_model.specs.declared.done.Done.{Done}
@@ -7,19 +7,20 @@ use Rattle.gptp_model.specs.declared.done.Done.TheVariants.{Heard, Quiet}
 use Rattle.gptp_scenario.specs.declared.change.Act.{Act}
 use Rattle.gptp_scenario.specs.declared.change.Act.TheVariants.{Change as Changing, Deliver, Expire}
 use Rattle.gptp_world.specs.Transitions.{ActTrace}
-use Rattle.gptp_system.specs.State.{SystemState}
-use Rattle.gptp_timeline.specs.Ports.{same_bool}
-use Rattle.gptp_timeline.specs.Leaving.{left_by, left_known}
+use Rattle.gptp_timeline.specs.Compared.{compared_by_expiry, compared_by_frame, left_by}
 use Rattle.gptp_timeline.specs.Changes.{change_lines}
 use Rattle.gptp_timeline.specs.Measures.{better_if, ended_by, since_after}
-use Rattle.gptp_timeline.specs.Receipts.{received_by, is_follow_up}
-use Rattle.gptp_timeline.specs.Shown.{is_expecting, shown, live_system, shown_of}
+use Rattle.gptp_timeline.specs.Receipts.{received_by}
+use Rattle.gptp_timeline.specs.Shown.{is_expecting, shown, live_system}
 use Rattle.gptp_timeline.specs.Stretch.{at_of, is_change, waits as waits_by}
 use Rattle.gptp_timeline.specs.Watch.{lines_at, measures_after, one_lines, own_look, place_of, placed_lines, see_act, see_at, see_one, see_placed, see_system, seen_lines, unless, wait_behind, watched_after, watched_lines, WatchState, left_at, see_receipt_if, receipt_lines_if, taken}
+use Rattle.gptp_timeline.specs.declared.compared.Compared.{Compared}
+use Rattle.gptp_timeline.specs.declared.compared.Compared.TheVariants.{All}
 use Rattle.gptp_timeline.specs.declared.measures.Measures.{Measures}
 use Rattle.gptp_timeline.specs.declared.shown.Shown.{Shown}
 use Rattle.gptp_timeline.specs.declared.watched.ActView.{ActView}
 use Rattle.gptp_timeline.specs.declared.watched.Watched.{Watched}
+use Rattle.gptp_timeline.proofs.ComparedLemmas.{left_itself}
 use Rattle.gptp_timeline.proofs.SameLemmas.{choice_itself, known_itself, no_change_lines, roles_itself}
 use Rattle.gptp_timeline.proofs.StandLemmas.{from_map, kept}
 use Rattle.gptp_timeline.proofs.StepLemmas.{Tracks}
@@ -93,17 +94,6 @@ module _ (look : ActView) (w : WorldState) (x : Watched) (so : StaysSo look w x)
 
 -- ---- an act
 
--- what is shown as it was is left so
-left_itself : (alone : Bool) (live : Option SystemState)
-    → left_by alone live (option_map shown_of live) ≡ option_map shown_of live
-left_itself false live = refl
-left_itself true None = refl
-left_itself true (Some s) = by (same_bool (is_some s.offset) (is_some s.offset))
-  where
-    by : (same : Bool) → (if same then Some (shown_of s) else Some (shown_of s)) ≡ Some (shown_of s)
-    by true = refl
-    by false = refl
-
 pub none_left : (left_out : Bool) → unless left_out [] ≡ []
 none_left true = refl
 none_left false = refl
@@ -118,118 +108,113 @@ module _ (summary offsets : Bool) (from : Option ℕ) (names : List ℕ) (begun 
     (ts : List ActTrace) (t : ActTrace) (o : WatchState)
     (tracks : Tracks summary offsets from names begun errors ts t.before o)
     (same : (name : ℕ) → shown name t.after ≡ shown name t.before) where
-  abbrev look : Bool → ActView
-  look alone = own_look (at_of t) false alone
+  abbrev look : Compared → ActView
+  look compared = own_look (at_of t) false compared
 
-  stays : (alone : Bool) (place : ℕ) (x : Watched) → slice_get o.systems place ≡ Some x
-      → StaysSo (look alone) t.after x
-  stays alone place x there =
+  stays : (compared : Compared) (place : ℕ) (x : Watched) → slice_get o.systems place ≡ Some x
+      → StaysSo (look compared) t.after x
+  stays compared place x there =
       let since = waits_by ts begun in
       let (name, here, is) = from_map (kept since errors t.before) names place x
       (ap (λ xs. slice_get xs place) (sym tracks.stands.are) ∙ there) in
-      subst (StaysSo (look alone) t.after) is (record {
-        shown_so = ap (left_by alone (live_system name t.after)) (sym (same name))
-            ∙ left_itself alone (live_system name t.after) ∙ same name;
+      subst (StaysSo (look compared) t.after) is (record {
+        shown_so = ap (left_by compared (live_system name t.after)) (sym (same name))
+            ∙ left_itself compared (live_system name t.after) ∙ same name;
         waits_so = waits_or_not (is_expecting (shown name t.before)) (since name) (tracks.stands.still name);
       })
 
-  at_one : (alone : Bool) (place : ℕ) → (see_at (look alone) t.after place o ≡ o)
-      × (lines_at (look alone) t.after place o ≡ [])
-  at_one alone place = by (slice_get o.systems place) refl
+  at_one : (compared : Compared) (place : ℕ) → (see_at (look compared) t.after place o ≡ o)
+      × (lines_at (look compared) t.after place o ≡ [])
+  at_one compared place = by (slice_get o.systems place) refl
     where
       by : (x : Option Watched) → slice_get o.systems place ≡ x
-          → (see_at (look alone) t.after place o ≡ o) × (lines_at (look alone) t.after place o ≡ [])
+          → (see_at (look compared) t.after place o ≡ o) × (lines_at (look compared) t.after place o ≡ [])
       by None none = (
-        ap (λ y. see_one (look alone) t.after place y o) none,
-        ap (λ y. unless o.summary (one_lines (look alone) t.after y)) none ∙ none_left o.summary,
+        ap (λ y. see_one (look compared) t.after place y o) none,
+        ap (λ y. unless o.summary (one_lines (look compared) t.after y)) none ∙ none_left o.summary,
       )
       by (Some x) there = (
-        sees_same (look alone) t.after x (stays alone place x there) place o there,
-        tells_none (look alone) t.after x (stays alone place x there) place o there,
+        sees_same (look compared) t.after x (stays compared place x there) place o there,
+        tells_none (look compared) t.after x (stays compared place x there) place o there,
       )
 
-  at_clock : (clock : ℕ) (alone : Bool) (p : Option ℕ) → (see_placed (at_of t) t.after clock false alone p o ≡ o)
-      × (placed_lines (at_of t) t.after clock false alone p o ≡ [])
-  at_clock clock alone None = (refl, refl)
-  at_clock clock alone (Some place) =
-      let (same_kept, none) = at_one alone place in
-      (same_kept, append-nil (lines_at (look alone) t.after place o) ∙ none)
+  at_clock : (clock : ℕ) (compared : Compared) (p : Option ℕ)
+      → (see_placed (at_of t) t.after clock false compared p o ≡ o)
+      × (placed_lines (at_of t) t.after clock false compared p o ≡ [])
+  at_clock clock compared None = (refl, refl)
+  at_clock clock compared (Some place) =
+      let (same_kept, none) = at_one compared place in
+      (same_kept, append-nil (lines_at (look compared) t.after place o) ∙ none)
 
   -- it needn't be looked at
   pub stays_seen : (act : Act) (done : Done) → is_change act ≡ false → received_by done ≡ None
       → (see_act (at_of t) act done t.after o ≡ o) × (seen_lines (at_of t) act done t.after o ≡ [])
   stays_seen (Deliver link direction) Quiet other nobody = (refl, refl)
   stays_seen (Deliver link direction) (Heard clock port answer frame) other nobody =
-      let alone = is_follow_up frame.items in
-      let (same_kept, none) = at_clock clock alone (place_of clock o) in (
-        ap (λ r. see_system (at_of t) t.after clock (is_some r) alone o) nobody ∙ same_kept,
-        ap (λ r. watched_lines (at_of t) t.after clock (is_some r) alone o) nobody ∙ none,
+      let compared = compared_by_frame port frame.items in
+      let (same_kept, none) = at_clock clock compared (place_of clock o) in (
+        ap (λ r. see_system (at_of t) t.after clock (is_some r) compared o) nobody ∙ same_kept,
+        ap (λ r. watched_lines (at_of t) t.after clock (is_some r) compared o) nobody ∙ none,
       )
-  stays_seen (Expire clock timer) done other nobody = at_clock clock false (place_of clock o)
+  stays_seen (Expire clock timer) done other nobody = at_clock clock (compared_by_expiry timer) (place_of clock o)
   stays_seen (Changing change) done other nobody = absurd cc
 
--- ---- an act that can leave nothing another but whether the offset of a system is known
+-- ---- an act that can leave of a system another only what is compared of it
 
 module _ (summary offsets : Bool) (from : Option ℕ) (names : List ℕ) (begun errors : ℕ → Option ℕ)
     (ts : List ActTrace) (t : ActTrace) (o : WatchState)
-    (tracks : Tracks summary offsets from names begun errors ts t.before o) (clock : ℕ) (received : Bool) where
-  -- such an act, where it is one
-  abbrev pub LeavesKnown : Bool → Type 0
-  LeavesKnown alone = alone ≡ true → (name : ℕ)
-      → left_known (live_system name t.after) (shown name t.before) ≡ shown name t.after
+    (tracks : Tracks summary offsets from names begun errors ts t.before o) (clock : ℕ) (received : Bool)
+    (compared : Compared)
+    (left : (name : ℕ) → left_by compared (live_system name t.after) (shown name t.before) ≡ shown name t.after) where
+  abbrev view : Compared → ActView
+  view compared = own_look (at_of t) received compared
 
-  abbrev view : Bool → ActView
-  view alone = own_look (at_of t) received alone
-
-  left_so : LeavesKnown true → (place : ℕ) (x : Watched) → slice_get o.systems place ≡ Some x
-      → left_at (view true) t.after x ≡ shown x.clock t.after
-  left_so leaves place x there =
+  left_so : (place : ℕ) (x : Watched) → slice_get o.systems place ≡ Some x
+      → left_at (view compared) t.after x ≡ shown x.clock t.after
+  left_so place x there =
       let since = waits_by ts begun in
       let (name, here, is) = from_map (kept since errors t.before) names place x
       (ap (λ xs. slice_get xs place) (sym tracks.stands.are) ∙ there) in
-      subst (λ (y : Watched). left_known (live_system y.clock t.after) y.shown ≡ shown y.clock t.after) is
-      (leaves refl name)
+      subst (λ (y : Watched). left_by compared (live_system y.clock t.after) y.shown ≡ shown y.clock t.after) is
+      (left name)
 
-  same_at : LeavesKnown true → (place : ℕ)
-      → (see_at (view true) t.after place o
-      ≡ see_at (view false) t.after place o)
-      × (lines_at (view true) t.after place o
-      ≡ lines_at (view false) t.after place o)
-  same_at leaves place = by (slice_get o.systems place) refl
+  same_at : (place : ℕ)
+      → (see_at (view compared) t.after place o ≡ see_at (view All) t.after place o)
+      × (lines_at (view compared) t.after place o ≡ lines_at (view All) t.after place o)
+  same_at place = by (slice_get o.systems place) refl
     where
       by : (x : Option Watched) → slice_get o.systems place ≡ x
-          → (see_at (view true) t.after place o ≡ see_at (view false) t.after place o)
-          × (lines_at (view true) t.after place o ≡ lines_at (view false) t.after place o)
+          → (see_at (view compared) t.after place o ≡ see_at (view All) t.after place o)
+          × (lines_at (view compared) t.after place o ≡ lines_at (view All) t.after place o)
       by None none = (
-        ap (λ y. see_one (view true) t.after place y o) none
-            ∙ sym (ap (λ y. see_one (view false) t.after place y o) none),
-        ap (λ y. unless o.summary (one_lines (view true) t.after y)) none
-            ∙ sym (ap (λ y. unless o.summary (one_lines (view false) t.after y)) none),
+        ap (λ y. see_one (view compared) t.after place y o) none
+            ∙ sym (ap (λ y. see_one (view All) t.after place y o) none),
+        ap (λ y. unless o.summary (one_lines (view compared) t.after y)) none
+            ∙ sym (ap (λ y. unless o.summary (one_lines (view All) t.after y)) none),
       )
       by (Some x) there =
-          let left = left_so leaves place x there in (
-            ap (λ y. see_one (view true) t.after place y o) there ∙ ap (λ s. taken (view false) place x s o) left
-                ∙ sym (ap (λ y. see_one (view false) t.after place y o) there),
-            ap (λ y. unless o.summary (one_lines (view true) t.after y)) there
+          let left = left_so place x there in (
+            ap (λ y. see_one (view compared) t.after place y o) there ∙ ap (λ s. taken (view All) place x s o) left
+                ∙ sym (ap (λ y. see_one (view All) t.after place y o) there),
+            ap (λ y. unless o.summary (one_lines (view compared) t.after y)) there
                 ∙ ap (λ s. unless o.summary (change_lines (at_of t) x.clock x.shown s)) left
-                ∙ sym (ap (λ y. unless o.summary (one_lines (view false) t.after y)) there),
+                ∙ sym (ap (λ y. unless o.summary (one_lines (view All) t.after y)) there),
           )
 
   -- it is enough to look at that
-  pub alone_same : (alone : Bool) → LeavesKnown alone
-      → (see_system (at_of t) t.after clock received alone o ≡ see_system (at_of t) t.after clock received false o)
-      × (watched_lines (at_of t) t.after clock received alone o
-      ≡ watched_lines (at_of t) t.after clock received false o)
-  alone_same false leaves = (refl, refl)
-  alone_same true leaves = by (place_of clock o)
+  pub looked_same : (see_system (at_of t) t.after clock received compared o
+      ≡ see_system (at_of t) t.after clock received All o)
+      × (watched_lines (at_of t) t.after clock received compared o
+      ≡ watched_lines (at_of t) t.after clock received All o)
+  looked_same = by (place_of clock o)
     where
       by : (p : Option ℕ)
-          → (see_placed (at_of t) t.after clock received true p o
-          ≡ see_placed (at_of t) t.after clock received false p o)
-          × (placed_lines (at_of t) t.after clock received true p o
-          ≡ placed_lines (at_of t) t.after clock received false p o)
+          → (see_placed (at_of t) t.after clock received compared p o
+          ≡ see_placed (at_of t) t.after clock received All p o)
+          × (placed_lines (at_of t) t.after clock received compared p o
+          ≡ placed_lines (at_of t) t.after clock received All p o)
       by None = (refl, refl)
-      by (Some place) = let (sees, tells) = same_at leaves place in (
+      by (Some place) = let (sees, tells) = same_at place in (
         ap (see_receipt_if received (at_of t) t.after clock place) sees,
         ap (λ ls. ls ++ receipt_lines_if received (at_of t) t.after clock o) tells,
       )

@@ -133,7 +133,7 @@ shown_by p w claimed name s is time =
 -- ---- times
 
 -- a system has fewer steps than a path has systems
-pub late_enough : (change span from time most steps each : ℕ) → from ≡ change + span + most * each → from ≤ time
+late_enough : (change span from time most steps each : ℕ) → from ≡ change + span + most * each → from ≤ time
     → steps ≤ most → change + (span + steps * each) ≤ time
 late_enough change span from time most steps each is late few =
     let product : steps * each ≤ most * each = mul-le-mul few (le_refl each) in omega (arith, is, late, product)
@@ -183,7 +183,7 @@ module _ {F : Type 0} (answers : Bounds → ℕ → F → Option ℕ → F → T
         abbrev pub then : WorldState
         then = at (at_of t) w
 
-        pub keeps_then : StretchesSoFar events then
+        keeps_then : StretchesSoFar events then
         keeps_then =
             let timely = happens.was_done.ready.timely in
             keeps_later answers d playable names events w (at_of t) timely.now timely.first keeps
@@ -239,7 +239,7 @@ module _ {F : Type 0} (answers : Bounds → ℕ → F → Option ℕ → F → T
             (subst (λ h. IsNear h name) (sym same) near) s is
 
         -- the act leaves clocks as they were
-        pub same_time : (number : ℕ) (s s' : SystemState) → live_system number t.after ≡ Some s'
+        same_time : (number : ℕ) (s s' : SystemState) → live_system number t.after ≡ Some s'
             → live_system number w ≡ Some s → local_time s' (at_of t) ≡ local_time s (at_of t)
         same_time number s s' behind before =
             shown_by pace t.after keeps_after.claimed number s' behind (at_of t)

@@ -21,7 +21,9 @@ pub mod TimeLines
 pub mod TimeWatch
 pub mod Limits
 pub mod End
+pub mod Compared
 pub mod Leaving
+pub mod NewReading
 pub mod Watch
 pub mod Timeline
 pub mod Ends

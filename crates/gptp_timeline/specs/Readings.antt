@@ -72,10 +72,10 @@ is_master_role role = false
 abbrev pub is_master : ShownPort → Bool
 is_master p = is_master_role p.role
 
--- A live system sends time of its own: it has no Slave port, and so is its own root, it can be a grandmaster, and it
--- has a Master port.
-abbrev pub is_sending : SystemState → Bool
-is_sending s = is_none s.slave && (root_is_capable s.root && list_any is_master (shown_ports s))
+-- A live system leads: it has no Slave port, and so is its own root, it can be a grandmaster, and it has a Master port,
+-- at which it sends time of its own.
+abbrev pub is_leading : SystemState → Bool
+is_leading s = is_none s.slave && (root_is_capable s.root && list_any is_master (shown_ports s))
 
 -- what is kept of a system: by what it reads, if it has time
 abbrev pub reading_among : List SystemReading → ℕ → Option KeptReading
@@ -92,11 +92,10 @@ by_receipt w rs None = None
 by_receipt w rs (Some name) = option_map (gets name true (reading_among rs name))
     (option_and_then received_reading (live_system name w))
 
--- The Sync timer of a system expired. It takes over where it sends time of its own, and didn't since its last start or
--- receipt.
+-- The Sync timer of a system expired. It takes over where it leads, and didn't since its last start or receipt.
 abbrev pub by_takeover : WorldState → List SystemReading → ℕ → Option NewReading
 by_takeover w rs name =
-    if reads_own (reading_among rs name) || not (option_map_or is_sending (live_system name w) false) then None
+    if reads_own (reading_among rs name) || not (option_map_or is_leading (live_system name w) false) then None
     else Some (gets name false (reading_among rs name) (own_reading name))
 
 abbrev pub by_expiry : WorldState → List SystemReading → ℕ → Timer → Option NewReading

@@ -13,13 +13,16 @@ use Rattle.gptp_scenario.specs.declared.change.Act.TheVariants.{Change as Changi
 use Rattle.gptp_system.specs.State.{SystemState}
 use Rattle.gptp_timeline.specs.Changes.{change_lines}
 use Rattle.gptp_timeline.specs.EventLine.{event_line}
-use Rattle.gptp_timeline.specs.Leaving.{LeavesAll, left_by}
+use Rattle.gptp_timeline.specs.Compared.{compared_by_expiry, compared_by_frame, left_by}
+use Rattle.gptp_timeline.specs.Leaving.{LeavesAll}
 use Rattle.gptp_timeline.specs.Measures.{better_if, ended_by, last_if, one_at, since_after}
 use Rattle.gptp_timeline.specs.Readings.{new_reading}
-use Rattle.gptp_timeline.specs.Receipts.{is_follow_up, offset_error, offset_line, received_by}
+use Rattle.gptp_timeline.specs.Receipts.{offset_error, offset_line, received_by}
 use Rattle.gptp_timeline.specs.Shown.{is_expecting, live_system, same_choice, same_roles}
 use Rattle.gptp_timeline.specs.Stretch.{same_known}
 use Rattle.gptp_timeline.specs.TimeWatch.{TimeState, times_after, times_begun, times_lines}
+use Rattle.gptp_timeline.specs.declared.compared.Compared.{Compared}
+use Rattle.gptp_timeline.specs.declared.compared.Compared.TheVariants.{All}
 use Rattle.gptp_timeline.specs.declared.measures.Greatest.{Greatest}
 use Rattle.gptp_timeline.specs.declared.measures.Measures.{Measures}
 use Rattle.gptp_timeline.specs.declared.shown.Shown.{Shown}
@@ -101,7 +104,7 @@ taken look place x after o = record o {
 
 -- what an act left of a system
 abbrev pub left_at : ActView → WorldState → Watched → Option Shown
-left_at look w x = left_by look.known_alone (live_system x.clock w) x.shown
+left_at look w x = left_by look.compared (live_system x.clock w) x.shown
 
 -- the system at a place is looked at, if there is one
 abbrev pub see_one : ActView → WorldState → ℕ → Option Watched → WatchState → WatchState
@@ -133,7 +136,7 @@ places_of o = range_with_len 0 (length o.systems)
 -- ---- an event
 
 abbrev pub event_look : ℕ → ActView
-event_look at = record { at = at; by_event = true; received = false; known_alone = false }
+event_look at = record { at = at; by_event = true; received = false; compared = All }
 
 abbrev pub see_all : ActView → WorldState → WatchState → WatchState
 see_all look w o = see_each look w (places_of o) o
@@ -143,9 +146,9 @@ lines_all look w o = lines_each look w (places_of o) o
 
 -- ---- a delivery or an expiry
 
-abbrev pub own_look : ℕ → Bool → Bool → ActView
-own_look at received known_alone =
-    record { at = at; by_event = false; received = received; known_alone = known_alone }
+abbrev pub own_look : ℕ → Bool → Compared → ActView
+own_look at received compared =
+    record { at = at; by_event = false; received = received; compared = compared }
 
 -- the receipt of the system at a place, with its error, is measured
 abbrev pub counts_from : Option ℕ → ℕ → Bool
@@ -196,42 +199,43 @@ abbrev pub place_of : ℕ → WatchState → Option ℕ
 place_of clock o = place_from clock 0 o.systems
 
 -- the system with a clock is looked at, and its receipt
-abbrev pub see_placed : ℕ → WorldState → ℕ → Bool → Bool → Option ℕ → WatchState → WatchState
-see_placed at w clock received known_alone None o = o
-see_placed at w clock received known_alone (Some place) o =
-    see_receipt_if received at w clock place (see_at (own_look at received known_alone) w place o)
+abbrev pub see_placed : ℕ → WorldState → ℕ → Bool → Compared → Option ℕ → WatchState → WatchState
+see_placed at w clock received compared None o = o
+see_placed at w clock received compared (Some place) o =
+    see_receipt_if received at w clock place (see_at (own_look at received compared) w place o)
 
-abbrev pub placed_lines : ℕ → WorldState → ℕ → Bool → Bool → Option ℕ → WatchState → List (List ℕ)
-placed_lines at w clock received known_alone None o = []
-placed_lines at w clock received known_alone (Some place) o =
-    lines_at (own_look at received known_alone) w place o ++ receipt_lines_if received at w clock o
+abbrev pub placed_lines : ℕ → WorldState → ℕ → Bool → Compared → Option ℕ → WatchState → List (List ℕ)
+placed_lines at w clock received compared None o = []
+placed_lines at w clock received compared (Some place) o =
+    lines_at (own_look at received compared) w place o ++ receipt_lines_if received at w clock o
 
-abbrev pub see_system : ℕ → WorldState → ℕ → Bool → Bool → WatchState → WatchState
-see_system at w clock received known_alone o = see_placed at w clock received known_alone (place_of clock o) o
+abbrev pub see_system : ℕ → WorldState → ℕ → Bool → Compared → WatchState → WatchState
+see_system at w clock received compared o = see_placed at w clock received compared (place_of clock o) o
 
-abbrev pub watched_lines : ℕ → WorldState → ℕ → Bool → Bool → WatchState → List (List ℕ)
-watched_lines at w clock received known_alone o = placed_lines at w clock received known_alone (place_of clock o) o
+abbrev pub watched_lines : ℕ → WorldState → ℕ → Bool → Compared → WatchState → List (List ℕ)
+watched_lines at w clock received compared o = placed_lines at w clock received compared (place_of clock o) o
 
 -- ---- an act
 
 abbrev pub see_delivery : ℕ → WorldState → Done → WatchState → WatchState
 see_delivery at w Quiet o = o
 see_delivery at w (Heard clock port answer frame) o =
-    see_system at w clock (is_some (received_by (Heard clock port answer frame))) (is_follow_up frame.items) o
+    see_system at w clock (is_some (received_by (Heard clock port answer frame))) (compared_by_frame port frame.items) o
 
 abbrev pub delivery_lines : ℕ → WorldState → Done → WatchState → List (List ℕ)
 delivery_lines at w Quiet o = []
 delivery_lines at w (Heard clock port answer frame) o =
-    watched_lines at w clock (is_some (received_by (Heard clock port answer frame))) (is_follow_up frame.items) o
+    watched_lines at w clock (is_some (received_by (Heard clock port answer frame)))
+    (compared_by_frame port frame.items) o
 
 abbrev pub see_act : ℕ → Act → Done → WorldState → WatchState → WatchState
 see_act at (Deliver link direction) done w o = see_delivery at w done o
-see_act at (Expire clock timer) done w o = see_system at w clock false false o
+see_act at (Expire clock timer) done w o = see_system at w clock false (compared_by_expiry timer) o
 see_act at (Changing change) done w o = see_all (event_look at) w o
 
 abbrev pub seen_lines : ℕ → Act → Done → WorldState → WatchState → List (List ℕ)
 seen_lines at (Deliver link direction) done w o = delivery_lines at w done o
-seen_lines at (Expire clock timer) done w o = watched_lines at w clock false false o
+seen_lines at (Expire clock timer) done w o = watched_lines at w clock false (compared_by_expiry timer) o
 seen_lines at (Changing change) done w o =
     unless o.summary (event_line at change ∷ []) ++ lines_all (event_look at) w o
 

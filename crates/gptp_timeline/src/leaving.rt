@@ -3,7 +3,7 @@
 ghost use Rattle.std.specs.Prelude.{◌≡◌, ℕ, true};
 ghost use Rattle.gptp_links.specs.declared.link.Direction.{Direction};
 ghost use Rattle.gptp_scenario.specs.declared.change.Act.TheVariants.{Deliver};
-ghost use Rattle.gptp_timeline.specs.Leaving.{FrameLeaves, LeavesAll, TimerLeaves, TypeLeaves};
+ghost use Rattle.gptp_timeline.specs.Leaving.{FrameLeaves, LeavesAll, TimerLeaves, TypeLeaves, can_take_over};
 
 use gptp_setup::Timer;
 use gptp_world::{Act, Done};
@@ -58,4 +58,17 @@ pub(crate) fn leaves_all(act: &Act, done: &Done) -> bool
         Act::Expire { clock: _, timer } => timer_leaves(*timer),
         Act::Deliver { .. } => delivery_leaves(done),
     }
+}
+
+/// Whether a system can take over by an act: its Sync timer expires.
+pub(crate) fn can_take_over(act: &Act) -> bool
+    ensures { result ≡ can_take_over act.now }
+{
+    matches!(
+        act,
+        Act::Expire {
+            timer: Timer::Sync,
+            ..
+        }
+    )
 }

@@ -11,6 +11,7 @@
 mod all_readings;
 mod amounts;
 mod changes;
+mod compared;
 mod counts;
 mod end;
 mod ends;

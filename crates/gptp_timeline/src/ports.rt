@@ -1,6 +1,7 @@
 //! What is shown of the ports of a system.
 
-ghost use Rattle.std.specs.Prelude.{◌≡◌, ◌≤◌, true, length};
+ghost use Rattle.std.specs.Prelude.{◌≡◌, ◌≤◌, true, false, length};
+ghost use Rattle.gptp_system.specs.State.{number};
 ghost use Rattle.gptp_system.specs.Steps.{HasPortNumber};
 ghost use Rattle.gptp_timeline.specs.Ports.{role_number, same_bool, shows_same_port, same_ports, shown_port, shown_ports};
 
@@ -73,6 +74,15 @@ impl Model for Ports {
 
 impl Ports {
     ghost use Rattle.std.specs.Prelude.{◌≡◌, ◌≤◌, length};
+    ghost use Rattle.gptp_system.specs.State.{number};
+
+    /// What is shown of the port with a number, if there is one.
+    pub(crate) fn port(&self, port: u16) -> Option<ShownPort>
+        ensures { result ≡ number self.now port }
+    {
+        let place = usize::from(port).checked_sub(1)?;
+        self.ports.as_slice().get(place).copied()
+    }
 
     /// What is shown of each port.
     pub(crate) fn as_slice(&self) -> &[ShownPort]
@@ -91,6 +101,25 @@ fn shown_port(system: &System, port: u8) -> ShownPort
     ShownPort {
         role: system.role(port),
         capable: system.capable(port),
+    }
+}
+
+/// Whether a system has a port with a number.
+fn has_port(system: &System, port: u16) -> bool
+    ensures yes { result ≡ true → HasPortNumber system.now port }
+    ensures no { result ≡ false → HasPortNumber system.now port → ⊥ }
+{
+    port != 0 && port <= u16::from(system.ports())
+}
+
+/// What is shown of the port of a system with a number, if it has that.
+pub(crate) fn port_of(system: &System, port: u16) -> Option<ShownPort>
+    requires { length system.now.ports ≤ 16 }
+    ensures { result ≡ number (shown_ports system.now) port }
+{
+    match has_port(system, port) {
+        true => Some(shown_port(system, port as u8)),
+        false => None,
     }
 }
 

@@ -4,11 +4,13 @@ ghost use Rattle.std.specs.Prelude.{◌≡◌, ◌≤◌, ◌<◌, ◌^◌, ◌-
 ghost use Rattle.std.specs.List.{list_any};
 ghost use Rattle.std.specs.Option.{option_and_then, option_map, option_map_or};
 ghost use Rattle.gptp_system.specs.Reading.{read_at};
-ghost use Rattle.gptp_timeline.specs.Readings.{by_expiry, by_receipt, by_takeover, changes_source, clock_time, failed_by, is_master, is_sending, new_reading, own_reading, read_by, reading_among, reading_error, put_reading, reads_own, received_reading};
+ghost use Rattle.gptp_timeline.specs.NewReading.{can_give_reading};
+ghost use Rattle.gptp_timeline.specs.Readings.{by_expiry, by_receipt, by_takeover, changes_source, clock_time, failed_by, is_master, is_leading, new_reading, own_reading, read_by, reading_among, reading_error, put_reading, reads_own, received_reading};
 ghost use Rattle.gptp_timeline.specs.Jumps.{IsSmallJump, jump_of};
 ghost use Rattle.gptp_timeline.specs.Shown.{live_system};
 ghost use Rattle.gptp_timeline.specs.ToldSources.{ReadingsRise};
 
+use crate::leaving::can_take_over;
 use crate::ports::{ShownPort, ports_of};
 use crate::receipts::received_by;
 use gptp_links::Fate;
@@ -170,22 +172,22 @@ fn has_master(ports: &[ShownPort]) -> bool
     false
 }
 
-/// Whether a live system sends time of its own: it is its own root, can be a grandmaster, and has a Master port.
-fn is_sending(system: &System) -> bool
+/// Whether a live system leads: it is its own root, can be a grandmaster, and has a Master port.
+fn is_leading(system: &System) -> bool
     requires { length system.now.ports ≤ 16 }
-    ensures { result ≡ is_sending system.now }
+    ensures { result ≡ is_leading system.now }
 {
     let (root, _, slave) = system.follows();
     slave.is_none() && root.capable() && has_master(ports_of(system).as_slice())
 }
 
-/// Whether the system with a clock is live and sends time of its own.
-fn sends<F: Fate + Drop>(world: &World<F>, clock: ClockId) -> bool
-    ensures { result ≡ option_map_or is_sending (live_system clock world.now.world_core) false }
+/// Whether the system with a clock is live and leads.
+fn leads<F: Fate + Drop>(world: &World<F>, clock: ClockId) -> bool
+    ensures { result ≡ option_map_or is_leading (live_system clock world.now.world_core) false }
 {
     world.well_formed();
     match world.system(clock) {
-        Some(system) => is_sending(system),
+        Some(system) => is_leading(system),
         None => false,
     }
 }
@@ -257,7 +259,7 @@ fn by_takeover<F: Fate + Drop>(
     requires { ReadingsRise systems.now }
     ensures { result ≡ by_takeover world.now.world_core systems.now clock }
 {
-    if !sends(world, clock) {
+    if !leads(world, clock) {
         return None;
     }
     let before = reading_among(systems, clock);
@@ -303,6 +305,13 @@ pub(crate) fn new_reading<F: Fate + Drop>(
         Act::Expire { clock, timer } => by_expiry(world, systems, *clock, *timer),
         Act::Change(_) => None,
     }
+}
+
+/// Whether a system can get a reading by an act of which this is told: it received time, or can take over.
+pub(crate) fn can_give_reading(act: &Act, done: &Done) -> bool
+    ensures { result ≡ can_give_reading act.now done.now }
+{
+    received_by(done).is_some() || can_take_over(act)
 }
 
 /// The system that an act makes fail.

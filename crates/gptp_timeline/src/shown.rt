@@ -2,10 +2,11 @@
 
 ghost use Rattle.std.specs.Prelude.{◌≡◌, ◌≤◌, true, false, Some, is_some, length};
 ghost use Rattle.gptp_timeline.specs.Ports.{same_bool};
-ghost use Rattle.gptp_timeline.specs.Leaving.{left_by};
+ghost use Rattle.gptp_timeline.specs.Compared.{left_by, same_port_at};
 ghost use Rattle.gptp_timeline.specs.Shown.{is_expecting, is_known, same_choice, same_roles, same_slave, same_way, shown_of};
 
-use crate::ports::{Ports, ports_of, same_bool, same_ports, show_ports};
+use crate::compared::Compared;
+use crate::ports::{Ports, port_of, ports_of, same_bool, same_port, same_ports, show_ports};
 use gptp_system::System;
 use gptp_vector::Identity;
 
@@ -57,15 +58,20 @@ fn same_way(a: &Shown, b: &Shown) -> bool
     a.root == b.root && a.steps == b.steps && same_slave(a.slave, b.slave)
 }
 
+/// Whether a live system follows the root that was shown, over as many steps and over the same Slave port.
+fn shows_way(system: &System, shown: &Shown) -> bool
+    ensures { result ≡ same_way (shown_of system.now) shown.now }
+{
+    let (root, steps, slave) = system.follows();
+    root == shown.root && steps == shown.steps && same_slave(slave, shown.slave)
+}
+
 /// Whether a live system shows this.
 fn shows(system: &System, shown: &Shown) -> bool
     requires { length system.now.ports ≤ 16 }
     ensures { result ≡ true → shown_of system.now ≡ shown.now }
 {
-    let (root, steps, slave) = system.follows();
-    root == shown.root
-        && steps == shown.steps
-        && same_slave(slave, shown.slave)
+    shows_way(system, shown)
         && system.offset().is_some() == shown.known
         && show_ports(system, shown.ports.as_slice())
 }
@@ -77,17 +83,29 @@ fn shows_known(system: &System, shown: &Shown) -> bool
     same_bool(system.offset().is_some(), shown.known)
 }
 
-/// Whether an act that can leave nothing of a live system another but whether its offset is known, or any other act,
-/// left what is shown of it as it was.
-pub(crate) fn shows_left(known_alone: bool, system: &System, shown: &Shown) -> bool
+/// Whether the port of a system with a number is as it was shown. It isn't where either has no such port.
+fn shows_port(system: &System, shown: &Shown, port: u16) -> bool
     requires { length system.now.ports ≤ 16 }
-    ensures same { result ≡ true → left_by known_alone (Some system.now) (Some shown.now) ≡ Some shown.now }
-    ensures other { result ≡ false
-        → left_by known_alone (Some system.now) (Some shown.now) ≡ Some (shown_of system.now) }
+    ensures { result ≡ same_port_at port system.now shown.now }
 {
-    match known_alone {
-        true => shows_known(system, shown),
-        false => shows(system, shown),
+    match (port_of(system, port), shown.ports.port(port)) {
+        (Some(now), Some(before)) => same_port(now, before),
+        _ => false,
+    }
+}
+
+/// Whether what is compared of a live system is as it was shown.
+pub(crate) fn shows_left(compared: Compared, system: &System, shown: &Shown) -> bool
+    requires { length system.now.ports ≤ 16 }
+    ensures same { result ≡ true → left_by compared (Some system.now) (Some shown.now) ≡ Some shown.now }
+    ensures other { result ≡ false
+        → left_by compared (Some system.now) (Some shown.now) ≡ Some (shown_of system.now) }
+{
+    match compared {
+        Compared::All => shows(system, shown),
+        Compared::Known => shows_known(system, shown),
+        Compared::Port(port) => shows_port(system, shown, port),
+        Compared::Choice(port) => shows_way(system, shown) && shows_port(system, shown, port),
     }
 }
 

@@ -12,7 +12,8 @@ use crate::exact_reads::{
 };
 use crate::looks::{NOTHING_READ, TimeMeasures, look_at_all, look_at_new, told_if};
 use crate::readings::{
-    Jump, NewReading, SystemReading, changes_source, failed_by, jump_of, new_reading, reading_error,
+    Jump, NewReading, SystemReading, can_give_reading, changes_source, failed_by, jump_of,
+    new_reading, reading_error,
 };
 use crate::time_lines::write_reading;
 use gptp_links::Fate;
@@ -263,8 +264,8 @@ impl TimeWatch {
         new_reading(world, self.systems.systems(), act, done).is_none()
     }
 
-    /// Sees an act that was done.
-    pub(crate) fn see<F: Fate + Drop>(
+    /// Sees an act by which a system can get a reading.
+    fn see_reading<F: Fate + Drop>(
         &mut self,
         text: &mut String,
         world: &World<F>,
@@ -285,6 +286,28 @@ impl TimeWatch {
             None => self.take_none(world, timed.at, &timed.act),
         }
         Ok(())
+    }
+
+    /// Sees an act that was done.
+    pub(crate) fn see<F: Fate + Drop>(
+        &mut self,
+        text: &mut String,
+        world: &World<F>,
+        timed: &Timed,
+        done: &Done,
+    ) -> Result<(), AllocError>
+        requires { timed.now.at ≤ 1000000000000000 }
+        ensures sees { OnOk result (self.new ≡ times_after timed.now.at timed.now.act done.now world.now.world_core self.old) }
+        ensures tells { OnOk result (string_bytes text.new
+            ≡ string_bytes text.old ++ text_of (times_lines timed.now.at timed.now.act done.now world.now.world_core self.old)) }
+    {
+        match can_give_reading(&timed.act, done) {
+            true => self.see_reading(text, world, timed, done),
+            false => {
+                self.take_none(world, timed.at, &timed.act);
+                Ok(())
+            }
+        }
     }
 
     /// What is measured of a stretch that ends at a time.

@@ -3,15 +3,17 @@
 ghost use Rattle.std.specs.Prelude.{◌≡◌, ◌≤◌, ◌<◌, ◌+◌, ◌++◌, true, IfOk, OnOk, length, map, option_map, string_bytes, take, unsigned_abs};
 ghost use Rattle.gptp_model.specs.Views.{rising_clocks};
 ghost use Rattle.gptp_words.specs.Lines.{text_of};
+ghost use Rattle.gptp_timeline.specs.Leaving.{LeavesAll};
 ghost use Rattle.gptp_timeline.specs.Measures.{one_at};
 ghost use Rattle.gptp_timeline.specs.TimeWatch.{times_after, times_begun};
 ghost use Rattle.gptp_timeline.specs.Watch.{GetsNone, counts_from, times_lines_if, unseen, without_error};
 
 use crate::changes::write_changes;
+use crate::compared::{Compared, compared_by_expiry, compared_by_frame};
 use crate::event_line::write_event;
-use crate::leaving::leaves_all;
+use crate::leaving::{can_take_over, leaves_all};
 use crate::measures::{Greatest, Measures, NOTHING, better_if};
-use crate::receipts::{error_of, is_follow_up, received_by, write_offset};
+use crate::receipts::{error_of, received_by, write_offset};
 use crate::shown::{Shown, shown_of, shows_left};
 use crate::time_watch::TimeWatch;
 use crate::watched::{ActView, Watched, error_after, measures_after, since_behind, wait_behind};
@@ -144,17 +146,18 @@ fn clear_errors(systems: &mut Vec<Watched>)
     }
 }
 
-/// Whether no system gets a reading by an act, as far as there is an account.
+/// Whether no system gets a reading by an act that leaves all that is shown as it was, as far as there is an account.
 fn gets_none<F: Fate + Drop>(
     times: &Option<TimeWatch>,
     world: &World<F>,
     act: &Act,
     done: &Done,
 ) -> bool
+    requires { LeavesAll act.now done.now }
     ensures { result ≡ true → GetsNone act.now done.now world.now.world_core times.now }
 {
     match times {
-        Some(times) => times.gets_none(world, act, done),
+        Some(times) => !can_take_over(act) || times.gets_none(world, act, done),
         None => true,
     }
 }
@@ -196,7 +199,7 @@ impl Watch {
     ghost use Rattle.gptp_timeline.specs.Changes.{change_lines};
     ghost use Rattle.gptp_timeline.specs.EventLine.{event_line};
     ghost use Rattle.gptp_timeline.specs.Receipts.{offset_line};
-    ghost use Rattle.gptp_timeline.specs.Leaving.{left_by};
+    ghost use Rattle.gptp_timeline.specs.Compared.{left_by};
     ghost use Rattle.gptp_timeline.specs.Shown.{shown_of};
     ghost use Rattle.gptp_timeline.specs.Watch.{WatchedRise, watch_begun, delivery_lines, event_look, lines_all, lines_at, nothing, PassesOver, place_of, placed_lines, receipt_lines_of, see_act, see_all, see_at, see_delivery, see_placed, see_receipt_of, see_system, see_times, seen_lines, times_lines_if, watched_lines, take_error, taken, unless, unseen};
     ghost use Rattle.gptp_timeline.specs.declared.watched.Watched.{Watched};
@@ -362,16 +365,16 @@ impl Watch {
     }
 
     /// Whether a live system shows what was last shown of the system at a place.
-    fn shows_at(&self, known_alone: bool, place: usize, system: &System) -> bool
+    fn shows_at(&self, compared: Compared, place: usize, system: &System) -> bool
         requires place { place < length self.now.systems }
         requires few { length system.now.ports ≤ 16 }
         ensures same { result ≡ true → (x : Watched) → slice_get self.now.systems place ≡ Some x
-            → left_by known_alone (Some system.now) x.shown ≡ x.shown }
+            → left_by compared (Some system.now) x.shown ≡ x.shown }
         ensures other { result ≡ false → (x : Watched) → slice_get self.now.systems place ≡ Some x
-            → left_by known_alone (Some system.now) x.shown ≡ Some (shown_of system.now) }
+            → left_by compared (Some system.now) x.shown ≡ Some (shown_of system.now) }
     {
         match &self.systems[place].shown {
-            Some(last) => shows_left(known_alone, system, last),
+            Some(last) => shows_left(compared, system, last),
             None => false,
         }
     }
@@ -406,12 +409,12 @@ impl Watch {
         requires place { place < length self.old.systems }
         requires few { length system.now.ports ≤ 16 }
         ensures sees { OnOk result ((x : Watched) → slice_get self.old.systems place ≡ Some x
-            → self.new ≡ taken look place x (left_by look.known_alone (Some system.now) x.shown) self.old) }
+            → self.new ≡ taken look place x (left_by look.compared (Some system.now) x.shown) self.old) }
         ensures tells { OnOk result ((x : Watched) → slice_get self.old.systems place ≡ Some x → string_bytes text.new
             ≡ string_bytes text.old ++ text_of (unless self.old.summary
-            (change_lines look.at x.clock x.shown (left_by look.known_alone (Some system.now) x.shown)))) }
+            (change_lines look.at x.clock x.shown (left_by look.compared (Some system.now) x.shown)))) }
     {
-        if self.shows_at(look.known_alone, place, system) {
+        if self.shows_at(look.compared, place, system) {
             self.take_same(look, place);
             return Ok(());
         }
@@ -469,7 +472,7 @@ impl Watch {
             at: 0,
             by_event: true,
             received: false,
-            known_alone: false,
+            compared: Compared::All,
         };
         self.see_all(text, world, look)
     }
@@ -503,7 +506,7 @@ impl Watch {
             at,
             by_event: true,
             received: false,
-            known_alone: false,
+            compared: Compared::All,
         };
         self.see_all(text, world, look)
     }
@@ -594,21 +597,21 @@ impl Watch {
         at: u64,
         clock: ClockId,
         received: bool,
-        known_alone: bool,
+        compared: Compared,
         place: usize,
     ) -> Result<(), AllocError>
         requires moment { at ≤ 1000000000000000 }
         requires place { place < length self.old.systems }
         requires named { (x : Watched) → slice_get self.old.systems place ≡ Some x → x.clock ≡ clock }
-        ensures sees { OnOk result (self.new ≡ see_placed at world.now.world_core clock received known_alone (Some place) self.old) }
+        ensures sees { OnOk result (self.new ≡ see_placed at world.now.world_core clock received compared (Some place) self.old) }
         ensures tells { OnOk result (string_bytes text.new
-            ≡ string_bytes text.old ++ text_of (placed_lines at world.now.world_core clock received known_alone (Some place) self.old)) }
+            ≡ string_bytes text.old ++ text_of (placed_lines at world.now.world_core clock received compared (Some place) self.old)) }
     {
         let look = ActView {
             at,
             by_event: false,
             received,
-            known_alone,
+            compared,
         };
         world.well_formed();
         match world.system(clock) {
@@ -628,15 +631,15 @@ impl Watch {
         at: u64,
         clock: ClockId,
         received: bool,
-        known_alone: bool,
+        compared: Compared,
     ) -> Result<(), AllocError>
         requires { at ≤ 1000000000000000 }
-        ensures sees { OnOk result (self.new ≡ see_system at world.now.world_core clock received known_alone self.old) }
+        ensures sees { OnOk result (self.new ≡ see_system at world.now.world_core clock received compared self.old) }
         ensures tells { OnOk result (string_bytes text.new
-            ≡ string_bytes text.old ++ text_of (watched_lines at world.now.world_core clock received known_alone self.old)) }
+            ≡ string_bytes text.old ++ text_of (watched_lines at world.now.world_core clock received compared self.old)) }
     {
         match self.place_of(clock) {
-            Some(place) => self.see_placed(text, world, at, clock, received, known_alone, place),
+            Some(place) => self.see_placed(text, world, at, clock, received, compared, place),
             None => Ok(()),
         }
     }
@@ -657,9 +660,14 @@ impl Watch {
         let received = received_by(done).is_some();
         match done {
             Done::Quiet => Ok(()),
-            Done::Heard { clock, frame, .. } => {
-                let known_alone = is_follow_up(frame.as_slice());
-                self.see_system(text, world, at, *clock, received, known_alone)
+            Done::Heard {
+                clock,
+                port,
+                frame,
+                ..
+            } => {
+                let compared = compared_by_frame(*port, frame.as_slice());
+                self.see_system(text, world, at, *clock, received, compared)
             }
         }
     }
@@ -679,8 +687,9 @@ impl Watch {
     {
         match &timed.act {
             Act::Change(change) => self.see_event(text, world, timed.at, change),
-            Act::Expire { clock, timer: _ } => {
-                self.see_system(text, world, timed.at, *clock, false, false)
+            Act::Expire { clock, timer } => {
+                let compared = compared_by_expiry(*timer);
+                self.see_system(text, world, timed.at, *clock, false, compared)
             }
             Act::Deliver { .. } => self.see_delivery(text, world, timed.at, done),
         }

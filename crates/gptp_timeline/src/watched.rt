@@ -3,6 +3,7 @@
 ghost use Rattle.std.specs.Prelude.{◌≡◌};
 ghost use Rattle.gptp_timeline.specs.Watch.{error_after, measures_after, since_behind, wait_behind};
 
+use crate::compared::Compared;
 use crate::measures::{Greatest, Measures, better_if, ended_by, last_if, since_after};
 use crate::ports::same_bool;
 use crate::shown::{Shown, is_expecting, is_known, same_choice, same_roles};
@@ -17,8 +18,8 @@ pub(crate) struct ActView {
     pub by_event: bool,
     /// Whether the system received time by it.
     pub received: bool,
-    /// Whether it can have left nothing of the system another but whether its offset is known.
-    pub known_alone: bool,
+    /// What is compared of the system.
+    pub compared: Compared,
 }
 
 /// What is kept of a system.

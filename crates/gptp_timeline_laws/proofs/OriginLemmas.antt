@@ -12,7 +12,7 @@ use Rattle.gptp_setup.specs.declared.timer.Timer.TheVariants as timers
 use Rattle.gptp_system.specs.Reading.{held_reading}
 use Rattle.gptp_system.specs.State.{clock, local_time, SystemState}
 use Rattle.gptp_system.specs.declared.reading.Reading.{Reading}
-use Rattle.gptp_timeline.specs.Readings.{by_receipt, by_takeover, clock_among, gets, is_sending, new_reading, own_reading, reading_among, reads_own, received_from, received_reading}
+use Rattle.gptp_timeline.specs.Readings.{by_receipt, by_takeover, clock_among, gets, is_leading, new_reading, own_reading, reading_among, reads_own, received_from, received_reading}
 use Rattle.gptp_timeline.specs.Receipts.{received_by}
 use Rattle.gptp_timeline.specs.Shown.{live_among, live_system}
 use Rattle.gptp_timeline.specs.declared.readings.NewReading.{NewReading}
@@ -33,7 +33,7 @@ pub record IsReceived (done : Done) (w : WorldState) (u : NewReading) : Type 0 w
 pub record IsTakenOver (w : WorldState) (u : NewReading) : Type 0 where
   pub own : SystemState
   pub lives : live_system u.clock w ≡ Some own
-  pub sends : is_sending own ≡ true
+  pub sends : is_leading own ≡ true
 
 receipt_origin : (done : Done) (w : WorldState) (rs : List SystemReading) (name : ℕ) (u : NewReading)
     → received_by done ≡ Some name → by_receipt w rs (Some name) ≡ Some u → IsReceived done w u
@@ -74,23 +74,23 @@ not_false false is = absurd cc
 takeover_origin : (w : WorldState) (rs : List SystemReading) (name : ℕ) (u : NewReading)
     → by_takeover w rs name ≡ Some u → IsTakenOver w u
 takeover_origin w rs name u is =
-    by (reads_own (reading_among rs name) || not (option_map_or is_sending (live_system name w) false)) refl is
+    by (reads_own (reading_among rs name) || not (option_map_or is_leading (live_system name w) false)) refl is
   where
-    by_live : (live : Option SystemState) → live_system name w ≡ live → option_map_or is_sending live false ≡ true
+    by_live : (live : Option SystemState) → live_system name w ≡ live → option_map_or is_leading live false ≡ true
         → IsTakenOver w (gets name false (reading_among rs name) (own_reading name))
     by_live None none sends = absurd cc
     by_live (Some s) lives sends = record { own = s; lives = lives; sends = sends }
 
     by : (none : Bool)
-        → reads_own (reading_among rs name) || not (option_map_or is_sending (live_system name w) false) ≡ none
+        → reads_own (reading_among rs name) || not (option_map_or is_leading (live_system name w) false) ≡ none
         → (if none then None else Some (gets name false (reading_among rs name) (own_reading name))) ≡ Some u
         → IsTakenOver w u
     by true test is = absurd (none-some u is)
     by false test is =
         subst (IsTakenOver w) (same_Some (gets name false (reading_among rs name) (own_reading name)) u is)
-        (by_live (live_system name w) refl (not_false (option_map_or is_sending (live_system name w) false)
+        (by_live (live_system name w) refl (not_false (option_map_or is_leading (live_system name w) false)
         (or_false (reads_own (reading_among rs name))
-        (not (option_map_or is_sending (live_system name w) false)) test)))
+        (not (option_map_or is_leading (live_system name w) false)) test)))
 
 pub origin : (act : Act) (done : Done) (w : WorldState) (rs : List SystemReading) (u : NewReading)
     → new_reading act done w rs ≡ Some u → IsReceived done w u ⊎ IsTakenOver w u

@@ -17,7 +17,7 @@ use Rattle.gptp_system.specs.Reading.{reading_by}
 use Rattle.gptp_system.specs.State.{SystemState}
 use Rattle.gptp_system.specs.Syncing.{slave_rate}
 use Rattle.gptp_system.specs.declared.reading.Reading.{Reading}
-use Rattle.gptp_timeline.specs.Readings.{by_receipt, by_takeover, gets, is_sending, new_in, new_reading, no_reading, own_reading, put_reading, read_after, reading_among, readings_after, readings_by, reads_own, received_from, received_reading, failed_by}
+use Rattle.gptp_timeline.specs.Readings.{by_receipt, by_takeover, gets, is_leading, new_in, new_reading, no_reading, own_reading, put_reading, read_after, reading_among, readings_after, readings_by, reads_own, received_from, received_reading, failed_by}
 use Rattle.gptp_timeline.specs.Receipts.{received_by}
 use Rattle.gptp_timeline.specs.Shown.{live_system}
 use Rattle.gptp_timeline.specs.Stretch.{is_change}
@@ -116,7 +116,7 @@ receipt_new w rs (Some name) u is = by (live_system name w) is
 takeover_new : (w : WorldState) (rs : List SystemReading) (name : ℕ) (u : NewReading)
     → by_takeover w rs name ≡ Some u → IsNew rs u
 takeover_new w rs name u is =
-    by (reads_own (reading_among rs name) || not (option_map_or is_sending (live_system name w) false)) is
+    by (reads_own (reading_among rs name) || not (option_map_or is_leading (live_system name w) false)) is
   where
     by : (none : Bool)
         → (if none then None else Some (gets name false (reading_among rs name) (own_reading name))) ≡ Some u

@@ -22,7 +22,7 @@ loop-to-init g c =
     let old = g.K.Sink.written c.args.sink.now in let names = rising_clocks w in
     let rests = subst (Rests options names (none_carried (tracks options) names) w) (sym c.requires.starts)
     (start_rests g.F.Fate.answers d.network c.requires.begun.0 c.args.world.now.fate options w (watch_before options w)
-    c.requires.begun.1 c.well_formed-3.ensures.sound.wired refl) in
+    c.requires.begun.1 c.well_formed-3.ensures.sound refl) in
     rw (c.none_kept-kept.ensures, c.events_by-left.ensures, c.events.ensures) (record {
       gone = seen_none g.F.Fate.answers exact d c.args.until options names (events_by c.args.until d.events)
           c.args.world.now.fate w c.args.watch.now (Appends old old) rests (appends_none old);

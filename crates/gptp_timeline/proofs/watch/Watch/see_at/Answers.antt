@@ -5,7 +5,8 @@ use Rattle.gptp_words.specs.Lines.{text_of}
 use Rattle.gptp_timeline.specs.Changes.{change_lines}
 use Rattle.gptp_timeline.specs.Shown.{live_system}
 use Rattle.gptp_timeline.specs.Watch.{taken, unless}
-use Rattle.gptp_timeline.proofs.LookLemmas.{left_none, sees_it, tells_it}
+use Rattle.gptp_timeline.proofs.ComparedLemmas.{left_none}
+use Rattle.gptp_timeline.proofs.LookLemmas.{sees_it, tells_it}
 use Rattle.gptp_timeline.proofs.PlaceLemmas.{at_place}
 use Rattle.gptp_timeline.proofs.ShownLemmas.{live_shown, none_shown}
 use Rattle.gptp_timeline.proofs.watch.Watch.see_at.Goals as goal
@@ -37,7 +38,7 @@ returns-in-None-clause-sees g c =
     ∙ none_shown c.clock_at.result w c.in-None.ensures.none in
     on_ok_weaker c.see_left.result
     (λ seen. seen x there ∙ ap (λ s. taken c.args.look c.args.place x s o)
-    (sym (left_none c.args.look.known_alone x.shown))
+    (sym (left_none c.args.look.compared x.shown))
     ∙ sym (sees_it c.args.look w c.args.place x o there None none)) c.see_left.ensures.sees
 
 pub returns-in-None-clause-tells : goal.returns-in-None-clause-tells
@@ -49,5 +50,5 @@ returns-in-None-clause-tells g c =
     on_ok_weaker c.see_left.result
     (λ told. told x there ∙ ap (λ lines. string_bytes c.args.text.now ++ text_of lines)
     (ap (λ s. unless o.summary (change_lines c.args.look.at x.clock x.shown s))
-    (sym (left_none c.args.look.known_alone x.shown))
+    (sym (left_none c.args.look.compared x.shown))
     ∙ sym (tells_it c.args.look w c.args.place x o there None none))) c.see_left.ensures.tells

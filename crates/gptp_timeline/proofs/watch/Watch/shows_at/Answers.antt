@@ -1,10 +1,10 @@
 use Rattle.std.proofs.Common.{◌≡◌, ◌<◌, Some, length, slice_get, sym, subst, ap, ◌∙◌}
 use Rattle.std.proofs.lemmas.Option.{same_Some, slice_get-get_or}
-use Rattle.gptp_timeline.specs.Leaving.{left_by}
+use Rattle.gptp_timeline.specs.Compared.{left_by}
 use Rattle.gptp_timeline.specs.Shown.{shown_of}
 use Rattle.gptp_timeline.specs.Watch.{WatchState}
 use Rattle.gptp_timeline.specs.declared.watched.Watched.{Watched}
-use Rattle.gptp_timeline.proofs.LookLemmas.{left_new}
+use Rattle.gptp_timeline.proofs.ComparedLemmas.{left_new}
 use Rattle.gptp_timeline.proofs.watch.Watch.shows_at.Goals as goal
 
 pub returns-in-Some-clause-same : goal.returns-in-Some-clause-same
@@ -15,8 +15,8 @@ returns-in-Some-clause-same c = λ same x is.
     let there = slice_get-get_or items place z below ∙ ap Some (sym c.index.ensures) in
     let here = subst (λ (o : WatchState). slice_get o.systems place ≡ Some x) (sym c.self.view_is) is in
     let one : z ≡ x = same_Some z x (sym there ∙ here) in
-    subst (λ (y : Watched). left_by c.args.known_alone (Some s) y.shown ≡ y.shown) one
-    (subst (λ last. left_by c.args.known_alone (Some s) last ≡ last) (sym c.in-Some.is)
+    subst (λ (y : Watched). left_by c.args.compared (Some s) y.shown ≡ y.shown) one
+    (subst (λ last. left_by c.args.compared (Some s) last ≡ last) (sym c.in-Some.is)
     (c.shows_left.ensures.same same))
 
 pub returns-in-Some-clause-other : goal.returns-in-Some-clause-other
@@ -27,8 +27,8 @@ returns-in-Some-clause-other c = λ other x is.
     let there = slice_get-get_or items place z below ∙ ap Some (sym c.index.ensures) in
     let here = subst (λ (o : WatchState). slice_get o.systems place ≡ Some x) (sym c.self.view_is) is in
     let one : z ≡ x = same_Some z x (sym there ∙ here) in
-    subst (λ (y : Watched). left_by c.args.known_alone (Some s) y.shown ≡ Some (shown_of s)) one
-    (subst (λ last. left_by c.args.known_alone (Some s) last ≡ Some (shown_of s)) (sym c.in-Some.is)
+    subst (λ (y : Watched). left_by c.args.compared (Some s) y.shown ≡ Some (shown_of s)) one
+    (subst (λ last. left_by c.args.compared (Some s) last ≡ Some (shown_of s)) (sym c.in-Some.is)
     (c.shows_left.ensures.other other))
 
 pub returns-in-None-clause-other : goal.returns-in-None-clause-other
@@ -39,6 +39,6 @@ returns-in-None-clause-other c = λ other x is.
     let there = slice_get-get_or items place z below ∙ ap Some (sym c.index.ensures) in
     let here = subst (λ (o : WatchState). slice_get o.systems place ≡ Some x) (sym c.self.view_is) is in
     let one : z ≡ x = same_Some z x (sym there ∙ here) in
-    subst (λ (y : Watched). left_by c.args.known_alone (Some s) y.shown ≡ Some (shown_of s)) one
-    (subst (λ last. left_by c.args.known_alone (Some s) last ≡ Some (shown_of s)) (sym c.in-None.is)
-    (left_new c.args.known_alone s))
+    subst (λ (y : Watched). left_by c.args.compared (Some s) y.shown ≡ Some (shown_of s)) one
+    (subst (λ last. left_by c.args.compared (Some s) last ≡ Some (shown_of s)) (sym c.in-None.is)
+    (left_new c.args.compared s))
