@@ -2,15 +2,14 @@
 --
 -- Each word that ends in `followed` says where this is proved, and no more: elsewhere the network may come from any
 -- past.
-use Rattle.std.specs.Prelude.{ℕ, ◌+◌, ◌==◌, ◌&&◌, ◌||◌, nat_le, nat_lt, not, Bool, false, if◌then◌else◌, List, length, Option, Some, None}
+use Rattle.std.specs.Prelude.{ℕ, ◌+◌, ◌&&◌, ◌||◌, nat_le, nat_lt, not, Bool, false, if◌then◌else◌, List, Option, Some, None}
 use Rattle.std.specs.List.{list_all, list_any}
 use Rattle.gptp_setup.specs.SettlingParams.{largest_interval}
 use Rattle.gptp_scenario.specs.Network.{NetworkState, pace_of}
 use Rattle.gptp_scenario.specs.SettlingTime.{capability_span}
 use Rattle.gptp_scenario.specs.declared.sync_wait.SyncPaths.{SyncPaths}
-use Rattle.gptp_topology.specs.declared.course.Cable.{Cable}
 use Rattle.gptp_topology.specs.declared.course.Standing.{Standing}
-use Rattle.gptp_how_soon.specs.Bounds.{is_again, way_span}
+use Rattle.gptp_how_soon.specs.Bounds.{way_span}
 use Rattle.gptp_how_soon.specs.Kinds.{are_heard, fails_and_recovers, is_better, is_gain, is_loss, is_other, is_recovery, is_unused, lowers_unused, makes_nothing, raises_unused, tells_nothing}
 use Rattle.gptp_how_soon.specs.Links.{is_unanswered}
 use Rattle.gptp_how_soon.specs.declared.bounds.Row.{Row}
@@ -21,11 +20,10 @@ use Rattle.gptp_how_soon.specs.declared.kinds.Told.{Told}
 
 -- ---- from rest
 
--- Time 0 is followed where its events, if any, leave it so that nothing is told, no link that is up then joins a live
--- system to one that has failed, and a link is in use, whose ports become capable.
-abbrev pub is_start_from_rest : List Standing → List Told → List Cable → Bool
-is_start_from_rest standings told new =
-    list_all tells_nothing told && not (list_any is_unanswered standings) && not (length new == 0)
+-- Time 0 is followed where its events, if any, leave it so that nothing is told, and no link that is up then joins a
+-- live system to one that has failed.
+abbrev pub is_start_from_rest : List Standing → List Told → Bool
+is_start_from_rest standings told = list_all tells_nothing told && not (list_any is_unanswered standings)
 
 -- what was at the time before has come to rest by this one
 abbrev pub rested_by : SettlingTime → ℕ → Option Settling → Bool
@@ -50,23 +48,20 @@ are_turns_followed n at paths_before told =
     && not (list_any lowers_unused told && list_any is_gain told)
 
 -- Systems that recover are followed where an announce interval has passed since the time before, all ports that can't
--- be capable have shown it, a new link is at such a system, and no link that isn't used turns besides.
-abbrev pub are_recoveries_followed : NetworkState → ℕ → ℕ → List Told → List Cable → ℕ → Bool
-are_recoveries_followed n last at told new ready =
+-- be capable have shown it, and no link that isn't used turns besides.
+abbrev pub are_recoveries_followed : NetworkState → ℕ → ℕ → List Told → ℕ → Bool
+are_recoveries_followed n last at told ready =
     nat_lt (last + largest_interval (pace_of n)) at
     && nat_le (capability_span (pace_of n)) (at + ready)
-    && list_any (is_again told) new
     && not (list_any is_unused told)
 
-abbrev pub is_from_rest : NetworkState → ℕ → SyncPaths → List Standing → List Told → List Cable → ℕ
-    → Option SettlingTime
-    → Bool
-is_from_rest n at paths_before standings told new ready None = is_start_from_rest standings told new
-is_from_rest n at paths_before standings told new ready (Some b) =
+abbrev pub is_from_rest : NetworkState → ℕ → SyncPaths → List Standing → List Told → ℕ → Option SettlingTime → Bool
+is_from_rest n at paths_before standings told ready None = is_start_from_rest standings told
+is_from_rest n at paths_before standings told ready (Some b) =
     rested b at
     && are_events_followed told
     && are_turns_followed n at paths_before told
-    && (not (list_any is_recovery told) || are_recoveries_followed n b.at at told new ready)
+    && (not (list_any is_recovery told) || are_recoveries_followed n b.at at told ready)
 
 -- ---- rows
 

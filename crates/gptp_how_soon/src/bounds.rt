@@ -86,7 +86,7 @@ fn is_again(told: &[Told], cable: &Cable) -> bool
 }
 
 /// Whether it does at one of these links.
-pub(crate) fn any_again(told: &[Told], new: &[Cable]) -> bool
+fn any_again(told: &[Told], new: &[Cable]) -> bool
     ensures { result ≡ list_any (is_again told.now) new.now }
 {
     new.iter().any(|cable| is_again(told, cable))

@@ -3,7 +3,7 @@
 ghost use Rattle.std.specs.Prelude.{◌≡◌, ◌+◌, nat_lt};
 ghost use Rattle.gptp_how_soon.specs.Rest.{are_events_followed, are_recoveries_followed, are_turns_followed, have_shown, heard_at_once, is_from_rest, is_start_from_rest, rested, row_of};
 
-use crate::bounds::{Row, SettlingTime, any_again};
+use crate::bounds::{Row, SettlingTime};
 use crate::kinds::{
     Told, all_make_nothing, all_tell_nothing, any_better, any_gain, any_loss, any_lowers_unused,
     any_other, any_raises_unused, any_recovery, any_unused, are_heard, fails_and_recovers,
@@ -11,13 +11,13 @@ use crate::kinds::{
 use crate::links::any_unanswered;
 use gptp_scenario::{Network, SyncPaths};
 use gptp_setup::interval_of;
-use gptp_topology::{Cable, Standing};
+use gptp_topology::Standing;
 
 /// Whether time 0 is from rest.
-fn is_start_from_rest(standings: &[Standing], told: &[Told], new: &[Cable]) -> bool
-    ensures { result ≡ is_start_from_rest standings.now told.now new.now }
+fn is_start_from_rest(standings: &[Standing], told: &[Told]) -> bool
+    ensures { result ≡ is_start_from_rest standings.now told.now }
 {
-    all_tell_nothing(told) && !any_unanswered(standings) && !new.is_empty()
+    all_tell_nothing(told) && !any_unanswered(standings)
 }
 
 /// Whether a time is later than another by more than a span.
@@ -64,22 +64,14 @@ fn are_turns_followed(network: &Network, at: u64, paths_before: SyncPaths, told:
 }
 
 /// Whether systems that recover are followed.
-fn are_recoveries_followed(
-    network: &Network,
-    last: u64,
-    at: u64,
-    told: &[Told],
-    new: &[Cable],
-    ready: u64,
-) -> bool
-    ensures { result ≡ are_recoveries_followed network.now last at told.now new.now ready }
+fn are_recoveries_followed(network: &Network, last: u64, at: u64, told: &[Told], ready: u64) -> bool
+    ensures { result ≡ are_recoveries_followed network.now last at told.now ready }
 {
     network.well_formed();
     let interval = interval_of(network.largest());
     let capable = (u64::from(network.params().lost) + 5) * interval;
     is_later(last, interval, at)
         && u128::from(capable) <= u128::from(at) + u128::from(ready)
-        && any_again(told, new)
         && !any_unused(told)
 }
 
@@ -90,11 +82,10 @@ pub(crate) fn is_from_rest(
     paths_before: SyncPaths,
     standings: &[Standing],
     told: &[Told],
-    new: &[Cable],
     ready: u64,
     before: Option<SettlingTime>,
 ) -> bool
-    ensures { result ≡ is_from_rest network.now at paths_before standings.now told.now new.now ready before }
+    ensures { result ≡ is_from_rest network.now at paths_before standings.now told.now ready before }
 {
     match before {
         Some(before) => {
@@ -102,9 +93,9 @@ pub(crate) fn is_from_rest(
                 && are_events_followed(told)
                 && are_turns_followed(network, at, paths_before, told)
                 && (!any_recovery(told)
-                    || are_recoveries_followed(network, before.at, at, told, new, ready))
+                    || are_recoveries_followed(network, before.at, at, told, ready))
         }
-        None => is_start_from_rest(standings, told, new),
+        None => is_start_from_rest(standings, told),
     }
 }
 

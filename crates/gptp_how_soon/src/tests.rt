@@ -121,6 +121,15 @@ fn two_end_stations_settle(rt: HostRuntime) -> Result<(), Fail> {
             27_000_003_600
         )
     );
+    // Without a link in use.
+    assert_eq!(rt;
+        pair(
+            rt.alloc(),
+            "min = 500\nmax = 500\n",
+            "[[event]]\nat = 0\nkind = \"link_down\"\nclock = \"000000000000000a\"\nport = 1\n"
+        )?,
+        start(0, 0, 1_000_003_600, 2_000_003_600)
+    );
     // Too long a link.
     assert_eq!(rt;
         pair(rt.alloc(), "min = 900\nmax = 900\n", "")?,

@@ -115,7 +115,6 @@ impl Walk {
             self.paths_before,
             standings,
             told,
-            new,
             ready,
             self.before,
         );

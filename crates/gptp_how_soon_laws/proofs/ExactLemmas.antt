@@ -1,5 +1,6 @@
 -- Offsets are exact in each run from the time on that is told of a time.
 use Rattle.std.proofs.Common.{◌≡◌, ◌<◌, ◌≤◌, ◌+◌, ◌*◌, ℕ, Bool, true, false, cond, suc, max, List, [], ◌∷◌, Option, filter, refl, ap, ap₂, arith}
+use Rattle.std.specs.List.{AllByRecursion}
 use Rattle.std.proofs.Math.Nat.{mul-le-mul}
 use Rattle.gptp_graph.specs.PathBound.{path_bound}
 use Rattle.gptp_graph.proofs.PathBoundLemmas.{IsDistance-within, paths_within}
@@ -30,6 +31,19 @@ use Rattle.gptp_settling_time.proofs.ChoiceBoundLemmas.{choice_bounds_are_exact}
 use Rattle.gptp_how_soon_laws.specs.Exact.{IsExactSoon}
 use Rattle.gptp_how_soon_laws.proofs.ChoiceLemmas.{time_so}
 use Rattle.gptp_how_soon_laws.proofs.StepLemmas.{IsKept, kept}
+
+-- ---- lists
+
+-- what is so of all is so of those that are kept
+pub all_kept : {X : Type 0} (P : X → Type 0) (p : X → Bool) (xs : List X) → AllByRecursion P xs
+    → AllByRecursion P (filter p xs)
+all_kept P p [] all = tt
+all_kept P p (x ∷ xs) all = by (p x) (all_kept P p xs all.1)
+  where
+    by : (test : Bool) → AllByRecursion P (filter p xs)
+        → AllByRecursion P (cond test (x ∷ filter p xs) (filter p xs))
+    by true rest = (all.0, rest)
+    by false rest = rest
 
 -- ---- when a link was last set
 

@@ -3,7 +3,7 @@
 use Rattle.std.proofs.Common.{◌≡◌, ◌<◌, ◌≤◌, ◌⊎◌, inl, inr, ◌+◌, ◌*◌, ℕ, Bool, true, false, cond, suc, List, [], ◌∷◌, ◌++◌, length, filter, refl, sym, ap, ap₂, subst, ◌∙◌, append-nil, append_assoc, arith}
 use Rattle.std.specs.Prelude.{◌==◌, ◌&&◌, ◌||◌, not}
 use Rattle.std.specs.List.{AllByRecursion, list_all, list_any}
-use Rattle.std.proofs.lemmas.Bool.{and_parts, false_from_ne_true, ne_eqb, not-true, or_cases, or_parts}
+use Rattle.std.proofs.lemmas.Bool.{and_from, and_parts, eq-eqb, false_from_ne_true, ne_eqb, not-true, or_cases, or_parts}
 use Rattle.std.proofs.lemmas.Bool.Decides.{nat_tests}
 use Rattle.gptp_lists.specs.Members.{In}
 use Rattle.gptp_lists.proofs.SystemSpecLemmas.{In-map, In-slice_get}
@@ -28,18 +28,18 @@ use Rattle.gptp_scenario.proofs.AfterLemmas.{after_keeps}
 use Rattle.gptp_model.specs.World.{port_id}
 use Rattle.gptp_theorem.proofs.EventLemmas.{link_behind}
 use Rattle.gptp_network.proofs.PassLemmas.{kept, passes_at}
-use Rattle.gptp_topology.specs.Course.{cable_is_used, cable_of}
+use Rattle.gptp_topology.specs.Course.{cable_is_used, cable_of, named}
 use Rattle.gptp_topology.specs.declared.course.Cable.{Cable}
 use Rattle.gptp_how_soon.specs.Bounds.{asked_again, is_again, is_hard_to_hear, ready, two_exchanges}
-use Rattle.gptp_how_soon.specs.Kinds.{are_heard, is_better, is_gain, is_heard_too, is_idle, is_link_up, is_loss, is_other, is_priority1, is_recovery, is_unused, lowers_unused, makes_nothing, raises_unused, what_of}
+use Rattle.gptp_how_soon.specs.Kinds.{are_heard, is_better, is_gain, is_heard_too, is_idle, is_link_up, is_loss, is_other, is_priority1, is_recovery, is_recovery_of, is_unused, lowers_unused, makes_nothing, raises_unused, recovers, what_of}
 use Rattle.gptp_how_soon.specs.Links.{is_new, new_links, standing_then, varies}
 use Rattle.gptp_how_soon.specs.Times.{told_at, told_of}
 use Rattle.gptp_how_soon.specs.declared.kinds.Told.{Told}
-use Rattle.gptp_settling_time.specs.Gains.{AreSparedBy, ChangesNothing, IsNoWorse, IsSparedBy, JoinsLive, LeavesCapable, SparesFailed, TakesNothing}
+use Rattle.gptp_settling_time.specs.Gains.{AreSparedBy, ChangesNothing, IsNoWorse, IsSparedBy, JoinsLive, LeavesCapable, SparesFailed, TakesNothing, UsesNoLink, exchanged_again_from}
 use Rattle.gptp_settling_time.specs.HowSoon.{AfterIdleEvents, AreGainEvents, AreHeardEvents, EachEvent, IsGainEvent, IsGainToo, IsHeardEvent, IsHeardToo, IsIdleEvent, TurnsUnused, way_span}
 use Rattle.gptp_settling_time.specs.InTurn.{BettersClock, BringsUp, MakesNothing, TurnsInVain}
 use Rattle.gptp_settling_time.proofs.SamePathsLemmas.{idle_paths, turned_paths}
-use Rattle.gptp_how_soon_laws.proofs.CalmLemmas.{lives_to, three_from, three_parts}
+use Rattle.gptp_how_soon_laws.proofs.CalmLemmas.{lives_to, three_from, three_parts, used_cable}
 use Rattle.gptp_how_soon_laws.proofs.KindLemmas.{Gains, RaisesLink, TurnsBroken, gain_gains, gain_is_not_idle, idle_changes, nothing_or_gain, unused_turns}
 use Rattle.gptp_how_soon_laws.proofs.MoreLemmas.{IsMore, Leaves, more_delay, more_live, more_lives, more_on, one_more, same_more}
 use Rattle.gptp_how_soon_laws.proofs.NamedLemmas.{end_first}
@@ -76,7 +76,7 @@ spared_more n time made (first ∷ events) event spared one = (
 
 -- ---- from when ports are capable
 
-not_none : {X : Type 0} (x : X) (xs : List X) → In x xs → (length xs == 0) ≡ false
+pub not_none : {X : Type 0} (x : X) (xs : List X) → In x xs → (length xs == 0) ≡ false
 not_none x [] member = absurd member
 not_none x (y ∷ ys) member = ne_eqb (length (y ∷ ys)) 0 (λ none. omega (arith, none))
 
@@ -125,7 +125,6 @@ module _ (n : NetworkState) (network : IsNetwork n) (time : ℕ) (first events :
   pub record AreFollowed : Type 0 where
     pub past : AllByRecursion (λ (t : Timed). t.at + largest_interval (pace_of n) < time) first
     pub capable : capability_span (pace_of n) ≤ time + start
-    pub again : list_any (is_again tolds) news ≡ true
     pub turns : list_any is_unused tolds ≡ false
 
   -- where a link turns that isn't used
@@ -368,20 +367,75 @@ module _ (n : NetworkState) (network : IsNetwork n) (time : ℕ) (first events :
 
     -- a system recovers
     module _ (number : ℕ) (act : event.act ≡ acts.Change (changes.Recover number))
-        (failed : IsLive n.systems made number → ⊥) (recovers : list_any is_recovery tolds ≡ true) where
+        (failed : IsLive n.systems made number → ⊥) (recovery : is_recovery (told_at n made event.act) ≡ true) where
+      recovers_so : recovers tolds number ≡ true
+      recovers_so =
+          passes_at (is_recovery_of number) tolds (told_at n made event.act) is.among
+          (and_from ((told_at n made event.act).clock == number) (is_recovery (told_at n made event.act))
+          (eq-eqb (told_at n made event.act).clock number (ap named act)) recovery)
+
+      -- a link that it uses is new, and again
+      uses_none : list_any (is_again tolds) news ≡ false → UsesNoLink n then number
+      uses_none none place v there used ends =
+          let member = In-slice_get v n.links place there in
+          let on = later.used v member (used_cable n then v used) in
+          let kept_ends = after_keeps then v in
+          let all_ends = after_keeps all v in
+          let fresh : cable_is_used (standing_then n first v) ≡ false =
+          false_from_ne_true (cable_is_used (standing_then n first v)) (λ was.
+          let (still, a, b) =
+          three_parts (link_after made v).up (lives n.systems made v.a.clock) (lives n.systems made v.b.clock)
+          (so_far.more.used v member was) in
+          elim ends [
+            | inl at ↦
+                failed (subst (IsLive n.systems made) (ap (λ (p : PortId). p.clock) (sym kept_ends.a) ∙ at)
+                (lives_to n made v.a.clock a))
+            | inr at ↦
+                failed (subst (IsLive n.systems made) (ap (λ (p : PortId). p.clock) (sym kept_ends.b) ∙ at)
+                (lives_to n made v.b.clock b))
+          ]) in
+          let new : In (cable_of (link_after all v)) news =
+          In-map (λ (w : LinkSpec). cable_of (link_after all w)) v (filter (is_new n first all false) n.links)
+          (kept (is_new n first all false) v n.links member (ap₂ (λ now off. now && not (true && off)) on fresh)) in
+          let one = none_any (is_again tolds) news (cable_of (link_after all v)) none new in
+          let (a_none, b_none) =
+          or_parts (recovers tolds (link_after all v).a.clock) (recovers tolds (link_after all v).b.clock) one in
+          elim ends [
+            | inl at ↦
+                let no : true ≡ false =
+                sym recovers_so
+                ∙ ap (recovers tolds) (sym (ap (λ (p : PortId). p.clock) (all_ends.a ∙ sym kept_ends.a) ∙ at))
+                ∙ a_none in
+                cc
+            | inr at ↦
+                let no : true ≡ false =
+                sym recovers_so
+                ∙ ap (recovers tolds) (sym (ap (λ (p : PortId). p.clock) (all_ends.b ∙ sym kept_ends.b) ∙ at))
+                ∙ b_none in
+                cc
+          ]
+
+      asks_again : (again : Bool) → list_any (is_again tolds) news ≡ again
+          → (exchanged_again_from (pace_of n) (sync_paths n then) event.at ≤ next)
+          ⊎ (UsesNoLink n then number × (event.at < next))
+      asks_again true is =
+          let more = ready_again n.params paths tolds news is in
+          let less = delay in
+          inl (omega (arith, here, more, less))
+      asks_again false is = inr (uses_none is, omega (arith, here))
+
       gains_system : IsGainEvent n next made event
       gains_system =
-          let facts = followed recovers in
+          let some = passes_at is_recovery tolds (told_at n made event.act) is.among recovery in
+          let facts = followed some in
           let soon = facts.capable in
-          let more = ready_again n.params paths tolds news facts.again in
-          let less = delay in
           subst (λ a. TakesNothing n made a × LeavesCapable n made event next a) (sym act) (
             tt,
             (
               failed,
               inr (omega (arith, soon)),
-              subst (AreSparedBy n [] made) (sym here) (so_far.spared recovers),
-              omega (arith, here, more, less),
+              subst (AreSparedBy n [] made) (sym here) (so_far.spared some),
+              asks_again (list_any (is_again tolds) news) refl,
             ),
           )
 
@@ -413,10 +467,9 @@ module _ (n : NetworkState) (network : IsNetwork n) (time : ℕ) (first events :
     gains_so (acts.Change (changes.Fail number)) same gain gains = absurd gains
     gains_so (acts.Change (changes.Recover number)) same gain gains =
         gains_system number same gains
-        (passes_at is_recovery tolds (told_at n made event.act) is.among
         (ap (λ a. is_recovery (told_at n made a)) same
         ∙ ap not (gain_is_not_idle number (what_of (acts.Change (changes.Recover number)))
-        (told_at n made (acts.Change (changes.Recover number))).kind gain)))
+        (told_at n made (acts.Change (changes.Recover number))).kind gain))
     gains_so (acts.Change (changes.Priority1 number value)) same gain gains = gains_clock number value same gains
     gains_so (acts.Change (changes.Inject clock port octets)) same gain gains = absurd gains
 

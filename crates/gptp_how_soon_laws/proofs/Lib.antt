@@ -9,4 +9,4 @@ pub mod ChoiceLemmas
 pub mod StepLemmas
 mod SettledLemmas
 mod EndLemmas
-mod ExactLemmas
+pub mod ExactLemmas

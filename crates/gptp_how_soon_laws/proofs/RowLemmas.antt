@@ -1,5 +1,5 @@
 -- What is told of a time, by its row, is so by its events.
-use Rattle.std.proofs.Common.{◌≡◌, ◌<◌, ◌≤◌, ◌⊎◌, inl, inr, ◌+◌, ◌*◌, ℕ, Bool, true, false, cond, List, [], ◌∷◌, ◌++◌, Option, Some, None, length, filter, refl, sym, ap, ap₂, subst, ◌∙◌, arith}
+use Rattle.std.proofs.Common.{◌≡◌, ◌<◌, ◌≤◌, ◌⊎◌, inl, inr, ◌+◌, ◌*◌, ℕ, Bool, true, false, cond, List, [], ◌∷◌, ◌++◌, Option, Some, None, length, filter, slice_get, refl, sym, ap, ap₂, subst, ◌∙◌, arith}
 use Rattle.std.specs.Prelude.{◌==◌, ◌&&◌, ◌||◌, not, nat_le, nat_lt, max, if◌then◌else◌}
 use Rattle.std.specs.List.{AllByRecursion, list_all, list_any}
 use Rattle.std.proofs.lemmas.Bool.{and_parts, eqb-false, eqb-true, not-true, or_cases, or_from, or_parts}
@@ -9,7 +9,7 @@ use Rattle.gptp_lists.proofs.MappedLemmas.{some_same}
 use Rattle.gptp_lists.proofs.SystemSpecLemmas.{In-map, In-slice_get}
 use Rattle.gptp_setup.specs.SettlingParams.{largest_interval}
 use Rattle.gptp_vector.specs.declared.port.PortId.{PortId}
-use Rattle.gptp_scenario.specs.Calm.{IsLive, NothingLapses}
+use Rattle.gptp_scenario.specs.Calm.{IsLive, IsUsed, NothingLapses}
 use Rattle.gptp_scenario.specs.Change.{link_after}
 use Rattle.gptp_scenario.specs.InUse.{lives}
 use Rattle.gptp_scenario.proofs.AfterLemmas.{after_keeps}
@@ -39,12 +39,12 @@ use Rattle.gptp_how_soon.specs.declared.kinds.Kind.{Kind}
 use Rattle.gptp_how_soon.specs.declared.kinds.Told.{Told}
 use Rattle.gptp_how_soon.specs.declared.kinds.What.{What}
 use Rattle.gptp_how_soon.specs.declared.kinds.What.TheVariants as whats
-use Rattle.gptp_settling_time.specs.HowSoon.{AreStartEvents, BoundsChoice, BoundsGains, BoundsStart, EachEvent, IsIdleEvent, StartsQuietly, way_span}
-use Rattle.gptp_settling_time.specs.InTurn.{NoneUnanswered, TellsNothing, UsedVaryLittle}
+use Rattle.gptp_settling_time.specs.HowSoon.{AreReadyAtStart, AreStartEvents, BoundsChoice, BoundsGains, BoundsStart, EachEvent, IsIdleEvent, StartsQuietly, way_span}
+use Rattle.gptp_settling_time.specs.InTurn.{NoneUnanswered, NoneUsed, TellsNothing, UsedVaryLittle}
 use Rattle.gptp_settling_time.proofs.CutLemmas.{IsBy, all_by}
 use Rattle.gptp_settling_time.proofs.MomentLemmas.{all_at}
 use Rattle.gptp_how_soon_laws.proofs.CalmLemmas.{calm_so, lives_from, lives_to, used_cable}
-use Rattle.gptp_how_soon_laws.proofs.GainedLemmas.{AreFollowed, AreTurnsFollowed, all_gained, all_heard, all_idle, none_any}
+use Rattle.gptp_how_soon_laws.proofs.GainedLemmas.{AreFollowed, AreTurnsFollowed, all_gained, all_heard, all_idle, none_any, not_none}
 use Rattle.gptp_how_soon_laws.proofs.KindLemmas.{told}
 
 -- ---- what is told
@@ -221,67 +221,78 @@ never_again es quiet (c ∷ cs) =
     (never_recovers c.b.clock es quiet))
     (never_again es quiet cs)
 
+-- a link in use is new
+new_used : (n : NetworkState) (now : List Timed) (place : ℕ) (v : LinkSpec) → slice_get n.links place ≡ Some v
+    → IsUsed n.systems now (link_after now v) → In (cable_of (link_after now v)) (new_links n [] now true)
+new_used n now place v there used =
+    In-map (λ (w : LinkSpec). cable_of (link_after now w)) v (filter (is_new n [] now true) n.links)
+    (kept (is_new n [] now true) v n.links (In-slice_get v n.links place there)
+    (ap (λ test. test && true) (used_cable n now v used)))
+
+none_used : (n : NetworkState) (now : List Timed) → (length (new_links n [] now true) == 0) ≡ true → NoneUsed n now
+none_used n now none place v there used =
+    let some =
+    not_none (cable_of (link_after now v)) (new_links n [] now true) (new_used n now place v there used) in
+    let no : true ≡ false = sym none ∙ some in cc
+
 vary_little : (n : NetworkState) (now : List Timed) (es : List Told)
     → list_any (is_hard_to_hear es) (new_links n [] now true) ≡ false → UsedVaryLittle n now
 vary_little n now es soft place v there used =
     let c = cable_of (link_after now v) in
-    let on = used_cable n now v used in
-    let new : In c (new_links n [] now true) =
-    In-map (λ (w : LinkSpec). cable_of (link_after now w)) v (filter (is_new n [] now true) n.links)
-    (kept (is_new n [] now true) v n.links (In-slice_get v n.links place there) (ap (λ test. test && true) on)) in
-    let one = none_any (is_hard_to_hear es) (new_links n [] now true) c soft new in
+    let one =
+    none_any (is_hard_to_hear es) (new_links n [] now true) c soft (new_used n now place v there used) in
     let steady : varies c ≡ false = (or_parts (is_again es c) (varies c) one).1 in
     grind (arith, nat_tests)
 
--- nothing is told, and a link is in use
+-- nothing is told
 starts : (n : NetworkState) (now : List Timed) → list_all tells_nothing (told_of n [] now) ≡ true
-    → list_any is_unanswered (standings_after n now) ≡ false → not (length (new_links n [] now true) == 0) ≡ true
-    → BoundsStart n now (gained_at n (view_at n [] now None 0))
-starts n now quiet none some = (
+    → list_any is_unanswered (standings_after n now) ≡ false → BoundsStart n now (gained_at n (view_at n [] now None 0))
+starts n now quiet none = (
   starts_quietly n now (all_tell_so n [] now quiet) (answered n now none),
-  by (list_any (is_hard_to_hear (told_of n [] now)) (new_links n [] now true)) refl two,
+  (
+    start,
+    soon (length (new_links n [] now true) == 0) refl,
+    by (list_any (is_hard_to_hear (told_of n [] now)) (new_links n [] now true)) refl,
+  ),
 )
   where
     start : ℕ
     start = ready n.params (sync_paths n now) (told_of n [] now) (new_links n [] now true)
 
-    exchanges : ℕ
-    exchanges = two_exchanges n.params (sync_paths n now)
-
-    two : start ≡ two_exchanges n.params (sync_paths n now)
-    two =
-        ap₂ (λ none again. cond none 0
-        (cond again (asked_again n.params (sync_paths n now)) (two_exchanges n.params (sync_paths n now))))
-        (not-true (length (new_links n [] now true) == 0) some)
-        (never_again (told_of n [] now) quiet (new_links n [] now true))
+    soon : (unused : Bool) → (length (new_links n [] now true) == 0) ≡ unused → AreReadyAtStart n now start
+    soon true is = inr (
+      none_used n now is,
+      ap (λ unused. cond unused 0 (cond (list_any (is_again (told_of n [] now)) (new_links n [] now true))
+          (asked_again n.params (sync_paths n now)) (two_exchanges n.params (sync_paths n now)))) is,
+    )
+    soon false is =
+        inl (ap₂ (λ unused again. cond unused 0
+        (cond again (asked_again n.params (sync_paths n now)) (two_exchanges n.params (sync_paths n now)))) is
+        (never_again (told_of n [] now) quiet (new_links n [] now true)))
 
     by : (hard : Bool) → list_any (is_hard_to_hear (told_of n [] now)) (new_links n [] now true) ≡ hard
-        → start ≡ two_exchanges n.params (sync_paths n now)
         → (UsedVaryLittle n now
         × (start + cond (true && not hard) 0 (largest_interval (pace_of n)) + way_span (sync_paths n now)
-        ≡ exchanges + way_span (sync_paths n now)))
+        ≡ start + way_span (sync_paths n now)))
         ⊎ (start + cond (true && not hard) 0 (largest_interval (pace_of n)) + way_span (sync_paths n now)
-        ≡ exchanges + largest_interval (pace_of n) + way_span (sync_paths n now))
-    by true is same = inr (omega (arith, same))
-    by false is same = inl (vary_little n now (told_of n [] now) is, omega (arith, same))
+        ≡ start + largest_interval (pace_of n) + way_span (sync_paths n now))
+    by true is = inr refl
+    by false is = inl (vary_little n now (told_of n [] now) is, omega arith)
 
 -- time 0 with its row
 pub started : (n : NetworkState) (now : List Timed) → row_at n (view_at n [] now None 0) ≡ Gained
     → BoundsStart n now (gained_at n (view_at n [] now None 0))
 started n now row =
     let v = view_at n [] now None 0 in
-    let from = begun_from (is_from_rest n v.at v.paths_before v.standings v.told v.new (ready_at n v) v.before) row in
-    let (two, some) =
-    and_parts (list_all tells_nothing v.told && not (list_any is_unanswered v.standings)) (not (length v.new == 0)) from
-    in
+    let from = begun_from (is_from_rest n v.at v.paths_before v.standings v.told (ready_at n v) v.before) row in
     let (quiet, none) =
-    and_parts (list_all tells_nothing v.told) (not (list_any is_unanswered v.standings)) two in
-    starts n now quiet (not-true (list_any is_unanswered v.standings) none) some
+    and_parts (list_all tells_nothing v.told) (not (list_any is_unanswered v.standings)) from in
+    starts n now quiet (not-true (list_any is_unanswered v.standings) none)
 
 pub never_unchanged : (n : NetworkState) (now : List Timed) → row_at n (view_at n [] now None 0) ≡ Unchanged → ⊥
 never_unchanged n now row =
     let v = view_at n [] now None 0 in
-    never_begun (is_from_rest n v.at v.paths_before v.standings v.told v.new (ready_at n v) v.before) row
+    never_begun (is_from_rest n v.at v.paths_before v.standings v.told (ready_at n v) v.before) row
 
 -- ---- later
 
@@ -326,7 +337,7 @@ module _ (n : NetworkState) (network : IsNetwork n) (events : List Timed) (b : S
     pub others : list_any is_other v.told ≡ false
     pub turns : AreTurnsFollowed n network at made now
     pub followed : list_any is_recovery v.told ≡ true
-        → are_recoveries_followed n b.at at v.told v.new (ready_at n v) ≡ true
+        → are_recoveries_followed n b.at at v.told (ready_at n v) ≡ true
 
   turns_so : are_turns_followed n at v.paths_before v.told ≡ true → AreTurnsFollowed n network at made now
   turns_so is =
@@ -343,11 +354,11 @@ module _ (n : NetworkState) (network : IsNetwork n) (events : List Timed) (b : S
             (not-true (list_any lowers_unused v.told && list_any is_gain v.told) fall);
       }
 
-  from_rest : is_from_rest n at v.paths_before v.standings v.told v.new (ready_at n v) (Some b) ≡ true → IsFromRest
+  from_rest : is_from_rest n at v.paths_before v.standings v.told (ready_at n v) (Some b) ≡ true → IsFromRest
   from_rest is =
       let (three, third) =
       and_parts (rested b at && are_events_followed v.told && are_turns_followed n at v.paths_before v.told)
-      (not (list_any is_recovery v.told) || are_recoveries_followed n b.at at v.told v.new (ready_at n v)) is in
+      (not (list_any is_recovery v.told) || are_recoveries_followed n b.at at v.told (ready_at n v)) is in
       let (two, turns_are) =
       and_parts (rested b at && are_events_followed v.told) (are_turns_followed n at v.paths_before v.told) three in
       let (rest, events_are) = and_parts (rested b at) (are_events_followed v.told) two in
@@ -358,35 +369,31 @@ module _ (n : NetworkState) (network : IsNetwork n) (events : List Timed) (b : S
         others = not-true (list_any is_other v.told) known;
         turns = turns_so turns_are;
         followed = λ recovers. elim (or_cases (not (list_any is_recovery v.told))
-            (are_recoveries_followed n b.at at v.told v.new (ready_at n v)) third) [
+            (are_recoveries_followed n b.at at v.told (ready_at n v)) third) [
               | inl none ↦
                   let no : true ≡ false = sym recovers ∙ not-true (list_any is_recovery v.told) none in absurd cc
               | inr are ↦ are
             ];
       }
 
-  recoveries : are_recoveries_followed n b.at at v.told v.new (ready_at n v) ≡ true → AreFollowed n network at made now
+  recoveries : are_recoveries_followed n b.at at v.told (ready_at n v) ≡ true → AreFollowed n network at made now
   recoveries is =
       let past_test : Bool = nat_lt (b.at + largest_interval (pace_of n)) at in
       let capable_test : Bool = nat_le (capability_span (pace_of n)) (at + ready_at n v) in
-      let again_test : Bool = list_any (is_again v.told) v.new in
-      let (three, turns) =
-      and_parts (past_test && capable_test && again_test) (not (list_any is_unused v.told)) is in
-      let (two, again) = and_parts (past_test && capable_test) again_test three in
+      let (two, turns) = and_parts (past_test && capable_test) (not (list_any is_unused v.told)) is in
       let (past, capable) = and_parts past_test capable_test two in
       let over : b.at + largest_interval (pace_of n) < at = grind (arith, nat_tests) in
       let late_enough : capability_span (pace_of n) ≤ at + ready_at n v = grind (arith, nat_tests) in
       record {
         past = over_before b.at (largest_interval (pace_of n)) at made over (all_by b.at events);
         capable = late_enough;
-        again = again;
         turns = not-true (list_any is_unused v.told) turns;
       }
 
   pub unchanged : row_at n v ≡ Unchanged → HasComeToRest b at × EachEvent (IsIdleEvent n) made now
   unchanged row =
       let (from, idle) =
-      unchanged_from (is_from_rest n at v.paths_before v.standings v.told v.new (ready_at n v) (Some b))
+      unchanged_from (is_from_rest n at v.paths_before v.standings v.told (ready_at n v) (Some b))
       (list_all makes_nothing v.told) (list_any is_loss v.told) row in
       let facts = from_rest from in (facts.rested, all_idle n network at made now facts.turns (all_at at events) idle)
 
@@ -394,7 +401,7 @@ module _ (n : NetworkState) (network : IsNetwork n) (events : List Timed) (b : S
       → HasComeToRest b at × BoundsGains n made now at (ready_at n v) (gained_at n v)
   gained row off =
       let (from, none, some) =
-      gained_from (is_from_rest n at v.paths_before v.standings v.told v.new (ready_at n v) (Some b))
+      gained_from (is_from_rest n at v.paths_before v.standings v.told (ready_at n v) (Some b))
       (list_all makes_nothing v.told) (list_any is_loss v.told) row in
       let facts = from_rest from in (
         facts.rested,

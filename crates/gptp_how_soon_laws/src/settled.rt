@@ -12,8 +12,8 @@ pub fn settled_soon<F: Fate>()
     ensures { SettlesSoon F.answers }
 {}
 
-/// The world with which a run ends is settled, and its snapshot is that of the document, where the run goes on for longer
-/// than the computed choice after a time, and not to the next event.
+/// The world with which a run ends is settled, and its snapshot is that of the document, where the run goes on for
+/// longer than the computed choice after a time, and not to the next event.
 pub fn ends_settled<F: Fate>()
     ensures { EndsSettled F.answers }
 {}

@@ -1,10 +1,9 @@
 -- A document without its events after a time.
-use Rattle.std.proofs.Common.{◌≡◌, inl, inr, ◌<◌, ◌≤◌, ◌+◌, ℕ, Bool, true, false, cond, nat_le, List, [], ◌∷◌, filter, slice_get, Some, refl, sym, ap, ap₂, subst, arith}
+use Rattle.std.proofs.Common.{◌≡◌, inl, inr, ◌<◌, ◌≤◌, ◌+◌, ℕ, Bool, true, false, nat_le, List, [], ◌∷◌, refl, sym, ap, subst, arith}
 use Rattle.std.specs.Prelude.{◌==◌, if◌then◌else◌}
-use Rattle.std.specs.List.{AllByRecursion}
 use Rattle.std.proofs.lemmas.Bool.{ne_eqb}
 use Rattle.std.proofs.lemmas.Bool.Decides.{nat_tests}
-use Rattle.gptp_lists.specs.Members.{In}
+use Rattle.gptp_how_soon_laws.proofs.ExactLemmas.{all_kept}
 use Rattle.gptp_invariants.specs.WorldEncodableLaws.{SetsAnOctet}
 use Rattle.gptp_network.specs.Document.{DocumentState}
 use Rattle.gptp_network.specs.Events.{IsEvent}
@@ -12,7 +11,7 @@ use Rattle.gptp_network.specs.Snapshot.{events_by}
 use Rattle.gptp_network.proofs.SnapshotLemmas.{from_filter}
 use Rattle.gptp_scenario.specs.Network.{NetworkState}
 use Rattle.gptp_scenario.specs.declared.change.Timed.{Timed}
-use Rattle.gptp_settling_time.specs.HowSoon.{BoundsChoice, BoundsEvents, BoundsStart, IsChoiceBoundAfter, NoneBetween, events_at}
+use Rattle.gptp_settling_time.specs.HowSoon.{BoundsChoice, BoundsEvents, BoundsStart, IsChoiceBoundAfter, events_at}
 use Rattle.gptp_theorem.specs.PlayedLaws.{IsPlayable}
 use Rattle.gptp_timeline.proofs.EventLemmas.{filter_each, filter_in_order}
 use Rattle.gptp_timeline.proofs.PastLemmas.{by_sooner}
@@ -21,16 +20,6 @@ abbrev pub shortened : ℕ → DocumentState → DocumentState
 shortened time d = record { network = d.network; events = events_by time d.events }
 
 -- ---- it can be played
-
-all_kept : {X : Type 0} (P : X → Type 0) (test : X → Bool) (xs : List X) → AllByRecursion P xs
-    → AllByRecursion P (filter test xs)
-all_kept P test [] all = tt
-all_kept P test (x ∷ xs) all = by (test x) (all_kept P test xs all.1)
-  where
-    by : (passes : Bool) → AllByRecursion P (filter test xs)
-        → AllByRecursion P (cond passes (x ∷ filter test xs) (filter test xs))
-    by true rest = (all.0, rest)
-    by false rest = rest
 
 pub playable_by : (time : ℕ) (d : DocumentState) → IsPlayable d → IsPlayable (shortened time d)
 playable_by time d playable =

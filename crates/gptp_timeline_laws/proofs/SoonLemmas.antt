@@ -1,14 +1,13 @@
 -- The stretches of a timeline settle by the choice that is told of the times at which they begin.
-use Rattle.std.proofs.Common.{◌≡◌, ◌⊎◌, inl, inr, ◌<◌, ◌≤◌, ◌+◌, ◌-◌, ℕ, Bool, true, false, nat_le, suc, List, [], ◌∷◌, length, map, slice_get, Option, Some, None, IfSome, option_map, refl, sym, ap, subst, ◌∙◌, arith}
-use Rattle.std.specs.List.{AllByRecursion, range_with_len}
+use Rattle.std.proofs.Common.{◌≡◌, inl, inr, ◌<◌, ◌≤◌, ◌+◌, ◌-◌, ℕ, Bool, true, false, nat_le, zero, suc, List, [], ◌∷◌, length, map, slice_get, Option, Some, None, IfSome, option_map, refl, sym, ap, subst, ◌∙◌, arith}
+use Rattle.std.specs.List.{range_with_len}
 use Rattle.std.specs.Option.{is_some}
 use Rattle.std.proofs.lemmas.Bool.Decides.{nat_tests}
 use Rattle.std.proofs.lemmas.Option.{same_Some}
 use Rattle.gptp_graph.specs.Snapshot.{IsWellFormed, Snapshot, System}
 use Rattle.gptp_graph.proofs.SystemLemmas.{same_clock}
-use Rattle.gptp_how_soon.specs.Times.{settling_times}
 use Rattle.gptp_how_soon_laws.proofs.ChoiceLemmas.{settlings_are_choice_bounds}
-use Rattle.gptp_how_soon_laws.proofs.StepLemmas.{IsKept, kept}
+use Rattle.gptp_how_soon_laws.proofs.StepLemmas.{kept}
 use Rattle.gptp_invariants.specs.WorldStanding.{snapshot_of}
 use Rattle.gptp_invariants.proofs.WorldStandsLemmas.{stands_well}
 use Rattle.gptp_links.specs.declared.bounds.Bounds.{Bounds}
@@ -21,28 +20,23 @@ use Rattle.gptp_network.specs.Document.{DocumentState}
 use Rattle.gptp_network.specs.Snapshot.{events_by}
 use Rattle.gptp_network.proofs.SnapshotLemmas.{from_filter}
 use Rattle.gptp_report.specs.Transitions.{Courses, Unfolds}
-use Rattle.gptp_roles.specs.declared.role.Role.{Role}
 use Rattle.gptp_scenario.specs.declared.change.Timed.{Timed}
 use Rattle.gptp_settling_time.specs.HowSoon.{IsChoiceBound, NoneBetween}
 use Rattle.gptp_settling_time.specs.Unchanged.{LeavesShown, ShowsSameChoice, ShowsSameRoles}
 use Rattle.gptp_settling_time.proofs.ChoiceBoundLemmas.{choice_bounds_hold}
 use Rattle.gptp_settling_time.proofs.CutLemmas.{acts_by}
-use Rattle.gptp_system.specs.Start.{role_at}
-use Rattle.gptp_system.specs.State.{SystemState, clock, is_capable_at}
+use Rattle.gptp_system.specs.State.{SystemState}
 use Rattle.gptp_system.specs.Steps.{HasPortNumber}
 use Rattle.gptp_theorem.specs.PlayedLaws.{IsPlayable}
 use Rattle.gptp_timeline.specs.Laws.{AllNear}
 use Rattle.gptp_timeline.specs.Ports.{shown_port, shown_ports}
 use Rattle.gptp_timeline.specs.Shown.{live_system, same_choice, same_roles, shown, shown_of}
-use Rattle.gptp_timeline.specs.Stretch.{at_of}
-use Rattle.gptp_timeline.specs.Timeline.{StretchTrace, TimelineOf, later_than}
-use Rattle.gptp_timeline.specs.declared.ports.ShownPort.{ShownPort}
-use Rattle.gptp_timeline.specs.declared.shown.Shown.{Shown}
-use Rattle.gptp_timeline.specs.declared.timeline.TimelineOptions.{TimelineOptions}
+use Rattle.gptp_timeline.specs.Stretch.{at_of, last_at, leaves_another}
+use Rattle.gptp_timeline.specs.Timeline.{StretchTrace, later_than}
 use Rattle.gptp_timeline.proofs.BehindLemmas.{IsStill, ShowsTheSame, StillBehind, last_choice, last_roles}
 use Rattle.gptp_timeline.proofs.EventLemmas.{filter_in_order, now_by}
 use Rattle.gptp_timeline.proofs.PastLemmas.{by_sooner}
-use Rattle.gptp_timeline.proofs.RestLemmas.{lives_there, shows_live, stands_there}
+use Rattle.gptp_timeline.proofs.RestLemmas.{shows_live, stands_there}
 use Rattle.gptp_timeline.proofs.SameLemmas.{choice_itself, roles_itself}
 use Rattle.gptp_timeline.proofs.SettlingLemmas.{begins, keeps_first, left_first}
 use Rattle.gptp_timeline.proofs.ShownLemmas.{live_shown}
@@ -55,34 +49,38 @@ use Rattle.gptp_world.specs.Transitions.{ActTrace}
 -- ---- what shows the same is shown the same
 
 in_range : (k from i n : ℕ) → slice_get (range_with_len from k) i ≡ Some n → (from ≤ n) × (n < from + k)
-in_range 0 from i n there = absurd cc
-in_range (suc k) from 0 n there = let is : from ≡ n = same_Some from n there in (omega arith, omega arith)
+in_range zero from i n there = absurd cc
+in_range (suc k) from zero n there = let is : from ≡ n = same_Some from n there in (omega arith, omega arith)
 in_range (suc k) from (suc i) n there =
     let (low, high) = in_range k (from + 1) i n there in (omega (arith, low), omega (arith, high))
 
 module _ (s s' : SystemState) (count : length s'.ports ≡ length s.ports) (choice : ShowsSameChoice s s')
     (roles : ShowsSameRoles s s') where
-  abbrev made : Role → Bool → ShownPort
-  made r c = record { role = r; capable = c }
+  port_is : (n : ℕ) → HasPortNumber s n → shown_port s' n ≡ shown_port s n
+  port_is n has = λ i. record { role = roles.role n has i; capable = roles.capable n has i }
 
   ports_are : shown_ports s' ≡ shown_ports s
   ports_are =
       ap (λ k. map (shown_port s') (range_with_len 1 k)) count
       ∙ sym (map_same (shown_port s) (shown_port s') (range_with_len 1 (length s.ports)) (λ i n there.
       let (low, high) = in_range (length s.ports) 1 i n there in
-      let has : HasPortNumber s n = record { least = low; most = omega (arith, high) } in
-      ap (λ r. made r (is_capable_at s' n)) (roles.role n has) ∙ ap (made (role_at s n)) (roles.capable n has)))
+      port_is n (record { least = low; most = omega (arith, high) })))
 
-  abbrev shows : ℕ → ℕ → Option ℕ → List ShownPort → Shown
-  shows root steps slave ports =
-      record { root = root; steps = steps; slave = slave; known = is_some s'.offset; ports = ports }
-
-  shown_is : shown_of s' ≡ shows s.root s.steps s.slave (shown_ports s)
-  shown_is =
-      ap (λ r. shows r s'.steps s'.slave (shown_ports s')) choice.root
-      ∙ ap (λ k. shows s.root k s'.slave (shown_ports s')) choice.steps
-      ∙ ap (λ l. shows s.root s.steps l (shown_ports s')) choice.slave
-      ∙ ap (shows s.root s.steps s.slave) ports_are
+  -- but for whether its offset is known
+  shown_is : shown_of s' ≡ record {
+    root = s.root;
+    steps = s.steps;
+    slave = s.slave;
+    known = is_some s'.offset;
+    ports = shown_ports s;
+  }
+  shown_is = λ i. record {
+    root = choice.root i;
+    steps = choice.steps i;
+    slave = choice.slave i;
+    known = is_some s'.offset;
+    ports = ports_are i;
+  }
 
   shown_alike : (same_choice (Some (shown_of s)) (Some (shown_of s')) ≡ true)
       × (same_roles (Some (shown_of s)) (Some (shown_of s')) ≡ true)
@@ -211,8 +209,10 @@ stretches_settle_soon answers d until options fate lines exceeded t playable p t
     let due = b.is_left.within in
     let ends = ends_on until b.from b.left (later_than b.from b.left) refl due in
     let calm = still answers d playable until p s.choice fate t.started t.start t.begun run
-    (omega (arith, from_is, due)) (omega (arith, from_is, to_is, ends)) here near in (
-      within p.from s.choice _ (last_choice names (p.from + s.choice) p.acts calm),
-      subst (λ r. IfSome (option_map (λ time. time - p.from) _) (λ time. time ≤ r)) (sym roles)
-          (within p.from s.choice _ (last_roles names (p.from + s.choice) p.acts calm)),
+    (omega (arith, from_is, due)) (omega (arith, from_is, to_is, ends)) here near in
+    let chosen : Option ℕ = last_at (leaves_another same_choice names) p.acts in
+    let played : Option ℕ = last_at (leaves_another same_roles names) p.acts in (
+      within p.from s.choice chosen (last_choice names (p.from + s.choice) p.acts calm),
+      subst (λ r. IfSome (option_map (λ time. time - p.from) played) (λ time. time ≤ r)) (sym roles)
+          (within p.from s.choice played (last_roles names (p.from + s.choice) p.acts calm)),
     )

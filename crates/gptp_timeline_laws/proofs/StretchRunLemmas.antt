@@ -1,10 +1,10 @@
 -- The stretches of a timeline up to one of them are a run, without the events after that begins.
-use Rattle.std.proofs.Common.{◌≡◌, ◌≢◌, inl, inr, ◌<◌, ◌≤◌, ℕ, Bool, true, false, nat_le, nat_lt, List, [], ◌∷◌, ◌++◌, filter, Option, slice_get, refl, sym, ap, subst, ◌∙◌, arith}
+use Rattle.std.proofs.Common.{◌≡◌, ◌≢◌, inl, inr, ◌<◌, ◌≤◌, ℕ, true, nat_le, nat_lt, List, [], ◌∷◌, ◌++◌, Option, slice_get, refl, sym, ap, subst, ◌∙◌, arith}
 use Rattle.std.specs.List.{AllByRecursion}
 use Rattle.std.proofs.lemmas.Bool.Decides.{nat_tests}
 use Rattle.std.proofs.lemmas.List.Elements.{filter-append}
 use Rattle.gptp_lists.specs.Members.{In}
-use Rattle.gptp_lists.proofs.SystemSpecLemmas.{In-left, In-parts, In-right}
+use Rattle.gptp_lists.proofs.SystemSpecLemmas.{In-parts, In-right}
 use Rattle.gptp_invariants.specs.WorldStanding.{snapshot_of}
 use Rattle.gptp_invariants.proofs.ChoiceCalmKeptLemmas.{acts_keep, same_snapshot}
 use Rattle.gptp_links.specs.declared.bounds.Bounds.{Bounds}
@@ -15,6 +15,7 @@ use Rattle.gptp_network.specs.Events.{AreInOrder}
 use Rattle.gptp_network.specs.Snapshot.{events_by}
 use Rattle.gptp_report.specs.Transitions.{Courses, Makes}
 use Rattle.gptp_scenario.specs.declared.change.Timed.{Timed}
+use Rattle.gptp_settling_time.proofs.CutLemmas.{all_by}
 use Rattle.gptp_timeline.specs.Stretch.{at_of}
 use Rattle.gptp_timeline.specs.Timeline.{AllPass, IsPassage, StretchTrace, end_before, later_than, now_of}
 use Rattle.gptp_timeline.proofs.EventLemmas.{filter_in_order, filter_passes, now_by}
@@ -23,15 +24,6 @@ use Rattle.gptp_timeline.proofs.UnfoldLemmas.{courses_on, now_and_later}
 use Rattle.gptp_world.specs.Transitions.{ActTrace, Passes, transition}
 
 -- ---- events
-
-all_by : (until : ℕ) (events : List Timed) → AllByRecursion (λ (e : Timed). e.at ≤ until) (events_by until events)
-all_by until [] = tt
-all_by until (e ∷ es) = by (nat_le e.at until) refl (all_by until es)
-  where
-    by : (due : Bool) → nat_le e.at until ≡ due → AllByRecursion (λ (x : Timed). x.at ≤ until) (events_by until es)
-        → AllByRecursion (λ (x : Timed). x.at ≤ until) (events_by until (e ∷ es))
-    by true test rest = let first : e.at ≤ until = grind (arith, nat_tests) in rw test (first, rest)
-    by false test rest = rw test rest
 
 -- those up to a time are those up to an earlier one, and of the later ones those up to it
 by_parts : (from time : ℕ) (events : List Timed) → AreInOrder events → from ≤ time
