@@ -1,4 +1,4 @@
-use Rattle.std.proofs.Common.{◌≡◌, false, List, length, ap, subst, sym, ◌∙◌}
+use Rattle.std.proofs.Common.{List, length, ap, subst, sym, ◌∙◌}
 use Rattle.std.specs.Io.KnownBytes.{Appends}
 use Rattle.std.proofs.lemmas.Result.{IfOk-weaker}
 use Rattle.gptp_network.specs.Document.{DocumentState}
