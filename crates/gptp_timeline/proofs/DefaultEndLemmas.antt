@@ -12,7 +12,8 @@ before_last n = omega arith
 last_next : (t u : SettlingTime) (us : List SettlingTime)
     → slice_get (t ∷ u ∷ us) (length (t ∷ u ∷ us) - 1) ≡ slice_get (u ∷ us) (length (u ∷ us) - 1)
 last_next t u us =
-    ap (slice_get (t ∷ u ∷ us)) (before_last (suc (length us))) ∙ ap (slice_get (u ∷ us)) (sym (before_last (length us)))
+    ap (slice_get (t ∷ u ∷ us)) (before_last (suc (length us)))
+    ∙ ap (slice_get (u ∷ us)) (sym (before_last (length us)))
 
 -- it is that by the last time
 pub end_by_last : (ts : List SettlingTime) (t : SettlingTime) → slice_get ts (length ts - 1) ≡ Some t

@@ -436,8 +436,10 @@ module _ (options : TimelineOptions) (names : List ℕ) (carried : Carried) wher
         ∙ ap (λ begins. ended_stretch p.from p.to begins plan.settling o.measures o.systems times) is.begins_is
         ∙ ap (λ settling. ended_stretch p.from p.to (is_begun p.events) settling o.measures o.systems times)
         is.settling_is
-        ∙ ap (λ m. ended_stretch p.from p.to (is_begun p.events) p.settling m o.systems times) observes.tracks.measures_are
-        ∙ ap (λ xs. ended_stretch p.from p.to (is_begun p.events) p.settling measures xs times) observes.tracks.stands.are
+        ∙ ap (λ m. ended_stretch p.from p.to (is_begun p.events) p.settling m o.systems times)
+        observes.tracks.measures_are
+        ∙ ap (λ xs. ended_stretch p.from p.to (is_begun p.events) p.settling measures xs times)
+        observes.tracks.stands.are
         ∙ ap (λ h. became h (counted (shown_of_all (map (kept now errors p.after) names)))) longest
         ∙ ap (λ shown. became (greatest (ended names since p.acts ++ under_way names now p.to)) (counted shown))
         (kept_shown now errors p.after names)

@@ -477,7 +477,8 @@ module _ {F : Type 0} (answers : Bounds → ℕ → F → Option ℕ → F → T
         → AllNear (snapshot_of p.after)
         → StillBehind (p.from + bound) p.acts
     settles_one from before left fate fate_after w p bound is keeps passage bounded_by near =
-        let bounds : IsBound d from (Some bound) = subst (λ time. IsBound d time (Some bound)) passage.from_is bounded_by in
+        let bounds : IsBound d from (Some bound) =
+        subst (λ time. IsBound d time (Some bound)) passage.from_is bounded_by in
         let span = bounds.1 in let now = now_of from left in
         let are = events_then until from before left is in
         let test : Timed → Bool = λ (e : Timed). nat_le e.at from in

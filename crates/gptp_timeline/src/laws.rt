@@ -19,8 +19,9 @@ pub fn last_lines_tell<F: Fate>()
     ensures last { LastLinesTell F.answers }
 {}
 
-/// Where the network is calm where a stretch of the timeline of a document begins, and every live system is near where it
-/// ends, its choice and its roles stand within the span: no later act leaves any system another, nor any of its ports.
+/// Where the network is calm where a stretch of the timeline of a document begins, and every live system is near where
+/// it ends, its choice and its roles stand within the span: no later act leaves any system another, nor any of its
+/// ports.
 pub fn stretches_settle<F: Fate>()
     ensures { StretchesSettle F.answers }
 {}

@@ -154,7 +154,12 @@ impl Limits {
     pub fn exceeds(&self, limit: Limit, amount: Option<u128>) -> bool
         ensures { result ≡ exceeds self.now limit amount }
     {
-        is_above(self.most_of(limit), limit.unit(), limit.none_is_above(), amount)
+        is_above(
+            self.most_of(limit),
+            limit.unit(),
+            limit.none_is_above(),
+            amount,
+        )
     }
 
     /// Whether a stretch exceeds a limit that is asked of it.

@@ -30,9 +30,9 @@ pub record ReceivedWithin (name span time : ℕ) (ts : List ActTrace) : Type 0 w
   pub receives : receives name act ≡ true
   pub lately : time ≤ at_of act + span
 
--- Once a stretch that begins in a calm network lasts longer than the span and the wait for a Sync, each near live system
--- that has a Slave port, and whose root can be grandmaster, received time in it no longer ago than that wait. So what it
--- reads is no older, and from one receipt to the next it is no longer.
+-- Once a stretch that begins in a calm network lasts longer than the span and the wait for a Sync, each near live
+-- system that has a Slave port, and whose root can be grandmaster, received time in it no longer ago than that wait. So
+-- what it reads is no older, and from one receipt to the next it is no longer.
 abbrev pub ReceiptsAreRecent : DocumentState → WorldState → Carried → List StretchTrace → Type 0
 ReceiptsAreRecent d start first passages = (p : StretchTrace) (w : WorldState) (c : Carried) (g : Snapshot)
     (time span name : ℕ) (moment : Moment p time) (s : SystemState)

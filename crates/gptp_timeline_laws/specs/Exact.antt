@@ -54,7 +54,8 @@ abbrev pub TimelinesReadExactly : {F : Type 0} → (Bounds → ℕ → F → Opt
 TimelinesReadExactly {F} answers = (d : DocumentState) (until : ℕ) (options : TimelineOptions) (fate : F)
     (lines : List (List ℕ)) (exceeded : Bool) (t : TimelineOf answers d until options fate lines exceeded)
     → IsPlayable d → until ≤ 10 ^ 18
-    → ReadsAreWithin d (rising_clocks t.start) t.start (none_carried (tracks options) (rising_clocks t.start)) t.passages
+    → ReadsAreWithin d (rising_clocks t.start) t.start (none_carried (tracks options) (rising_clocks t.start))
+    t.passages
 
 abbrev pub TimelinesBoundReceipts : {F : Type 0} → (Bounds → ℕ → F → Option ℕ → F → Type 0) → Type 0
 TimelinesBoundReceipts {F} answers = (d : DocumentState) (until : ℕ) (options : TimelineOptions) (fate : F)
