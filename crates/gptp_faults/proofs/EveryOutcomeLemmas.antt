@@ -4,7 +4,7 @@ use Rattle.std.specs.List.{range_with_len}
 use Rattle.std.proofs.lemmas.Nat.{mul-le}
 use Rattle.gptp_lists.specs.Members.{In}
 use Rattle.gptp_lists.proofs.PlaceLemmas.{member_there}
-use Rattle.gptp_lists.proofs.SystemSpecLemmas.{slice_get-In}
+use Rattle.gptp_lists.proofs.SystemSpecLemmas.{In-slice_get}
 use Rattle.gptp_network.specs.Document.{DocumentState}
 use Rattle.gptp_network.proofs.SnapshotLemmas.{from_filter}
 use Rattle.gptp_theorem.specs.PlayedLaws.{IsPlayable}
@@ -117,7 +117,7 @@ module _ (d : DocumentState) (playable : IsPlayable d) (runs : RunsEnd d) (optio
         → (o : OutcomeState) × IsOutcomeAt options d t all number o
     outcome_at number below =
         let (c, there) = member_there all number below in
-        let member = slice_get-In all number c there in
+        let member = In-slice_get c all number there in
         let run = case_run c member (not_late d options.hold t all in_time number c there) in
         let (ends, each) = each_exists (CaseRunEnds options d t c) (range_with_len 0 (runs_of t))
         (λ n among. run n (below_count (runs_of t) n among)) in

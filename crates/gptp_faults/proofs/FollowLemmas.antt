@@ -6,7 +6,7 @@ use Rattle.gptp_model.specs.Views.{rising_clocks}
 use Rattle.gptp_graph.specs.PathBound.{path_bound}
 use Rattle.gptp_graph.specs.Snapshot.{Snapshot}
 use Rattle.gptp_lists.specs.Members.{In}
-use Rattle.gptp_lists.proofs.SystemSpecLemmas.{slice_get-In}
+use Rattle.gptp_lists.proofs.SystemSpecLemmas.{In-slice_get}
 use Rattle.gptp_network.specs.Adding.{with_event}
 use Rattle.gptp_network.specs.Document.{DocumentState}
 use Rattle.gptp_network.specs.Snapshot.{events_by, IsSnapshot, StandsAfter}
@@ -218,7 +218,7 @@ follow_settles d options lines exceeded f playable o g span member bound stays s
     let t = f.times in
     let (number, of_part, (c, there, outcome)) =
     each_for (IsOutcomeAt options d t f.cases) _ f.outcomes o f.are_outcomes member in
-    let a_case = slice_get-In f.cases number c there in
+    let a_case = In-slice_get c f.cases number there in
     let failing = outcome.failing in
     let bounded = subst (λ x. IsBound (with_event t.from (fault_of x) d) t.from (Some span)) failing bound in
     let held : span ≤ hold_of d options.hold c t.from = subst (λ x. span ≤ hold_of d options.hold x t.from) failing stays in

@@ -25,7 +25,7 @@ module _ (test : ℕ → Bool) where
   -- the first of those that are left doesn't
   pub passes_later : (number count : ℕ) → number < count → test number ≡ false
       → list_any test (range_with_len number (count - number))
-          ≡ list_any test (range_with_len (number + 1) (count - (number + 1)))
+      ≡ list_any test (range_with_len (number + 1) (count - (number + 1)))
   passes_later number count below fails =
       ap (list_any test) (range_first number count below) ∙ rw fails refl
 
@@ -44,15 +44,17 @@ module _ (test : ℕ → Bool) where
       → number < start + count → test number ≡ false
   fails_at zero start number none from below = absurd (omega (arith, from, below))
   fails_at (suc count) start number none from below =
-      by (nat_lt start number) refl (neither (test start) (list_any test (range_with_len (start + 1) count)) none)
+      let rest = neither (test start) (list_any test (range_with_len (start + 1) count)) none in
+      by (nat_lt start number) refl rest.0
+      (λ above. fails_at count (start + 1) number rest.1 above (omega (arith, below)))
     where
-      by : (t : Bool) → nat_lt start number ≡ t
-          → (test start ≡ false) × (list_any test (range_with_len (start + 1) count) ≡ false) → test number ≡ false
-      by true is rest =
-          let above : start < number = grind (arith, nat_tests) in
-          fails_at count (start + 1) number rest.1 (omega (arith, above)) (omega (arith, below))
-      by false is rest =
-          let same : start ≡ number = grind (arith, from, nat_tests) in ap test (sym same) ∙ rest.0
+      by : (t : Bool) → nat_lt start number ≡ t → test start ≡ false → (start + 1 ≤ number → test number ≡ false)
+          → test number ≡ false
+      by true is here later =
+          let above : start < number = grind (arith, nat_tests) in later (omega (arith, above))
+      by false is here later =
+          let past : number ≤ start = grind (arith, nat_tests) in
+          let same : start ≡ number = omega (arith, from, past) in ap test (sym same) ∙ here
 
 -- ---- cases
 

@@ -98,8 +98,8 @@ worst_words choice holdover error =
 
 abbrev pub worst_line : Extremes → List ℕ
 worst_line e =
-    worst_words e.choice (amount_or_0 (amount_of e.holdover)) (amount_or_0 (amount_of e.error)) ++ counts_text e.counts
-    ++ bounds_text e.bounds
+    worst_words e.choice (amount_or_0 (amount_of e.holdover)) (amount_or_0 (amount_of e.error))
+    ++ (counts_text e.counts ++ bounds_text e.bounds)
 
 abbrev pub worst_lines : Bool → Extremes → List (List ℕ)
 worst_lines asked e = worst_line e ∷ worst_times_lines asked (codes "worst") e.times

@@ -14,9 +14,7 @@ use crate::outcome::Outcome;
 use crate::ranking::amount_or_0;
 use crate::time_text::{write_times, write_worst_times};
 use crate::times::Times;
-use gptp_timeline::{
-    Counts, Limit, Limits, Longest, Near, Worst, amount_of, write_first_exceeded,
-};
+use gptp_timeline::{Counts, Limit, Limits, Longest, Near, Worst, amount_of, write_first_exceeded};
 use gptp_vector::PortId;
 use gptp_words::{ClockDigits, IdentityDigits};
 use std::alloc::AllocError;
@@ -144,7 +142,11 @@ fn write_amounts(text: &mut String, word: &str, extremes: &Extremes) -> Result<(
 }
 
 /// Appends what was counted, and how soon the choice and the roles stand at most.
-fn write_counts(text: &mut String, counts: Counts, bounds: Option<HowSoon>) -> Result<(), AllocError>
+fn write_counts(
+    text: &mut String,
+    counts: Counts,
+    bounds: Option<HowSoon>,
+) -> Result<(), AllocError>
     ensures { OnOk result (string_bytes text.new
         ≡ string_bytes text.old ++ ((counts_text counts ++ bounds_text bounds) ++ 10 ∷ [])) }
 {

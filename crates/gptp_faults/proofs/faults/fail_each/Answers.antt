@@ -1,4 +1,4 @@
-use Rattle.std.proofs.Common.{◌≡◌, false, List, length, ap, subst, sym, ◌∙◌}
+use Rattle.std.proofs.Common.{List, length, ap, subst, sym, ◌∙◌}
 use Rattle.std.specs.Io.KnownBytes.{Appends}
 use Rattle.std.proofs.lemmas.Result.{IfOk-weaker}
 use Rattle.gptp_network.specs.Document.{DocumentState}
@@ -20,7 +20,7 @@ returns-clause-answer g c =
     answered d options cases t c.in_ok-cases.ensures c.in_ok-times.ensures.times
     (ap (fault_before d t) (sym c.deref.ensures.value) ∙ sym c.fault_before.ensures ∙ c.in_default.is)
     (ap (any_late d options.hold t) (sym c.deref-2.ensures.value) ∙ sym c.in_ok-any_late.ensures.late
-    ∙ c.if-any_late.false) answer
+    ∙ c.if-branch.false) answer
     (subst (λ (cs : List Case). IsTable d options t cs answer) c.deref-3.ensures.value
     (subst (λ (e : DocumentState). IsTable e options t c.deref-3.result.now answer) c.in_ok-any_late.ensures.same
     table)))

@@ -1,5 +1,5 @@
 -- Whether the case is late at one of the moments that are left tells it of all, and the document is as it was.
-use Rattle.std.proofs.Common.{◌≡◌, ◌≤◌, ◌-◌, ℕ}
+use Rattle.std.proofs.Common.{◌≡◌, ◌≤◌, ◌-◌}
 use Rattle.std.specs.List.{list_any, range_with_len}
 use Rattle.gptp_faults.specs.Refusals.{is_late, is_late_at}
 use Rattle.gptp_faults.specs.Times.{moment}
