@@ -38,7 +38,7 @@ pub struct SettlingTime {
 
 /// What is known of a time.
 #[derive(Clone, Copy)]
-pub(crate) enum Row {
+pub enum Row {
     /// The network may come from any past.
     AnyPast,
     /// It is from rest, and its events change nothing.

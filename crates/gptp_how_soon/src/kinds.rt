@@ -12,7 +12,7 @@ use std::alloc::AllocError;
 
 /// What an event does to what stands just before it.
 #[derive(Clone, Copy)]
-pub(crate) enum Kind {
+pub enum Kind {
     /// It changes nothing.
     Idle,
     /// It takes something away, or makes a system worse.
@@ -25,7 +25,7 @@ pub(crate) enum Kind {
 
 /// What an event is.
 #[derive(Clone, Copy)]
-pub(crate) enum What {
+pub enum What {
     LinkDown,
     LinkUp,
     LinkSet,
@@ -39,7 +39,7 @@ pub(crate) enum What {
 
 /// An event of a time, and the system that it names.
 #[derive(Clone, Copy)]
-pub(crate) struct Told {
+pub struct Told {
     pub kind: Kind,
     pub what: What,
     pub clock: ClockId,

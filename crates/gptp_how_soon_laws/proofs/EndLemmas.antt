@@ -1,0 +1,75 @@
+-- The world that a run ends with has settled by the bounds that are told of a time.
+use Rattle.std.proofs.Common.{◌≡◌, ℕ, List, [], ◌∷◌, ◌++◌, Option, refl, sym, ap, subst, ◌∙◌, append-nil, append_assoc, arith}
+use Rattle.std.specs.List.{AllByRecursion}
+use Rattle.gptp_links.specs.declared.bounds.Bounds.{Bounds}
+use Rattle.gptp_scenario.specs.Network.{pace_of}
+use Rattle.gptp_scenario.specs.declared.change.Timed.{Timed}
+use Rattle.gptp_model.specs.World.{WorldState}
+use Rattle.gptp_network.specs.Document.{DocumentState}
+use Rattle.gptp_network.specs.Snapshot.{events_by}
+use Rattle.gptp_report.specs.Transitions.{ActTrace, Courses}
+use Rattle.gptp_theorem.specs.PlayedLaws.{IsMade, IsPlayable}
+use Rattle.gptp_theorem.proofs.HeadlineLemmas.{is_settled}
+use Rattle.gptp_theorem.proofs.SettlingInvariantLemmas.{IsFitEvent, events_fit, events_made, least_of}
+use Rattle.gptp_theorem.proofs.SnapshotLemmas.{snapshots_stand}
+use Rattle.gptp_settling_time.specs.InTurn.{LeadOn, Past}
+use Rattle.gptp_settling_time.proofs.FollowedLemmas.{bound_settles}
+use Rattle.gptp_settling_time.proofs.InTurnLemmas.{IsAfter, after_act, after_keeps, after_later, after_settles, begins_after, leads_to}
+use Rattle.gptp_settling_time.proofs.MomentLemmas.{none_later}
+use Rattle.gptp_settling_time.proofs.PassLemmas.{passes_to}
+use Rattle.gptp_how_soon_laws.specs.Settled.{EndsSettled}
+use Rattle.gptp_how_soon_laws.proofs.ChoiceLemmas.{settlings_are_choice_bounds}
+
+module _ {F : Type 0} (answers : Bounds → ℕ → F → Option ℕ → F → Type 0) where
+  -- it has the time up to which the run goes
+  ends_then : (until : ℕ) (events : List Timed) (ts : List ActTrace) (fate fate_after : F) (w w' : WorldState)
+      → Courses answers until events ts fate fate_after w w' → w'.time ≡ until
+  ends_then until [] ts fate fate_after w w' k = ap (λ (v : WorldState). v.time) k.is
+  ends_then until (event ∷ events) ts fate fate_after w w' (first, rest, drawn, between, makes, k, split) =
+      ends_then until events rest drawn fate_after between w' k
+
+  -- what the network came from is so of it
+  module _ (d : DocumentState) (playable : IsPlayable d) (all : List Timed) (last : Past) (until : ℕ) where
+    end_in_turn : (made : List Timed) (past : Past) (events : List Timed) (ts : List ActTrace) (fate fate_after : F)
+        (w w' : WorldState)
+        → made ++ events ≡ all → AllByRecursion IsMade events → AllByRecursion (IsFitEvent (least_of d)) events
+        → LeadOn d.network made past events last → Courses answers until events ts fate fate_after w w'
+        → IsAfter d made past w → IsAfter d all last w'
+    end_in_turn made past [] ts fate fate_after w w' are is fit lead k so =
+        let same : made ≡ all = sym (append-nil made) ∙ are in
+        let there : IsAfter d all last w =
+        subst (λ es. IsAfter d es last w) same (subst (λ x. IsAfter d made x w) (sym lead) so) in
+        (passes_to answers (IsAfter d all last) (after_later d all last)
+        (λ t one other v next_is was v_is. after_act d all answers last t one other v next_is was v_is) until ts fate
+        fate_after w w' k there).end
+    end_in_turn made past (event ∷ events) ts fate fate_after w w' are is fit (next, leads, others)
+        (first, rest, drawn, between, k, on, split) so =
+        let passed = passes_to answers (IsAfter d made past) (after_later d made past)
+        (λ t one other v next_is was v_is. after_act d made answers past t one other v next_is was v_is)
+        event.at k.first fate k.drawn w k.between k.passes so in
+        let moment : k.between.time ≡ event.at = ap (λ (v : WorldState). v.time) k.passes.is in
+        end_in_turn (made ++ event ∷ []) next events rest drawn fate_after between w'
+        (append_assoc made (event ∷ []) events ∙ are) is.1 fit.1 others on
+        (leads_to answers d playable made event k.drawn drawn k.between between k.done is.0 fit.0 k.made
+        (after_keeps d made past k.between passed.end) moment past next leads passed.end)
+
+  pub ends_settled : EndsSettled answers
+  ends_settled d time s next until fate first w ts playable k told is none late early =
+      let bound = (settlings_are_choice_bounds d time s playable told is).0 in
+      let all : List Timed = events_by until d.events in
+      let same = none_later d.events time.at until next (omega (arith, late)) early none in
+      let settles =
+      bound_settles d playable.network playable.events.in_order time.at s.choice until until same late bound in
+      let so = end_in_turn d playable all settles.last until [] settles.first all ts k.started k.drawn first w refl
+      (events_made d until playable.network playable.events) (events_fit d until playable) settles.lead k.courses
+      (begins_after answers d playable fate until first w ts k settles.first settles.begins) in
+      let keeps = after_keeps d all settles.last w so in
+      let moment = ends_then until all ts k.started k.drawn first w k.courses in
+      let both = after_settles d playable all settles.calm until w (omega (arith, moment)) settles.last so
+      settles.settles in
+      record {
+        settled = is_settled w (record { pace = pace_of d.network; is = keeps.claim }) both.0 both.1;
+        snapshot = λ g stands.
+            let (systems, links) = snapshots_stand d.network all w g keeps.stands keeps.claim.world.sound stands in
+            record { systems = systems; links = links };
+      }

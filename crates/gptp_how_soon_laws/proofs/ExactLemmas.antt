@@ -1,0 +1,104 @@
+-- Offsets are exact in each run from the time on that is told of a time.
+use Rattle.std.proofs.Common.{◌≡◌, ◌<◌, ◌≤◌, ◌+◌, ◌*◌, ℕ, Bool, true, false, cond, suc, max, List, [], ◌∷◌, Option, filter, refl, ap, arith}
+use Rattle.std.specs.List.{AllByRecursion}
+use Rattle.std.proofs.Math.Nat.{mul-le-mul}
+use Rattle.gptp_graph.specs.PathBound.{path_bound}
+use Rattle.gptp_graph.proofs.PathBoundLemmas.{IsDistance-within, paths_within}
+use Rattle.gptp_links.specs.declared.bounds.Bounds.{Bounds}
+use Rattle.gptp_setup.specs.SettlingParams.{largest_interval}
+use Rattle.gptp_setup.proofs.IntervalLemmas.{interval_positive}
+use Rattle.gptp_scenario.specs.Calm.{last_change}
+use Rattle.gptp_scenario.specs.Network.{pace_of}
+use Rattle.gptp_scenario.specs.SyncWait.{sync_paths}
+use Rattle.gptp_scenario.specs.declared.change.Timed.{Timed}
+use Rattle.gptp_scenario.specs.declared.sync_wait.SyncPaths.{SyncPaths}
+use Rattle.gptp_scenario.proofs.LogLemmas.{largest_log}
+use Rattle.gptp_network.specs.Document.{DocumentState}
+use Rattle.gptp_network.specs.Snapshot.{events_by}
+use Rattle.gptp_report.specs.Transitions.{ActTrace}
+use Rattle.gptp_invariants.specs.SyncExact.{IsWayError}
+use Rattle.gptp_invariants.specs.SyncFollowers.{follower_parts}
+use Rattle.gptp_invariants.specs.WorldStanding.{snapshot_of}
+use Rattle.gptp_invariants.proofs.SyncFollowWayLemmas.{way_distance}
+use Rattle.gptp_invariants.proofs.WorldStandsLemmas.{stands_well}
+use Rattle.gptp_theorem.specs.PlayedLaws.{IsPlayable}
+use Rattle.gptp_theorem.proofs.SyncPathLemmas.{paths_stand}
+use Rattle.gptp_settling_time.specs.ExactInTurn.{last_set, sets_link}
+use Rattle.gptp_settling_time.proofs.ChoiceBoundLemmas.{choice_bounds_are_exact}
+use Rattle.gptp_settling_time.proofs.CutLemmas.{IsBy, all_by}
+use Rattle.gptp_how_soon_laws.specs.Exact.{IsExactSoon}
+use Rattle.gptp_how_soon_laws.proofs.ChoiceLemmas.{time_so}
+use Rattle.gptp_how_soon_laws.proofs.StepLemmas.{IsKept, kept}
+
+-- ---- links were last set by then
+
+pub all_kept : {X : Type 0} (P : X → Type 0) (p : X → Bool) (xs : List X) → AllByRecursion P xs
+    → AllByRecursion P (filter p xs)
+all_kept P p [] all = tt
+all_kept P p (x ∷ xs) all = by (p x) (all_kept P p xs all.1)
+  where
+    by : (test : Bool) → AllByRecursion P (filter p xs)
+        → AllByRecursion P (cond test (x ∷ filter p xs) (filter p xs))
+    by true rest = (all.0, rest)
+    by false rest = rest
+
+last_within : (until : ℕ) (events : List Timed) → AllByRecursion (IsBy until) events → last_change events ≤ until
+last_within until [] all = omega arith
+last_within until (t ∷ []) all = all.0
+last_within until (t ∷ (u ∷ us)) all = last_within until (u ∷ us) all.1
+
+set_by : (until : ℕ) (events : List Timed) → last_set (events_by until events) ≤ until
+set_by until events =
+    last_within until (filter (λ (event : Timed). sets_link event.act) (events_by until events))
+    (all_kept (IsBy until) (λ (event : Timed). sets_link event.act) (events_by until events) (all_by until events))
+
+-- ---- a way has fewer links than a path has systems
+
+few_links : (d : DocumentState) (events : List Timed) (t : ActTrace) (steps number error : ℕ) → IsPlayable d
+    → IsKept d events t → IsWayError d.network.params t.before number (suc steps) error
+    → suc steps < (sync_paths d.network events).systems
+few_links d events t steps number error playable kept_then way =
+    let keeps = kept_then.before in
+    let world = keeps.claim.world in
+    let well = stands_well t.before world.sound world.between world.encodable in
+    let far = way_distance (follower_parts d.network.params t.before) (snapshot_of t.before) (suc steps) number way.way
+    way.phase well way.leads in
+    let less = IsDistance-within (snapshot_of t.before) (path_bound (snapshot_of t.before)) number (suc steps)
+    (paths_within (snapshot_of t.before) well) far in
+    let systems : (sync_paths d.network events).systems ≡ path_bound (snapshot_of t.before) =
+    ap (λ (x : SyncPaths). x.systems)
+    (paths_stand d.network events t.before playable.network keeps.stands world.sound) in
+    omega (arith, less, systems)
+
+-- so a Sync has had the time to come down it
+come_down : (steps systems hop most settled exact at : ℕ) → suc steps < systems → 1 ≤ hop → settled ≡ most + 1
+    → most + systems * hop ≤ exact → exact ≤ at → settled + suc steps * hop ≤ at
+come_down steps systems hop most settled exact at few some is told on =
+    let times : suc (suc steps) * hop ≤ systems * hop = mul-le-mul few (omega arith) in
+    let more : suc (suc steps) * hop ≡ suc steps * hop + hop = omega arith in
+    omega (arith, times, more, some, is, told, on)
+
+pub exact_soon : {F : Type 0} (answers : Bounds → ℕ → F → Option ℕ → F → Type 0) → IsExactSoon answers
+exact_soon answers d time s next until fate first w ts t playable k member shown told is none on early steps number
+    error offset ahead leaves near way is_ahead =
+    let (before, so) = time_so d playable time s told is in
+    let at = t.told.timed.at in
+    let interval : ℕ = largest_interval (pace_of d.network) in
+    let hop : ℕ = d.network.params.threshold + d.network.params.residence in
+    let systems : ℕ = (sync_paths d.network (events_by time.at d.events)).systems in
+    let most : ℕ = time.at + max s.choice interval in
+    let settled : ℕ = most + 1 in
+    let exact : most + systems * hop ≤ s.exact_from = so.exact in
+    let late : time.at + s.choice < settled = omega arith in
+    let some = interval_positive (pace_of d.network).largest (largest_log d.network playable.network) in
+    let there : time.at < at = omega (arith, some, exact, on) in
+    let few : suc steps < systems =
+    few_links d (events_by time.at d.events) t steps number error playable
+    (kept answers d time.at s.choice next until fate first w ts t playable k member (before, so.choice) none there
+    early)
+    way in
+    let least : 1 ≤ hop = let one = playable.network.params.ranges.params.threshold-least in omega (arith, one) in
+    let set = set_by time.at d.events in
+    choice_bounds_are_exact answers d time.at s.choice next settled until fate first w ts t playable k member shown
+    (before, so.choice) none late (omega (arith, set)) early steps number error offset ahead
+    (come_down steps systems hop most settled s.exact_from at few least refl exact on) leaves near way is_ahead
