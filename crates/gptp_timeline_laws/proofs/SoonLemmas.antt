@@ -1,11 +1,17 @@
 -- The stretches of a timeline settle by the choice that is told of the times at which they begin.
-use Rattle.std.proofs.Common.{◌≡◌, inl, inr, ◌<◌, ◌≤◌, ◌+◌, ◌-◌, ℕ, Bool, true, false, nat_le, zero, suc, List, [], ◌∷◌, length, map, slice_get, Option, Some, None, IfSome, option_map, refl, sym, ap, subst, ◌∙◌, arith}
-use Rattle.std.specs.List.{range_with_len}
-use Rattle.std.specs.Option.{is_some}
+use Rattle.std.proofs.Common.{◌≡◌, inl, inr, ◌<◌, ◌≤◌, ◌+◌, ◌-◌, ℕ, Bool, true, false, cond, nat_le, zero, suc, List, [], ◌∷◌, length, map, slice_get, Option, Some, None, IfSome, option_map, refl, sym, ap, subst, ◌∙◌, arith}
+use Rattle.std.specs.Prelude.{◌==◌}
+use Rattle.std.specs.List.{find, range_with_len}
+use Rattle.std.specs.Option.{is_some, option_and_then}
+use Rattle.std.proofs.lemmas.Bool.{eqb-true}
 use Rattle.std.proofs.lemmas.Bool.Decides.{nat_tests}
 use Rattle.std.proofs.lemmas.Option.{same_Some}
 use Rattle.gptp_graph.specs.Snapshot.{IsWellFormed, Snapshot, System}
 use Rattle.gptp_graph.proofs.SystemLemmas.{same_clock}
+use Rattle.gptp_accuracy.specs.Settlings.{settling_among}
+use Rattle.gptp_how_soon.specs.Times.{is_time_at, settling_times}
+use Rattle.gptp_how_soon.specs.declared.bounds.Settling.{Settling}
+use Rattle.gptp_how_soon.specs.declared.bounds.SettlingTime.{SettlingTime}
 use Rattle.gptp_how_soon_laws.proofs.ChoiceLemmas.{settlings_are_choice_bounds}
 use Rattle.gptp_how_soon_laws.proofs.StepLemmas.{kept}
 use Rattle.gptp_invariants.specs.WorldStanding.{snapshot_of}
@@ -184,6 +190,21 @@ module _ {F : Type 0} (answers : Bounds → ℕ → F → Option ℕ → F → T
         all ts (λ a member. among a (inr member)),
       )
 
+-- ---- what is told of a time
+
+told_time : (times : List SettlingTime) (at : ℕ) (s : Settling) → settling_among times at ≡ Some s
+    → (time : SettlingTime) × In time times × (time.at ≡ at) × (time.settling ≡ Some s)
+told_time [] at s is = absurd cc
+told_time (t ∷ ts) at s is = by (t.at == at) refl is (told_time ts at s)
+  where
+    by : (test : Bool) → (t.at == at) ≡ test
+        → option_and_then (λ (u : SettlingTime). u.settling) (cond test (Some t) (find (is_time_at at) ts)) ≡ Some s
+        → (settling_among ts at ≡ Some s
+        → (time : SettlingTime) × In time ts × (time.at ≡ at) × (time.settling ≡ Some s))
+        → (time : SettlingTime) × In time (t ∷ ts) × (time.at ≡ at) × (time.settling ≡ Some s)
+    by true here is rest = (t, inl refl, eqb-true t.at at here, is)
+    by false there is rest = let (time, member, at_is, told) = rest is in (time, inr member, at_is, told)
+
 -- ---- the law
 
 within : (from bound : ℕ) (last : Option ℕ) → IfSome last (λ time. time ≤ from + bound)
@@ -193,18 +214,19 @@ within from bound (Some last) is = omega (arith, is)
 
 pub stretches_settle_soon : {F : Type 0} (answers : Bounds → ℕ → F → Option ℕ → F → Type 0)
     → StretchesSettleSoon answers
-stretches_settle_soon answers d until options fate lines exceeded t playable p time s names carried member told at_is is
-    near =
+stretches_settle_soon answers d until options fate lines exceeded t playable p s names carried member told near =
     let order = filter_in_order (λ (e : Timed). nat_le e.at until) d.events playable.events.in_order in
     let run = runs_to answers d until t.passages 0 (events_by until d.events) t.started t.fate_after t.start t.after p
     order t.pass member in
-    let (bound, roles) = settlings_are_choice_bounds d time s playable told is in
-    let here : IsChoiceBound d p.from s.choice = subst (λ at. IsChoiceBound d at s.choice) at_is bound in
     let clocks = rising_clocks t.start in
     let b = begins answers d playable clocks true until t.passages 0 [] (events_by until d.events) t.started
     t.fate_after t.start t.after p (left_first answers d playable clocks until)
     (keeps_first answers d playable clocks fate t.started t.start refl t.begun) t.pass member in
     let from_is = b.passage.from_is in
+    let (time, among, at_is, is) = told_time (settling_times d) b.from s (sym b.passage.settling_is ∙ told) in
+    let (bound, roles) = settlings_are_choice_bounds d time s playable among is in
+    let here : IsChoiceBound d p.from s.choice =
+    subst (λ at. IsChoiceBound d at s.choice) (at_is ∙ sym from_is) bound in
     let to_is = b.passage.to_is in
     let due = b.is_left.within in
     let ends = ends_on until b.from b.left (later_than b.from b.left) refl due in
