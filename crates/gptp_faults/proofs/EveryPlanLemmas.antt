@@ -104,8 +104,8 @@ last_time from (x ∷ xs) e = by (x.at == from) refl (last_time from xs e) (last
     by false is same other = rw is (inr other)
 
 -- and each of them is watched for some time
-watched_some : (d : DocumentState) → IsLog d.network.params.sync → (before : Option SettlingTime) (ats : List ℕ) (at : ℕ)
-    → In at ats → 0 < watch_among (settling_times_from d before ats) at
+watched_some : (d : DocumentState) → IsLog d.network.params.sync → (before : Option SettlingTime) (ats : List ℕ)
+    (at : ℕ) → In at ats → 0 < watch_among (settling_times_from d before ats) at
 watched_some d log before [] at member = absurd member
 watched_some d log before (x ∷ xs) at member =
     by (x == at) refl member (watched_some d log (Some (time_at d before x)) xs at)

@@ -221,7 +221,7 @@ follow_settles d options lines exceeded f playable o g span member bound stays s
     let a_case = In-slice_get c f.cases number there in
     let failing = outcome.failing in
     let bounded = subst (λ x. IsBound (with_event t.from (fault_of x) d) t.from (Some span)) failing bound in
-    let held : span ≤ hold_of d options.hold c t.from = subst (λ x. span ≤ hold_of d options.hold x t.from) failing stays in
+    let held = subst (λ x. span ≤ hold_of d options.hold x t.from) failing stays in
     let g_stands = subst (λ x. IsSnapshot (with_event t.from (fault_of x) d) t.from g) failing stands in
     let last = from_behind d t f.cases c a_case f.before in
     let first = outcome.first in
@@ -229,8 +229,8 @@ follow_settles d options lines exceeded f playable o g span member bound stays s
     let some = some_run (CaseRunEnds options d t c) (runs_of t) first outcome.others outcome.runs in
     let early = back_early d options.hold t c (not_late d options.hold t f.cases f.in_time number c there)
     (some_moment t.moments t.seeds some) in
-    let can = case_playable d options.only f.cases c t.from (return_at d options.hold c t.from) playable f.are_cases a_case
-    last (omega arith) early in (
+    let can = case_playable d options.only f.cases c t.from (return_at d options.hold c t.from) playable f.are_cases
+    a_case last (omega arith) early in (
       first.0.roots,
       roots_settle options d t c playable last span bounded held first.0 first.1 g can first_of_all g_stands,
       outcome.follow,

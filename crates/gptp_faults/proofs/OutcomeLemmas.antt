@@ -64,7 +64,8 @@ module _ (options : FaultsOptions) (d : DocumentState) (t : Times) (c : Case) wh
   }
 
   pub more_tried : (count : ℕ) (down back down_after back_after : Extremes) (follow : List Follow)
-      → AreTried options d t c count down back follow → (ends : EndState × EndState) → CaseRunEnds options d t c count ends
+      → AreTried options d t c count down back follow → (ends : EndState × EndState)
+      → CaseRunEnds options d t c count ends
       → down_after ≡ greatest_of_two down (of_one ends.0.stretch)
       → back_after ≡ greatest_of_two back (of_one ends.1.stretch)
       → AreTried options d t c (count + 1) down_after back_after follow
@@ -94,7 +95,8 @@ module _ (options : FaultsOptions) (d : DocumentState) (t : Times) (c : Case) wh
   all_tried number count down back follow o tried all is = record {
     first = tried.first;
     others = tried.others;
-    runs = subst (λ n. Each (CaseRunEnds options d t c) (range_with_len 0 n) (tried.first ∷ tried.others)) all tried.runs;
+    runs = subst (λ n. Each (CaseRunEnds options d t c) (range_with_len 0 n) (tried.first ∷ tried.others)) all
+        tried.runs;
     number_is = ap (λ (x : OutcomeState). x.number) is;
     failing = ap (λ (x : OutcomeState). x.failing) is;
     down = ap (λ (x : OutcomeState). x.down) is ∙ tried.down_is;

@@ -61,12 +61,14 @@ module _ (test : ℕ → Bool) where
 module _ (d : DocumentState) (asked : Option ℕ) where
   pub returns_early : (c : Case) (at : ℕ) → is_late_at d asked c at ≡ false → return_at d asked c at ≤ latest_event
   returns_early c at none =
-      let early = (neither (nat_lt latest_event (return_at d asked c at)) (nat_lt latest_end (end_at d asked c at)) none).0 in
+      let early = (neither (nat_lt latest_event (return_at d asked c at)) (nat_lt latest_end (end_at d asked c at))
+      none).0 in
       grind (arith, nat_tests)
 
   pub ends_early : (c : Case) (at : ℕ) → is_late_at d asked c at ≡ false → end_at d asked c at ≤ latest_end
   ends_early c at none =
-      let early = (neither (nat_lt latest_event (return_at d asked c at)) (nat_lt latest_end (end_at d asked c at)) none).1 in
+      let early = (neither (nat_lt latest_event (return_at d asked c at)) (nat_lt latest_end (end_at d asked c at))
+      none).1 in
       grind (arith, nat_tests)
 
   -- a case that is late at no moment isn't at this one

@@ -30,8 +30,8 @@ abbrev pub backs : List (EndState × EndState) → List Stretch
 backs = map (λ (r : EndState × EndState). r.1.stretch)
 
 -- of a case by its number: the greatest of its runs, and whom systems follow where the first of them ends to be down
-pub record IsOutcome (options : FaultsOptions) (d : DocumentState) (t : Times) (number : ℕ) (c : Case) (o : OutcomeState)
-    : Type 0 where
+pub record IsOutcome (options : FaultsOptions) (d : DocumentState) (t : Times) (number : ℕ) (c : Case)
+    (o : OutcomeState) : Type 0 where
   pub first : EndState × EndState
   pub others : List (EndState × EndState)
   pub runs : Each (CaseRunEnds options d t c) (range_with_len 0 (runs_of t)) (first ∷ others)

@@ -50,8 +50,8 @@ pub(crate) fn fault_before(
     }
 }
 
-/// Whether a case that fails at a moment would come back later than an event may be, or its run would end later than one
-/// may.
+/// Whether a case that fails at a moment would come back later than an event may be, or its run would end later than
+/// one may.
 fn is_late_at(
     alloc: Global,
     document: &mut Document,

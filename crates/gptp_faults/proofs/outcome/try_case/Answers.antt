@@ -17,8 +17,8 @@ loop-run-init c =
     subst (λ roots. AreFollows roots c.in_ok-follow.follow.items) c.roots.ensures c.in_ok-follow.ensures in
     let count = c.runs_of-run-end.ensures.is in let some = c.runs_of-run-end.ensures.some in
     record {
-      tried = one_tried c.args.options.now c.args.document.now c.args.times.now c.args.failing.now first c.of_one-down.result
-          c.of_one-back.result c.in_ok-follow.follow.items c.in_ok-first_down.ensures.run down_is back_is follow_is;
+      tried = one_tried c.args.options.now c.args.document.now c.args.times.now c.args.failing.now first
+          c.of_one-down.result c.of_one-back.result c.in_ok-follow.follow.items c.in_ok-first_down.ensures.run down_is back_is follow_is;
       most = omega (arith, count, some);
       same = c.in_ok-first_down.ensures.same;
     }
@@ -44,5 +44,6 @@ pub returns-clause-outcome : goal.returns-clause-outcome
 returns-clause-outcome c =
     let run = c.loop-run.run in let count = c.runs_of-run-end.ensures.is in let past = c.loop-run-test.false in
     let most = c.loop-run.invariant.most in
-    all_tried c.args.options.now c.args.document.now c.args.times.now c.args.failing.now c.args.number run c.loop-run.down
-    c.loop-run.back c.in_ok-follow.follow.items c.new.result c.loop-run.invariant.tried (omega (arith, count, past, most)) c.new.ensures
+    all_tried c.args.options.now c.args.document.now c.args.times.now c.args.failing.now c.args.number run
+    c.loop-run.down c.loop-run.back c.in_ok-follow.follow.items c.new.result c.loop-run.invariant.tried
+    (omega (arith, count, past, most)) c.new.ensures
