@@ -24,12 +24,12 @@ turned a false is = rw is refl
 pub settled_so : (n : NetworkState) (w : Walk) (at : ℕ) (first followed from_rest calm sets : Bool) (paths : SyncPaths)
     (told : List Told) (standings : List Standing) (used : List Bool) (new : List Cable) (soon heard way : ℕ) (row : Row)
     (time : SettlingTime)
-    → time ≡ times_by n at paths calm sets row (soon + heard + way)
+    → time ≡ times_by n at w.last_set paths calm sets row (soon + heard + way)
     → row ≡ row_of from_rest first told
-    → from_rest ≡ is_from_rest n at told new soon w.before
+    → from_rest ≡ is_from_rest n at w.paths_before standings told new soon w.before
     → way ≡ way_span paths
     → heard ≡ heard_by n followed told new
-    → followed ≡ heard_at_once first w.systems_before standings told
+    → followed ≡ heard_at_once first w.paths_before told
     → soon ≡ ready n.params paths told new
     → sets ≡ sets_link told
     → calm ≡ are_calm n.params paths w.tables.marks.items

@@ -10,6 +10,7 @@ use Rattle.gptp_network.specs.Events.{AreEvents, AreInOrder, IsEvent}
 use Rattle.gptp_network.specs.Snapshot.{events_by}
 use Rattle.gptp_topology.specs.Times.{times_from}
 use Rattle.gptp_topology.proofs.CourseLemmas.{all_from_0, behind, not_before, order_behind, past_by, until_now}
+use Rattle.gptp_how_soon.specs.Kinds.{sets_bounds}
 use Rattle.gptp_how_soon.specs.Times.{AreRising, IsWatchedShortly, events_at, events_before, settling_time, settling_times, settling_times_from, time_at, view_at}
 use Rattle.gptp_how_soon.specs.Walk.{IsFirstWalk, WalkPasses, WalkTells, view_seen}
 use Rattle.gptp_how_soon.specs.declared.bounds.SettlingTime.{SettlingTime}
@@ -165,6 +166,7 @@ pub record Walked (d : DocumentState) (left : List Timed) (w : Walk) (at : ℕ) 
   pub stands : WalkStands d.network made now w
   pub possible : AllByRecursion (IsEvent d.network) left
   pub early : at ≤ 800000000000000
+  pub set : w.last_set ≤ at
   pub watched : AllByRecursion IsWatchedShortly times
   pub rising : AreRising times
   pub past : all_earlier at times
@@ -174,6 +176,10 @@ watched_more : (times : List SettlingTime) (time : SettlingTime) → AllByRecurs
     → AllByRecursion IsWatchedShortly (times ++ time ∷ [])
 watched_more [] time all one = (one, tt)
 watched_more (t ∷ times) time all one = (all.0, watched_more times time all.1 one)
+
+set_by : (test : Bool) (was at now : ℕ) → was ≤ at → now ≡ cond test at was → now ≤ at
+set_by true was at now early is = omega (arith, is)
+set_by false was at now early is = omega (arith, early, is)
 
 shortly : (time : SettlingTime) (at : ℕ) → time.at ≡ at → at ≤ 800000000000000 → time.watch ≤ 200000000000000
     → IsWatchedShortly time
@@ -188,6 +194,7 @@ module _ (d : DocumentState) (network : IsNetwork d.network) where
     stands = stands_first d.network network w is;
     possible = events.each;
     early = omega arith;
+    set = let none = is.set in omega (arith, none);
     watched = tt;
     rising = tt;
     past = tt;
@@ -196,10 +203,14 @@ module _ (d : DocumentState) (network : IsNetwork d.network) where
   -- an event is passed, once what is before it is told
   pub walked_more : (t : Timed) (left : List Timed) (old told new : Walk) (at : ℕ) (times after : List SettlingTime)
       → Walked d (t ∷ left) old at times → WalkTells d.network at t.at old told times after
-      → WalkPasses t.act told new
+      → WalkPasses t.at t.act told new
       → Walked d left new t.at after
   walked_more t left old told new at times after so tells passes = by (t.at == at) refl
     where
+      set_early : old.last_set ≤ at → told.last_set ≡ old.last_set → at ≤ t.at → new.last_set ≤ t.at
+      set_early was same later = set_by (sets_bounds t.act) told.last_set t.at new.last_set (omega (arith, was, same, later))
+          passes.set
+
       same_time : t.at ≡ at → told ≡ old → after ≡ times → Walked d left new t.at after
       same_time same unmoved none =
           let begun = subst (WalkStands d.network so.made so.now) (sym unmoved) so.stands in
@@ -213,6 +224,7 @@ module _ (d : DocumentState) (network : IsNetwork d.network) where
             stands = stands_more d.network network so.made so.now t told new begun passes;
             possible = so.possible.1;
             early = so.possible.0.early;
+            set = set_early so.set (ap (λ (w : Walk). w.last_set) unmoved) (omega (arith, same));
             watched = subst (AllByRecursion IsWatchedShortly) (sym none) so.watched;
             rising = subst AreRising (sym none) so.rising;
             past = subst (all_earlier t.at) (sym none) (subst (λ a. all_earlier a times) (sym same) so.past);
@@ -245,6 +257,7 @@ module _ (d : DocumentState) (network : IsNetwork d.network) where
             stands = stands_more d.network network (so.made ++ so.now) [] t told new moved passes;
             possible = so.possible.1;
             early = so.possible.0.early;
+            set = set_early so.set on.set (omega (arith, later));
             watched = subst (AllByRecursion IsWatchedShortly) (sym more)
                 (watched_more times seen so.watched (shortly seen at refl so.early short));
             rising = subst AreRising (sym more) (rising_more times seen so.rising so.past);

@@ -1,18 +1,19 @@
 -- A walk stands as the events so far leave a document.
-use Rattle.std.proofs.Common.{◌≡◌, ℕ, List, [], ◌∷◌, ◌++◌, map, not, append_assoc, sym, ap, ap₂, subst, ◌∙◌}
+use Rattle.std.proofs.Common.{◌≡◌, ℕ, List, [], ◌∷◌, ◌++◌, Bool, true, false, cond, filter, map, not, append_assoc, refl, sym, ap, ap₂, subst, ◌∙◌}
 use Rattle.std.specs.List.{find}
 use Rattle.std.specs.Option.{is_some}
 use Rattle.std.proofs.lemmas.List.{append-nil}
+use Rattle.std.proofs.lemmas.List.Elements.{filter-append}
+use Rattle.gptp_scenario.specs.Calm.{last_change}
 use Rattle.gptp_scenario.specs.Network.{IsNetwork, NetworkState}
 use Rattle.gptp_scenario.specs.SyncWait.{sync_paths}
 use Rattle.gptp_scenario.specs.declared.change.Timed.{Timed}
-use Rattle.gptp_scenario.specs.declared.sync_wait.SyncPaths.{SyncPaths}
 use Rattle.gptp_topology.specs.Course.{cable_is_used, named}
 use Rattle.gptp_topology.proofs.StandingLemmas.{Stand, stand_first, stand_more}
-use Rattle.gptp_how_soon.specs.Kinds.{told_by}
+use Rattle.gptp_how_soon.specs.Kinds.{sets_bounds, told_by}
 use Rattle.gptp_how_soon.specs.Links.{new_among, standings_after}
 use Rattle.gptp_how_soon.specs.Systems.{has_clock, system_done, systems_after}
-use Rattle.gptp_how_soon.specs.Times.{told_at, told_of, view_at}
+use Rattle.gptp_how_soon.specs.Times.{last_set, told_at, told_of, view_at}
 use Rattle.gptp_how_soon.specs.Walk.{IsFirstWalk, WalkGoesOn, WalkPasses, view_seen}
 use Rattle.gptp_how_soon.specs.declared.bounds.SettlingTime.{SettlingTime}
 use Rattle.gptp_how_soon.specs.declared.walk.Walk.{Walk}
@@ -21,11 +22,32 @@ use Rattle.gptp_how_soon.proofs.SystemsLemmas.{systems_first, systems_more}
 
 -- after the events made before this time, and those of it so far
 pub record WalkStands (n : NetworkState) (made now : List Timed) (w : Walk) : Type 0 where
+  pub set : w.last_set ≡ last_set (made ++ now)
   pub tables : Stand n (made ++ now) w.tables
   pub systems : w.systems.items ≡ systems_after n (made ++ now)
   pub told : w.told.items ≡ told_of n made now
   pub used : w.used_before.items ≡ map cable_is_used (standings_after n made)
-  pub paths : w.systems_before ≡ (sync_paths n made).systems
+  pub paths : w.paths_before ≡ sync_paths n made
+
+-- ---- when a link was last set
+
+last_behind : (ts : List Timed) (t : Timed) → last_change (ts ++ t ∷ []) ≡ t.at
+last_behind [] t = refl
+last_behind (u ∷ []) t = refl
+last_behind (u ∷ (v ∷ ts)) t = last_behind (v ∷ ts) t
+
+abbrev sets : Timed → Bool
+sets t = sets_bounds t.act
+
+set_more : (events : List Timed) (t : Timed)
+    → last_set (events ++ t ∷ []) ≡ cond (sets_bounds t.act) t.at (last_set events)
+set_more events t = ap last_change (filter-append sets events (t ∷ [])) ∙ by (sets_bounds t.act)
+  where
+    by : (test : Bool)
+        → last_change (filter sets events ++ cond test (t ∷ []) [])
+        ≡ cond test t.at (last_change (filter sets events))
+    by true = last_behind (filter sets events) t
+    by false = ap last_change (append-nil (filter sets events))
 
 -- ---- what is seen
 
@@ -47,8 +69,9 @@ module _ (n : NetworkState) (network : IsNetwork n) where
       let new = ap₂ (new_among first) standings so.used ∙ new_are n made (made ++ now) first in
       λ i. record {
         at = at;
+        last_set = so.set i;
         before = w.before;
-        systems_before = so.paths i;
+        paths_before = so.paths i;
         standings = standings i;
         new = new i;
         told = so.told i;
@@ -61,20 +84,23 @@ module _ (n : NetworkState) (network : IsNetwork n) where
   pub stands_first : (w : Walk) → IsFirstWalk n w → WalkStands n [] [] w
   stands_first w is =
       let tables = stand_first n w.tables is.tables in record {
+        set = is.set;
         tables = tables;
         systems = is.systems ∙ systems_first n;
         told = is.told;
         used = is.used ∙ ap (map cable_is_used) (standings_are n network [] w.tables tables);
-        paths = is.paths ∙ ap (λ (p : SyncPaths). p.systems) (crossed_is n network [] w.tables tables);
+        paths = is.paths ∙ crossed_is n network [] w.tables tables;
       }
 
   -- ---- one event more
 
   pub stands_more : (made now : List Timed) (t : Timed) (old new : Walk) → WalkStands n made now old
-      → WalkPasses t.act old new
+      → WalkPasses t.at t.act old new
       → WalkStands n made (now ++ t ∷ []) new
   stands_more made now t old new so passes =
       let joined : (made ++ now) ++ t ∷ [] ≡ made ++ (now ++ t ∷ []) = append_assoc made now (t ∷ []) in record {
+        set = passes.set ∙ ap (cond (sets_bounds t.act) t.at) so.set ∙ sym (set_more (made ++ now) t)
+            ∙ ap last_set joined;
         tables = subst (λ events. Stand n events new.tables) joined
             (stand_more n network (made ++ now) t old.tables new.tables so.tables passes.tables);
         systems = passes.systems ∙ ap (map (system_done t.act)) so.systems ∙ systems_more n (made ++ now) t
@@ -95,11 +121,11 @@ module _ (n : NetworkState) (network : IsNetwork n) where
       → WalkStands n (made ++ now) [] new
   stands_on made now time old new so on =
       let none : made ++ now ≡ (made ++ now) ++ [] = sym (append-nil (made ++ now)) in record {
+        set = on.set ∙ so.set ∙ ap last_set none;
         tables = subst (λ events. Stand n events new.tables) none
             (subst (Stand n (made ++ now)) (sym on.tables) so.tables);
         systems = ap (λ (v : _). v.items) on.systems ∙ so.systems ∙ ap (systems_after n) none;
         told = on.told;
         used = on.used ∙ ap (map cable_is_used) (standings_are n network (made ++ now) old.tables so.tables);
-        paths = on.paths
-            ∙ ap (λ (p : SyncPaths). p.systems) (crossed_is n network (made ++ now) old.tables so.tables);
+        paths = on.paths ∙ crossed_is n network (made ++ now) old.tables so.tables;
       }

@@ -78,19 +78,20 @@ rest_by p paths sets choice = max (choice + paths.delay) (set_span p paths sets)
 abbrev pub exact_span : Params → SyncPaths → ℕ
 exact_span p paths = paths.systems * (p.threshold + p.residence)
 
--- From when on offsets are exact: the choice stands, links are measured, and not before an announce interval has
--- passed; then what each system uses comes down the tree.
-abbrev pub exact_from : NetworkState → ℕ → SyncPaths → Bool → ℕ → ℕ
-exact_from n at paths sets choice =
-    at + max (max choice (set_span n.params paths sets)) (largest_interval (pace_of n)) + exact_span n.params paths
+-- From when on offsets are exact: the choice stands, links are measured, and an announce interval has passed since the
+-- network began and since a link was last set; then what each system uses comes down the tree.
+abbrev pub exact_from : NetworkState → ℕ → ℕ → SyncPaths → Bool → ℕ → ℕ
+exact_from n at last_set paths sets choice =
+    max (at + max choice (set_span n.params paths sets)) (last_set + largest_interval (pace_of n))
+    + exact_span n.params paths
 
 -- roles stand as soon as the choice does
-abbrev pub settled : NetworkState → ℕ → SyncPaths → Bool → ℕ → Settling
-settled n at paths sets choice = record {
+abbrev pub settled : NetworkState → ℕ → ℕ → SyncPaths → Bool → ℕ → Settling
+settled n at last_set paths sets choice = record {
   choice = choice;
   roles = choice;
   rest = rest_by n.params paths sets choice;
-  exact_from = exact_from n at paths sets choice;
+  exact_from = exact_from n at last_set paths sets choice;
 }
 
 -- A time is watched until the network rests and offsets are exact, and for eight Syncs more; where it isn't calm, for
@@ -103,13 +104,13 @@ abbrev pub watch : NetworkState → ℕ → SyncPaths → Option Settling → �
 watch n at paths settling = needed_watch n at paths settling + 8 * interval_of n.params.sync
 
 -- what is told of a time
-abbrev pub settling_by : NetworkState → ℕ → SyncPaths → Bool → Bool → Row → ℕ → Option Settling
-settling_by n at paths calm sets row gained =
-    if calm then Some (settled n at paths sets (choice_by n paths row gained)) else None
+abbrev pub settling_by : NetworkState → ℕ → ℕ → SyncPaths → Bool → Bool → Row → ℕ → Option Settling
+settling_by n at last_set paths calm sets row gained =
+    if calm then Some (settled n at last_set paths sets (choice_by n paths row gained)) else None
 
-abbrev pub times_by : NetworkState → ℕ → SyncPaths → Bool → Bool → Row → ℕ → SettlingTime
-times_by n at paths calm sets row gained = record {
+abbrev pub times_by : NetworkState → ℕ → ℕ → SyncPaths → Bool → Bool → Row → ℕ → SettlingTime
+times_by n at last_set paths calm sets row gained = record {
   at = at;
-  settling = settling_by n at paths calm sets row gained;
-  watch = watch n at paths (settling_by n at paths calm sets row gained);
+  settling = settling_by n at last_set paths calm sets row gained;
+  watch = watch n at paths (settling_by n at last_set paths calm sets row gained);
 }

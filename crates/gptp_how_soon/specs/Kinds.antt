@@ -9,7 +9,7 @@ use Rattle.gptp_scenario.specs.declared.change.Change.TheVariants as changes
 use Rattle.gptp_topology.specs.Course.{named}
 use Rattle.gptp_topology.specs.declared.course.Standing.{Standing}
 use Rattle.gptp_how_soon.specs.declared.kinds.Kind.{Kind}
-use Rattle.gptp_how_soon.specs.declared.kinds.Kind.TheVariants.{Idle, Loss, Gain, Other}
+use Rattle.gptp_how_soon.specs.declared.kinds.Kind.TheVariants.{Idle, Unused, Loss, Gain, Other}
 use Rattle.gptp_how_soon.specs.declared.kinds.Told.{Told}
 use Rattle.gptp_how_soon.specs.declared.kinds.What.{What}
 use Rattle.gptp_how_soon.specs.declared.kinds.What.TheVariants as whats
@@ -17,15 +17,14 @@ use Rattle.gptp_how_soon.specs.declared.systems.System.{System}
 
 -- ---- kinds
 
--- A link that is down doesn't go down, and one that is up doesn't come up. Where an end has failed what happens isn't
--- followed yet.
+-- A link that is down doesn't go down, and one that is up doesn't come up. One with a failed end isn't used, up or down.
 abbrev pub kind_of_link_down : Option Standing → Kind
 kind_of_link_down None = Other
-kind_of_link_down (Some s) = if not s.cable.up then Idle else if s.a_lives && s.b_lives then Loss else Other
+kind_of_link_down (Some s) = if not s.cable.up then Idle else if s.a_lives && s.b_lives then Loss else Unused
 
 abbrev pub kind_of_link_up : Option Standing → Kind
 kind_of_link_up None = Other
-kind_of_link_up (Some s) = if s.cable.up then Idle else if s.a_lives && s.b_lives then Gain else Other
+kind_of_link_up (Some s) = if s.cable.up then Idle else if s.a_lives && s.b_lives then Gain else Unused
 
 -- a failed system doesn't fail, and a live one doesn't recover
 abbrev pub kind_of_failure : Option System → Kind
@@ -85,6 +84,9 @@ told_by act s o = record { kind = kind_of act s o; what = what_of act; clock = n
 abbrev pub is_idle : Told → Bool
 is_idle e = elim e.kind [ Idle ↦ true | _ ↦ false ]
 
+abbrev pub is_unused : Told → Bool
+is_unused e = elim e.kind [ Unused ↦ true | _ ↦ false ]
+
 abbrev pub is_loss : Told → Bool
 is_loss e = elim e.kind [ Loss ↦ true | _ ↦ false ]
 
@@ -93,6 +95,9 @@ is_gain e = elim e.kind [ Gain ↦ true | _ ↦ false ]
 
 abbrev pub is_other : Told → Bool
 is_other e = elim e.kind [ Other ↦ true | _ ↦ false ]
+
+abbrev pub is_link_down : Told → Bool
+is_link_down e = elim e.what [ whats.LinkDown ↦ true | _ ↦ false ]
 
 abbrev pub is_link_up : Told → Bool
 is_link_up e = elim e.what [ whats.LinkUp ↦ true | _ ↦ false ]
@@ -105,6 +110,11 @@ is_link_set e = elim e.what [ whats.LinkSet ↦ true | _ ↦ false ]
 
 abbrev pub is_fail : Told → Bool
 is_fail e = elim e.what [ whats.Fail ↦ true | _ ↦ false ]
+
+-- As a network starts such an event leaves it so that nothing is told: a link goes down or comes up, a system fails, or
+-- a priority1 is set.
+abbrev pub tells_nothing : Told → Bool
+tells_nothing e = is_link_down e || is_link_up e || is_fail e || is_priority1 e
 
 -- a live system gets better
 abbrev pub is_better : Told → Bool
@@ -119,6 +129,20 @@ is_recovery e = is_recover e && not (is_idle e)
 
 abbrev pub is_recovery_of : ℕ → Told → Bool
 is_recovery_of clock e = (e.clock == clock) && is_recovery e
+
+-- an event makes nothing of what stands: it changes nothing, or turns a link that isn't used, down or up
+abbrev pub makes_nothing : Told → Bool
+makes_nothing e = is_idle e || is_unused e
+
+abbrev pub lowers_unused : Told → Bool
+lowers_unused e = is_unused e && is_link_down e
+
+abbrev pub raises_unused : Told → Bool
+raises_unused e = is_unused e && is_link_up e
+
+-- an act sets the bounds of a link, idly or not
+abbrev pub sets_bounds : Act → Bool
+sets_bounds act = elim (what_of act) [ whats.LinkSet ↦ true | _ ↦ false ]
 
 -- ---- the events of a time
 
@@ -141,8 +165,8 @@ fails_and_recovers told = list_any (is_failure_of_same told) told
 abbrev pub is_heard_too : Bool → Told → Bool
 is_heard_too heard e = is_gain e && (is_link_up e || (is_priority1 e && not heard))
 
--- There is such an event, or was one, and each that isn't idle is such a one.
+-- There is such an event, or was one, and each that makes something of what stands is such a one.
 abbrev pub are_heard : Bool → List Told → Bool
 are_heard heard [] = heard
 are_heard heard (e ∷ es) =
-    if is_idle e then are_heard heard es else is_heard_too heard e && are_heard true es
+    if makes_nothing e then are_heard heard es else is_heard_too heard e && are_heard true es

@@ -6,11 +6,12 @@ use Rattle.std.specs.List.{list_all, list_any}
 use Rattle.gptp_setup.specs.SettlingParams.{largest_interval}
 use Rattle.gptp_scenario.specs.Network.{NetworkState, pace_of}
 use Rattle.gptp_scenario.specs.SettlingTime.{capability_span}
+use Rattle.gptp_scenario.specs.declared.sync_wait.SyncPaths.{SyncPaths}
 use Rattle.gptp_topology.specs.declared.course.Cable.{Cable}
 use Rattle.gptp_topology.specs.declared.course.Standing.{Standing}
-use Rattle.gptp_how_soon.specs.Bounds.{is_again}
-use Rattle.gptp_how_soon.specs.Kinds.{are_heard, fails_and_recovers, is_better, is_idle, is_loss, is_other, is_recovery}
-use Rattle.gptp_how_soon.specs.Links.{vary}
+use Rattle.gptp_how_soon.specs.Bounds.{is_again, way_span}
+use Rattle.gptp_how_soon.specs.Kinds.{are_heard, fails_and_recovers, is_better, is_gain, is_loss, is_other, is_recovery, is_unused, lowers_unused, makes_nothing, raises_unused, tells_nothing}
+use Rattle.gptp_how_soon.specs.Links.{is_unanswered}
 use Rattle.gptp_how_soon.specs.declared.bounds.Row.{Row}
 use Rattle.gptp_how_soon.specs.declared.bounds.Row.TheVariants.{AnyPast, Unchanged, Gained}
 use Rattle.gptp_how_soon.specs.declared.bounds.Settling.{Settling}
@@ -19,9 +20,11 @@ use Rattle.gptp_how_soon.specs.declared.kinds.Told.{Told}
 
 -- ---- from rest
 
--- Time 0 is followed where no event has that time, and a link is in use, whose ports become capable.
-abbrev pub is_start_from_rest : List Told → List Cable → Bool
-is_start_from_rest told new = (length told == 0) && not (length new == 0)
+-- Time 0 is followed where its events, if any, leave it so that nothing is told, no link that is up then joins a live
+-- system to one that has failed, and a link is in use, whose ports become capable.
+abbrev pub is_start_from_rest : List Standing → List Told → List Cable → Bool
+is_start_from_rest standings told new =
+    list_all tells_nothing told && not (list_any is_unanswered standings) && not (length new == 0)
 
 -- what was at the time before has come to rest by this one
 abbrev pub rested_by : SettlingTime → ℕ → Option Settling → Bool
@@ -35,35 +38,48 @@ rested b at = rested_by b at b.settling
 abbrev pub are_events_followed : List Told → Bool
 are_events_followed told = not (list_any is_other told) && not (fails_and_recovers told)
 
+-- A link that isn't used is followed as it comes up once all ports that can't be capable have shown it, and what a way
+-- took before has passed; and as it goes down where no event of the time is a gain.
+abbrev pub have_shown : NetworkState → SyncPaths → ℕ → Bool
+have_shown n paths_before at = nat_le (capability_span (pace_of n) + way_span paths_before) at
+
+abbrev pub are_turns_followed : NetworkState → ℕ → SyncPaths → List Told → Bool
+are_turns_followed n at paths_before told =
+    (not (list_any raises_unused told) || have_shown n paths_before at)
+    && not (list_any lowers_unused told && list_any is_gain told)
+
 -- Systems that recover are followed where an announce interval has passed since the time before, all ports that can't
--- be capable have shown it, a new link is at such a system, and no system gets a better priority1 besides.
+-- be capable have shown it, a new link is at such a system, and no link that isn't used turns besides.
 abbrev pub are_recoveries_followed : NetworkState → ℕ → ℕ → List Told → List Cable → ℕ → Bool
 are_recoveries_followed n last at told new ready =
     nat_lt (last + largest_interval (pace_of n)) at
     && nat_le (capability_span (pace_of n)) (at + ready)
     && list_any (is_again told) new
-    && not (list_any is_better told)
+    && not (list_any is_unused told)
 
-abbrev pub is_from_rest : NetworkState → ℕ → List Told → List Cable → ℕ → Option SettlingTime → Bool
-is_from_rest n at told new ready None = is_start_from_rest told new
-is_from_rest n at told new ready (Some b) =
+abbrev pub is_from_rest : NetworkState → ℕ → SyncPaths → List Standing → List Told → List Cable → ℕ
+    → Option SettlingTime
+    → Bool
+is_from_rest n at paths_before standings told new ready None = is_start_from_rest standings told new
+is_from_rest n at paths_before standings told new ready (Some b) =
     rested b at
     && are_events_followed told
+    && are_turns_followed n at paths_before told
     && (not (list_any is_recovery told) || are_recoveries_followed n b.at at told new ready)
 
 -- ---- rows
 
--- Not from rest, or after a loss, the network may come from any past. Events that change nothing leave it as it was, but
--- at the start nothing was.
+-- Not from rest, or after a loss, the network may come from any past. Events that make nothing of what stands leave it as
+-- it was. At the start nothing was, and so nothing is lost.
 abbrev pub row_of : Bool → Bool → List Told → Row
 row_of from_rest first told =
     if not from_rest then AnyPast
-    else if not first && list_all is_idle told then Unchanged
+    else if first then Gained
+    else if list_all makes_nothing told then Unchanged
     else if list_any is_loss told then AnyPast else Gained
 
--- It is followed that all is heard at once: at the start where over no link of the network delays vary, later where it
--- is so of each event. Who gets better is heard so where no path had more than 255 systems before.
-abbrev pub heard_at_once : Bool → ℕ → List Standing → List Told → Bool
-heard_at_once first systems_before standings told =
-    if first then not (vary standings)
-    else are_heard false told && (nat_le systems_before 255 || not (list_any is_better told))
+-- It is followed that all is heard at once at the start, and later where it is so of each event. Who gets better is
+-- heard so where no path had more than 255 systems before.
+abbrev pub heard_at_once : Bool → SyncPaths → List Told → Bool
+heard_at_once first paths_before told =
+    first || (are_heard false told && (nat_le paths_before.systems 255 || not (list_any is_better told)))

@@ -6,6 +6,7 @@ use Rattle.std.specs.Prelude.{ℕ, ◌+◌, ◌≤◌, ◌<◌, ⊤, ◌==◌, �
 use Rattle.std.specs.List.{AllByRecursion, find, list_any}
 use Rattle.std.specs.Option.{is_some}
 use Rattle.gptp_setup.specs.declared.setup.Params.{Params}
+use Rattle.gptp_scenario.specs.Calm.{last_change}
 use Rattle.gptp_scenario.specs.Network.{NetworkState}
 use Rattle.gptp_scenario.specs.SyncWait.{sync_paths}
 use Rattle.gptp_scenario.specs.declared.change.Act.{Act}
@@ -20,7 +21,7 @@ use Rattle.gptp_topology.specs.Trouble.{is_long, loss_in_use}
 use Rattle.gptp_topology.specs.declared.course.Cable.{Cable}
 use Rattle.gptp_topology.specs.declared.course.Standing.{Standing}
 use Rattle.gptp_how_soon.specs.Bounds.{heard_by, ready, times_by, way_span}
-use Rattle.gptp_how_soon.specs.Kinds.{sets_link, told_by}
+use Rattle.gptp_how_soon.specs.Kinds.{sets_bounds, sets_link, told_by}
 use Rattle.gptp_how_soon.specs.Links.{new_links, standings_after}
 use Rattle.gptp_how_soon.specs.Rest.{heard_at_once, is_from_rest, row_of}
 use Rattle.gptp_how_soon.specs.Systems.{has_clock, systems_after}
@@ -28,12 +29,13 @@ use Rattle.gptp_how_soon.specs.declared.bounds.SettlingTime.{SettlingTime}
 use Rattle.gptp_how_soon.specs.declared.bounds.Row.{Row}
 use Rattle.gptp_how_soon.specs.declared.kinds.Told.{Told}
 
--- What is seen of a time: the time before, and how many systems a path had then; how links stand at it, and those that
--- are new; its events; what Sync has to cross; and whether the network is calm.
+-- What is seen of a time: when a link was last set; the time before, and what Sync had to cross then; how links
+-- stand at it, and those that are new; its events; what Sync has to cross; and whether the network is calm.
 pub record View : Type 0 where
   pub at : ℕ
+  pub last_set : ℕ
   pub before : Option SettlingTime
-  pub systems_before : ℕ
+  pub paths_before : SyncPaths
   pub standings : List Standing
   pub new : List Cable
   pub told : List Told
@@ -49,7 +51,7 @@ abbrev pub ready_at : NetworkState → View → ℕ
 ready_at n v = ready n.params v.paths v.told v.new
 
 abbrev pub heard_at : NetworkState → View → ℕ
-heard_at n v = heard_by n (heard_at_once (is_first v) v.systems_before v.standings v.told) v.told v.new
+heard_at n v = heard_by n (heard_at_once (is_first v) v.paths_before v.told) v.told v.new
 
 -- After gains the choice stands once ports are capable, what they tell is heard, and the greatest delay has passed for
 -- each system of a path but one.
@@ -57,10 +59,10 @@ abbrev pub gained_at : NetworkState → View → ℕ
 gained_at n v = ready_at n v + heard_at n v + way_span v.paths
 
 abbrev pub row_at : NetworkState → View → Row
-row_at n v = row_of (is_from_rest n v.at v.told v.new (ready_at n v) v.before) (is_first v) v.told
+row_at n v = row_of (is_from_rest n v.at v.paths_before v.standings v.told v.new (ready_at n v) v.before) (is_first v) v.told
 
 abbrev pub settling_time : NetworkState → View → SettlingTime
-settling_time n v = times_by n v.at v.paths v.calm (sets_link v.told) (row_at n v) (gained_at n v)
+settling_time n v = times_by n v.at v.last_set v.paths v.calm (sets_link v.told) (row_at n v) (gained_at n v)
 
 -- ---- what is seen
 
@@ -77,6 +79,10 @@ abbrev pub told_of : NetworkState → List Timed → List Timed → List Told
 told_of n made [] = []
 told_of n made (t ∷ ts) = told_at n made t.act ∷ told_of n (made ++ t ∷ []) ts
 
+-- when the last of these events was that sets a link, or 0
+abbrev pub last_set : List Timed → ℕ
+last_set events = last_change (filter (λ (t : Timed). sets_bounds t.act) events)
+
 -- A network is calm where Sync isn't late, and no link in use is too long or loses frames.
 abbrev pub is_troubled : Params → Standing → Bool
 is_troubled p s = is_long p s || not (loss_in_use s == 0)
@@ -89,8 +95,9 @@ is_calm n events =
 abbrev pub view_at : NetworkState → List Timed → List Timed → Option SettlingTime → ℕ → View
 view_at n made now before at = record {
   at = at;
+  last_set = last_set (made ++ now);
   before = before;
-  systems_before = (sync_paths n made).systems;
+  paths_before = sync_paths n made;
   standings = standings_after n (made ++ now);
   new = new_links n made (made ++ now) (not (is_some before));
   told = told_of n made now;

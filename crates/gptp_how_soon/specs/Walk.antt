@@ -1,12 +1,12 @@
 -- How a document stands at each time, as its events come (profile).
-use Rattle.std.specs.Prelude.{◌≡◌, ◌≤◌, ℕ, ◌++◌, ◌∷◌, [], ◌==◌, not, map, List, Some, None, IsTrue}
+use Rattle.std.specs.Prelude.{◌≡◌, ◌≤◌, ℕ, ◌++◌, ◌∷◌, [], ◌==◌, not, if◌then◌else◌, map, List, Some, None, IsTrue}
 use Rattle.std.specs.List.{find}
 use Rattle.std.specs.Option.{is_some}
 use Rattle.gptp_scenario.specs.Network.{NetworkState}
 use Rattle.gptp_scenario.specs.declared.change.Act.{Act}
 use Rattle.gptp_topology.specs.Course.{cable_is_used, named}
 use Rattle.gptp_topology.specs.Tables.{AreFirstTables, TablesActed, are_calm, link_named, marked_paths, neighbours_at}
-use Rattle.gptp_how_soon.specs.Kinds.{told_by}
+use Rattle.gptp_how_soon.specs.Kinds.{sets_bounds, told_by}
 use Rattle.gptp_how_soon.specs.Links.{new_among}
 use Rattle.gptp_how_soon.specs.Systems.{first_system, has_clock, system_done}
 use Rattle.gptp_how_soon.specs.Times.{View, settling_time}
@@ -15,15 +15,17 @@ use Rattle.gptp_how_soon.specs.declared.walk.Walk.{Walk}
 
 -- before all events
 pub record IsFirstWalk (n : NetworkState) (w : Walk) : Type 0 where
+  pub set : w.last_set ≡ 0
   pub tables : AreFirstTables n w.tables
   pub systems : w.systems.items ≡ map first_system n.systems
   pub told : w.told.items ≡ []
   pub before : w.before ≡ None
   pub used : w.used_before.items ≡ map cable_is_used w.tables.standings.items
-  pub paths : w.systems_before ≡ (marked_paths w.tables.marks.items w.tables.nodes.items).systems
+  pub paths : w.paths_before ≡ marked_paths w.tables.marks.items w.tables.nodes.items
 
 -- an event of this time is passed
-pub record WalkPasses (act : Act) (old new : Walk) : Type 0 where
+pub record WalkPasses (at : ℕ) (act : Act) (old new : Walk) : Type 0 where
+  pub set : new.last_set ≡ (if sets_bounds act then at else old.last_set)
   pub tables : TablesActed act old.tables new.tables
   pub systems : new.systems.items ≡ map (system_done act) old.systems.items
   pub told : new.told.items
@@ -34,23 +36,25 @@ pub record WalkPasses (act : Act) (old new : Walk) : Type 0 where
       ∷ []
   pub before : new.before ≡ old.before
   pub used : new.used_before ≡ old.used_before
-  pub paths : new.systems_before ≡ old.systems_before
+  pub paths : new.paths_before ≡ old.paths_before
 
 -- it goes on to another time, where this is what is told of the one so far
 pub record WalkGoesOn (time : SettlingTime) (old new : Walk) : Type 0 where
+  pub set : new.last_set ≡ old.last_set
   pub tables : new.tables ≡ old.tables
   pub systems : new.systems ≡ old.systems
   pub told : new.told.items ≡ []
   pub before : new.before ≡ Some time
   pub used : new.used_before.items ≡ map cable_is_used old.tables.standings.items
-  pub paths : new.systems_before ≡ (marked_paths old.tables.marks.items old.tables.nodes.items).systems
+  pub paths : new.paths_before ≡ marked_paths old.tables.marks.items old.tables.nodes.items
 
 -- what is seen of this time
 abbrev pub view_seen : NetworkState → Walk → ℕ → View
 view_seen n w at = record {
   at = at;
+  last_set = w.last_set;
   before = w.before;
-  systems_before = w.systems_before;
+  paths_before = w.paths_before;
   standings = w.tables.standings.items;
   new = new_among (not (is_some w.before)) w.tables.standings.items w.used_before.items;
   told = w.told.items;

@@ -38,7 +38,7 @@ pub struct SettlingTime {
 
 /// What is known of a time.
 #[derive(Clone, Copy)]
-pub(crate) enum Row {
+pub enum Row {
     /// The network may come from any past.
     AnyPast,
     /// It is from rest, and its events change nothing.
@@ -190,13 +190,21 @@ fn exact_span(network: &Network, paths: SyncPaths) -> u64
     paths.systems as u64 * (params.threshold + params.residence)
 }
 
-/// The bounds at a time, by that of the choice.
-fn settled(network: &Network, at: u64, paths: SyncPaths, sets: bool, choice: u64) -> Settling
+/// The bounds at a time, by that of the choice, where a link was last set at another.
+fn settled(
+    network: &Network,
+    at: u64,
+    last_set: u64,
+    paths: SyncPaths,
+    sets: bool,
+    choice: u64,
+) -> Settling
     requires few { paths.systems ≤ 512 }
     requires short { paths.delay ≤ 16000000000 }
     requires early { at ≤ 800000000000000 }
+    requires set { last_set ≤ at }
     requires choice { choice ≤ 195000000000000 }
-    ensures is { result ≡ settled network.now at paths sets choice }
+    ensures is { result ≡ settled network.now at last_set paths sets choice }
     ensures rest { result.rest ≤ 195016000000000 }
     ensures exact { result.exact_from ≤ at + 196024000000000 }
 {
@@ -207,7 +215,7 @@ fn settled(network: &Network, at: u64, paths: SyncPaths, sets: bool, choice: u64
         choice,
         roles: choice,
         rest: (choice + paths.delay).max(set),
-        exact_from: at + choice.max(set).max(interval) + exact_span(network, paths),
+        exact_from: (at + choice.max(set)).max(last_set + interval) + exact_span(network, paths),
     }
 }
 
@@ -228,10 +236,11 @@ fn watch(network: &Network, at: u64, paths: SyncPaths, settling: Option<Settling
     needed + 8 * interval_of(network.params().sync)
 }
 
-/// What is told of a time.
+/// What is told of a time, where a link was last set at another.
 pub(crate) fn times_by(
     network: &Network,
     at: u64,
+    last_set: u64,
     paths: SyncPaths,
     calm: bool,
     sets: bool,
@@ -241,13 +250,14 @@ pub(crate) fn times_by(
     requires few { paths.systems ≤ 512 }
     requires short { paths.delay ≤ 16000000000 }
     requires early { at ≤ 800000000000000 }
+    requires set { last_set ≤ at }
     requires gained { gained ≤ 195000000000000 }
-    ensures is { result ≡ times_by network.now at paths calm sets row gained }
+    ensures is { result ≡ times_by network.now at last_set paths calm sets row gained }
     ensures bound { result.watch ≤ 200000000000000 }
 {
     let settling = if calm {
         let choice = choice_by(network, paths, row, gained);
-        Some(settled(network, at, paths, sets, choice))
+        Some(settled(network, at, last_set, paths, sets, choice))
     } else {
         None
     };

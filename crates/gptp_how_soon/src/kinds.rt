@@ -2,7 +2,7 @@
 
 ghost use Rattle.std.specs.Prelude.{◌≡◌, ◌++◌, ◌∷◌, [], false, OnOk};
 ghost use Rattle.std.specs.List.{list_all, list_any};
-ghost use Rattle.gptp_how_soon.specs.Kinds.{are_heard, fails_and_recovers, is_fail, is_recover, is_better, is_failure_of_same, is_gain, is_heard_too, is_idle, is_loss, is_other, is_priority1, is_link_up, is_recovery, is_recovery_of, kind_of, kind_of_change, kind_of_failure, kind_of_link_down, kind_of_link_up, kind_of_priority1, kind_of_recovery, recovers, sets_link, is_link_set, told_by, what_of, what_of_change};
+ghost use Rattle.gptp_how_soon.specs.Kinds.{are_heard, fails_and_recovers, is_fail, is_recover, is_better, is_failure_of_same, is_gain, is_link_down, is_unused, lowers_unused, makes_nothing, raises_unused, tells_nothing, is_heard_too, is_idle, is_loss, is_other, is_priority1, is_link_up, is_recovery, is_recovery_of, kind_of, kind_of_change, kind_of_failure, kind_of_link_down, kind_of_link_up, kind_of_priority1, kind_of_recovery, recovers, sets_bounds, sets_link, is_link_set, told_by, what_of, what_of_change};
 
 use crate::systems::System;
 use gptp_scenario::{Act, Change};
@@ -12,9 +12,11 @@ use std::alloc::AllocError;
 
 /// What an event does to what stands just before it.
 #[derive(Clone, Copy)]
-pub(crate) enum Kind {
+pub enum Kind {
     /// It changes nothing.
     Idle,
+    /// It turns a link that isn't used, since an end of it has failed.
+    Unused,
     /// It takes something away, or makes a system worse.
     Loss,
     /// It brings something, or makes a system better.
@@ -25,7 +27,7 @@ pub(crate) enum Kind {
 
 /// What an event is.
 #[derive(Clone, Copy)]
-pub(crate) enum What {
+pub enum What {
     LinkDown,
     LinkUp,
     LinkSet,
@@ -39,7 +41,7 @@ pub(crate) enum What {
 
 /// An event of a time, and the system that it names.
 #[derive(Clone, Copy)]
-pub(crate) struct Told {
+pub struct Told {
     pub kind: Kind,
     pub what: What,
     pub clock: ClockId,
@@ -56,7 +58,7 @@ fn kind_of_link_down(link: Option<Standing>) -> Kind
             } else if link.a_lives && link.b_lives {
                 Kind::Loss
             } else {
-                Kind::Other
+                Kind::Unused
             }
         }
         None => Kind::Other,
@@ -74,7 +76,7 @@ fn kind_of_link_up(link: Option<Standing>) -> Kind
             } else if link.a_lives && link.b_lives {
                 Kind::Gain
             } else {
-                Kind::Other
+                Kind::Unused
             }
         }
         None => Kind::Other,
@@ -198,6 +200,13 @@ fn what_of(act: &Act) -> What
     }
 }
 
+/// Whether an act sets the bounds of a link.
+pub(crate) fn sets_bounds(act: &Act) -> bool
+    ensures { result ≡ sets_bounds act.now }
+{
+    matches!(what_of(act), What::LinkSet)
+}
+
 /// An act, by the link and the system that it names as they stand just before it.
 fn told_by(act: &Act, link: Option<Standing>, system: Option<System>) -> Told
     ensures { result ≡ told_by act.now link system }
@@ -228,6 +237,12 @@ fn is_idle(told: &Told) -> bool
     matches!(told.kind, Kind::Idle)
 }
 
+fn is_unused(told: &Told) -> bool
+    ensures { result ≡ is_unused told.now }
+{
+    matches!(told.kind, Kind::Unused)
+}
+
 fn is_loss(told: &Told) -> bool
     ensures { result ≡ is_loss told.now }
 {
@@ -244,6 +259,12 @@ fn is_other(told: &Told) -> bool
     ensures { result ≡ is_other told.now }
 {
     matches!(told.kind, Kind::Other)
+}
+
+fn is_link_down(told: &Told) -> bool
+    ensures { result ≡ is_link_down told.now }
+{
+    matches!(told.what, What::LinkDown)
 }
 
 fn is_link_up(told: &Told) -> bool
@@ -264,11 +285,46 @@ fn is_link_set(told: &Told) -> bool
     matches!(told.what, What::LinkSet)
 }
 
+/// Whether it makes nothing of what stands.
+fn makes_nothing(told: &Told) -> bool
+    ensures { result ≡ makes_nothing told.now }
+{
+    is_idle(told) || is_unused(told)
+}
+
+/// Whether a link goes down by it that isn't used.
+fn lowers_unused(told: &Told) -> bool
+    ensures { result ≡ lowers_unused told.now }
+{
+    is_unused(told) && is_link_down(told)
+}
+
+/// Whether a link comes up by it that isn't used.
+fn raises_unused(told: &Told) -> bool
+    ensures { result ≡ raises_unused told.now }
+{
+    is_unused(told) && is_link_up(told)
+}
+
 /// Whether a link is set among these events, idle or not.
 pub(crate) fn sets_link(told: &[Told]) -> bool
     ensures { result ≡ sets_link told.now }
 {
     told.iter().any(|one| is_link_set(one))
+}
+
+/// Whether nothing is told after it as a network starts.
+fn tells_nothing(told: &Told) -> bool
+    ensures { result ≡ tells_nothing told.now }
+{
+    is_link_down(told) || is_link_up(told) || is_fail(told) || is_priority1(told)
+}
+
+/// Whether nothing is after each of these events.
+pub(crate) fn all_tell_nothing(told: &[Told]) -> bool
+    ensures { result ≡ list_all tells_nothing told.now }
+{
+    told.iter().all(|one| tells_nothing(one))
 }
 
 /// Whether a system gets a better priority1 by it.
@@ -325,11 +381,39 @@ pub(crate) fn fails_and_recovers(told: &[Told]) -> bool
     told.iter().any(|one| is_failure_of_same(told, one))
 }
 
-/// Whether each of these events is idle.
-pub(crate) fn are_idle(told: &[Told]) -> bool
-    ensures { result ≡ list_all is_idle told.now }
+/// Whether each of these events makes nothing of what stands.
+pub(crate) fn all_make_nothing(told: &[Told]) -> bool
+    ensures { result ≡ list_all makes_nothing told.now }
 {
-    told.iter().all(|one| is_idle(one))
+    told.iter().all(|one| makes_nothing(one))
+}
+
+/// Whether one of these events is a gain.
+pub(crate) fn any_gain(told: &[Told]) -> bool
+    ensures { result ≡ list_any is_gain told.now }
+{
+    told.iter().any(|one| is_gain(one))
+}
+
+/// Whether a link that isn't used goes down or comes up by one of these events.
+pub(crate) fn any_unused(told: &[Told]) -> bool
+    ensures { result ≡ list_any is_unused told.now }
+{
+    told.iter().any(|one| is_unused(one))
+}
+
+/// Whether a link that isn't used goes down by one of these events.
+pub(crate) fn any_lowers_unused(told: &[Told]) -> bool
+    ensures { result ≡ list_any lowers_unused told.now }
+{
+    told.iter().any(|one| lowers_unused(one))
+}
+
+/// Whether a link that isn't used comes up by one of these events.
+pub(crate) fn any_raises_unused(told: &[Told]) -> bool
+    ensures { result ≡ list_any raises_unused told.now }
+{
+    told.iter().any(|one| raises_unused(one))
 }
 
 /// Whether one of these events is a loss.
@@ -373,7 +457,7 @@ pub(crate) fn are_heard(told: &[Told]) -> bool
 {
     let mut heard = false;
     for one in told {
-        if !is_idle(one) {
+        if !makes_nothing(one) {
             if !is_heard_too(heard, one) {
                 return false;
             }

@@ -14,5 +14,7 @@ mod tests;
 mod times;
 mod walk;
 
-pub use bounds::{Settling, SettlingTime};
+pub use bounds::{Row, Settling, SettlingTime};
+pub use kinds::{Kind, Told, What};
+pub use systems::System;
 pub use times::{settling_at, settling_times};

@@ -12,7 +12,7 @@ use std::alloc::{AllocError, Global};
 
 /// How a system stands.
 #[derive(Clone, Copy)]
-pub(crate) struct System {
+pub struct System {
     pub clock: ClockId,
     pub identity: Identity,
     pub lives: bool,

@@ -8,13 +8,23 @@ use gptp_network::Document;
 use std::alloc::Global;
 use std::test::Fail;
 
-/// Four systems in a ring, whose frames take 390 to 410 ns; a link goes down at 30 s.
+/// Four systems in a ring, whose frames take 390 to 410 ns.
 const RING: &str =
-    "version = 1\n[[system]]\nclock = \"000000000000000a\"\npriority1 = 128\nports = 2\n[[system]]\nclock = \"000000000000000b\"\nports = 2\n[[system]]\nclock = \"000000000000000c\"\nports = 2\n[[system]]\nclock = \"000000000000000d\"\nports = 2\n[[link]]\na = \"000000000000000a\"\na_port = 1\nb = \"000000000000000b\"\nb_port = 1\nmin = 390\nmax = 410\n[[link]]\na = \"000000000000000b\"\na_port = 2\nb = \"000000000000000c\"\nb_port = 1\nmin = 390\nmax = 410\n[[link]]\na = \"000000000000000c\"\na_port = 2\nb = \"000000000000000d\"\nb_port = 1\nmin = 390\nmax = 410\n[[link]]\na = \"000000000000000d\"\na_port = 2\nb = \"000000000000000a\"\nb_port = 2\nmin = 390\nmax = 410\n[[event]]\nat = 30000000000\nkind = \"link_down\"\nclock = \"000000000000000a\"\nport = 1\n";
+    "version = 1\n[[system]]\nclock = \"000000000000000a\"\npriority1 = 128\nports = 2\n[[system]]\nclock = \"000000000000000b\"\nports = 2\n[[system]]\nclock = \"000000000000000c\"\nports = 2\n[[system]]\nclock = \"000000000000000d\"\nports = 2\n[[link]]\na = \"000000000000000a\"\na_port = 1\nb = \"000000000000000b\"\nb_port = 1\nmin = 390\nmax = 410\n[[link]]\na = \"000000000000000b\"\na_port = 2\nb = \"000000000000000c\"\nb_port = 1\nmin = 390\nmax = 410\n[[link]]\na = \"000000000000000c\"\na_port = 2\nb = \"000000000000000d\"\nb_port = 1\nmin = 390\nmax = 410\n[[link]]\na = \"000000000000000d\"\na_port = 2\nb = \"000000000000000a\"\nb_port = 2\nmin = 390\nmax = 410\n";
 
 /// A document of two end stations and the link between them, without its delays.
 const PAIR: &str =
     "version = 1\n[[system]]\nclock = \"000000000000000a\"\n[[system]]\nclock = \"000000000000000b\"\n[[link]]\na = \"000000000000000a\"\na_port = 1\nb = \"000000000000000b\"\nb_port = 1\n";
+
+/// The times of the ring with these events.
+fn ring(alloc: Global, events: &str) -> Result<Vec<SettlingTime>, Fail>
+    ensures { IfOk result (λ times. AreRising times.items) }
+{
+    let mut text = String::new(alloc);
+    text.push_str(RING)?;
+    text.push_str(events)?;
+    times_of(alloc, text.as_str())
+}
 
 /// The one time of a document of two end stations with these delays and this section `[network]`.
 fn pair(alloc: Global, delays: &str, network: &str) -> Result<Option<SettlingTime>, Fail> {
@@ -36,7 +46,10 @@ fn times_of(alloc: Global, text: &str) -> Result<Vec<SettlingTime>, Fail>
 
 #[test]
 fn a_ring_settles_after_its_start_and_after_a_loss(rt: HostRuntime) -> Result<(), Fail> {
-    let times = times_of(rt.alloc(), RING)?;
+    let times = ring(
+        rt.alloc(),
+        "[[event]]\nat = 30000000000\nkind = \"link_down\"\nclock = \"000000000000000a\"\nport = 1\n",
+    )?;
     assert_eq!(rt; times.len(), 2);
     assert_eq!(rt;
         settling_at(&times, 0),
@@ -116,6 +129,52 @@ fn two_end_stations_settle(rt: HostRuntime) -> Result<(), Fail> {
             settling: None,
             watch: 27_000_003_600
         })
+    );
+    Ok(())
+}
+
+/// By how much later the choice stands than a time, and from when on offsets are exact.
+fn soon(times: &[SettlingTime], at: u64) -> Option<(u64, u64)>
+    requires { AreRising times.now }
+{
+    let settling = settling_at(times, at)?.settling?;
+    Some((settling.choice, settling.exact_from))
+}
+
+#[test]
+fn events_at_the_start_leave_it_sharp(rt: HostRuntime) -> Result<(), Fail> {
+    // A link is down from the start.
+    let cut = ring(
+        rt.alloc(),
+        "[[event]]\nat = 0\nkind = \"link_down\"\nclock = \"000000000000000a\"\nport = 1\n",
+    )?;
+    assert_eq!(rt; soon(&cut, 0), Some((1_000_003_050, 1_000_010_250)));
+    // A neighbour of a system that fails then waits for it.
+    let failed = ring(
+        rt.alloc(),
+        "[[event]]\nat = 0\nkind = \"fail\"\nclock = \"000000000000000d\"\n",
+    )?;
+    assert_eq!(rt; soon(&failed, 0), Some((15_000_000_820, 15_000_006_220)));
+    Ok(())
+}
+
+#[test]
+fn links_that_are_not_used_turn_at_no_cost(rt: HostRuntime) -> Result<(), Fail> {
+    let times = ring(
+        rt.alloc(),
+        "[[event]]\nat = 30000000000\nkind = \"fail\"\nclock = \"000000000000000d\"\n[[event]]\nat = 60000000000\nkind = \"link_down\"\nclock = \"000000000000000d\"\nport = 1\n[[event]]\nat = 70000000000\nkind = \"link_up\"\nclock = \"000000000000000d\"\nport = 1\n",
+    )?;
+    assert_eq!(rt; soon(&times, 60_000_000_000), Some((0, 60_000_005_400)));
+    assert_eq!(rt; soon(&times, 70_000_000_000), Some((0, 70_000_005_400)));
+    Ok(())
+}
+
+#[test]
+fn offsets_are_exact_an_announce_interval_after_the_start(rt: HostRuntime) -> Result<(), Fail> {
+    // Eight exchanges each second.
+    assert_eq!(rt;
+        pair(rt.alloc(), "min = 500\nmax = 500\n", "[network]\npdelay = -3\n")?,
+        start(125_002_500, 125_003_000, 1_000_003_600, 2_000_003_600)
     );
     Ok(())
 }

@@ -25,6 +25,7 @@ fn tell(
     requires few { length walk.old.tables.nodes.items ≤ 512 }
     requires short { greatest_used walk.old.tables.marks.items ≤ 16000000000 }
     requires early { at ≤ 800000000000000 }
+    requires set { walk.old.last_set ≤ at }
     ensures { OnOk result (WalkTells network.now at next walk.old walk.new times.old.items times.new.items) }
 {
     if next != at {
@@ -56,7 +57,7 @@ fn settling_times_over(
     for event in events {
         tell(alloc, &mut times, &mut walk, network, at, event.at)?;
         at = event.at;
-        walk.pass(&event.act)?;
+        walk.pass(at, &event.act)?;
     }
     let time = walk.settle(alloc, network, at)?;
     times.push(time)?;

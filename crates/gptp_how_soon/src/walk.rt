@@ -7,11 +7,11 @@ ghost use Rattle.gptp_how_soon.specs.Times.{settling_time};
 ghost use Rattle.gptp_how_soon.specs.Walk.{IsFirstWalk, WalkGoesOn, WalkPasses, view_seen};
 
 use crate::bounds::{SettlingTime, heard, ready, times_by, way_span};
-use crate::kinds::{Told, sets_link, tell};
+use crate::kinds::{Told, sets_bounds, sets_link, tell};
 use crate::links::{new_links, used_links};
 use crate::rest::{heard_at_once, is_from_rest, row_of};
 use crate::systems::{System, act_on_systems, first_systems, system_at};
-use gptp_scenario::{Act, Network};
+use gptp_scenario::{Act, Network, SyncPaths};
 use gptp_topology::{Cable, Tables, named};
 use std::alloc::{AllocError, Global};
 
@@ -20,13 +20,15 @@ use std::alloc::{AllocError, Global};
 pub(crate) struct Walk {
     pub tables: Tables,
     pub systems: Vec<System>,
+    /// When a link was last set; 0 where none was.
+    pub last_set: u64,
     /// The events of this time.
     pub told: Vec<Told>,
     /// The time before, if there is one.
     pub before: Option<SettlingTime>,
-    /// Which links were in use then, and how many systems a path had.
+    /// Which links were in use then, and what Sync had to cross.
     pub used_before: Vec<bool>,
-    pub systems_before: usize,
+    pub paths_before: SyncPaths,
 }
 
 impl Walk {
@@ -43,27 +45,31 @@ impl Walk {
         let tables = Tables::first(alloc, network, cables)?;
         let systems = first_systems(alloc, network)?;
         let used_before = used_links(alloc, &tables.standings)?;
-        let systems_before = tables.sync_paths().systems;
+        let paths_before = tables.sync_paths();
         Ok(Walk {
             tables,
             systems,
+            last_set: 0,
             told: Vec::new(alloc),
             before: None,
             used_before,
-            systems_before,
+            paths_before,
         })
     }
 
     /// Passes an event of this time.
-    pub(crate) fn pass(&mut self, act: &Act) -> Result<(), AllocError>
+    pub(crate) fn pass(&mut self, at: u64, act: &Act) -> Result<(), AllocError>
         requires { AreMarked self.old.tables }
-        ensures { OnOk result (WalkPasses act.now self.old self.new) }
+        ensures { OnOk result (WalkPasses at act.now self.old self.new) }
     {
         let link = self.tables.link_named(act);
         let system = system_at(&self.systems, named(act));
         tell(&mut self.told, act, link, system)?;
         self.tables.act(act);
         act_on_systems(self.systems.as_mut_slice(), act);
+        if sets_bounds(act) {
+            self.last_set = at;
+        }
         Ok(())
     }
 
@@ -73,7 +79,7 @@ impl Walk {
         ensures { OnOk result (WalkGoesOn time self.old self.new) }
     {
         self.used_before = used_links(alloc, &self.tables.standings)?;
-        self.systems_before = self.tables.sync_paths().systems;
+        self.paths_before = self.tables.sync_paths();
         self.told = Vec::new(alloc);
         self.before = Some(time);
         Ok(())
@@ -89,6 +95,7 @@ impl Walk {
         requires few { length self.now.tables.nodes.items ≤ 512 }
         requires short { greatest_used self.now.tables.marks.items ≤ 16000000000 }
         requires early { at ≤ 800000000000000 }
+        requires set { self.now.last_set ≤ at }
         ensures is { IfOk result (λ time. time ≡ settling_time network.now (view_seen network.now self.now at)) }
         ensures bound { IfOk result (λ time. time.watch ≤ 200000000000000) }
     {
@@ -100,12 +107,22 @@ impl Walk {
         let new = new_links(alloc, first, standings, used)?;
         let new = new.as_slice();
         let ready = ready(network, paths, told, new);
-        let followed = heard_at_once(first, self.systems_before, standings, told);
+        let followed = heard_at_once(first, self.paths_before, told);
         let gained = ready + heard(network, followed, told, new) + way_span(paths);
-        let from_rest = is_from_rest(network, at, told, new, ready, self.before);
+        let from_rest = is_from_rest(
+            network,
+            at,
+            self.paths_before,
+            standings,
+            told,
+            new,
+            ready,
+            self.before,
+        );
         Ok(times_by(
             network,
             at,
+            self.last_set,
             paths,
             self.tables.is_calm(network, paths),
             sets_link(told),

@@ -21,6 +21,7 @@ use Rattle.gptp_theorem.specs.PlayedLaws.{IsPlayable}
 use Rattle.gptp_settling_time.specs.Gains.{IsNoWorse, exchanged_from}
 use Rattle.gptp_settling_time.specs.InTurn.{ActsFindSettledInTurn, BettersClock, Heard, LeadOn, SettlesAfter, SettlesByEvents}
 use Rattle.gptp_settling_time.specs.Starts.{LinksVaryLittle}
+use Rattle.gptp_settling_time.proofs.ClaimedToLemmas.{used_vary}
 use Rattle.gptp_network_tests.specs.Pair.{end_station, first_member, pair_network, pair_pace, pair_paths, second_member}
 use Rattle.gptp_network_tests.specs.Soon.{BetterClocksSettleSoon, better_document}
 use Rattle.gptp_network_tests.proofs.PairLemmas.{pace_is, paths_are}
@@ -88,7 +89,7 @@ settles until same = record {
   calm = subst (IsCalm pair_network) (sym same) calm;
   first = Heard 1000002001;
   begins = (
-    few,
+    used_vary pair_network [] few,
     subst (λ (p : SettlingParams). exchanged_from p (sync_paths pair_network []) 0 ≤ 1000002001) (sym pace_is)
         (subst (λ (x : SyncPaths). exchanged_from pair_pace x 0 ≤ 1000002001) (sym paths_are) (omega arith)),
   );
@@ -97,7 +98,7 @@ settles until same = record {
     Heard 2000000001,
     inr (inl (
       subst (λ (x : SyncPaths). 1000002001 + pred x.systems * x.delay ≤ 2000000000) (sym paths_are) (omega arith),
-      better,
+      inl better,
     )),
     refl,
   );

@@ -5,4 +5,5 @@ mod PairLemmas
 mod SoonLemmas
 mod BetterLemmas
 mod BackLemmas
+mod EarlyLemmas
 mod RingLemmas

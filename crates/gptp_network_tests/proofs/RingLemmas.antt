@@ -17,6 +17,7 @@ use Rattle.gptp_settling_time.specs.HowSoon.{IsChoiceBound, two_exchanges, way_s
 use Rattle.gptp_network_tests.specs.Pair.{pair_pace}
 use Rattle.gptp_network_tests.specs.Ring.{ring_document, ring_network, ring_paths}
 use Rattle.gptp_settling_time.specs.Starts.{LinksVaryLittle}
+use Rattle.gptp_settling_time.proofs.ClaimedToLemmas.{used_vary}
 
 pace_is : pace_of ring_network ≡ pair_pace
 unfolding largest_of
@@ -44,7 +45,13 @@ little v (inr (inr (inr (inr none)))) = absurd none
 pub ring_bound : IsChoiceBound ring_document 0 1000003050
 ring_bound = (
   [],
-  (refl, (record { links = links_rest; lapses = inl refl }, inr (refl, inr (refl, inl (little, is))))),
+  (
+    refl,
+    (
+      record { links = links_rest; lapses = inl refl },
+      inr (refl, inr (tt, inl (used_vary ring_network [] little, is))),
+    ),
+  ),
 )
   where
     is : 1000003050

@@ -31,6 +31,7 @@ use Rattle.gptp_setup.specs.SettlingParams.{SettlingParams}
 use Rattle.gptp_settling_time.specs.ChoiceBounds.{ChoiceBoundsHold}
 use Rattle.gptp_settling_time.specs.HowSoon.{IsChoiceBound, two_exchanges, way_span}
 use Rattle.gptp_settling_time.specs.Starts.{DelaysVaryLittle, LinksVaryLittle, StartsSettleAtOnce}
+use Rattle.gptp_settling_time.proofs.ClaimedToLemmas.{used_vary}
 use Rattle.gptp_system.specs.State.{clock}
 use Rattle.gptp_network_tests.specs.Pair.{HasBegun, IsPairAt, first_member, pair_document, pair_network, pair_pace, pair_snapshot}
 use Rattle.gptp_network_tests.specs.Soon.{IsPairSoon, SettlesWithin}
@@ -117,7 +118,7 @@ followed_soon w number (Some (root, steps, port)) named k some none =
 
 -- by two exchanges and the delay of the link after they began
 pub pair_bound : IsChoiceBound pair_document 0 1000002500
-pair_bound = ([], (refl, (is_calm, inr (refl, inr (refl, inl (few, is))))))
+pair_bound = ([], (refl, (is_calm, inr (refl, inr (tt, inl (used_vary pair_network [] few, is))))))
   where
     is : 1000002500
         ≡ two_exchanges (pace_of pair_network) (sync_paths pair_network []) + way_span (sync_paths pair_network [])

@@ -42,6 +42,13 @@ BetterClocksSettleSoon {F} answers = (until : ℕ) (fate : F) (start w : WorldSt
     → 2000000501 ≤ t.told.timed.at
     → IsSettled t.after
 
+-- their document in which the second gets that priority1 as they begin
+abbrev pub early_document : DocumentState
+early_document = record {
+  network = pair_network;
+  events = record { at = 0; act = Changing (Priority1 2 245) } ∷ [];
+}
+
 -- their document in which the link goes down at 2 s, and comes up at 20 s
 abbrev pub back_document : DocumentState
 back_document = record {

@@ -4,7 +4,7 @@
 ghost use Rattle.std.specs.Prelude.{◌≡◌, IfOk, OnOk, Some};
 ghost use Rattle.gptp_network_tests.specs.Pair.{HasBegun, first_member, pair_document};
 ghost use Rattle.gptp_network_tests.specs.Ring.{ring_document};
-ghost use Rattle.gptp_network_tests.specs.Soon.{BetterClocksSettleSoon, IsPairSoon, SettlesWithin, back_document};
+ghost use Rattle.gptp_network_tests.specs.Soon.{BetterClocksSettleSoon, IsPairSoon, SettlesWithin, back_document, early_document};
 
 use crate::drawn::begun;
 use gptp_links::Fate;
@@ -56,6 +56,13 @@ pub fn follow_soon<F: Fate + Drop>(
 /// Each act of a run of the document of both systems leaves them settled that is later than 1 ns before [`SOON`].
 pub fn runs_of_two_settle_soon<F: Fate>()
     ensures { SettlesWithin F.answers pair_document 0 1000002500 }
+{
+    choice_bounds_hold::<F>();
+}
+
+/// So it is where the second gets a better priority1 as they begin.
+pub fn early_clocks_settle_soon<F: Fate>()
+    ensures { SettlesWithin F.answers early_document 0 1000002500 }
 {
     choice_bounds_hold::<F>();
 }

@@ -17,6 +17,7 @@ use Rattle.gptp_model.proofs.PromptLemmas.{begun_none_faster}
 use Rattle.gptp_world.proofs.InitialLemmas.{initial_sound}
 use Rattle.gptp_network.specs.Document.{DocumentState}
 use Rattle.gptp_invariants.specs.ChoiceCalm.{delay_in}
+use Rattle.gptp_invariants.specs.WorldSettlingInvariant.{KeepsAll}
 use Rattle.gptp_invariants.specs.WorldSound.{IsSoundWorld}
 use Rattle.gptp_invariants.specs.WorldStanding.{snapshot_of}
 use Rattle.gptp_invariants.proofs.DelayStartFirstLemmas.{start_lives}
@@ -26,12 +27,14 @@ use Rattle.gptp_invariants.proofs.WorldOutlineLemmas.{starts_are_last}
 use Rattle.gptp_invariants.proofs.ChoiceRestSoundLemmas.{rest_sound_beside_failed}
 use Rattle.gptp_invariants.proofs.WorldStartNewsLemmas.{start_news}
 use Rattle.gptp_theorem.specs.PlayedLaws.{IsPlayable}
+use Rattle.gptp_theorem.specs.Reached.{StandsAsPlanned}
 use Rattle.gptp_theorem.proofs.BeginLemmas.{begun_stands}
 use Rattle.gptp_theorem.proofs.CalmLemmas.{quiet_stands}
 use Rattle.gptp_theorem.proofs.SyncPathLemmas.{paths_stand}
 use Rattle.gptp_settling_time.specs.Gains.{HasRested, exchanged_from}
 use Rattle.gptp_settling_time.proofs.KeptToLemmas.{KeepsTo}
 use Rattle.gptp_settling_time.proofs.NewsSoonLemmas.{IsNewsFrom}
+use Rattle.gptp_settling_time.proofs.SinceSetLemmas.{IsUnsetSince, unset_known}
 
 -- ---- a document begins
 
@@ -55,10 +58,17 @@ module _ {F : Type 0} (answers : Bounds → ℕ → F → Option ℕ → F → T
         let both = sym lives ∙ failed in
         cc
 
+    claim : KeepsAll p w
+    claim = claim_begins answers n fate fate_after w playable.network sound k
+
+    stands : StandsAsPlanned n [] w
+    stands = begun_stands answers n fate fate_after w k
+
     pub begun_keeps : KeepsTo d [] w
     begun_keeps = record {
-      claim = claim_begins answers n fate fate_after w playable.network sound k;
-      stands = begun_stands answers n fate fate_after w k;
+      claim = claim;
+      stands = stands;
+      unset = subst (λ since. IsUnsetSince p since w) stands.last (unset_known p w claim.world);
       slow = begun_none_faster answers n fate fate_after w sound.wired.setups k;
       asked = λ time spared. (
         0,

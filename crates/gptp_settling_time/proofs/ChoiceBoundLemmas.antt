@@ -1,9 +1,13 @@
--- The choice bound of a document holds of every run.
-use Rattle.std.proofs.Common.{◌<◌, ℕ, Option, sym, subst, arith}
+-- The choice bound of a document holds of every run, and offsets are exact soon after it.
+use Rattle.std.proofs.Common.{◌<◌, ◌≤◌, ◌+◌, ℕ, Option, sym, subst, arith}
 use Rattle.gptp_links.specs.declared.bounds.Bounds.{Bounds}
+use Rattle.gptp_setup.specs.SettlingParams.{largest_interval}
 use Rattle.gptp_scenario.specs.Calm.{last_change}
+use Rattle.gptp_scenario.specs.Network.{pace_of}
 use Rattle.gptp_network.specs.Snapshot.{events_by}
-use Rattle.gptp_settling_time.specs.ChoiceBounds.{ChoiceBoundsHold}
+use Rattle.gptp_settling_time.specs.ChoiceBounds.{ChoiceBoundsAreExact, ChoiceBoundsHold}
+use Rattle.gptp_settling_time.specs.ExactInTurn.{last_set}
+use Rattle.gptp_settling_time.proofs.ExactInTurnLemmas.{acts_are_exact_in_turn}
 use Rattle.gptp_settling_time.proofs.FollowedLemmas.{bound_settles}
 use Rattle.gptp_settling_time.proofs.InTurnLemmas.{acts_find_settled_in_turn}
 use Rattle.gptp_settling_time.proofs.MomentLemmas.{last_by, none_later}
@@ -20,3 +24,16 @@ choice_bounds_hold answers d time choice next until fate first w ts t playable k
       acts_find_settled_in_turn answers d until at fate first w ts t playable k member settles (omega arith) later,
       acts_leave_shown answers d until fate first w ts t playable k member settles later,
     )
+
+pub choice_bounds_are_exact : {F : Type 0} (answers : Bounds → ℕ → F → Option ℕ → F → Type 0)
+    → ChoiceBoundsAreExact answers
+choice_bounds_are_exact answers d time choice next settled until fate first w ts t playable k member shown bound none
+    late old early steps number error offset ahead come leaves near way is_ahead =
+    let at = t.told.timed.at in
+    let same = none_later d.events time at next (omega (arith, late, come)) early none in
+    let last = last_by time d.events in
+    acts_are_exact_in_turn answers d until settled fate first w ts t playable k member shown
+    (bound_settles d playable.network playable.events.in_order time choice at settled same late bound)
+    (subst (λ es. last_change es < settled) (sym same) (omega (arith, last, late)))
+    (subst (λ es. last_set es + largest_interval (pace_of d.network) ≤ settled) (sym same) old)
+    steps number error offset ahead come leaves near way is_ahead

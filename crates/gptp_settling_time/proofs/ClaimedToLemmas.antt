@@ -5,9 +5,9 @@ use Rattle.gptp_lists.proofs.SystemSpecLemmas.{In-slice_get}
 use Rattle.gptp_graph.specs.PathBound.{BoundsPaths}
 use Rattle.gptp_graph.proofs.PathBoundLemmas.{paths_within}
 use Rattle.gptp_links.specs.declared.bounds.Bounds.{Bounds}
-use Rattle.gptp_scenario.specs.Calm.{IsCalm, NothingLapses}
+use Rattle.gptp_scenario.specs.Calm.{IsCalm, IsUsed, NothingLapses}
 use Rattle.gptp_scenario.specs.Change.{link_after}
-use Rattle.gptp_scenario.specs.Network.{pace_of}
+use Rattle.gptp_scenario.specs.Network.{NetworkState, pace_of}
 use Rattle.gptp_scenario.specs.SyncWait.{sync_paths}
 use Rattle.gptp_scenario.specs.declared.change.Timed.{Timed}
 use Rattle.gptp_scenario.specs.declared.network.LinkSpec.{LinkSpec}
@@ -34,19 +34,26 @@ use Rattle.gptp_theorem.proofs.PlayedLemmas.{no_change}
 use Rattle.gptp_theorem.proofs.SnapshotLemmas.{snapshots_stand}
 use Rattle.gptp_theorem.proofs.SyncPathLemmas.{paths_stand}
 use Rattle.gptp_settling_time.specs.Documents.{IsSettledAs}
+use Rattle.gptp_settling_time.specs.InTurn.{UsedVaryLittle}
 use Rattle.gptp_settling_time.specs.Starts.{DelaysVaryLittle, LinksVaryLittle}
+use Rattle.gptp_settling_time.proofs.GainLemmas.{used_as}
 use Rattle.gptp_settling_time.proofs.KeptToLemmas.{KeepsTo, keeps_act, keeps_later}
 use Rattle.gptp_settling_time.proofs.AlwaysClaimedLemmas.{IsClaimedAlways, since_acts, since_later}
 use Rattle.gptp_settling_time.proofs.StartLemmas.{since_settles}
 
 -- delays vary little in a world that stands as a network in which they do
 pub varies_little : (d : DocumentState) (events : List Timed) (w : WorldState) → KeepsTo d events w
-    → LinksVaryLittle d.network events → DelaysVaryLittle w
+    → UsedVaryLittle d.network events → DelaysVaryLittle w
 varies_little d events w keeps vary link channel here used =
     let (v, there, same) = alike (link_after events) channel_wire d.network.links w.net.channels
     (sym keeps.stands.links) link channel here in
     subst (λ (b : Bounds). b.max < 2 * b.min) (ap (λ (x : LinkSpec). x.bounds) same)
-    (vary v (In-slice_get v d.network.links link there))
+    (vary link v there (subst (IsUsed d.network.systems events) (sym same)
+    (used_as d.network events w keeps.stands keeps.claim.world.sound channel used)))
+
+-- so they do where they do over each link
+pub used_vary : (n : NetworkState) (events : List Timed) → LinksVaryLittle n events → UsedVaryLittle n events
+used_vary n events vary place v there used = vary v (In-slice_get v n.links place there)
 
 -- A world of a document after these events, of which claims are made of all links always, and whose ports are capable
 -- from a start on.

@@ -4,7 +4,6 @@ use Rattle.std.proofs.lemmas.Bool.{cases_lt}
 use Rattle.gptp_lists.specs.Members.{In}
 use Rattle.gptp_links.specs.declared.bounds.Bounds.{Bounds}
 use Rattle.gptp_setup.specs.SettlingParams.{SettlingParams, largest_interval}
-use Rattle.gptp_setup.proofs.IntervalLemmas.{interval_positive}
 use Rattle.gptp_scenario.specs.Calm.{IsCalm, last_change}
 use Rattle.gptp_scenario.specs.Network.{pace_of}
 use Rattle.gptp_scenario.specs.declared.change.Timed.{Timed}
@@ -20,6 +19,7 @@ use Rattle.gptp_report.specs.Transitions.{Unfolds}
 use Rattle.gptp_invariants.specs.ChoiceCalm.{HaveQuietLinks}
 use Rattle.gptp_invariants.specs.DelayMeasuredLinks.{HaveMeasuredLinks}
 use Rattle.gptp_invariants.specs.SyncTimed.{AllMeasureRight, CarriesTime, IsSettledFrom}
+use Rattle.gptp_invariants.specs.WorldKnown.{IsKnown}
 use Rattle.gptp_invariants.specs.WorldStanding.{live_stations}
 use Rattle.gptp_invariants.proofs.DelayMeasuredLinkLemmas.{used_measured}
 use Rattle.gptp_invariants.proofs.SyncFollowClaimLemmas.{acts_time}
@@ -30,9 +30,10 @@ use Rattle.gptp_theorem.specs.PlayedLaws.{IsPlayable}
 use Rattle.gptp_theorem.proofs.CalmLemmas.{quiet_stands}
 use Rattle.gptp_theorem.proofs.PlayedLemmas.{no_change}
 use Rattle.gptp_theorem.proofs.SettlingInvariantLemmas.{events_fit, events_made}
-use Rattle.gptp_settling_time.specs.ExactInTurn.{ActsAreExactInTurn}
+use Rattle.gptp_settling_time.specs.ExactInTurn.{ActsAreExactInTurn, last_set}
 use Rattle.gptp_settling_time.specs.Exactly.{AreExactFrom}
-use Rattle.gptp_settling_time.specs.InTurn.{AnyPast, Gained, Heard, Past, SettlesAfter, SettlesByEvents}
+use Rattle.gptp_settling_time.specs.InTurn.{AnyPast, Gained, Heard, Past, SettlesAfter, SettlesByEvents, Starting}
+use Rattle.gptp_settling_time.proofs.AsIfChangedLemmas.{changed_at, exact_so, known_so, measured_links_so, measured_so, was_done_so, world_so}
 use Rattle.gptp_settling_time.proofs.BegunLemmas.{begun_last}
 use Rattle.gptp_settling_time.proofs.DocumentLemmas.{run_to}
 use Rattle.gptp_settling_time.proofs.InTurnLemmas.{IsAfter, after_act, after_keeps, after_later, after_settles, begins_after, in_turn}
@@ -43,9 +44,13 @@ use Rattle.gptp_settling_time.proofs.SoonOffsetLemmas.{CarriesRight, carried_exa
 
 module _ (d : DocumentState) (playable : IsPlayable d) (all : List Timed) (calm : IsCalm d.network all) (last : Past)
     (settled : ℕ) (settles : SettlesAfter d.network all last settled)
-    (old : last_change all + largest_interval (pace_of d.network) ≤ settled) where
+    (behind : last_change all < settled) (old : last_set all + largest_interval (pace_of d.network) ≤ settled) where
   abbrev p : SettlingParams
   p = pace_of d.network
+
+  -- the world as if it had been changed last when a link was last set
+  abbrev seen : WorldState → WorldState
+  seen w = changed_at (last_set all) w
 
   -- ---- a world that has settled
 
@@ -65,6 +70,7 @@ module _ (d : DocumentState) (playable : IsPlayable d) (all : List Timed) (calm 
           → w.last_change + 5 * largest_interval p ≤ w.time
       by (inl (off, passed)) change = omega (arith, passed, on, change)
       by (inr passed) change = omega (arith, passed, on, change)
+  have_measured Starting w so none links on = absurd none
   have_measured (Gained start) w so settles links on =
       let late = by settles in news_measured p start w (news_now p start w late so.news) links late
     where
@@ -75,18 +81,17 @@ module _ (d : DocumentState) (playable : IsPlayable d) (all : List Timed) (calm 
       news_measured p start w so.since.news links (omega (arith, late, on))
 
   settled_from : (w : WorldState) → IsAfter d all last w → settled ≤ w.time → w.time ≤ 10 ^ 18
-      → IsSettledFrom p settled p.params.threshold w
+      → IsSettledFrom p settled p.params.threshold (seen w)
   settled_from w so on shown =
       let keeps = after_keeps d all last w so in
       let links = quiet w so in
-      let change = keeps.stands.last in
       record {
         pace = keeps.claim.pace;
-        world = keeps.claim.world;
-        measured = keeps.claim.measured;
+        world = world_so p (last_set all) w keeps.unset keeps.claim.world;
+        measured = measured_so p (last_set all) w keeps.claim.measured;
         links = links;
         choice = (after_settles d playable all calm settled w on last so settles).0;
-        old = omega (arith, old, change);
+        old = old;
         late = on;
         shown = shown;
         short = used_within (live_stations w.stations) w.net.channels p.params.threshold
@@ -95,35 +100,40 @@ module _ (d : DocumentState) (playable : IsPlayable d) (all : List Timed) (calm 
       }
 
   right : (w : WorldState) → IsAfter d all last w → settled ≤ w.time → w.time ≤ 10 ^ 18
-      → AllMeasureRight p.params w
+      → AllMeasureRight p.params (seen w)
   right w so on shown =
-      measured_right p settled p.params.threshold w (settled_from w so on shown)
-      (have_measured last w so settles (quiet w so) on)
+      measured_right p settled p.params.threshold (seen w) (settled_from w so on shown)
+      (measured_links_so p (last_set all) w (have_measured last w so settles (quiet w so) on))
+
+  -- what is known of it as it is seen so
+  known : (w : WorldState) → IsAfter d all last w → IsKnown p (seen w)
+  known w so =
+      let keeps = after_keeps d all last w so in known_so p (last_set all) w keeps.unset keeps.claim.world.known
 
   -- ---- what is kept
 
   -- time is carried right from then on
   record IsExactTo (w : WorldState) : Type 0 where
     so : IsAfter d all last w
-    carries : settled ≤ w.time → w.time ≤ 10 ^ 18 → CarriesTime p.params settled p.params.threshold w
+    carries : settled ≤ w.time → w.time ≤ 10 ^ 18 → CarriesTime p.params settled p.params.threshold (seen w)
 
   exact_begins : (w : WorldState) → IsAfter d all last w → w.last_change ≡ w.time → IsExactTo w
   exact_begins w so now =
-      let keeps = after_keeps d all last w so in
-      let some = interval_positive p.largest keeps.claim.pace.largest in
-      let change = keeps.stands.last in
-      record { so = so; carries = λ on shown. absurd (omega (arith, on, old, some, change, now)) }
+      let change = (after_keeps d all last w so).stands.last in
+      record { so = so; carries = λ on shown. absurd (omega (arith, on, behind, change, now)) }
 
   carries_later : (w : WorldState) (time : ℕ) → w.time ≤ time → IsAfter d all last (at time w) → IsExactTo w
-      → settled ≤ time → time ≤ 10 ^ 18 → CarriesTime p.params settled p.params.threshold (at time w)
+      → settled ≤ time → time ≤ 10 ^ 18 → CarriesTime p.params settled p.params.threshold (seen (at time w))
   carries_later w time later then is on shown = by (cases_lt w.time settled)
     where
-      by : (w.time < settled) ⊎ (settled ≤ w.time) → CarriesTime p.params settled p.params.threshold (at time w)
+      by : (w.time < settled) ⊎ (settled ≤ w.time)
+          → CarriesTime p.params settled p.params.threshold (seen (at time w))
       by (inl early) =
-          time_begins p settled p.params.threshold w time early (after_keeps d all last w is.so).claim.world.known
+          time_begins p settled p.params.threshold (seen w) time early (known w is.so)
           (settled_from (at time w) then on shown)
       by (inr already) =
-          time_carries p settled p.params.threshold w time later (is.carries already (omega (arith, later, shown)))
+          time_carries p settled p.params.threshold (seen w) time later
+          (is.carries already (omega (arith, later, shown)))
 
   exact_later : (w : WorldState) (time : ℕ) → w.time ≤ time → NothingBefore time w.net.pending → IsExactTo w
       → IsExactTo (at time w)
@@ -147,14 +157,16 @@ module _ (d : DocumentState) (playable : IsPlayable d) (all : List Timed) (calm 
               let on_then : settled ≤ timed.at = omega (arith, on, time) in
               let shown_then : timed.at ≤ 10 ^ 18 = omega (arith, shown, time) in
               let now = was.ready.timely.now in
-              done_carries answers p settled p.params.threshold timed fate drawn w t.after t.told.done still was
-              (after_keeps d all last w is.so).claim.world.known (settled_from (at timed.at w) then on_then shown_then)
+              done_carries answers p settled p.params.threshold timed fate drawn (seen w) (seen t.after) t.told.done
+              still (was_done_so (last_set all) answers timed fate drawn w t.after t.told.done still was)
+              (known w is.so) (settled_from (at timed.at w) then on_then shown_then)
               (right (at timed.at w) then on_then shown_then) (settled_from t.after after on shown)
               (λ already. is.carries already (omega (arith, now, shown_then)));
         }
 
   -- so time is carried right in it at each time from then on
-  carries_right : (w : WorldState) → IsExactTo w → settled ≤ w.time → w.time ≤ 10 ^ 18 → CarriesRight p settled w
+  carries_right : (w : WorldState) → IsExactTo w → settled ≤ w.time → w.time ≤ 10 ^ 18
+      → CarriesRight p settled (seen w)
   carries_right w is on shown =
       record { is = settled_from w is.so on shown; right = right w is.so on shown; carries = is.carries on shown }
 
@@ -164,7 +176,8 @@ module _ {F : Type 0} (answers : Bounds → ℕ → F → Option ℕ → F → T
     (first w : WorldState) (ts : List ActTrace) (t : ActTrace) (playable : IsPlayable d)
     (k : Unfolds answers d t.told.timed.at fate first ts w) (member : In t ts) (shown : t.told.timed.at ≤ 10 ^ 18)
     (is : SettlesByEvents d t.told.timed.at settled)
-    (old : last_change (events_by t.told.timed.at d.events) + largest_interval (pace_of d.network) ≤ settled) where
+    (behind : last_change (events_by t.told.timed.at d.events) < settled)
+    (old : last_set (events_by t.told.timed.at d.events) + largest_interval (pace_of d.network) ≤ settled) where
   abbrev now : ℕ
   now = t.told.timed.at
 
@@ -174,31 +187,37 @@ module _ {F : Type 0} (answers : Bounds → ℕ → F → Option ℕ → F → T
   begun : IsAfter d [] is.first first
   begun = begins_after answers d playable fate now first w ts k is.first is.begins
 
-  steps : AreSteps answers (IsExactTo d playable events is.calm is.last settled is.settles old) events ts first
+  abbrev Exact : WorldState → Type 0
+  Exact = IsExactTo d playable events is.calm is.last settled is.settles behind old
+
+  steps : AreSteps answers Exact events ts first
   steps =
-      in_turn answers d playable events is.last now (IsExactTo d playable events is.calm is.last settled is.settles old)
-      (exact_begins d playable events is.calm is.last settled is.settles old)
-      (exact_later d playable events is.calm is.last settled is.settles old)
+      in_turn answers d playable events is.last now Exact
+      (exact_begins d playable events is.calm is.last settled is.settles behind old)
+      (exact_later d playable events is.calm is.last settled is.settles behind old)
       (λ u one drawn v next was v_is.
-      exact_act d playable events is.calm is.last settled is.settles old answers u one drawn v next was v_is)
+      exact_act d playable events is.calm is.last settled is.settles behind old answers u one drawn v next was v_is)
       [] is.first events ts k.started k.drawn first w refl (events_made d now playable.network playable.events)
       (events_fit d now playable) is.lead k.courses begun (begun_last answers d playable fate k.started first k.begun)
 
   exact_then : AreExactFrom (pace_of d.network) settled t.before now t.after t.told.done
   exact_then number_of_steps number error offset ahead late leaves near way is_ahead =
-      let pace = (after_keeps d [] is.first first begun).claim.pace in
-      let some = interval_positive (pace_of d.network).largest pace.largest in
-      let step = steps.each t member (omega (arith, some, old, late)) in
-      carried_exact answers t.told.timed step.fate step.drawn t.before t.after (pace_of d.network) settled
+      let step = steps.each t member (omega (arith, behind, late)) in
+      let since = last_set events in
+      exact_so since (pace_of d.network) settled t.before now t.after t.told.done
+      (carried_exact answers t.told.timed step.fate step.drawn (changed_at since t.before) (changed_at since t.after)
+      (pace_of d.network) settled
       (λ on.
-      carries_right d playable events is.calm is.last settled is.settles old (at now t.before)
-      (exact_later d playable events is.calm is.last settled is.settles old t.before now step.was.ready.timely.now
-      step.was.ready.timely.first step.before)
+      carries_right d playable events is.calm is.last settled is.settles behind old (at now t.before)
+      (exact_later d playable events is.calm is.last settled is.settles behind old t.before now
+      step.was.ready.timely.now step.was.ready.timely.first step.before)
       on shown)
-      t.told.done step.was number_of_steps number error offset ahead late leaves near way is_ahead
+      t.told.done
+      (was_done_so since answers t.told.timed step.fate step.drawn t.before t.after t.told.done step.none step.was))
+      number_of_steps number error offset ahead late leaves near way is_ahead
 
 pub acts_are_exact_in_turn : {F : Type 0} (answers : Bounds → ℕ → F → Option ℕ → F → Type 0)
     → ActsAreExactInTurn answers
-acts_are_exact_in_turn answers d until settled fate first w ts t playable k member shown is old =
+acts_are_exact_in_turn answers d until settled fate first w ts t playable k member shown is behind old =
     let run = run_to answers d until fate first w ts t playable k member in
-    exact_then answers d settled fate first run.w run.ts t playable run.unfolds run.member shown is old
+    exact_then answers d settled fate first run.w run.ts t playable run.unfolds run.member shown is behind old

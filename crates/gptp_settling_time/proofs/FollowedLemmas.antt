@@ -1,6 +1,6 @@
 -- A choice bound of a time gives what the network came from then, and when it has settled by that.
 use Rattle.std.proofs.Common.{◌≡◌, inl, inr, ◌<◌, ◌≤◌, ◌+◌, ◌-◌, ◌*◌, ℕ, suc, pred, List, [], ◌∷◌, ◌++◌, refl, sym, subst, ◌∙◌, append_assoc, append-nil, arith}
-use Rattle.std.specs.Prelude.{max, ⊤}
+use Rattle.std.specs.Prelude.{max}
 use Rattle.std.specs.List.{AllByRecursion}
 use Rattle.std.proofs.Math.Nat.{le-max_left, le-max_right}
 use Rattle.gptp_setup.specs.SettlingParams.{largest_interval, longest_span}
@@ -9,16 +9,20 @@ use Rattle.gptp_scenario.specs.Network.{IsNetwork, NetworkState, pace_of}
 use Rattle.gptp_scenario.specs.SettlingAtOnce.{settling_span_at_once}
 use Rattle.gptp_scenario.specs.SettlingTime.{capability_span, settling_span_with}
 use Rattle.gptp_scenario.specs.SyncWait.{sync_paths}
+use Rattle.gptp_scenario.specs.declared.change.Act.{Act}
+use Rattle.gptp_scenario.specs.declared.change.Act.TheVariants.{Deliver, Expire, Change as Changing}
+use Rattle.gptp_scenario.specs.declared.change.Change.TheVariants.{LinkDown, LinkUp, LinkSet, Fail, Recover, Priority1, Inject}
 use Rattle.gptp_scenario.specs.declared.change.Timed.{Timed}
 use Rattle.gptp_scenario.specs.declared.sync_wait.SyncPaths.{SyncPaths}
 use Rattle.gptp_network.specs.Document.{DocumentState}
 use Rattle.gptp_network.specs.Events.{AreInOrder}
 use Rattle.gptp_network.specs.Snapshot.{events_by}
-use Rattle.gptp_settling_time.specs.Gains.{ChangesNothing}
-use Rattle.gptp_settling_time.specs.HowSoon.{AreHeardEvents, BoundsEvents, BoundsStart, EachEvent, IsChoiceBound, IsChoiceBoundAfter, IsFollowedEvent, IsGainEvent, IsHeardEvent, IsHeardToo, IsIdleEvent, events_at, two_exchanges, way_span}
-use Rattle.gptp_settling_time.specs.InTurn.{AnyPast, BeginsBy, EventLeads, Gained, HasSettledAnyhow, HasSettledHeard, HasSettledSince, Heard, LeadOn, Past, SettlesAfter, SettlesByEvents}
+use Rattle.gptp_settling_time.specs.HowSoon.{AfterIdleEvents, AreGainEvents, AreHeardEvents, AreStartEvents, BoundsEvents, BoundsStart, EachEvent, IsChoiceBound, IsChoiceBoundAfter, IsGainEvent, IsGainToo, IsHeardEvent, IsHeardToo, IsIdleEvent, TurnsUnused, events_at, two_exchanges, way_span}
+use Rattle.gptp_settling_time.specs.InTurn.{AnyPast, BeginsBy, EventLeads, Gained, HasSettledAnyhow, HasSettledHeard, HasSettledSince, Heard, LeadOn, LeavesSettled, MakesNothing, NoneUnanswered, Past, SettlesAfter, SettlesByEvents, Starting, StartsWith, TellsNothing, TurnsInVain, UsedVaryLittle}
+use Rattle.gptp_settling_time.specs.Gains.{exchanged_from}
+use Rattle.gptp_settling_time.proofs.CutLemmas.{IsBy, all_by}
 use Rattle.gptp_settling_time.proofs.MomentLemmas.{all_at, last_by, parted}
-use Rattle.gptp_settling_time.proofs.SamePathsLemmas.{idle_paths}
+use Rattle.gptp_settling_time.proofs.SamePathsLemmas.{idle_paths, turned_paths}
 
 -- ---- what leads on
 
@@ -41,15 +45,10 @@ leads_on n made first mid last (event ∷ events) more (next, leads, is) then = 
       (subst (λ es. LeadOn n es mid more last) (sym (append_assoc made (event ∷ []) events)) then),
 )
 
--- it is known what the network came from
-abbrev IsKnown : Past → Type 0
-IsKnown AnyPast = ⊥
-IsKnown (Gained start) = ⊤
-IsKnown (Heard start) = ⊤
-
 -- by a time it has settled, whatever it came from
 abbrev HasSettled : NetworkState → List Timed → Past → ℕ → Type 0
 HasSettled n events AnyPast time = HasSettledAnyhow n events time
+HasSettled n events Starting time = ⊥
 HasSettled n events (Gained start) time = HasSettledSince n events start time
 HasSettled n events (Heard start) time = HasSettledHeard n events start time
 
@@ -57,12 +56,14 @@ settled_later : (n : NetworkState) (events : List Timed) (past : Past) (time lat
     → HasSettled n events past time → HasSettled n events past later
 settled_later n events AnyPast time later less is =
     let passed = is.passed in record { calm = is.calm; passed = omega (arith, passed, less) }
+settled_later n events Starting time later less is = absurd is
 settled_later n events (Gained start) time later less is = omega (arith, is, less)
 settled_later n events (Heard start) time later less is = omega (arith, is, less)
 
 settled_so : (n : NetworkState) (events : List Timed) (past : Past) (time : ℕ) → NothingLapses n.params
     → HasSettled n events past time → SettlesAfter n events past time
 settled_so n events AnyPast time off is = inl (off, is.passed)
+settled_so n events Starting time off is = absurd is
 settled_so n events (Gained start) time off is = inl (off, is)
 settled_so n events (Heard start) time off is = (off, is)
 
@@ -77,11 +78,6 @@ span_parts last capable clean one way time passed =
     (omega (arith, passed, right), omega (arith, passed, left))
 
 module _ (n : NetworkState) (made : List Timed) (event : Timed) where
-  idle_leads : (past : Past) → IsKnown past → ChangesNothing n made event.act → EventLeads n made past event past
-  idle_leads AnyPast known nothing = absurd known
-  idle_leads (Gained start) known nothing = inr (inl nothing, refl)
-  idle_leads (Heard start) known nothing = inr (inr (inl nothing, refl))
-
   gain_leads : (past : Past) (next : ℕ) → HasSettled n made past event.at → event.at ≤ next
       → IsGainEvent n next made event → EventLeads n made past event (Gained next)
   gain_leads AnyPast next settled less (takes, leaves) =
@@ -97,6 +93,7 @@ module _ (n : NetworkState) (made : List Timed) (event : Timed) where
           (event.at, inr capable, inr (less, leaves)),
         ),
       )
+  gain_leads Starting next settled less gain = absurd settled
   gain_leads (Gained start) next settled less (takes, leaves) =
       inl (takes, inl (inr (omega (arith, settled, less), leaves)))
   gain_leads (Heard start) next settled less (takes, leaves) =
@@ -106,47 +103,64 @@ module _ (n : NetworkState) (made : List Timed) (event : Timed) where
       → EventLeads n made past event (Heard next)
   heard_leads AnyPast next settled (inl up) = (settled, inl up)
   heard_leads AnyPast next settled (inr better) = (settled, inr (inl better))
+  heard_leads Starting next settled heard = absurd settled
   heard_leads (Gained start) next settled (inl up) = (settled, inl up)
   heard_leads (Gained start) next settled (inr better) = (settled, inr (inl better))
   heard_leads (Heard start) next settled (inl up) =
       let capable = up.capable in inl (omega (arith, settled, capable), up)
-  heard_leads (Heard start) next settled (inr better) = inr (inl (settled, better))
+  heard_leads (Heard start) next settled (inr better) = inr (inl (settled, inl better))
 
-  -- what changes nothing leads from a network that has settled to one that has settled by then
-  module _ (network : IsNetwork n) (off : NothingLapses n.params) (nothing : ChangesNothing n made event.act) where
+  -- what makes nothing of what stands leads from a network that has settled to one that has settled by then, as if its
+  -- ports had been capable from a time on
+  module _ (network : IsNetwork n) (off : NothingLapses n.params) where
     abbrev more : List Timed
     more = made ++ event ∷ []
 
-    record LeavesSo (past : Past) : Type 0 where
-      pub next : Past
-      pub leads : EventLeads n made past event next
-      pub settled : HasSettled n more next event.at
+    abbrev way : ℕ
+    way = way_span (sync_paths n made)
 
-    idle_leaves : (past : Past) → HasSettled n made past event.at → LeavesSo past
-    idle_leaves AnyPast settled =
-        let passed = settled.passed in
-        let paths = sync_paths n made in
-        let way : ℕ = pred paths.systems * paths.delay in
-        let start : ℕ = event.at - way in
-        let since : start + way ≡ event.at = omega (arith, passed) in
-        record {
-          next = Heard start;
-          leads = (settled, inr (inr (record { nothing = inl nothing; off = off; since = since })));
-          settled = subst (λ (x : SyncPaths). start + pred x.systems * x.delay ≤ event.at)
-              (sym (idle_paths n network made event nothing)) (omega (arith, since));
-        }
-    idle_leaves (Gained start) settled = record {
-      next = Gained start;
-      leads = idle_leads (Gained start) tt nothing;
-      settled = subst (λ (x : SyncPaths). start + largest_interval (pace_of n) + pred x.systems * x.delay ≤ event.at)
-          (sym (idle_paths n network made event nothing)) settled;
-    }
-    idle_leaves (Heard start) settled = record {
-      next = Heard start;
-      leads = idle_leads (Heard start) tt nothing;
-      settled = subst (λ (x : SyncPaths). start + pred x.systems * x.delay ≤ event.at)
-          (sym (idle_paths n network made event nothing)) settled;
-    }
+    abbrev since : ℕ
+    since = event.at - way
+
+    way_over : (past : Past) → HasSettled n made past event.at → way ≤ event.at
+    way_over AnyPast settled = let passed = settled.passed in omega (arith, passed)
+    way_over Starting settled = absurd settled
+    way_over (Gained start) settled = omega (arith, settled)
+    way_over (Heard start) settled = omega (arith, settled)
+
+    same_paths : IsIdleEvent n made event → sync_paths n more ≡ sync_paths n made
+    same_paths (inl nothing) = idle_paths n network made event nothing
+    same_paths (inr turns) = turned_paths n made event turns
+
+    turns_in_vain : (act : Act) → TurnsUnused n made event act → TurnsInVain n made event since act
+    turns_in_vain (Changing (LinkUp number port)) (failed, late) = (failed, omega (arith, late))
+    turns_in_vain (Changing (LinkDown number port)) failed = (failed, omega arith)
+    turns_in_vain (Changing (LinkSet number port min max loss)) none = absurd none
+    turns_in_vain (Changing (Fail number)) none = absurd none
+    turns_in_vain (Changing (Recover number)) none = absurd none
+    turns_in_vain (Changing (Priority1 number value)) none = absurd none
+    turns_in_vain (Changing (Inject number port octets)) none = absurd none
+    turns_in_vain (Deliver link direction) none = absurd none
+    turns_in_vain (Expire number timer) none = absurd none
+
+    makes_nothing : IsIdleEvent n made event → MakesNothing n made event since
+    makes_nothing (inl nothing) = inl nothing
+    makes_nothing (inr turns) = inr (off, turns_in_vain event.act turns)
+
+    module _ (idle : IsIdleEvent n made event) where
+      leaves_so : way ≤ event.at → LeavesSettled n made event since
+      leaves_so over = record { nothing = makes_nothing idle; off = off; since = omega (arith, over) }
+
+      pub idle_leads : (past : Past) → HasSettled n made past event.at → EventLeads n made past event (Heard since)
+      idle_leads AnyPast settled = (settled, inr (inr (leaves_so (way_over AnyPast settled))))
+      idle_leads Starting settled = absurd settled
+      idle_leads (Gained start) settled = (settled, inr (inr (leaves_so (way_over (Gained start) settled))))
+      idle_leads (Heard start) settled = inr (inl (settled, inr (leaves_so (way_over (Heard start) settled))))
+
+      pub idle_settled : (past : Past) → HasSettled n made past event.at → HasSettled n more (Heard since) event.at
+      idle_settled past settled =
+          let over = way_over past settled in
+          subst (λ (x : SyncPaths). since + way_span x ≤ event.at) (sym (same_paths idle)) (omega (arith, over))
 
 -- ---- the events of a time lead from a network that has settled
 
@@ -173,16 +187,15 @@ module _ (n : NetworkState) (network : IsNetwork n) where
   heard_lead next made (event ∷ now) (inl up, each) =
       (Heard next, inl (omega arith, up), heard_lead next (made ++ event ∷ []) now each)
   heard_lead next made (event ∷ now) (inr nothing, each) =
-      (Heard next, idle_leads n made event (Heard next) tt nothing, heard_lead next (made ++ event ∷ []) now each)
+      (Heard next, inr (inr (nothing, refl)), heard_lead next (made ++ event ∷ []) now each)
 
-  gains_lead : (next : ℕ) (made now : List Timed)
-      → EachEvent (IsFollowedEvent n next) made now
+  gains_lead : (next : ℕ) (made now : List Timed) → EachEvent (IsGainToo n next) made now
       → LeadOn n made (Gained next) now (Gained next)
   gains_lead next made [] each = refl
-  gains_lead next made (event ∷ now) (inl nothing, each) =
-      (Gained next, idle_leads n made event (Gained next) tt nothing, gains_lead next (made ++ event ∷ []) now each)
-  gains_lead next made (event ∷ now) (inr (takes, leaves), each) =
+  gains_lead next made (event ∷ now) (inl (takes, leaves), each) =
       (Gained next, inl (takes, inl (inr (omega arith, leaves))), gains_lead next (made ++ event ∷ []) now each)
+  gains_lead next made (event ∷ now) (inr nothing, each) =
+      (Gained next, inr (inl (nothing, refl)), gains_lead next (made ++ event ∷ []) now each)
 
   module _ (off : NothingLapses n.params) (time : ℕ) where
     abbrev AllNow : List Timed → Type 0
@@ -198,27 +211,48 @@ module _ (n : NetworkState) (network : IsNetwork n) where
           (settled_later n made past time settled late is);
     }
 
-    -- they change nothing
+    -- they make nothing of what stands
     idle_led : (made now : List Timed) (past : Past) → AllNow now → HasSettled n made past time
         → EachEvent (IsIdleEvent n) made now → IsLed n made now past (suc (time + 0))
     idle_led made [] past at settled idle = none_led made past (suc (time + 0)) (omega arith) settled
-    idle_led made (event ∷ now) past (here, at) settled (nothing, idle) =
-        let one = idle_leaves n made event network off nothing past
-        (subst (HasSettled n made past) (sym here) settled) in
-        led_more n made now event past one.next (suc (time + 0)) one.leads
-        (idle_led (made ++ event ∷ []) now one.next at
-        (subst (HasSettled n (made ++ event ∷ []) one.next) here one.settled) idle)
+    idle_led made (event ∷ now) past (here, at) settled (one, idle) =
+        let then = subst (HasSettled n made past) (sym here) settled in
+        led_more n made now event past (Heard (since n made event network off)) (suc (time + 0))
+        (idle_leads n made event network off one past then)
+        (idle_led (made ++ event ∷ []) now (Heard (since n made event network off)) at
+        (subst (HasSettled n (made ++ event ∷ []) (Heard (since n made event network off))) here
+        (idle_settled n made event network off one past then))
+        idle)
+
+    -- such come first, and then others that lead to this
+    after_idle : (Are : List Timed → List Timed → Type 0) (all : List Timed) (later : ℕ)
+        → ((made now : List Timed) (past : Past) → made ++ now ≡ all → AllNow now → HasSettled n made past time
+        → Are made now → IsLed n made now past later)
+        → (made now : List Timed) (past : Past) → made ++ now ≡ all → AllNow now → HasSettled n made past time
+        → AfterIdleEvents n Are made now → IsLed n made now past later
+    after_idle Are all later then made [] past are at settled is = then made [] past are at settled is
+    after_idle Are all later then made (event ∷ now) past are at settled (inl is) =
+        then made (event ∷ now) past are at settled is
+    after_idle Are all later then made (event ∷ now) past are (here, at) settled (inr (one, is)) =
+        let before = subst (HasSettled n made past) (sym here) settled in
+        let start : ℕ = since n made event network off in
+        led_more n made now event past (Heard start) later (idle_leads n made event network off one past before)
+        (after_idle Are all later then (made ++ event ∷ []) now (Heard start)
+        (append_assoc made (event ∷ []) now ∙ are) at
+        (subst (HasSettled n (made ++ event ∷ []) (Heard start)) here
+        (idle_settled n made event network off one past before))
+        is)
 
     module _ (ready : ℕ) where
       abbrev next : ℕ
       next = suc (time + ready)
 
       -- one is heard at once, and after it others
-      heard_led : (made now all : List Timed) (past : Past) (choice : ℕ) → made ++ now ≡ all → AllNow now
-          → HasSettled n made past time → AreHeardEvents n next made now
-          → choice ≡ ready + way_span (sync_paths n all) → IsLed n made now past (suc (time + choice))
-      heard_led made [] all past choice are at settled none is = absurd none
-      heard_led made (event ∷ now) all past choice are (here, at) settled (inl (heard, each)) is =
+      heard_led : (all : List Timed) (choice : ℕ) → choice ≡ ready + way_span (sync_paths n all)
+          → (made now : List Timed) (past : Past) → made ++ now ≡ all → AllNow now → HasSettled n made past time
+          → AreHeardEvents n next made now → IsLed n made now past (suc (time + choice))
+      heard_led all choice is made [] past are at settled none = absurd none
+      heard_led all choice is made (event ∷ now) past are (here, at) settled (heard, each) =
           record {
             last = Heard next;
             lead = (
@@ -229,27 +263,14 @@ module _ (n : NetworkState) (network : IsNetwork n) where
             settles = subst (λ es. next + way_span (sync_paths n es) ≤ suc (time + choice)) (sym are)
                 (omega (arith, is));
           }
-      heard_led made (event ∷ now) all past choice are (here, at) settled (inr (nothing, more)) is =
-          let one = idle_leaves n made event network off nothing past
-          (subst (HasSettled n made past) (sym here) settled) in
-          led_more n made now event past one.next (suc (time + choice)) one.leads
-          (heard_led (made ++ event ∷ []) now all one.next choice (append_assoc made (event ∷ []) now ∙ are) at
-          (subst (HasSettled n (made ++ event ∷ []) one.next) here one.settled) more is)
 
-      -- each is a gain, or changes nothing
-      gains_led : (made now all : List Timed) (past : Past) (choice : ℕ) → made ++ now ≡ all → AllNow now
-          → HasSettled n made past time → EachEvent (IsFollowedEvent n next) made now
+      -- one is a gain, and after it others
+      gains_led : (all : List Timed) (choice : ℕ)
           → choice ≡ ready + largest_interval (pace_of n) + way_span (sync_paths n all)
-          → IsLed n made now past (suc (time + choice))
-      gains_led made [] all past choice are at settled each is =
-          none_led made past (suc (time + choice)) (omega arith) settled
-      gains_led made (event ∷ now) all past choice are (here, at) settled (inl nothing, each) is =
-          let one = idle_leaves n made event network off nothing past
-          (subst (HasSettled n made past) (sym here) settled) in
-          led_more n made now event past one.next (suc (time + choice)) one.leads
-          (gains_led (made ++ event ∷ []) now all one.next choice (append_assoc made (event ∷ []) now ∙ are) at
-          (subst (HasSettled n (made ++ event ∷ []) one.next) here one.settled) each is)
-      gains_led made (event ∷ now) all past choice are (here, at) settled (inr gain, each) is =
+          → (made now : List Timed) (past : Past) → made ++ now ≡ all → AllNow now → HasSettled n made past time
+          → AreGainEvents n next made now → IsLed n made now past (suc (time + choice))
+      gains_led all choice is made [] past are at settled none = absurd none
+      gains_led all choice is made (event ∷ now) past are (here, at) settled (gain, each) =
           record {
             last = Gained next;
             lead = (
@@ -289,8 +310,9 @@ module _ (n : NetworkState) (network : IsNetwork n) (off : NothingLapses n.param
         settles = record { calm = calm; passed = omega (arith, last, is) };
       }
 
-  started : (choice : ℕ) → BoundsStart n choice → IsFollowedTo n [] 0 choice
-  started choice (inl (little, is)) =
+  -- by a start without events
+  started : (choice : ℕ) → BoundsStart n [] choice → IsFollowedTo n [] 0 choice
+  started choice (quietly, inl (little, is)) =
       let start : ℕ = two_exchanges (pace_of n) (sync_paths n []) + 1 in
       record {
         first = Heard start;
@@ -299,7 +321,7 @@ module _ (n : NetworkState) (network : IsNetwork n) (off : NothingLapses n.param
         lead = refl;
         settles = omega (arith, is);
       }
-  started choice (inr is) =
+  started choice (quietly, inr is) =
       let start : ℕ = two_exchanges (pace_of n) (sync_paths n []) + 1 in
       record {
         first = Gained start;
@@ -309,13 +331,69 @@ module _ (n : NetworkState) (network : IsNetwork n) (off : NothingLapses n.param
         settles = omega (arith, is);
       }
 
+  -- events that tell nothing lead from a start to what the last of them leads to
+  start_lead : (last : Past) (now : List Timed)
+      → ((made : List Timed) (event : Timed) → made ++ event ∷ [] ≡ now → event.at ≡ 0 → TellsNothing event.act
+      → EventLeads n made Starting event last)
+      → (made : List Timed) (event : Timed) (events : List Timed) → made ++ event ∷ events ≡ now
+      → AllByRecursion (IsBy 0) (event ∷ events) → AreStartEvents (event ∷ events)
+      → LeadOn n made Starting (event ∷ events) last
+  start_lead last now leads made event [] are (at, none) (tells, rest) =
+      (last, leads made event are (omega (arith, at)) tells, refl)
+  start_lead last now leads made event (other ∷ events) are (at, later) (tells, rest) = (
+    Starting,
+    (omega (arith, at), tells),
+    start_lead last now leads (made ++ event ∷ []) other events
+        (append_assoc made (event ∷ []) (other ∷ events) ∙ are) later rest,
+  )
+
+  -- by a start with such events
+  started_with : (event : Timed) (events : List Timed) (choice : ℕ) → AllByRecursion (IsBy 0) (event ∷ events)
+      → BoundsStart n (event ∷ events) choice → IsFollowedTo n (event ∷ events) 0 choice
+  started_with event events choice at ((each, answered), inl (little, is)) =
+      let now = event ∷ events in
+      let start : ℕ = two_exchanges (pace_of n) (sync_paths n now) + 1 in
+      record {
+        first = Starting;
+        begins = tt;
+        last = Heard start;
+        lead = start_lead (Heard start) now (λ made one are zero tells. (
+          subst (λ es. NoneUnanswered n es → exchanged_from (pace_of n) (sync_paths n es) 0 ≤ start
+              → StartsWith n made one start) are
+              (λ none late. record { now = zero; tells = tells; answered = none; capable = late }) answered
+              (omega arith),
+          subst (UsedVaryLittle n) (sym are) little,
+        )) [] event events refl at each;
+        settles = omega (arith, is);
+      }
+  started_with event events choice at ((each, answered), inr is) =
+      let now = event ∷ events in
+      let start : ℕ = two_exchanges (pace_of n) (sync_paths n now) + 1 in
+      record {
+        first = Starting;
+        begins = tt;
+        last = Gained start;
+        lead = start_lead (Gained start) now (λ made one are zero tells.
+            inr (inr (subst (λ es. NoneUnanswered n es → exchanged_from (pace_of n) (sync_paths n es) 0 ≤ start
+            → StartsWith n made one start) are
+            (λ none late. record { now = zero; tells = tells; answered = none; capable = late }) answered
+            (omega arith)))) [] event events refl at each;
+        settles = omega (arith, is);
+      }
+
+  started_so : (now : List Timed) (choice : ℕ) → AllByRecursion (IsBy 0) now → BoundsStart n now choice
+      → IsFollowedTo n now 0 choice
+  started_so [] choice at is = started choice is
+  started_so (event ∷ events) choice at is = started_with event events choice at is
+
   followed : (earlier : List ℕ) (time choice : ℕ) → IsChoiceBoundAfter n all earlier time choice
       → IsFollowedTo n (events_by time all) time choice
   followed [] time choice (start, (calm, inl (lapses, is))) = absurd (lapses off)
   followed [] time choice (start, (calm, inr (nothing, inl is))) = spanned time choice calm is
-  followed [] time choice (start, (calm, inr (nothing, inr (none, is)))) =
-      subst (λ es. IsFollowedTo n es time choice) (sym none)
-      (subst (λ at. IsFollowedTo n [] at choice) (sym start) (started choice is))
+  followed [] time choice (start, (calm, inr (nothing, inr is))) =
+      subst (λ at. IsFollowedTo n (events_by at all) at choice) (sym start)
+      (started_so (events_by 0 all) choice (all_by 0 all)
+      (subst (λ at. BoundsStart n (events_by at all) choice) start is))
   followed (last ∷ earlier) time choice (later, between, (calm, inl (lapses, is))) = absurd (lapses off)
   followed (last ∷ earlier) time choice (later, between, (calm, inr (nothing, inl is))) = spanned time choice calm is
   followed (last ∷ earlier) time choice (later, between, (calm, inr (nothing, inr (then, bound, soon, sharp)))) =
@@ -339,11 +417,15 @@ module _ (n : NetworkState) (network : IsNetwork n) (off : NothingLapses n.param
           subst (λ c. IsLed n (events_by last all) (events_at time all) past (suc (time + c))) (sym is)
           (idle_led n network off time (events_by last all) (events_at time all) past (all_at time all) settled idle)
       by past settled (inr (ready, inl (heard, is))) =
-          heard_led n network off time ready (events_by last all) (events_at time all)
-          (events_by last all ++ events_at time all) past choice refl (all_at time all) settled heard is
+          after_idle n network off time (AreHeardEvents n (suc (time + ready)))
+          (events_by last all ++ events_at time all) (suc (time + choice))
+          (heard_led n network off time ready (events_by last all ++ events_at time all) choice is)
+          (events_by last all) (events_at time all) past refl (all_at time all) settled heard
       by past settled (inr (ready, inr (each, is))) =
-          gains_led n network off time ready (events_by last all) (events_at time all)
-          (events_by last all ++ events_at time all) past choice refl (all_at time all) settled each is
+          after_idle n network off time (AreGainEvents n (suc (time + ready)))
+          (events_by last all ++ events_at time all) (suc (time + choice))
+          (gains_led n network off time ready (events_by last all ++ events_at time all) choice is)
+          (events_by last all) (events_at time all) past refl (all_at time all) settled each
 
 -- A choice bound of a document at a time: by then it settles after all events up to any time before the next.
 module _ (d : DocumentState) (network : IsNetwork d.network) (order : AreInOrder d.events)

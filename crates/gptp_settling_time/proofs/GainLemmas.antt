@@ -5,7 +5,8 @@ use Rattle.gptp_lists.proofs.MappedLemmas.{alike, same_there}
 use Rattle.gptp_vector.specs.declared.port.PortId.{PortId}
 use Rattle.gptp_roles.specs.Selection.{clock_of}
 use Rattle.gptp_links.specs.declared.bounds.Bounds.{Bounds}
-use Rattle.gptp_scenario.specs.Calm.{IsLive}
+use Rattle.gptp_links.specs.declared.link.Direction.TheVariants.{FromA, FromB}
+use Rattle.gptp_scenario.specs.Calm.{IsLive, IsUsed}
 use Rattle.gptp_scenario.specs.Change.{link_after, system_after}
 use Rattle.gptp_scenario.specs.Network.{IsEnd, NetworkState, pace_of}
 use Rattle.gptp_scenario.specs.declared.change.Change.{Change}
@@ -23,6 +24,7 @@ use Rattle.gptp_graph.specs.Snapshot.{System}
 use Rattle.gptp_invariants.specs.WorldNews.{AllLive}
 use Rattle.gptp_invariants.specs.WorldSound.{IsDownAt, IsGain}
 use Rattle.gptp_invariants.specs.WorldStanding.{channel_is_used, live_stations, stations_have_clock}
+use Rattle.gptp_invariants.proofs.WorldStandsLemmas.{sender_lives, used_up}
 use Rattle.gptp_invariants.proofs.WorldSystemLemmas.{clock_lives, live_from}
 use Rattle.gptp_theorem.specs.Reached.{Shape, StandsAsPlanned, shape, shape_after, channel_wire}
 use Rattle.gptp_settling_time.specs.Gains.{AllLiveAfter, EndHasFailed, IsDownAfter, IsGainAfter, IsIdleAfter, IsNoWorse, IsUpAfter, KeepsIdentity}
@@ -43,20 +45,20 @@ clock_shape station setup = by station.live
     by false = setup.named
 
 -- what stands somewhere is one of the network's after the events
-record IsMemberAt (n : NetworkState) (events : List Timed) (place : ℕ) (station : Station) : Type 0 where
-  member : SystemSpec
-  there : slice_get n.systems place ≡ Some member
-  is : shape_after (pace_of n) events member ≡ shape station
+pub record IsMemberAt (n : NetworkState) (events : List Timed) (place : ℕ) (station : Station) : Type 0 where
+  pub member : SystemSpec
+  pub there : slice_get n.systems place ≡ Some member
+  pub is : shape_after (pace_of n) events member ≡ shape station
 
 module _ (n : NetworkState) (events : List Timed) (w : WorldState) (so : StandsAsPlanned n events w) where
-  member_at : (place : ℕ) (station : Station) → slice_get w.stations place ≡ Some station
+  pub member_at : (place : ℕ) (station : Station) → slice_get w.stations place ≡ Some station
       → IsMemberAt n events place station
   member_at place station here =
       let (m, there, is) = alike (shape_after (pace_of n) events) shape n.systems w.stations (sym so.systems) place
       station here in
       record { member = m; there = there; is = is }
 
-  lives_as : (place : ℕ) (station : Station) → (of : IsMemberAt n events place station)
+  pub lives_as : (place : ℕ) (station : Station) → (of : IsMemberAt n events place station)
       → (system_after events of.member).live ≡ station.live
   lives_as place station of = ap (λ (x : Shape). x.live) of.is
 
@@ -94,7 +96,7 @@ module _ (n : NetworkState) (events : List Timed) (w : WorldState) (so : StandsA
       sym (ap (λ (x : LinkSpec). x.up) same) ∙ on
 
   module _ (sound : IsSound w) where
-    named_as : (place number : ℕ) (station : Station) → IsStation number place w station
+    pub named_as : (place number : ℕ) (station : Station) → IsStation number place w station
         → (of : IsMemberAt n events place station) → clock_of of.member.identity ≡ number
     named_as place number station k of =
         sym (clock_after events of.member)
@@ -118,6 +120,39 @@ module _ (n : NetworkState) (events : List Timed) (w : WorldState) (so : StandsA
         (subst (λ i. slice_get w.stations i ≡ Some station) one k.here) here in
         ap (λ (x : Station). x.live) is ∙ ap (λ (x : Shape). x.live) same ∙ lives.live
 
+    -- and one that lives in the world lives in the network
+    pub live_named : (number place : ℕ) (station : Station) → IsStation number place w station
+        → station.live ≡ true → IsLive n.systems events number
+    live_named number place station k on =
+        let of = member_at place station k.here in
+        record {
+          place = place;
+          system = of.member;
+          there = of.there;
+          clock = named_as place number station k of;
+          live = lives_as place station of ∙ on;
+        }
+
+    -- a link in use in the world is so in the network
+    pub used_as : (channel : Channel) → channel_is_used (live_stations w.stations) channel ≡ true
+        → IsUsed n.systems events (channel_wire channel)
+    used_as channel used =
+        record {
+          up = used_up (live_stations w.stations) channel used;
+          a = by channel.a.clock (sender_lives (live_stations w.stations) FromA channel used);
+          b = by channel.b.clock (sender_lives (live_stations w.stations) FromB channel used);
+        }
+      where
+        by : (number : ℕ) → stations_have_clock (live_stations w.stations) number ≡ true
+            → IsLive n.systems events number
+        by number has =
+            let (s, member, named) = clock_lives w.stations number has in
+            let at = live_from w.stations s member in
+            live_named number at.place at.station (record {
+              here = at.here;
+              named = ap (λ (x : System). x.clock) (sym at.is) ∙ named;
+            }) at.live
+
     -- so has a system failed
     pub failed_so : (number : ℕ) → (IsLive n.systems events number → ⊥) → (place : ℕ) (station : Station)
         → IsStation number place w station → station.live ≡ false
@@ -125,15 +160,7 @@ module _ (n : NetworkState) (events : List Timed) (w : WorldState) (so : StandsA
       where
         by : (live : Bool) → station.live ≡ live → station.live ≡ false
         by false off = off
-        by true on =
-            let of = member_at place station k.here in
-            absurd (none (record {
-              place = place;
-              system = of.member;
-              there = of.there;
-              clock = named_as place number station k of;
-              live = lives_as place station of ∙ on;
-            }))
+        by true on = absurd (none (live_named number place station k on))
 
     -- so does one whose identity is no worse
     pub better_lives : (number value : ℕ) → IsNoWorse n events number value → Lives number w

@@ -49,7 +49,7 @@ use Rattle.gptp_theorem.proofs.SnapshotLemmas.{snapshots_stand}
 use Rattle.gptp_theorem.proofs.SyncPathLemmas.{paths_stand}
 use Rattle.gptp_settling_time.specs.Exactly.{SettlesBy}
 use Rattle.gptp_settling_time.specs.Gains.{ChangesNothing, IsIdleAfter, LeavesCapable, TakesNothing}
-use Rattle.gptp_settling_time.specs.InTurn.{ActsFindSettledInTurn, AnyPast, BeginsBy, BettersClock, BringsUp, EventLeads, Gained, Heard, LeadOn, LeavesSettled, MakesNothing, Past, SettlesAfter, SettlesByEvents, TurnsInVain}
+use Rattle.gptp_settling_time.specs.InTurn.{ActsFindSettledInTurn, AnyPast, BeginsBy, BettersClock, BringsUp, EventLeads, Gained, Heard, LeadOn, LeavesSettled, MakesNothing, Past, SettlesAfter, SettlesByEvents, Starting, TurnsInVain}
 use Rattle.gptp_settling_time.proofs.AlwaysClaimedLemmas.{IsClaimedAlways, since_later}
 use Rattle.gptp_settling_time.proofs.BegunLemmas.{begun_keeps, begun_last, begun_news, rested_sound}
 use Rattle.gptp_settling_time.proofs.ClaimedToLemmas.{IsClaimedTo, claimed_act, claimed_later, claimed_settled}
@@ -72,24 +72,28 @@ use Rattle.gptp_settling_time.proofs.SettledSeenLemmas.{HasSettledSeen, always_s
 use Rattle.gptp_settling_time.proofs.BetterClockLemmas.{better_claimed}
 use Rattle.gptp_settling_time.proofs.StartDocumentLemmas.{begun_claimed}
 use Rattle.gptp_settling_time.proofs.StandsStillLemmas.{StandsStill, claims_stand, from_stands}
+use Rattle.gptp_settling_time.proofs.StartEventLemmas.{IsStarting, IsStartingTo, starting_act, starting_begins, starting_later, starting_made, starts_claimed, starts_news}
 use Rattle.gptp_settling_time.proofs.TimedNewsLemmas.{CanSettle, has_settled}
 
 -- ---- what is so after some events
 
 abbrev pub IsAfter : DocumentState → List Timed → Past → WorldState → Type 0
 IsAfter d events AnyPast w = KeepsTo d events w
+IsAfter d events Starting w = IsStartingTo d events w
 IsAfter d events (Gained start) w = IsNewsTo d start events w
 IsAfter d events (Heard start) w = IsClaimedTo d events start w
 
 module _ (d : DocumentState) (events : List Timed) where
   pub after_keeps : (past : Past) (w : WorldState) → IsAfter d events past w → KeepsTo d events w
   after_keeps AnyPast w so = so
+  after_keeps Starting w so = so.keeps
   after_keeps (Gained start) w so = so.keeps
   after_keeps (Heard start) w so = so.keeps
 
   pub after_later : (past : Past) (w : WorldState) (time : ℕ) → w.time ≤ time → NothingBefore time w.net.pending
       → IsAfter d events past w → IsAfter d events past (at time w)
   after_later AnyPast w time later first so = keeps_later d events w time later first so
+  after_later Starting w time later first so = starting_later d events w time later first so
   after_later (Gained start) w time later first so = news_later_to d events start w time later first so
   after_later (Heard start) w time later first so = claimed_later d events start w time later first so
 
@@ -98,6 +102,7 @@ module _ (d : DocumentState) (events : List Timed) where
       → WasDone answers t.told.timed fate drawn w t.after t.told.done → IsAfter d events past w
       → IsAfter d events past t.after
   after_act answers AnyPast t fate drawn w next was so = keeps_act d events answers t fate drawn w next was so
+  after_act answers Starting t fate drawn w next was so = starting_act d events answers t fate drawn w next was so
   after_act answers (Gained start) t fate drawn w next was so =
       news_act_to d events answers t fate drawn w next was start so
   after_act answers (Heard start) t fate drawn w next was so = claimed_act d events start answers t fate drawn w next
@@ -280,6 +285,11 @@ module _ {F : Type 0} (answers : Bounds → ℕ → F → Option ℕ → F → T
   left_settled start next claim on settled leaves ready silent =
       left_so next (settled_claimed p start next then claim on settled leaves.off ready silent) leaves.nothing
 
+  -- as the network starts
+  starting_now : IsStartingTo d made w → event.at ≡ 0 → IsStarting then
+  starting_now so now =
+      (starting_later d made w event.at k.ready.timely.now k.ready.timely.first so).yet now
+
   module _ (moment : w.time ≡ event.at) where
     leads_to_heard : (past : Past) (next : ℕ) → EventLeads n made past event (Heard next) → IsAfter d made past w
         → IsClaimedTo d more next w'
@@ -305,6 +315,12 @@ module _ {F : Type 0} (answers : Bounds → ℕ → F → Option ℕ → F → T
               left_settled (suc event.at) next claim on (rest_settled p then keeps_then.claim sound_then late) leaves
               ready silent
         ]
+    leads_to_heard Starting next (starts, vary) so =
+        record {
+          keeps = after;
+          since = starts_claimed answers d playable made event fate fate_after w w' done is fit k keeps next starts
+              (starting_now so starts.now) vary;
+        }
     leads_to_heard (Gained start) next (settled, brings) so =
         let late : start + largest_interval p + pred (path_bound (snapshot_of then)) * delay_in then ≤ event.at =
         subst (λ (x : SyncPaths). start + largest_interval p + pred x.systems * x.delay ≤ event.at) paths_then
@@ -328,14 +344,21 @@ module _ {F : Type 0} (answers : Bounds → ℕ → F → Option ℕ → F → T
     leads_to_heard (Heard start) next (inl (ahead, brings)) so =
         brought_up start next (since_later p start event.at w k.ready.timely.now k.ready.timely.first so.since) ahead
         so.since.news.sound brings
-    leads_to_heard (Heard start) next (inr (inl (settled, better))) so =
+    leads_to_heard (Heard start) next (inr (inl (settled, makes))) so =
         let claim = since_later p start event.at w k.ready.timely.now k.ready.timely.first so.since in
         let late : start + pred (path_bound (snapshot_of then)) * delay_in then ≤ event.at =
         subst (λ (x : SyncPaths). start + pred x.systems * x.delay ≤ event.at) paths_then settled in
-        bettered start next claim
-        (λ at_link stands.
-        heard_on p start at_link then claim.news.world (claim.heard at_link stands) (omega (arith, late)))
-        (omega (arith, late)) so.since.news.sound (always_settled p start then claim late) better
+        let on : AreOn p start then claim.heard = λ at_link stands.
+        heard_on p start at_link then claim.news.world (claim.heard at_link stands) (omega (arith, late)) in
+        elim makes [
+          | inl better ↦ bettered start next claim on (omega (arith, late)) so.since.news.sound
+              (always_settled p start then claim late) better
+          | inr leaves ↦
+              let since = leaves.since in
+              let (ready, silent) = ready_later p start next then (omega (arith, settled, since)) claim.news.ready
+              claim.news.silent in
+              left_settled start next claim on (always_settled p start then claim late) leaves ready silent
+        ]
     leads_to_heard (Heard start) next (inr (inr (nothing, same))) so =
         subst (λ time. IsClaimedTo d more time w') (sym same)
         (left_so start (since_later p start event.at w k.ready.timely.now k.ready.timely.first so.since) nothing)
@@ -351,13 +374,32 @@ module _ {F : Type 0} (answers : Bounds → ℕ → F → Option ℕ → F → T
     leads_to_gain (Heard start) next (inl (nothing, capable)) so =
         news_news answers d playable made event fate fate_after w w' done is fit k start next
         (record { keeps = keeps; news = inl so.since.news }) nothing capable
-    leads_to_gain AnyPast next (inr (nothing, stays)) so = absurd stays
-    leads_to_gain (Gained start) next (inr (nothing, same)) so = left_news start next nothing same so.news
-    leads_to_gain (Heard start) next (inr (nothing, same)) so = left_news start next nothing same (inl so.since.news)
+    leads_to_gain Starting next (inl (nothing, none)) so = absurd none
+    leads_to_gain AnyPast next (inr (inl (nothing, stays))) so = absurd stays
+    leads_to_gain Starting next (inr (inl (nothing, stays))) so = absurd stays
+    leads_to_gain (Gained start) next (inr (inl (nothing, same))) so = left_news start next nothing same so.news
+    leads_to_gain (Heard start) next (inr (inl (nothing, same))) so =
+        left_news start next nothing same (inl so.since.news)
+    leads_to_gain AnyPast next (inr (inr none)) so = absurd none
+    leads_to_gain Starting next (inr (inr starts)) so =
+        inl (starts_news answers d playable made event fate fate_after w w' done is fit k keeps next starts
+        (starting_now so starts.now))
+    leads_to_gain (Gained start) next (inr (inr none)) so = absurd none
+    leads_to_gain (Heard start) next (inr (inr none)) so = absurd none
+
+    leads_to_start : (past : Past) → EventLeads n made past event Starting → IsAfter d made past w
+        → IsStartingTo d more w'
+    leads_to_start AnyPast none so = absurd none
+    leads_to_start Starting (now, tells) so =
+        starting_made answers d playable made event fate fate_after w w' done is fit k keeps now tells
+        (starting_now so now)
+    leads_to_start (Gained start) none so = absurd none
+    leads_to_start (Heard start) none so = absurd none
 
     pub leads_to : (past next : Past) → EventLeads n made past event next → IsAfter d made past w
         → IsAfter d more next w'
     leads_to past AnyPast leads so = after
+    leads_to past Starting leads so = leads_to_start past leads so
     leads_to past (Gained next) leads so = record { keeps = after; news = leads_to_gain past next leads so }
     leads_to past (Heard next) leads so = leads_to_heard past next leads so
 
@@ -471,6 +513,7 @@ module _ (d : DocumentState) (playable : IsPlayable d) (all : List Timed) (calm 
     bounded_by_paths (path_bound (snapshot_of w)) w (record { pace = pace; is = keeps.claim }) (bounds keeps)
         (spanned keeps passed),
   )
+  after_settles Starting so none = absurd none
   after_settles (Gained start) so settles =
       has_settled pace (sync_paths d.network all).systems start settled w so.news (can_settle so.keeps start settles) on
   after_settles (Heard start) so (off, passed) =
@@ -483,6 +526,8 @@ pub begins_after : {F : Type 0} (answers : Bounds → ℕ → F → Option ℕ �
     → (k : Unfolds answers d until fate first ts w) → (past : Past) → BeginsBy d.network past → IsAfter d [] past first
 begins_after answers d playable fate until first w ts k AnyPast begins =
     begun_keeps answers d playable fate k.started first k.begun
+begins_after answers d playable fate until first w ts k Starting begins =
+    starting_begins answers d playable fate k.started first k.begun
 begins_after answers d playable fate until first w ts k (Gained start) begins = record {
   keeps = begun_keeps answers d playable fate k.started first k.begun;
   news = begun_news answers d playable fate k.started first k.begun start begins;

@@ -24,10 +24,12 @@ use Rattle.gptp_theorem.specs.Reached.{StandsAsPlanned}
 use Rattle.gptp_theorem.proofs.SettlingInvariantLemmas.{least_of}
 use Rattle.gptp_theorem.proofs.KeptLemmas.{acts_stand, time_stands}
 use Rattle.gptp_theorem.proofs.PlayedLemmas.{no_change}
+use Rattle.gptp_settling_time.specs.ExactInTurn.{last_set}
 use Rattle.gptp_settling_time.specs.Gains.{AreSparedBy}
 use Rattle.gptp_settling_time.proofs.AskedInTimeLemmas.{AreAskedInTime, are_asked_acts, are_asked_later}
 use Rattle.gptp_settling_time.proofs.BetweenFailedLemmas.{AreGoneBetween, gone_acts, gone_later}
 use Rattle.gptp_settling_time.proofs.NewsSoonLemmas.{IsNewsFrom, from_done, from_later}
+use Rattle.gptp_settling_time.proofs.SinceSetLemmas.{IsUnsetSince, unset_acts, unset_later}
 use Rattle.gptp_settling_time.proofs.TimedNewsLemmas.{IsTimed, timed_act, timed_later}
 
 -- what is old beside failed systems was due by an earlier time than this
@@ -40,6 +42,7 @@ pub record KeepsTo (d : DocumentState) (events : List Timed) (w : WorldState) : 
   pub stands : StandsAsPlanned d.network events w
   pub slow : NoneFaster (least_of d) w
   pub asked : (time : ℕ) → AreSparedBy d.network [] events time → WereAskedInTime time w
+  pub unset : IsUnsetSince (pace_of d.network) (last_set events) w
 
 -- and it is one since news, whose ports are capable from a start on
 pub record IsNewsTo (d : DocumentState) (start : ℕ) (events : List Timed) (w : WorldState) : Type 0 where
@@ -63,6 +66,7 @@ module _ (d : DocumentState) (events : List Timed) where
     asked = λ by spared.
         let (gone, past, asked, all) = keeps.asked by spared in
         (gone, past, are_asked_later gone time w later asked, gone_later gone time w all);
+    unset = unset_later (pace_of d.network) (last_set events) w time later keeps.unset;
   }
 
   pub news_later_to : (start : ℕ) (w : WorldState) (time : ℕ) → w.time ≤ time → NothingBefore time w.net.pending
@@ -112,6 +116,9 @@ module _ (d : DocumentState) (events : List Timed) where
               (done_stays answers timed fate drawn w t.after t.told.done keeps.claim.world.sound.wired.setups was)
               keeps.slow;
           asked = asked_act keeps;
+          unset = unset_acts (pace_of d.network) (last_set events) timed.act (at timed.at w) was.draws t.told.done
+              t.after (no_change next.item timed.act w next.act) was.acts
+              (unset_later (pace_of d.network) (last_set events) w timed.at was.ready.timely.now keeps.unset);
         }
 
     pub news_act_to : (start : ℕ) → IsNewsTo d start events w → IsNewsTo d start events t.after

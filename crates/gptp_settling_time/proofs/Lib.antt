@@ -15,7 +15,9 @@ pub mod IdleLemmas
 pub mod GainLemmas
 pub mod PassLemmas
 pub mod LaterLemmas
+pub mod SinceSetLemmas
 pub mod KeptToLemmas
+pub mod PrioritySparedLemmas
 pub mod MadeLemmas
 pub mod BegunLemmas
 pub mod FindsLemmas
@@ -29,6 +31,9 @@ pub mod AlwaysClaimedLemmas
 pub mod SeenSettledLemmas
 pub mod StartLemmas
 pub mod ClaimedToLemmas
+pub mod StartCallLemmas
+pub mod EventStillLemmas
+pub mod StartEventLemmas
 pub mod StartDocumentLemmas
 pub mod SameShownLemmas
 pub mod StepLemmas
@@ -50,7 +55,8 @@ pub mod NewsClaimedLemmas
 pub mod SettledClaimedLemmas
 pub mod InTurnLemmas
 pub mod UnchangedLemmas
-mod ExactInTurnLemmas
+pub mod AsIfChangedLemmas
+pub mod ExactInTurnLemmas
 pub mod SamePathsLemmas
 pub mod MomentLemmas
 pub mod FollowedLemmas

@@ -45,6 +45,7 @@ use Rattle.gptp_theorem.proofs.ChangeLemmas.{changes_stand}
 use Rattle.gptp_theorem.proofs.SettlingInvariantLemmas.{IsFitEvent, least_of}
 use Rattle.gptp_theorem.proofs.KeptLemmas.{time_stands}
 use Rattle.gptp_theorem.proofs.SyncPathLemmas.{paths_stand}
+use Rattle.gptp_settling_time.specs.ExactInTurn.{last_set}
 use Rattle.gptp_settling_time.specs.Gains.{AreCapableAnyway, AreCapableNext, AreCapableStill, AreSparedBy, ChangesNothing, IsGainAfter, IsIdleAfter, IsSparedBy, JoinsLive, LeadsToLive, LeavesCapable, SparesFailed, TakesNothing}
 use Rattle.gptp_settling_time.specs.Idle.{Lives}
 use Rattle.gptp_settling_time.proofs.GainLemmas.{all_live, better_lives, failed_so, gain_so, idle_so, lives_so}
@@ -55,7 +56,9 @@ use Rattle.gptp_settling_time.proofs.BetweenFailedLemmas.{AreGoneBetween, gone_b
 use Rattle.gptp_settling_time.proofs.KeptToLemmas.{IsNewsTo, KeepsTo, WereAskedInTime, keeps_later}
 use Rattle.gptp_settling_time.proofs.NewsSoonLemmas.{AreComing, HowComing, IsNewsFrom, IsNewsSoon, coming_later, from_coming, from_later, from_sound}
 use Rattle.gptp_settling_time.proofs.PriorityNewsLemmas.{priority_soon, priority_stays_news}
+use Rattle.gptp_settling_time.proofs.PrioritySparedLemmas.{priority_gone, priority_in_time}
 use Rattle.gptp_settling_time.proofs.RecoverLemmas.{recover_in_time, recover_soon}
+use Rattle.gptp_settling_time.proofs.SinceSetLemmas.{unset_later, unset_made}
 use Rattle.gptp_settling_time.proofs.StandsStillLemmas.{StandsStill, asked_still, between_still, from_stands}
 use Rattle.gptp_settling_time.proofs.UpSoonLemmas.{up_soon}
 
@@ -240,7 +243,12 @@ module _ {F : Type 0} (answers : Bounds → ℕ → F → Option ℕ → F → T
     spared gone asked all (Recover number) same recovers =
         recover_in_time p 0 0 number then k.draws done w' claim_now.pace claim_now.world claim_after.world
         claim_now.measured claim_after.measured (acts_as (Recover number) same) gone asked all
-    spared gone asked all (Priority1 number value) same none = absurd none
+    spared gone asked all (Priority1 number value) same spares = (
+      priority_in_time gone number value then k.draws done w' claim_now.world.sound
+          (acts_as (Priority1 number value) same) asked,
+      priority_gone gone number value then k.draws done w' claim_now.world.sound
+          (acts_as (Priority1 number value) same) all,
+    )
     spared gone asked all (LinkDown number port) same none = absurd none
     spared gone asked all (LinkSet number port min max loss) same none = absurd none
     spared gone asked all (Fail number) same none = absurd none
@@ -282,6 +290,8 @@ module _ {F : Type 0} (answers : Bounds → ℕ → F → Option ℕ → F → T
       slow = stays_none_faster (least_of d) w w'
           (done_stays answers event fate fate_after w w' done keeps.claim.world.sound.wired.setups k) keeps.slow;
       asked = asked_after;
+      unset = unset_made p made event is.change then k.draws w' is.act refl acts.1 made_time made_last claim_after.world
+          (unset_later p (last_set made) w event.at k.ready.timely.now keeps.unset);
     }
 
   module _ (keeps : KeepsTo d made w) (sound : IsSoundWorld w) (nothing : TakesNothing n made event.act) where

@@ -1,5 +1,6 @@
--- An event that changes nothing leaves the paths of a network as they are.
-use Rattle.std.proofs.Common.{◌≡◌, inl, inr, ◌+◌, ℕ, Bool, true, false, cond, List, [], ◌∷◌, ◌++◌, Option, Some, None, slice_get, refl, sym, ap, ap₂, subst, ◌∙◌}
+-- An event that changes nothing leaves the paths of a network as they are, and so does one that turns a link with a
+-- failed end.
+use Rattle.std.proofs.Common.{◌≡◌, ◌⊎◌, inl, inr, ◌+◌, ℕ, Bool, true, false, cond, List, [], ◌∷◌, ◌++◌, Option, Some, None, slice_get, refl, sym, ap, ap₂, subst, ◌∙◌}
 use Rattle.std.specs.Prelude.{◌&&◌, ◌||◌, ◌==◌, if◌then◌else◌, max, min}
 use Rattle.std.specs.List.{cons_option, count_by, filter_map, list_any}
 use Rattle.std.proofs.lemmas.Bool.{eqb-true, or_cases}
@@ -10,6 +11,8 @@ use Rattle.gptp_lists.proofs.MappedLemmas.{same_there}
 use Rattle.gptp_lists.proofs.SystemSpecLemmas.{slice_get-In}
 use Rattle.gptp_vector.specs.declared.port.PortId.{PortId}
 use Rattle.gptp_roles.specs.Selection.{clock_of}
+use Rattle.gptp_links.specs.declared.bounds.Bounds.{Bounds}
+use Rattle.gptp_scenario.specs.Calm.{IsLive}
 use Rattle.gptp_scenario.specs.Change.{is_at, link_acted, link_after, link_changed, standing, system_acted, system_after, system_changed, with_live, with_priority1, with_up}
 use Rattle.gptp_scenario.specs.InUse.{any_differ, far_clock, greatest_delay, is_used, lives, lives_between, neighbour, path_systems}
 use Rattle.gptp_scenario.specs.Network.{IsEnd, IsNetwork, NetworkState, same_port}
@@ -23,7 +26,8 @@ use Rattle.gptp_scenario.specs.declared.network.LinkSpec.{LinkSpec}
 use Rattle.gptp_scenario.specs.declared.network.SystemSpec.{SystemSpec}
 use Rattle.gptp_model.specs.World.{port_id}
 use Rattle.gptp_theorem.proofs.EventLemmas.{link_behind, system_behind}
-use Rattle.gptp_settling_time.specs.Gains.{ChangesNothing, IsIdleAfter}
+use Rattle.gptp_settling_time.specs.Gains.{ChangesNothing, EndHasFailed, IsIdleAfter}
+use Rattle.gptp_settling_time.specs.HowSoon.{TurnsUnused}
 
 -- ---- lists by tests that agree on their members
 
@@ -49,8 +53,7 @@ map_same f g (x ∷ xs) same =
 -- ---- what stands the same has the same paths
 
 module _ (n : NetworkState) (events more : List Timed)
-    (systems : (m : SystemSpec) → In m n.systems → (system_after more m).live ≡ (system_after events m).live)
-    (links : (v : LinkSpec) → In v n.links → link_after more v ≡ link_after events v) where
+    (systems : (m : SystemSpec) → In m n.systems → (system_after more m).live ≡ (system_after events m).live) where
   lives_same : (clock : ℕ) → lives n.systems more clock ≡ lives n.systems events clock
   lives_same clock =
       any_same (λ m. (clock_of m.identity == clock) && (system_after more m).live)
@@ -60,44 +63,47 @@ module _ (n : NetworkState) (events more : List Timed)
   used_same : (w : LinkSpec) → is_used n.systems more w ≡ is_used n.systems events w
   used_same w = ap₂ (λ a b. w.up && a && b) (lives_same w.a.clock) (lives_same w.b.clock)
 
-  used_after : (v : LinkSpec) → In v n.links
-      → is_used n.systems more (link_after more v) ≡ is_used n.systems events (link_after events v)
-  used_after v member = used_same (link_after more v) ∙ ap (is_used n.systems events) (links v member)
+  module _ (used : (v : LinkSpec) → In v n.links
+      → is_used n.systems events (link_after more v) ≡ is_used n.systems events (link_after events v))
+      (bounds : (v : LinkSpec) → In v n.links → (link_after more v).bounds ≡ (link_after events v).bounds) where
+    used_after : (v : LinkSpec) → In v n.links
+        → is_used n.systems more (link_after more v) ≡ is_used n.systems events (link_after events v)
+    used_after v member = used_same (link_after more v) ∙ used v member
 
-  neighbour_same : (clock : ℕ) (v : LinkSpec) → In v n.links
-      → neighbour n.systems more clock v ≡ neighbour n.systems events clock v
-  neighbour_same clock v member = ap (λ used. if used then far_clock clock v else None) (used_after v member)
+    neighbour_same : (clock : ℕ) (v : LinkSpec) → In v n.links
+        → neighbour n.systems more clock v ≡ neighbour n.systems events clock v
+    neighbour_same clock v member = ap (λ used. if used then far_clock clock v else None) (used_after v member)
 
-  between_same : (m : SystemSpec) → In m n.systems
-      → lives_between n.systems n.links more m ≡ lives_between n.systems n.links events m
-  between_same m member =
-      ap₂ (λ live far. live && any_differ far) (systems m member)
-      (map_same (neighbour n.systems more (clock_of m.identity)) (neighbour n.systems events (clock_of m.identity))
-      n.links (neighbour_same (clock_of m.identity)))
+    between_same : (m : SystemSpec) → In m n.systems
+        → lives_between n.systems n.links more m ≡ lives_between n.systems n.links events m
+    between_same m member =
+        ap₂ (λ live far. live && any_differ far) (systems m member)
+        (map_same (neighbour n.systems more (clock_of m.identity)) (neighbour n.systems events (clock_of m.identity))
+        n.links (neighbour_same (clock_of m.identity)))
 
-  delay_same : (vs : List LinkSpec) → ((v : LinkSpec) → In v vs → In v n.links)
-      → greatest_delay n.systems more vs ≡ greatest_delay n.systems events vs
-  delay_same [] among = refl
-  delay_same (v ∷ vs) among =
-      let member = among v (inl refl) in
-      let rest = delay_same vs (λ w is. among w (inr is)) in
-      ap₂ (λ used delay. if used then max (link_after more v).bounds.max delay else delay) (used_after v member) rest
-      ∙ ap (λ (w : LinkSpec).
-      if is_used n.systems events (link_after events v) then max w.bounds.max (greatest_delay n.systems events vs)
-      else greatest_delay n.systems events vs) (links v member)
+    delay_same : (vs : List LinkSpec) → ((v : LinkSpec) → In v vs → In v n.links)
+        → greatest_delay n.systems more vs ≡ greatest_delay n.systems events vs
+    delay_same [] among = refl
+    delay_same (v ∷ vs) among =
+        let member = among v (inl refl) in
+        let rest = delay_same vs (λ w is. among w (inr is)) in
+        ap₂ (λ used delay. if used then max (link_after more v).bounds.max delay else delay) (used_after v member) rest
+        ∙ ap (λ (b : Bounds).
+        if is_used n.systems events (link_after events v) then max b.max (greatest_delay n.systems events vs)
+        else greatest_delay n.systems events vs) (bounds v member)
 
-  systems_same : path_systems n.systems n.links more ≡ path_systems n.systems n.links events
-  unfolding path_systems
-  systems_same =
-      ap₂ (λ between live. min (between + 2) live)
-      (count_same (lives_between n.systems n.links more) (lives_between n.systems n.links events) n.systems
-      between_same)
-      (count_same (λ m. (system_after more m).live) (λ m. (system_after events m).live) n.systems systems)
+    systems_same : path_systems n.systems n.links more ≡ path_systems n.systems n.links events
+    unfolding path_systems
+    systems_same =
+        ap₂ (λ between live. min (between + 2) live)
+        (count_same (lives_between n.systems n.links more) (lives_between n.systems n.links events) n.systems
+        between_same)
+        (count_same (λ m. (system_after more m).live) (λ m. (system_after events m).live) n.systems systems)
 
-  paths_same : sync_paths n more ≡ sync_paths n events
-  paths_same =
-      ap₂ (λ systems delay. record { systems = systems; delay = delay }) systems_same
-      (delay_same n.links (λ v member. member))
+    paths_same : sync_paths n more ≡ sync_paths n events
+    paths_same =
+        ap₂ (λ systems delay. record { systems = systems; delay = delay }) systems_same
+        (delay_same n.links (λ v member. member))
 
 -- ---- what changes nothing
 
@@ -188,7 +194,8 @@ module _ (n : NetworkState) (network : IsNetwork n) (made : List Timed) where
       let (systems, links) = by event.act nothing in
       paths_same n made (made ++ event ∷ [])
       (λ m member. ap (λ s. s.live) (system_behind made event (clock_of m.identity) (standing m)) ∙ systems m member)
-      (λ v member. link_behind made event v ∙ links v member)
+      (λ v member. ap (is_used n.systems made) (link_behind made event v ∙ links v member))
+      (λ v member. ap (λ (w : LinkSpec). w.bounds) (link_behind made event v ∙ links v member))
     where
       by : (act : Act) → ChangesNothing n made act
           → ((m : SystemSpec) → In m n.systems
@@ -197,3 +204,119 @@ module _ (n : NetworkState) (network : IsNetwork n) (made : List Timed) where
       by (Deliver link direction) none = absurd none
       by (Expire number timer) none = absurd none
       by (Changing change) idle = (system_idles change idle, link_idles change idle)
+
+-- ---- a link with a failed end comes up or goes down
+
+any_in : {X : Type 0} (p : X → Bool) (xs : List X) → list_any p xs ≡ true → (x : X) × In x xs × (p x ≡ true)
+any_in p [] none = absurd cc
+any_in p (x ∷ xs) some =
+    elim (or_cases (p x) (list_any p xs) some) [
+      | inl here ↦ (x, inl refl, here)
+      | inr more ↦ let (y, member, is) = any_in p xs more in (y, inr member, is)
+    ]
+
+-- where an end of a link has failed the link isn't used, whether it is up or down
+never_used : (up a b : Bool) → (a ≡ false) ⊎ (b ≡ false) → (up && a && b) ≡ false
+never_used false a b failed = refl
+never_used true false b failed = refl
+never_used true true false failed = refl
+never_used true true true (inl none) = absurd cc
+never_used true true true (inr none) = absurd cc
+
+module _ (n : NetworkState) (made : List Timed) where
+  lives_not : (clock : ℕ) → (IsLive n.systems made clock → ⊥) → lives n.systems made clock ≡ false
+  lives_not clock none = by (lives n.systems made clock) refl
+    where
+      by : (live : Bool) → lives n.systems made clock ≡ live → lives n.systems made clock ≡ false
+      by false is = is
+      by true is =
+          let (m, member, both) = any_in (λ m. (clock_of m.identity == clock) && (system_after made m).live) n.systems
+          is in
+          let (place, there) = slice_get-In m n.systems member in
+          let (same, live) = and_true (clock_of m.identity == clock) (system_after made m).live both in
+          absurd (none (record {
+            place = place;
+            system = m;
+            there = there;
+            clock = eqb-true (clock_of m.identity) clock same;
+            live = live;
+          }))
+
+  unused : (w : LinkSpec)
+      → (IsLive n.systems made w.a.clock → ⊥) ⊎ (IsLive n.systems made w.b.clock → ⊥)
+      → is_used n.systems made w ≡ false
+  unused w failed =
+      never_used w.up (lives n.systems made w.a.clock) (lives n.systems made w.b.clock) (elim failed [
+        | inl a ↦ inl (lives_not w.a.clock a)
+        | inr b ↦ inr (lives_not w.b.clock b)
+      ])
+
+  turned_unused : (clock port : ℕ) (up : Bool) → EndHasFailed n made (port_id clock port) → (v : LinkSpec)
+      → In v n.links
+      → is_used n.systems made
+      (if is_at clock port (link_after made v) then with_up up (link_after made v) else link_after made v)
+      ≡ is_used n.systems made (link_after made v)
+  turned_unused clock port up failed v member = by (is_at clock port (link_after made v)) refl
+    where
+      by : (test : Bool) → is_at clock port (link_after made v) ≡ test
+          → is_used n.systems made (if test then with_up up (link_after made v) else link_after made v)
+          ≡ is_used n.systems made (link_after made v)
+      by false at = refl
+      by true at =
+          let (place, there) = slice_get-In v n.links member in
+          let end = failed place v there (is_end clock port (link_after made v) at) in
+          unused (with_up up (link_after made v)) end ∙ sym (unused (link_after made v) end)
+
+  turned_bounds : (clock port : ℕ) (up : Bool) (w : LinkSpec)
+      → (if is_at clock port w then with_up up w else w).bounds ≡ w.bounds
+  turned_bounds clock port up w = by (is_at clock port w)
+    where
+      by : (test : Bool) → (if test then with_up up w else w).bounds ≡ w.bounds
+      by true = refl
+      by false = refl
+
+  -- that leaves the paths as they are, too
+  pub turned_paths : (event : Timed) → TurnsUnused n made event event.act
+      → sync_paths n (made ++ event ∷ []) ≡ sync_paths n made
+  turned_paths event turns =
+      paths_same n made (made ++ event ∷ [])
+      (λ m member.
+      ap (λ s. s.live) (system_behind made event (clock_of m.identity) (standing m)) ∙ systems event.act turns m)
+      (λ v member. ap (is_used n.systems made) (link_behind made event v) ∙ used event.act turns v member)
+      (λ v member. ap (λ (w : LinkSpec). w.bounds) (link_behind made event v) ∙ bounds event.act turns v)
+    where
+      systems : (act : Act) → TurnsUnused n made event act → (m : SystemSpec)
+          → (system_acted act (clock_of m.identity) (system_after made m)).live ≡ (system_after made m).live
+      systems (Changing (LinkUp clock port)) failed m = refl
+      systems (Changing (LinkDown clock port)) failed m = refl
+      systems (Changing (LinkSet clock port least greatest loss)) none m = absurd none
+      systems (Changing (Fail clock)) none m = absurd none
+      systems (Changing (Recover clock)) none m = absurd none
+      systems (Changing (Priority1 clock value)) none m = absurd none
+      systems (Changing (Inject clock port octets)) none m = absurd none
+      systems (Deliver link direction) none m = absurd none
+      systems (Expire clock timer) none m = absurd none
+
+      used : (act : Act) → TurnsUnused n made event act → (v : LinkSpec) → In v n.links
+          → is_used n.systems made (link_acted act (link_after made v)) ≡ is_used n.systems made (link_after made v)
+      used (Changing (LinkUp clock port)) failed v member = turned_unused clock port true failed.0 v member
+      used (Changing (LinkDown clock port)) failed v member = turned_unused clock port false failed v member
+      used (Changing (LinkSet clock port least greatest loss)) none v member = absurd none
+      used (Changing (Fail clock)) none v member = absurd none
+      used (Changing (Recover clock)) none v member = absurd none
+      used (Changing (Priority1 clock value)) none v member = absurd none
+      used (Changing (Inject clock port octets)) none v member = absurd none
+      used (Deliver link direction) none v member = absurd none
+      used (Expire clock timer) none v member = absurd none
+
+      bounds : (act : Act) → TurnsUnused n made event act → (v : LinkSpec)
+          → (link_acted act (link_after made v)).bounds ≡ (link_after made v).bounds
+      bounds (Changing (LinkUp clock port)) failed v = turned_bounds clock port true (link_after made v)
+      bounds (Changing (LinkDown clock port)) failed v = turned_bounds clock port false (link_after made v)
+      bounds (Changing (LinkSet clock port least greatest loss)) none v = absurd none
+      bounds (Changing (Fail clock)) none v = absurd none
+      bounds (Changing (Recover clock)) none v = absurd none
+      bounds (Changing (Priority1 clock value)) none v = absurd none
+      bounds (Changing (Inject clock port octets)) none v = absurd none
+      bounds (Deliver link direction) none v = absurd none
+      bounds (Expire clock timer) none v = absurd none

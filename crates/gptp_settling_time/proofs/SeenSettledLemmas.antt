@@ -1,11 +1,10 @@
 -- A world whose systems are seen to have settled has settled.
-use Rattle.std.proofs.Common.{◌≡◌, ◌≢◌, ◌≤◌, ℕ, zero, suc, Bool, true, false, Option, Some, slice_get, refl, subst, arith}
+use Rattle.std.proofs.Common.{◌≡◌, ◌≤◌, ℕ, zero, suc, true, Some, slice_get, subst, arith}
 use Rattle.gptp_lists.proofs.PlaceLemmas.{member_there}
 use Rattle.gptp_graph.specs.Distance.{IsNear}
 use Rattle.gptp_graph.specs.SettledRole.{IsSettledRole}
 use Rattle.gptp_graph.specs.Snapshot.{Snapshot, port_of}
 use Rattle.gptp_receipt.specs.declared.held.Held.{Held}
-use Rattle.gptp_receipt.specs.declared.held.Held.TheVariants as helds
 use Rattle.gptp_setup.specs.SettlingParams.{SettlingParams}
 use Rattle.gptp_system.specs.declared.port.Port.{Port}
 use Rattle.gptp_system.specs.Facts.{AreShown}

@@ -13,17 +13,18 @@ use Rattle.gptp_report.specs.Transitions.{Courses, Unfolds}
 use Rattle.gptp_theorem.specs.PlayedLaws.{IsPlayable}
 use Rattle.gptp_theorem.proofs.SyncPathLemmas.{paths_stand}
 use Rattle.gptp_settling_time.specs.Gains.{exchanged_from}
-use Rattle.gptp_settling_time.specs.Starts.{DocumentsStartAtOnce, LinksVaryLittle, StartsBy}
+use Rattle.gptp_settling_time.specs.InTurn.{UsedVaryLittle}
+use Rattle.gptp_settling_time.specs.Starts.{DocumentsStartAtOnce, StartsBy}
 use Rattle.gptp_settling_time.proofs.BegunLemmas.{begun_keeps}
 use Rattle.gptp_settling_time.proofs.PassLemmas.{IsStep, passes_to}
-use Rattle.gptp_settling_time.proofs.ClaimedToLemmas.{IsClaimedTo, claimed_act, claimed_later, claimed_settled_as, varies_little}
+use Rattle.gptp_settling_time.proofs.ClaimedToLemmas.{IsClaimedTo, claimed_act, claimed_later, claimed_settled_as, used_vary, varies_little}
 use Rattle.gptp_settling_time.proofs.StartLemmas.{begun_since}
 
 -- a document begins as such a world
 pub begun_claimed : {F : Type 0} (answers : Bounds → ℕ → F → Option ℕ → F → Type 0) (d : DocumentState)
     (playable : IsPlayable d) (fate fate_after : F) (w : WorldState) (k : Begun answers d.network fate fate_after w)
     (start : ℕ) → exchanged_from (pace_of d.network) (sync_paths d.network []) 0 ≤ start
-    → LinksVaryLittle d.network [] → IsClaimedTo d [] start w
+    → UsedVaryLittle d.network [] → IsClaimedTo d [] start w
 begun_claimed answers d playable fate fate_after w k start late vary =
     let keeps = begun_keeps answers d playable fate fate_after w k in
     let delay = ap (λ (x : SyncPaths). x.delay)
@@ -46,7 +47,8 @@ starts_passed answers d until fate first w ts playable k is t member =
     let passed = passes_to answers (IsClaimedTo d [] start) (claimed_later d [] start)
     (λ t one drawn v next was so. claimed_act d [] start answers t one drawn v next was so) until ts k.started
     k.drawn first w
-    course (begun_claimed answers d playable fate k.started first k.begun start (omega arith) is.little) in
+    course (begun_claimed answers d playable fate k.started first k.begun start (omega arith)
+    (used_vary d.network [] is.little)) in
     passed.each t member
 
 pub documents_start_at_once : {F : Type 0} (answers : Bounds → ℕ → F → Option ℕ → F → Type 0)

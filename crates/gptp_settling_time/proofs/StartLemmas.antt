@@ -7,22 +7,20 @@ use Rattle.gptp_links.specs.declared.bounds.Bounds.{Bounds}
 use Rattle.gptp_pdelay.specs.declared.progress.Progress.{Progress}
 use Rattle.gptp_pdelay.specs.declared.progress.Progress.TheVariants as progresses
 use Rattle.gptp_setup.specs.Intervals.{interval_of}
-use Rattle.gptp_invariants.proofs.WorldNewsLemmas.{link_used}
 use Rattle.gptp_setup.specs.SettlingParams.{SettlingParams}
 use Rattle.gptp_scenario.specs.Calm.{NothingLapses}
 use Rattle.gptp_scenario.specs.Network.{IsNetwork, NetworkState, pace_of}
+use Rattle.gptp_scenario.specs.Params.{KeepPace}
 use Rattle.gptp_model.specs.Acts.{at as at_time}
 use Rattle.gptp_model.specs.Advancing.{Advanced, Advances, Told}
 use Rattle.gptp_model.specs.Course.{Begun}
-use Rattle.gptp_model.specs.Initial.{initial}
-use Rattle.gptp_model.specs.Sound.{IsSound}
 use Rattle.gptp_model.specs.World.{WorldState, world_queue}
 use Rattle.gptp_model.proofs.AdvanceLemmas.{nothing_sooner}
 use Rattle.gptp_pdelay_machine.specs.Asker.{Answered}
 use Rattle.gptp_pdelay_machine.specs.Lanes.{LaneFrame}
 use Rattle.gptp_pdelay_machine.specs.Order.{Untold}
 use Rattle.gptp_bmca_machine.specs.Levels.{Invariant}
-use Rattle.gptp_bmca_machine.specs.Station.{Disabled, Port as SeenPort, Station as SeenStation}
+use Rattle.gptp_bmca_machine.specs.Station.{Disabled, Port as SeenPort, Received, Station as SeenStation}
 use Rattle.gptp_bmca_machine.proofs.SettledLemmas.{systems_bounded}
 use Rattle.gptp_bmca_machine.proofs.SoundEverywhereLemmas.{on_links}
 use Rattle.gptp_bmca_machine.proofs.SoundLemmas.{received_fits}
@@ -32,8 +30,11 @@ use Rattle.gptp_invariants.specs.ChoiceSettled.{Settled}
 use Rattle.gptp_invariants.specs.ChoiceSettlesAsMachine.{IsWorld}
 use Rattle.gptp_invariants.specs.ChoiceView.{frame_view, held_view, lane_place, lane_view, says_announce, span_at, station_view, view}
 use Rattle.gptp_invariants.specs.DelayLinkView.{LinkPlace, link_frame_view, other_direction, pair, progress_view}
-use Rattle.gptp_invariants.specs.DelayMeasured.{LinkStandsAt}
+use Rattle.gptp_invariants.specs.DelayFirstAt.{IsFirstAt}
+use Rattle.gptp_invariants.specs.DelayMeasured.{LinkIsMeasured, LinkStandsAt}
 use Rattle.gptp_invariants.specs.WorldBounded.{IsBoundedWorld}
+use Rattle.gptp_invariants.specs.WorldNews.{AreSilentBy, IsNews}
+use Rattle.gptp_invariants.specs.WorldSound.{IsSoundWorld}
 use Rattle.gptp_invariants.specs.WorldStanding.{snapshot_of}
 use Rattle.gptp_invariants.proofs.ChoiceCalmKeptLemmas.{KeepsNetwork, acts_keep, delay_kept, keeps_on}
 use Rattle.gptp_invariants.proofs.ChoicePlaceLemmas.{port_from, station_from, station_there}
@@ -41,7 +42,8 @@ use Rattle.gptp_invariants.proofs.ChoiceSeenLaneLemmas.{lane_there}
 use Rattle.gptp_invariants.proofs.DelayStartFirstLemmas.{start_first}
 use Rattle.gptp_invariants.proofs.WorldBoundedLemmas.{bounded_by}
 use Rattle.gptp_invariants.proofs.WorldClaimLemmas.{claim_begins}
-use Rattle.gptp_invariants.proofs.WorldStartNewsLemmas.{start_news}
+use Rattle.gptp_invariants.proofs.WorldNewsLemmas.{link_used, news_begin}
+use Rattle.gptp_invariants.proofs.WorldStartNewsLemmas.{first_ready, start_news}
 use Rattle.gptp_theorem.proofs.HeadlineLemmas.{is_settled, quiet_as}
 use Rattle.gptp_theorem.proofs.PlayedLemmas.{no_change}
 use Rattle.gptp_theorem.proofs.SettlingInvariantLemmas.{advanced_claimed}
@@ -80,23 +82,14 @@ not_answered progresses.Closed sequence source t1 t2 t4 none same = cc
 not_answered (progresses.Sent request) sequence source t1 t2 t4 none same = cc
 not_answered (progresses.Answered request response) sequence source t1 t2 t4 none same = cc
 
-module _ {F : Type 0} (answers : Bounds → ℕ → F → Option ℕ → F → Type 0) (n : NetworkState) (fate fate_after : F)
-    (w : WorldState) (network : IsNetwork n) (k : Begun answers n fate fate_after w) where
-  abbrev p : SettlingParams
-  p = pace_of n
+-- ---- nothing is told yet
 
-  sound : IsSound (initial n)
-  sound = initial_sound n network
-
-  world : IsWorld p w
-  world = (claim_begins answers n fate fate_after w network sound k).world
-
-  untold : IsUntold w
-  untold = begun_untold answers n fate fate_after w network sound k
-
-  begun_timely : (at : LinkPlace) → LinkStandsAt at w → IsOrderedAt 0 at w
-  begun_timely at stands =
-      let one = start_first answers n fate fate_after w network sound k world at stands in
+-- a world in which nothing is measured or told, and each of whose links in use was first asked over at time 0
+module _ (p : SettlingParams) (w : WorldState) (world : IsWorld p w) (untold : IsUntold w)
+    (first : (at : LinkPlace) → LinkStandsAt at w → IsFirstAt 0 at w) where
+  untold_timely : (at : LinkPlace) → LinkStandsAt at w → IsOrderedAt 0 at w
+  untold_timely at stands =
+      let one = first at stands in
       let l = one.link in
       let e = l.asking in
       let un = unmeasured at one.link in
@@ -138,16 +131,16 @@ module _ {F : Type 0} (answers : Bounds → ℕ → F → Option ℕ → F → T
           (subst (λ (o : List ℕ). says_announce o a) (ap (λ (g : LaneFrame). g.octets) (sym same)) said)
 
   -- what is told over each link is heard
-  begun_heard : (start : ℕ) → ExchangesAreOver p start w → DelaysVaryLittle w → AreHeard p start w
-  begun_heard start over little at stands =
-      let one = begun_timely at stands in
+  untold_heard : (start : ℕ) → ExchangesAreOver p start w → DelaysVaryLittle w → AreHeard p start w
+  untold_heard start over little at stands =
+      let one = untold_timely at stands in
       let l = one.timely.link in
       inl (
         0,
         record {
           one = one;
           few = little at.link l.channel l.here (link_used at w l);
-          other = (begun_timely (opposite at) (turned p w world at stands)).timely;
+          other = (untold_timely (opposite at) (turned p w world at stands)).timely;
           by = exchange_over p 0 start at w world l (omega (arith, over));
         },
       )
@@ -166,12 +159,29 @@ module _ {F : Type 0} (answers : Bounds → ℕ → F → Option ℕ → F → T
       ∙ ap (held_view (span_at state))
       (shown.off (unmeasured_off port.port.peer (untold.measured place at.station at.here i port.port port.port_there)))
 
-  pub begun_since : (start : ℕ) → ExchangesAreOver p start w → DelaysVaryLittle w → IsClaimedAlways p start w
-  begun_since start over little =
-      let news = start_news answers n fate fate_after w start network sound k world over in
+  -- all that is held and in flight is sound
+  untold_sound : IsSoundWorld w
+  untold_sound = record {
+    lanes = λ j l there f a member said. absurd (untold.lanes j l f a there member said);
+    stations = λ i s there live place r holds.
+        let (q, at, held) = holds in
+        let off = all_off i s place q there at in
+        absurd (let both : Disabled ≡ Received r = sym off ∙ held in cc);
+  }
+
+  -- so the world is one since news
+  pub untold_news : (start : ℕ) → KeepPace p → LinkIsMeasured w → AreSilentBy p start w → w.time < start
+      → ExchangesAreOver p start w → IsNews p start w
+  untold_news start pace measured silent early over =
+      news_begin p start w pace world measured silent untold_sound
+      (λ at stands. first_ready p start 0 w world at (omega (arith, over)) (first at stands)) early
+
+  pub untold_since : (start : ℕ) → IsNews p start w → ExchangesAreOver p start w → DelaysVaryLittle w
+      → IsClaimedAlways p start w
+  untold_since start news over little =
       record {
         news = news;
-        heard = begun_heard start over little;
+        heard = untold_heard start over little;
         settling = λ m bounded quiet off.
             let net = start_net p m start w world bounded in
             record {
@@ -182,6 +192,17 @@ module _ {F : Type 0} (answers : Bounds → ℕ → F → Option ℕ → F → T
                   absurd (ready.1 (all_off (clock_place w.stations v) stand.v port pv stand.teller stand.teller_port));
             };
       }
+
+module _ {F : Type 0} (answers : Bounds → ℕ → F → Option ℕ → F → Type 0) (n : NetworkState) (fate fate_after : F)
+    (w : WorldState) (network : IsNetwork n) (k : Begun answers n fate fate_after w) where
+  pub begun_since : (start : ℕ) → ExchangesAreOver (pace_of n) start w → DelaysVaryLittle w
+      → IsClaimedAlways (pace_of n) start w
+  begun_since start over little =
+      let sound = initial_sound n network in
+      let world = (claim_begins answers n fate fate_after w network sound k).world in
+      untold_since (pace_of n) w world (begun_untold answers n fate fate_after w network sound k)
+      (λ at stands. start_first answers n fate fate_after w network sound k world at stands) start
+      (start_news answers n fate fate_after w start network sound k world over) over little
 
 -- ---- it settles
 

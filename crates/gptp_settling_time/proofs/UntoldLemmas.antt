@@ -1,5 +1,6 @@
 -- As a network begins no port has measured anything, and nothing is told yet.
-use Rattle.std.proofs.Common.{◌≡◌, ◌⊎◌, ◌==◌, ℕ, suc, Bool, true, false, List, [], ◌∷◌, map, length, Option, Some, None, slice_get, refl, sym, ap, subst, ◌∙◌, append-nil, inl, inr}
+use Rattle.std.specs.Prelude.{if◌then◌else◌, ⊤}
+use Rattle.std.proofs.Common.{◌≡◌, ◌⊎◌, ◌==◌, ◌+◌, ℕ, suc, Bool, true, false, List, [], ◌∷◌, map, length, Option, Some, None, slice_get, refl, sym, ap, subst, ◌∙◌, append-nil, inl, inr}
 use Rattle.std.specs.List.{range_with_len}
 use Rattle.gptp_lists.specs.Members.{In}
 use Rattle.gptp_lists.proofs.MappedLemmas.{mapped}
@@ -9,17 +10,19 @@ use Rattle.gptp_links.specs.declared.bounds.Bounds.{Bounds}
 use Rattle.gptp_links.specs.declared.link.Direction.{Direction}
 use Rattle.gptp_links.specs.declared.link.Direction.TheVariants.{FromA, FromB}
 use Rattle.gptp_links.specs.Fate.{Draw}
-use Rattle.gptp_pdelay.specs.Peer.{PeerState, is_capable, reset_peer}
+use Rattle.gptp_pdelay.specs.Peer.{PeerState, after_interval, is_capable, is_open, loses_too_many, reset_peer}
 use Rattle.gptp_pdelay.specs.declared.progress.Progress.{Progress}
 use Rattle.gptp_pdelay.specs.declared.progress.Progress.TheVariants.{Closed, Sent, Answered}
 use Rattle.gptp_roles.specs.Selection.{clock_of}
 use Rattle.gptp_setup.specs.declared.setup.Setup.{Setup}
+use Rattle.gptp_setup.specs.declared.timer.Timer.TheVariants as timers
 use Rattle.gptp_scenario.specs.Network.{IsNetwork, NetworkState, pace_of}
 use Rattle.gptp_scenario.specs.declared.network.LinkSpec.{LinkSpec}
 use Rattle.gptp_system.specs.declared.answer.Answer.{Answer}
 use Rattle.gptp_system.specs.declared.port.Port.{Port}
-use Rattle.gptp_system.specs.Input.{PortUp}
-use Rattle.gptp_system.specs.Measures.{Part, measure_at, only_at, part_asked}
+use Rattle.gptp_system.specs.Facts.{AreShown}
+use Rattle.gptp_system.specs.Input.{Expires, Frame, Input, IsTimely, PortDown, PortUp, Priority}
+use Rattle.gptp_system.specs.Measures.{IsPartAfter, Part, measure_at, only_at, part_answered, part_asked, part_down}
 use Rattle.gptp_system.specs.Start.{started}
 use Rattle.gptp_system.specs.State.{SystemState}
 use Rattle.gptp_system.specs.Steps.{HasPortNumber}
@@ -42,6 +45,7 @@ use Rattle.gptp_invariants.specs.WorldEncodable.{IsEncodable, StationFits}
 use Rattle.gptp_invariants.proofs.ChoiceSeenCallLemmas.{calls_seen}
 use Rattle.gptp_invariants.proofs.ChoiceSeenLaneLemmas.{lane_from}
 use Rattle.gptp_invariants.proofs.ChoiceSendLemmas.{lanes_apart}
+use Rattle.gptp_invariants.proofs.ChoiceTouchLemmas.{InputFits}
 use Rattle.gptp_invariants.proofs.DelayLinkKeptLemmas.{HasAll, all_stay}
 use Rattle.gptp_invariants.proofs.WorldActEncodableLemmas.{initial_encodable, starts_encodable}
 use Rattle.gptp_invariants.proofs.WorldAnsweringLemmas.{CanAnswer, IsAnswering, calls_answering, new_fits, sound_answers}
@@ -75,6 +79,55 @@ part_unmeasured s now p n x un = by (n == p) refl
     by true is = rw is (refl, refl)
     by false is = rw is un
 
+only_unmeasured : (p n : ℕ) (f : Part → Part) (x : Part) → IsUnmeasured (f x).peer → IsUnmeasured x.peer
+    → IsUnmeasured (only_at p f n x).peer
+only_unmeasured p n f x here_un un = by (n == p) refl
+  where
+    by : (here : Bool) → (n == p) ≡ here → IsUnmeasured (only_at p f n x).peer
+    by true is = rw is here_un
+    by false is = rw is un
+
+-- a request that is given up leaves nothing measured
+interval_unmeasured : (p : PeerState) → p.last ≡ None → (after_interval p).last ≡ None
+interval_unmeasured p none = by (is_open p.progress) (loses_too_many p)
+  where
+    by : (waits lost : Bool)
+        → (if waits then (if lost then reset_peer p else record p { progress = Closed; lost = p.lost + 1 }) else p).last
+        ≡ None
+    by true true = refl
+    by true false = none
+    by false lost = none
+
+-- an input that is no frame
+abbrev pub MeasuresNothing : Input → Type 0
+MeasuresNothing (Frame p octets) = ⊥
+MeasuresNothing input = ⊤
+
+-- by that nothing is measured
+part_stays : (s : SystemState) (now : ℕ) (input : Input) (n : ℕ) (x x' : Part) → MeasuresNothing input
+    → IsPartAfter s now input n x x' → IsUnmeasured x.peer → IsUnmeasured x'.peer
+part_stays s now (PortUp p) n x x' nothing is un =
+    subst (λ (y : Part). IsUnmeasured y.peer) (sym is) (part_unmeasured s now p n x un)
+part_stays s now (PortDown p) n x x' nothing is un =
+    subst (λ (y : Part). IsUnmeasured y.peer) (sym is) (only_unmeasured p n part_down x (refl, refl) un)
+part_stays s now (Frame p octets) n x x' nothing is un = absurd nothing
+part_stays s now (Expires (timers.Pdelay p)) n x x' nothing is un =
+    subst (λ (y : Part). IsUnmeasured y.peer) (sym is)
+    (only_unmeasured p n (part_asked s now after_interval) x (interval_unmeasured x.peer un.0, refl) un)
+part_stays s now (Expires (timers.Respond p)) n x x' nothing is un =
+    subst (λ (y : Part). IsUnmeasured y.peer) (sym is) (only_unmeasured p n part_answered x un un)
+part_stays s now (Expires (timers.Announce p)) n x x' nothing is un =
+    subst (λ (y : Part). IsUnmeasured y.peer) (sym is) un
+part_stays s now (Expires (timers.Age p)) n x x' nothing is un =
+    subst (λ (y : Part). IsUnmeasured y.peer) (sym is) un
+part_stays s now (Expires timers.Sync) n x x' nothing is un =
+    subst (λ (y : Part). IsUnmeasured y.peer) (sym is) un
+part_stays s now (Expires timers.Relay) n x x' nothing is un =
+    subst (λ (y : Part). IsUnmeasured y.peer) (sym is) un
+part_stays s now (Expires timers.Lapse) n x x' nothing is un =
+    subst (λ (y : Part). IsUnmeasured y.peer) (sym is) un
+part_stays s now (Priority value) n x x' nothing is un = subst (λ (y : Part). IsUnmeasured y.peer) (sym is) un
+
 started_unmeasured : (setup : Setup) (now : ℕ) (live : Bool)
     → HasMeasuredNothing (record { setup = setup; system = started setup now; live = live })
 started_unmeasured setup now live i q there =
@@ -89,52 +142,64 @@ pub record IsUntold (w : WorldState) : Type 0 where
   pub lanes : (j : ℕ) (l : Lane) (f : AnnounceFrame) (a : Announce) → slice_get (view w).lanes j ≡ Some l
       → In f l.frames → says_announce f.octets a → ⊥
 
-module _ (place p : ℕ) (w : WorldState) (draws : List Draw) (answer : Answer) (w' : WorldState)
-    (k : Calls place (PortUp p) w draws answer w') (of : HasPortNumber k.station.system p) (is : IsAnswering w)
-    (apart : AreApart w) (untold : IsUntold w) where
+module _ (place : ℕ) (input : Input) (w : WorldState) (draws : List Draw) (answer : Answer) (w' : WorldState)
+    (k : Calls place input w draws answer w') (nothing : MeasuresNothing input)
+    (unmeasured : (other : ℕ) (station : Station) → slice_get w.stations other ≡ Some station
+    → HasMeasuredNothing station) where
   abbrev called : Station
   called = in_state k.after k.station
 
   called_unmeasured : HasMeasuredNothing called
   called_unmeasured i q' there =
-      let (q, here, part) = steps_measure (PortUp p) w.time k.station.system k.after k.sends answer k.steps i q'
-      there in
-      let peer : q'.peer ≡ (only_at p (part_asked k.station.system w.time reset_peer) (suc i) (measure_at q)).peer =
-      ap (λ (x : Part). x.peer) part in
-      subst IsUnmeasured (sym peer)
-      (part_unmeasured k.station.system w.time p (suc i) (measure_at q)
-      (untold.measured place k.station k.here i q here))
+      let (q, here, part) = steps_measure input w.time k.station.system k.after k.sends answer k.steps i q' there in
+      part_stays k.station.system w.time input (suc i) (measure_at q) (measure_at q') nothing part
+      (unmeasured place k.station k.here i q here)
 
-  stations : (other : ℕ) (station : Station) → slice_get w'.stations other ≡ Some station
+  pub call_unmeasured : (other : ℕ) (station : Station) → slice_get w'.stations other ≡ Some station
       → HasMeasuredNothing station
-  stations other station there =
-      get-set_all HasMeasuredNothing w.stations place k.station called k.here called_unmeasured untold.measured other
+  call_unmeasured other station there =
+      get-set_all HasMeasuredNothing w.stations place k.station called k.here called_unmeasured unmeasured other
       station
       (ap (λ (v : WorldState). slice_get v.stations other) (sym k.is) ∙ there)
 
-  answering : IsAnswering w'
-  answering = calls_answering place (PortUp p) w draws answer w' is k of tt
+-- what begins at a master port is told where something was measured
+pub master_measured : (w : WorldState) → ((place : ℕ) (station : Station) → slice_get w.stations place ≡ Some station
+    → AreShown station.system) → ((place : ℕ) (station : Station) → slice_get w.stations place ≡ Some station
+    → HasMeasuredNothing station) → (l : Lane) → BeginsAtMaster (view w) l → ⊥
+master_measured w shown unmeasured l master =
+    let port = master_capable w shown l master in
+    let off = unmeasured_off port.state.peer (unmeasured master.place port.station port.here port.at port.state
+    port.there) in
+    let on = port.capable in
+    cc
+
+module _ (place : ℕ) (input : Input) (w : WorldState) (draws : List Draw) (answer : Answer) (w' : WorldState)
+    (k : Calls place input w draws answer w') (nothing : MeasuresNothing input)
+    (timely : IsTimely k.station.system w.time input) (fits : InputFits input) (is : IsAnswering w)
+    (apart : AreApart w) (untold : IsUntold w) where
+  pub answering : IsAnswering w'
+  answering = calls_answering place input w draws answer w' is k timely fits
+
+  abbrev stations : (other : ℕ) (station : Station) → slice_get w'.stations other ≡ Some station
+      → HasMeasuredNothing station
+  stations = call_unmeasured place input w draws answer w' k nothing untold.measured
 
   none_told : (j : ℕ) (l' : Lane) (f : AnnounceFrame) (a : Announce) → slice_get (view w').lanes j ≡ Some l'
       → In f l'.frames → says_announce f.octets a → ⊥
   none_told j l' f a at member said =
       let old = is.stations place k.station k.here in
-      let c = calls_seen place (PortUp p) w draws answer w' k old.steady old.its of
-      (is.encodable.stations place k.station k.here).system tt
+      let c = calls_seen place input w draws answer w' k old.steady old.its timely
+      (is.encodable.stations place k.station k.here).system fits
       (lanes_apart w apart (λ link channel here. (is.encodable.links link channel here).ends)) in
       by (answered says_announce j f a said (touch_view c.touch) (view w) (view w') c.call l' at member)
     where
       by : WasOnLane (view w) j f ⊎ BeginsAtMaster (view w') l' → ⊥
       by (inl was) = untold.lanes j was.lane f a was.there was.among said
       by (inr master) =
-          let port = master_capable w' (λ place station here. (answering.stations place station here).steady.shown) l'
-          master in
-          let off = unmeasured_off port.state.peer (stations master.place port.station port.here port.at port.state
-          port.there) in
-          let on = port.capable in
-          cc
+          master_measured w' (λ place station here. (answering.stations place station here).steady.shown) stations l'
+          master
 
-  call_untold : IsUntold w'
+  pub call_untold : IsUntold w'
   call_untold = record { measured = stations; lanes = none_told }
 
 calls_untold : (place : ℕ) (ps : List ℕ) (w : WorldState) (draws : List Draw) (w' : WorldState) → HasAll place ps w
@@ -144,9 +209,9 @@ calls_untold place (p ∷ ps) w draws w' has is apart untold (first, rest, betwe
     let of = has p (inl refl) k.station k.here in
     let stays = calls_stay place (PortUp p) w first answer between (setups_of w is) k in
     calls_untold place ps between rest w' (all_stay place ps w between stays (λ q member. has q (inr member)))
-    (answering place p w first answer between k of is apart untold)
+    (answering place (PortUp p) w first answer between k tt of tt is apart untold)
     (stays_apart w between stays apart)
-    (call_untold place p w first answer between k of is apart untold) more
+    (call_untold place (PortUp p) w first answer between k tt of tt is apart untold) more
 
 -- ---- starts
 

@@ -145,12 +145,13 @@ LeadsToLive n events number = (place : ℕ) (v : LinkSpec) → slice_get n.links
     → ((link_after events v).a.clock ≡ number) ⊎ ((link_after events v).b.clock ≡ number)
     → IsLive n.systems events (link_after events v).a.clock × IsLive n.systems events (link_after events v).b.clock
 
--- These events leave all as it was beside failed systems: a link between live ones that comes up, and a system that
--- recovers.
+-- These events leave all as it was beside failed systems: a link between live ones that comes up, a system that
+-- recovers, and a priority1.
 abbrev pub SparesFailed : NetworkState → List Timed → Timed → Act → Type 0
 SparesFailed n before event (Changing (LinkUp number port)) =
     JoinsLive n (before ++ event ∷ []) (port_id number port)
 SparesFailed n before event (Changing (Recover number)) = ⊤
+SparesFailed n before event (Changing (Priority1 number value)) = ⊤
 SparesFailed n before event act = ⊥
 
 -- So does one that changes nothing. After any other the largest announce interval is over by this time.

@@ -3,14 +3,17 @@
 -- What stands *before* a time stands after all earlier events, and what stands *at* it after those of that time too. A
 -- *choice bound* at a time says by how much later the choice and the roles stand. Where nothing lapses for want of Sync
 -- the span from any past (`settling_span_at_once`) always is one. A time by which the choice of the time before stands
--- has sharper ones, by its events. It is 0 where they change nothing. Where they are gains it is what ports take to
--- become capable, an announce interval, and the greatest delay for each system of a path but one. No announce interval
--- has to pass where what the first gain tells is heard at once, and after it links alone come up whose delay varies
--- little. Nor has one at a start without events where all delays vary little.
+-- has sharper ones, by its events. It is 0 where they make nothing of what stands. Where they are gains it is what ports
+-- take to become capable, an announce interval, and the greatest delay for each system of a path but one. No announce
+-- interval has to pass where what the first gain tells is heard at once, and after it links alone come up whose delay
+-- varies little. Nor has one at the start where all delays vary little.
 --
--- These gains are followed: a link that comes up between live systems, a system that recovers, and a priority1 of a
--- live system that gets better. The first is heard at once where its delay varies little, the last where no path has
--- more than 255 systems. Not followed yet are events at time 0, and bounds that are set. There the span stands.
+-- Events that make nothing of what stands ask for no time: such that change nothing, and a link with a failed end that
+-- comes up or goes down. These gains are followed, at a time behind such events: a link that comes up between live
+-- systems, a system that recovers, and a priority1 of a live system that gets better. The first is heard at once where
+-- its delay varies little, the last where no path has more than 255 systems. At time 0 links may go down and come up,
+-- systems fail and a priority1 be set, where no live system is then linked to one that has failed. Not followed yet are
+-- bounds that are set, and events that take something away at a later time. There the span stands.
 use Rattle.std.specs.Prelude.{◌≡◌, ◌<◌, ◌≤◌, ◌⊎◌, ◌+◌, ◌*◌, ◌==◌, ℕ, ⊤, pred, suc, List, [], ◌∷◌, ◌++◌, filter}
 use Rattle.gptp_lists.specs.Members.{In}
 use Rattle.gptp_setup.specs.Intervals.{interval_of}
@@ -18,15 +21,18 @@ use Rattle.gptp_setup.specs.SettlingParams.{SettlingParams, largest_interval}
 use Rattle.gptp_scenario.specs.Calm.{IsCalm, NothingLapses}
 use Rattle.gptp_scenario.specs.Network.{NetworkState, pace_of}
 use Rattle.gptp_scenario.specs.SettlingAtOnce.{settling_span_at_once}
-use Rattle.gptp_scenario.specs.SettlingTime.{settling_span_with}
+use Rattle.gptp_scenario.specs.SettlingTime.{capability_span, settling_span_with}
 use Rattle.gptp_scenario.specs.SyncWait.{sync_paths}
+use Rattle.gptp_scenario.specs.declared.change.Act.{Act}
+use Rattle.gptp_scenario.specs.declared.change.Act.TheVariants.{Change as Changing}
+use Rattle.gptp_scenario.specs.declared.change.Change.TheVariants.{LinkDown, LinkUp}
 use Rattle.gptp_scenario.specs.declared.change.Timed.{Timed}
 use Rattle.gptp_scenario.specs.declared.sync_wait.SyncPaths.{SyncPaths}
+use Rattle.gptp_model.specs.World.{port_id}
 use Rattle.gptp_network.specs.Document.{DocumentState}
 use Rattle.gptp_network.specs.Snapshot.{events_by}
-use Rattle.gptp_settling_time.specs.Gains.{ChangesNothing, LeavesCapable, TakesNothing}
-use Rattle.gptp_settling_time.specs.InTurn.{BettersClock, BringsUp}
-use Rattle.gptp_settling_time.specs.Starts.{LinksVaryLittle}
+use Rattle.gptp_settling_time.specs.Gains.{ChangesNothing, EndHasFailed, LeavesCapable, TakesNothing}
+use Rattle.gptp_settling_time.specs.InTurn.{BettersClock, BringsUp, MakesNothing, NoneUnanswered, TellsNothing, UsedVaryLittle}
 
 -- ---- times
 
@@ -38,11 +44,24 @@ events_at time = filter (λ (t : Timed). t.at == time)
 abbrev pub NoneBetween : List Timed → ℕ → ℕ → Type 0
 NoneBetween events last time = (event : Timed) → In event events → last < event.at → time ≤ event.at
 
+-- the greatest delay for each system of a path but one
+abbrev pub way_span : SyncPaths → ℕ
+way_span paths = pred paths.systems * paths.delay
+
 -- ---- events that are followed, by what stands just before each
 
--- it changes nothing
+-- It takes down a link of which an end has failed, or brings it up. That one which comes up makes nothing is known once
+-- L + 5 announce intervals and what a way takes have passed since the network began.
+abbrev pub TurnsUnused : NetworkState → List Timed → Timed → Act → Type 0
+TurnsUnused n made event (Changing (LinkDown number port)) = EndHasFailed n made (port_id number port)
+TurnsUnused n made event (Changing (LinkUp number port)) =
+    EndHasFailed n made (port_id number port)
+    × (capability_span (pace_of n) + way_span (sync_paths n made) ≤ event.at)
+TurnsUnused n made event act = ⊥
+
+-- it makes nothing of what stands: it changes nothing, or it turns a link that isn't used
 abbrev pub IsIdleEvent : NetworkState → List Timed → Timed → Type 0
-IsIdleEvent n made event = ChangesNothing n made event.act
+IsIdleEvent n made event = ChangesNothing n made event.act ⊎ TurnsUnused n made event event.act
 
 -- it takes nothing away, and ports are capable from the next time on
 abbrev pub IsGainEvent : NetworkState → ℕ → List Timed → Timed → Type 0
@@ -52,23 +71,36 @@ IsGainEvent n next made event = TakesNothing n made event.act × LeavesCapable n
 abbrev pub IsHeardEvent : NetworkState → ℕ → List Timed → Timed → Type 0
 IsHeardEvent n next made event = BringsUp n made event next ⊎ BettersClock n made event next
 
+-- behind such a one of the same time: a link that comes up so, or what makes nothing of what then stands
 abbrev pub IsHeardToo : NetworkState → ℕ → List Timed → Timed → Type 0
-IsHeardToo n next made event = BringsUp n made event next ⊎ IsIdleEvent n made event
+IsHeardToo n next made event = BringsUp n made event next ⊎ MakesNothing n made event next
 
-abbrev pub IsFollowedEvent : NetworkState → ℕ → List Timed → Timed → Type 0
-IsFollowedEvent n next made event = IsIdleEvent n made event ⊎ IsGainEvent n next made event
+-- behind a gain of the same time: another, or what makes nothing of what then stands
+abbrev pub IsGainToo : NetworkState → ℕ → List Timed → Timed → Type 0
+IsGainToo n next made event = IsGainEvent n next made event ⊎ MakesNothing n made event next
 
 -- each of the events is such a one
 abbrev pub EachEvent : (List Timed → Timed → Type 0) → List Timed → List Timed → Type 0
 EachEvent Is made [] = ⊤
 EachEvent Is made (event ∷ events) = Is made event × EachEvent Is (made ++ event ∷ []) events
 
--- One of them is heard at once. Before it come none but such that change nothing, after it links too that come up.
+-- the first of them is heard at once, and the others are too
 abbrev pub AreHeardEvents : NetworkState → ℕ → List Timed → List Timed → Type 0
 AreHeardEvents n next made [] = ⊥
 AreHeardEvents n next made (event ∷ events) =
-    (IsHeardEvent n next made event × EachEvent (IsHeardToo n next) (made ++ event ∷ []) events)
-    ⊎ (IsIdleEvent n made event × AreHeardEvents n next (made ++ event ∷ []) events)
+    IsHeardEvent n next made event × EachEvent (IsHeardToo n next) (made ++ event ∷ []) events
+
+-- the first of them is a gain, and the others are too
+abbrev pub AreGainEvents : NetworkState → ℕ → List Timed → List Timed → Type 0
+AreGainEvents n next made [] = ⊥
+AreGainEvents n next made (event ∷ events) =
+    IsGainEvent n next made event × EachEvent (IsGainToo n next) (made ++ event ∷ []) events
+
+-- so it is of the events, or of those that come after such that make nothing of what stands
+abbrev pub AfterIdleEvents : NetworkState → (List Timed → List Timed → Type 0) → List Timed → List Timed → Type 0
+AfterIdleEvents n Are made [] = Are made []
+AfterIdleEvents n Are made (event ∷ events) =
+    Are made (event ∷ events) ⊎ (IsIdleEvent n made event × AfterIdleEvents n Are (made ++ event ∷ []) events)
 
 -- ---- sharp bounds
 
@@ -76,28 +108,35 @@ AreHeardEvents n next made (event ∷ events) =
 abbrev pub two_exchanges : SettlingParams → SyncPaths → ℕ
 two_exchanges p paths = interval_of p.params.pdelay + (paths.delay + p.params.turnaround + paths.delay)
 
--- the greatest delay for each system of a path but one
-abbrev pub way_span : SyncPaths → ℕ
-way_span paths = pred paths.systems * paths.delay
+-- each of the events leaves a network that starts so that nothing is told
+abbrev pub AreStartEvents : List Timed → Type 0
+AreStartEvents [] = ⊤
+AreStartEvents (event ∷ events) = TellsNothing event.act × AreStartEvents events
 
--- at a start without events
-abbrev pub BoundsStart : NetworkState → ℕ → Type 0
-BoundsStart n choice =
-    (LinksVaryLittle n []
-    × (choice ≡ two_exchanges (pace_of n) (sync_paths n []) + way_span (sync_paths n [])))
+-- so do the events of time 0, if any, and after them no system waits for one that has failed
+abbrev pub StartsQuietly : NetworkState → List Timed → Type 0
+StartsQuietly n [] = ⊤
+StartsQuietly n (event ∷ events) = AreStartEvents (event ∷ events) × NoneUnanswered n (event ∷ events)
+
+-- at time 0
+abbrev pub BoundsStart : NetworkState → List Timed → ℕ → Type 0
+BoundsStart n now choice =
+    StartsQuietly n now
+    × ((UsedVaryLittle n now
+    × (choice ≡ two_exchanges (pace_of n) (sync_paths n now) + way_span (sync_paths n now)))
     ⊎ (choice
-    ≡ two_exchanges (pace_of n) (sync_paths n []) + largest_interval (pace_of n) + way_span (sync_paths n []))
+    ≡ two_exchanges (pace_of n) (sync_paths n now) + largest_interval (pace_of n) + way_span (sync_paths n now)))
 
 -- At a time with gains. Ports are capable so much later as `ready` says: at once after a priority1, by two exchanges
 -- after a link, and a peer delay interval later after a system that recovers.
 abbrev pub BoundsGains : NetworkState → List Timed → List Timed → ℕ → ℕ → ℕ → Type 0
 BoundsGains n made now time ready choice =
-    (AreHeardEvents n (suc (time + ready)) made now
+    (AfterIdleEvents n (AreHeardEvents n (suc (time + ready))) made now
     × (choice ≡ ready + way_span (sync_paths n (made ++ now))))
-    ⊎ (EachEvent (IsFollowedEvent n (suc (time + ready))) made now
+    ⊎ (AfterIdleEvents n (AreGainEvents n (suc (time + ready))) made now
     × (choice ≡ ready + largest_interval (pace_of n) + way_span (sync_paths n (made ++ now))))
 
--- At a time by which the choice stands: its events change nothing, or are gains.
+-- At a time by which the choice stands: its events make nothing of what stands, or are gains.
 abbrev pub BoundsEvents : NetworkState → List Timed → List Timed → ℕ → ℕ → Type 0
 BoundsEvents n made now time choice =
     (EachEvent (IsIdleEvent n) made now × (choice ≡ 0)) ⊎ ((ready : ℕ) × BoundsGains n made now time ready choice)
@@ -117,7 +156,7 @@ BoundsChoice n Sharp events choice =
 abbrev pub IsChoiceBoundAfter : NetworkState → List Timed → List ℕ → ℕ → ℕ → Type 0
 IsChoiceBoundAfter n events [] time choice =
     (time ≡ 0)
-    × BoundsChoice n ((events_by time events ≡ []) × BoundsStart n choice) (events_by time events) choice
+    × BoundsChoice n (BoundsStart n (events_by time events) choice) (events_by time events) choice
 IsChoiceBoundAfter n events (last ∷ earlier) time choice =
     (last < time)
     × NoneBetween events last time

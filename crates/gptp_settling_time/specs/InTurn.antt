@@ -1,20 +1,21 @@
 -- How soon a document has settled, event by event: each event leaves known of the network what it came from.
 --
--- After some events of a document its network came from *any past*; or it has *gained* only, since it started or had
--- rested, and its ports at links are capable from a start on; or the same is so and all that is told over its links is
--- *heard*, so that no announce interval has to pass. An event leads from one to another (`EventLeads`). It may always
--- lead to any past. To a gain it leads where it takes nothing away, or changes nothing. To what is heard it leads where
--- the network has settled and it changes nothing, brings up a link between live systems, or sets a better priority1.
--- Where the delay of that link varies little the first Announce over it comes to a port that is capable already, and a
--- system that gets better tells so at once. What changes nothing leaves a network settled that had settled, whatever it
--- came from. Where all was heard before, links may also come up one after another at any time, as several at once; and
--- what changes nothing asks for no time at all.
-use Rattle.std.specs.Prelude.{◌≡◌, ◌<◌, ◌≤◌, ◌⊎◌, ◌+◌, ◌*◌, ℕ, ⊤, pred, List, [], ◌∷◌, ◌++◌, Option, Some, slice_get}
+-- After some events of a document its network came from *any past*; or it is *starting*, and nothing is told yet; or it
+-- has *gained* only, since it started or had rested, and its ports at links are capable from a start on; or the same is
+-- so and all that is told over its links is *heard*, so that no announce interval has to pass. An event leads from one
+-- to another (`EventLeads`). It may always lead to any past. At time 0, as the network starts, it may take something
+-- away, since nothing is told yet. To a gain it leads where it takes nothing away, or changes nothing. To what is heard
+-- it leads where the network has settled and it changes nothing, brings up a link between live systems, or sets a better
+-- priority1. Where the delay of that link varies little the first Announce over it comes to a port that is capable
+-- already, and a system that gets better tells so at once. What makes nothing of what stands leaves a network settled
+-- that had settled, whatever it came from. Where all was heard before, links may also come up one after another at any
+-- time, as several at once; and what changes nothing asks for no time at all.
+use Rattle.std.specs.Prelude.{◌≡◌, ◌<◌, ◌≤◌, ◌⊎◌, ◌+◌, ◌*◌, ℕ, ⊤, pred, true, List, [], ◌∷◌, ◌++◌, Option, Some, slice_get}
 use Rattle.gptp_lists.specs.Members.{In}
 use Rattle.gptp_vector.specs.declared.port.PortId.{PortId}
 use Rattle.gptp_links.specs.declared.bounds.Bounds.{Bounds}
 use Rattle.gptp_setup.specs.SettlingParams.{largest_interval}
-use Rattle.gptp_scenario.specs.Calm.{IsCalm, NothingLapses, last_change}
+use Rattle.gptp_scenario.specs.Calm.{IsCalm, IsLive, IsUsed, NothingLapses, last_change}
 use Rattle.gptp_scenario.specs.Change.{link_after}
 use Rattle.gptp_scenario.specs.Network.{IsEnd, NetworkState, pace_of}
 use Rattle.gptp_scenario.specs.SettlingAtOnce.{settling_span_at_once}
@@ -22,7 +23,7 @@ use Rattle.gptp_scenario.specs.SettlingTime.{capability_span, settling_span_with
 use Rattle.gptp_scenario.specs.SyncWait.{sync_paths}
 use Rattle.gptp_scenario.specs.declared.change.Act.{Act}
 use Rattle.gptp_scenario.specs.declared.change.Act.TheVariants.{Change as Changing}
-use Rattle.gptp_scenario.specs.declared.change.Change.TheVariants.{LinkDown, LinkUp, Priority1}
+use Rattle.gptp_scenario.specs.declared.change.Change.TheVariants.{Fail, LinkDown, LinkUp, Priority1}
 use Rattle.gptp_scenario.specs.declared.change.Timed.{Timed}
 use Rattle.gptp_scenario.specs.declared.network.LinkSpec.{LinkSpec}
 use Rattle.gptp_model.specs.World.{WorldState, port_id}
@@ -33,13 +34,44 @@ use Rattle.gptp_theorem.specs.PlayedLaws.{IsPlayable}
 use Rattle.gptp_settling_time.specs.Documents.{IsSettledAs}
 use Rattle.gptp_settling_time.specs.Exactly.{SettlesBy}
 use Rattle.gptp_settling_time.specs.Gains.{AreCapableAnyway, AreCapableNext, AreCapableStill, ChangesNothing, EndHasFailed, HasRested, IsDownAfter, IsNoWorse, JoinsLive, TakesNothing, exchanged_from}
-use Rattle.gptp_settling_time.specs.Starts.{LinksVaryLittle}
 
 -- what a network came from, and from when on its ports are capable
 pub data Past : Type 0 where
   AnyPast : Past
+  Starting : Past
   Gained : ℕ → Past
   Heard : ℕ → Past
+
+-- ---- events at time 0
+
+-- As a network starts such a change leaves it so that nothing is told: a link goes down or comes up, a system fails, or
+-- a priority1 is set.
+abbrev pub TellsNothing : Act → Type 0
+TellsNothing (Changing (LinkDown number port)) = ⊤
+TellsNothing (Changing (LinkUp number port)) = ⊤
+TellsNothing (Changing (Fail number)) = ⊤
+TellsNothing (Changing (Priority1 number value)) = ⊤
+TellsNothing act = ⊥
+
+-- after these events no link that is up joins a live system to one that has failed
+abbrev pub NoneUnanswered : NetworkState → List Timed → Type 0
+NoneUnanswered n events = (place : ℕ) (v : LinkSpec) → slice_get n.links place ≡ Some v → (link_after events v).up ≡ true
+    → (IsLive n.systems events (link_after events v).a.clock → IsLive n.systems events (link_after events v).b.clock)
+    × (IsLive n.systems events (link_after events v).b.clock → IsLive n.systems events (link_after events v).a.clock)
+
+-- after these events the greatest delay is below twice the least over each link in use
+abbrev pub UsedVaryLittle : NetworkState → List Timed → Type 0
+UsedVaryLittle n events = (place : ℕ) (v : LinkSpec) → slice_get n.links place ≡ Some v
+    → IsUsed n.systems events (link_after events v)
+    → (link_after events v).bounds.max < 2 * (link_after events v).bounds.min
+
+-- This is the last of such events of time 0: nothing is told yet after it, and no system waits for one that has failed.
+-- Ports are capable from the next time on.
+pub record StartsWith (n : NetworkState) (before : List Timed) (event : Timed) (next : ℕ) : Type 0 where
+  pub now : event.at ≡ 0
+  pub tells : TellsNothing event.act
+  pub answered : NoneUnanswered n (before ++ event ∷ [])
+  pub capable : exchanged_from (pace_of n) (sync_paths n (before ++ event ∷ [])) 0 ≤ next
 
 -- ---- events
 
@@ -110,6 +142,7 @@ abbrev pub LeadsToGain : NetworkState → List Timed → Past → Timed → ℕ 
 LeadsToGain n before AnyPast event next =
     HasRested n before event.at
     × ((rest : ℕ) × AreCapableAnyway n before rest × AreCapableNext n before rest event next)
+LeadsToGain n before Starting event next = ⊥
 LeadsToGain n before (Gained start) event next = AreCapableStill n before start event next
 LeadsToGain n before (Heard start) event next = AreCapableStill n before start event next
 
@@ -117,25 +150,44 @@ abbrev pub LeadsToHeard : NetworkState → List Timed → Past → Timed → ℕ
 LeadsToHeard n before AnyPast event next =
     HasSettledAnyhow n before event.at
     × (BringsUp n before event next ⊎ (BettersClock n before event next ⊎ LeavesSettled n before event next))
+LeadsToHeard n before Starting event next =
+    StartsWith n before event next × UsedVaryLittle n (before ++ event ∷ [])
 LeadsToHeard n before (Gained start) event next =
     HasSettledSince n before start event.at
     × (BringsUp n before event next ⊎ (BettersClock n before event next ⊎ LeavesSettled n before event next))
 LeadsToHeard n before (Heard start) event next =
     ((start ≤ next) × BringsUp n before event next)
-    ⊎ ((HasSettledHeard n before start event.at × BettersClock n before event next)
+    ⊎ ((HasSettledHeard n before start event.at
+    × (BettersClock n before event next ⊎ LeavesSettled n before event next))
     ⊎ (MakesNothing n before event start × (next ≡ start)))
 
 -- a gain, and what is heard, stays so from the start that it had
 abbrev pub StaysFrom : Past → ℕ → Type 0
 StaysFrom AnyPast next = ⊥
+StaysFrom Starting next = ⊥
 StaysFrom (Gained start) next = next ≡ start
 StaysFrom (Heard start) next = next ≡ start
 
+-- nothing is told as the network starts, and this is the last event then
+abbrev pub StartsFrom : NetworkState → List Timed → Past → Timed → ℕ → Type 0
+StartsFrom n before AnyPast event next = ⊥
+StartsFrom n before Starting event next = StartsWith n before event next
+StartsFrom n before (Gained start) event next = ⊥
+StartsFrom n before (Heard start) event next = ⊥
+
+-- nothing is told as the network starts, nor after this event
+abbrev pub StartsStill : Past → Timed → Type 0
+StartsStill AnyPast event = ⊥
+StartsStill Starting event = (event.at ≡ 0) × TellsNothing event.act
+StartsStill (Gained start) event = ⊥
+StartsStill (Heard start) event = ⊥
+
 abbrev pub EventLeads : NetworkState → List Timed → Past → Timed → Past → Type 0
 EventLeads n before past event AnyPast = ⊤
+EventLeads n before past event Starting = StartsStill past event
 EventLeads n before past event (Gained next) =
     (TakesNothing n before event.act × LeadsToGain n before past event next)
-    ⊎ (MakesNothing n before event next × StaysFrom past next)
+    ⊎ ((MakesNothing n before event next × StaysFrom past next) ⊎ StartsFrom n before past event next)
 EventLeads n before past event (Heard next) = LeadsToHeard n before past event next
 
 -- each event leads from one to the next
@@ -149,8 +201,9 @@ LeadOn n before past (event ∷ events) last =
 -- ports are capable by then that ask from time 0 on; and where all is heard delays vary little
 abbrev pub BeginsBy : NetworkState → Past → Type 0
 BeginsBy n AnyPast = ⊤
+BeginsBy n Starting = ⊤
 BeginsBy n (Gained start) = exchanged_from (pace_of n) (sync_paths n []) 0 ≤ start
-BeginsBy n (Heard start) = LinksVaryLittle n [] × (exchanged_from (pace_of n) (sync_paths n []) 0 ≤ start)
+BeginsBy n (Heard start) = UsedVaryLittle n [] × (exchanged_from (pace_of n) (sync_paths n []) 0 ≤ start)
 
 -- By this time a calm network has settled after these events. From any past the span has to pass, the sharper one where
 -- nothing lapses. Else ports become capable; then an announce interval passes where something may not be heard; and
@@ -161,6 +214,7 @@ SettlesAfter n events AnyPast settled =
     × (last_change events + settling_span_at_once (pace_of n) (sync_paths n events) ≤ settled))
     ⊎ (last_change events + settling_span_with (pace_of n) (sync_paths n events) (sync_paths n events).systems ≤
     settled)
+SettlesAfter n events Starting settled = ⊥
 SettlesAfter n events (Gained start) settled = SettlesBy (pace_of n) (sync_paths n events) start settled
 SettlesAfter n events (Heard start) settled =
     NothingLapses n.params

@@ -1,6 +1,6 @@
-//! How soon the choice stands after the events of each time of a document.
+//! How soon the choice stands after the events of each time of a document, and how exactly.
 
-ghost use Rattle.gptp_settling_time.specs.ChoiceBounds.{ChoiceBoundsHold};
+ghost use Rattle.gptp_settling_time.specs.ChoiceBounds.{ChoiceBoundsAreExact, ChoiceBoundsHold};
 
 use gptp_links::Fate;
 
@@ -10,4 +10,12 @@ use gptp_links::Fate;
 /// capability of a port.
 pub fn choice_bounds_hold<F: Fate>()
     ensures { ChoiceBoundsHold F.answers }
+{}
+
+/// Once a Sync has had the time to come down a way since a time that is later than a choice bound of a document, each
+/// Follow_Up that the near system at its end uses leaves an offset within the time error of that way of its clock less
+/// that of the best, before the next event. An announce interval is over then since the network began, and since a link
+/// was last set.
+pub fn choice_bounds_are_exact<F: Fate>()
+    ensures { ChoiceBoundsAreExact F.answers }
 {}

@@ -27,7 +27,7 @@ mod in_turn;
 mod starts;
 mod unchanged;
 
-pub use choice_bounds::choice_bounds_hold;
+pub use choice_bounds::{choice_bounds_are_exact, choice_bounds_hold};
 pub use documents::{documents_settle_soon, runs_are_exact_soon, runs_begin_so};
 pub use exact_in_turn::documents_are_exact_in_turn;
 pub use exactly::news_are_exact;

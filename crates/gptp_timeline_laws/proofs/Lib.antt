@@ -19,3 +19,6 @@ pub mod PartLemmas
 pub mod RootLemmas
 pub mod AgeLemmas
 pub mod BestLemmas
+pub mod ShortenedLemmas
+pub mod StretchRunLemmas
+pub mod SoonLemmas

@@ -4,3 +4,4 @@ pub mod Exact
 pub mod Sources
 pub mod Age
 pub mod Right
+pub mod Soon

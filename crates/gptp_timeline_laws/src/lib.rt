@@ -6,6 +6,8 @@
 //! `accuracy` lines say of what is read from a receipt on. `specs/Sources.antt` says from when on sources stand, and
 //! that they are roots. `specs/Age.antt` says how old what is read may be. `specs/Right.antt` has all of it at once.
 //!
+//! `specs/Soon.antt` says by when a stretch has settled, as it is computed for the document.
+//!
 //! Each function of this crate is a law: it does nothing, and its contract is a theorem about the definitions.
 #![tactic(auto)]
 
@@ -14,6 +16,7 @@ mod exact;
 mod looks;
 mod moments;
 mod right;
+mod soon;
 mod sources;
 
 pub use age::timelines_hear_in_time;
@@ -21,4 +24,5 @@ pub use exact::{timelines_bound_receipts, timelines_read_exactly};
 pub use looks::looks_suffice;
 pub use moments::times_bound_moments;
 pub use right::timelines_read_right;
+pub use soon::stretches_settle_soon;
 pub use sources::{timelines_keep_sources, timelines_read_from_bests, timelines_read_from_roots};

@@ -1,0 +1,153 @@
+-- What is told of each time of a document is so: its choice is a choice bound, and roles stand as soon.
+use Rattle.std.proofs.Common.{◌≡◌, ◌<◌, ◌≤◌, inl, inr, ◌+◌, ◌*◌, max, ℕ, Bool, true, false, cond, List, [], ◌∷◌, ◌++◌, Some, None, refl, sym, ap, subst, arith}
+use Rattle.std.specs.Prelude.{◌==◌, nat_le}
+use Rattle.std.proofs.lemmas.Bool.{eqb-false, eqb-true}
+use Rattle.std.proofs.lemmas.Bool.Decides.{nat_tests}
+use Rattle.gptp_lists.specs.Members.{In}
+use Rattle.gptp_setup.specs.SettlingParams.{largest_interval}
+use Rattle.gptp_scenario.specs.Network.{NetworkState, pace_of}
+use Rattle.gptp_scenario.specs.SyncWait.{sync_paths}
+use Rattle.gptp_scenario.specs.declared.change.Timed.{Timed}
+use Rattle.gptp_network.specs.Document.{DocumentState}
+use Rattle.gptp_network.specs.Snapshot.{events_by}
+use Rattle.gptp_theorem.specs.PlayedLaws.{IsPlayable}
+use Rattle.gptp_how_soon.specs.Times.{View, events_at, gained_at, last_set, ready_at, row_at, settling_times, settling_times_from, time_at, view_at}
+use Rattle.gptp_how_soon.specs.declared.bounds.Settling.{Settling}
+use Rattle.gptp_how_soon.specs.declared.bounds.SettlingTime.{SettlingTime}
+use Rattle.gptp_settling_time.specs.HowSoon.{BoundsChoice, BoundsEvents, BoundsStart, IsChoiceBoundAfter, NoneBetween}
+use Rattle.gptp_settling_time.proofs.MomentLemmas.{parted}
+use Rattle.gptp_how_soon_laws.specs.Choice.{SettlingsAreChoiceBounds}
+use Rattle.gptp_how_soon_laws.proofs.RowLemmas.{HasComeToRest, bounds_choice, gained, never_unchanged, started, tells, unchanged}
+use Rattle.gptp_how_soon_laws.proofs.TimesLemmas.{AreTimes, later_times, times_after, times_parts}
+
+-- the events up to time 0 are those at it
+begin_at : (events : List Timed) → events_by 0 events ≡ events_at 0 events
+begin_at [] = refl
+begin_at (event ∷ events) = by (nat_le event.at 0) (event.at == 0) refl refl (begin_at events)
+  where
+    by : (soon now : Bool) → nat_le event.at 0 ≡ soon → (event.at == 0) ≡ now → events_by 0 events ≡ events_at 0 events
+        → cond soon (event ∷ events_by 0 events) (events_by 0 events)
+        ≡ cond now (event ∷ events_at 0 events) (events_at 0 events)
+    by true true f g rest = ap (λ es. event ∷ es) rest
+    by true false f g rest =
+        let apart = eqb-false event.at 0 g in
+        let early : event.at ≤ 0 = grind (arith, nat_tests) in
+        absurd (apart (omega (arith, early)))
+    by false true f g rest =
+        let is = eqb-true event.at 0 g in
+        let behind : 0 < event.at = grind (arith, nat_tests) in
+        absurd (omega (arith, is, behind))
+    by false false f g rest = rest
+
+module _ (d : DocumentState) (playable : IsPlayable d) where
+  abbrev n : NetworkState
+  n = d.network
+
+  abbrev all : List Timed
+  all = d.events
+
+  -- what is told of a time is so, by the times before it
+  pub record IsSo (earlier : List ℕ) (at : ℕ) (s : Settling) : Type 0 where
+    pub choice : IsChoiceBoundAfter n all earlier at s.choice
+    pub roles : s.roles ≡ s.choice
+    pub rest : s.choice ≤ s.rest
+    pub exact : max (at + s.choice) (last_set (events_by at all) + largest_interval (pace_of n))
+        + (sync_paths n (events_by at all)).systems * (n.params.threshold + n.params.residence)
+        ≤ s.exact_from
+
+  abbrev pub TellsSo : List ℕ → SettlingTime → Type 0
+  TellsSo earlier t = (s : Settling) → t.settling ≡ Some s → IsSo earlier t.at s
+
+  first_so : TellsSo [] (time_at d None 0)
+  first_so s is =
+      let now : List Timed = events_at 0 all in
+      let v : View = view_at n [] now None 0 in
+      let it = tells n v s is in
+      let bound =
+      bounds_choice n (λ choice. BoundsStart n now choice) now (row_at n v) (gained_at n v) it.calm
+      (λ row. absurd (never_unchanged n now row)) (λ row off. started n now row) in
+      record {
+        choice = (
+          refl,
+          subst (λ es. BoundsChoice n (BoundsStart n es s.choice) es s.choice) (sym (begin_at all))
+              (subst (λ choice. BoundsChoice n (BoundsStart n now choice) now choice) (sym it.choice) bound),
+        );
+        roles = it.roles;
+        rest = it.rest;
+        exact = subst (λ es. max (0 + s.choice) (last_set es + largest_interval (pace_of n))
+            + (sync_paths n es).systems * (n.params.threshold + n.params.residence)
+            ≤ s.exact_from) (sym (begin_at all)) it.exact;
+      }
+
+  module _ (b : SettlingTime) (earlier : List ℕ) (at : ℕ) (late : b.at < at) (between : NoneBetween all b.at at)
+      (so : TellsSo earlier b) where
+    abbrev made : List Timed
+    made = events_by b.at all
+
+    abbrev now : List Timed
+    now = events_at at all
+
+    abbrev v : View
+    v = view_at n made now (Some b) at
+
+    abbrev Sharp : ℕ → Type 0
+    Sharp choice = (choice_then : ℕ) × IsChoiceBoundAfter n all earlier b.at choice_then × (b.at + choice_then < at)
+        × BoundsEvents n made now at choice
+
+    sharp : (choice : ℕ) → HasComeToRest b at → BoundsEvents n made now at choice → Sharp choice
+    sharp choice rest bounds =
+        let then = so rest.settling rest.is in
+        let less = then.rest in
+        let passed = rest.passed in
+        (rest.settling.choice, then.choice, omega (arith, less, passed), bounds)
+
+    later_so : TellsSo (b.at ∷ earlier) (time_at d (Some b) at)
+    later_so s is =
+        let it = tells n v s is in
+        let bound =
+        bounds_choice n Sharp (made ++ now) (row_at n v) (gained_at n v) it.calm
+        (λ row. let (rest, idle) = unchanged n playable.network all b at late row in sharp 0 rest (inl (idle, refl)))
+        (λ row off. let (rest, gains) = gained n playable.network all b at late row off in
+        sharp (gained_at n v) rest (inr (ready_at n v, gains))) in
+        record {
+          choice = (
+            late,
+            between,
+            subst (λ es. BoundsChoice n (Sharp s.choice) es s.choice)
+                (sym (parted all b.at at playable.events.in_order late between))
+                (subst (λ choice. BoundsChoice n (Sharp choice) (made ++ now) choice) (sym it.choice) bound),
+          );
+          roles = it.roles;
+          rest = it.rest;
+          exact = subst (λ es. max (at + s.choice) (last_set es + largest_interval (pace_of n))
+              + (sync_paths n es).systems * (n.params.threshold + n.params.residence)
+              ≤ s.exact_from) (sym (parted all b.at at playable.events.in_order late between)) it.exact;
+        }
+
+  -- so it is of each time after one
+  each_so : (b : SettlingTime) (earlier ats : List ℕ) → AreTimes all b.at ats → TellsSo earlier b
+      → (t : SettlingTime) → In t (settling_times_from d (Some b) ats) → (before : List ℕ) × TellsSo before t
+  each_so b earlier [] times so t member = absurd member
+  each_so b earlier (at ∷ ats) (late, between, times) so t (inl same) =
+      (b.at ∷ earlier, subst (TellsSo (b.at ∷ earlier)) (sym same) (later_so b earlier at late between so))
+  each_so b earlier (at ∷ ats) (late, between, times) so t (inr member) =
+      each_so (time_at d (Some b) at) (b.at ∷ earlier) ats times (later_so b earlier at late between so) t member
+
+  all_so : (t : SettlingTime) → In t (settling_times_from d None (0 ∷ later_times 0 all))
+      → (before : List ℕ) × TellsSo before t
+  all_so t (inl same) = ([], subst (TellsSo []) (sym same) first_so)
+  all_so t (inr member) =
+      each_so (time_at d None 0) [] (later_times 0 all)
+      (times_after all 0 all playable.events.in_order (λ event among. omega arith) (λ event among behind. among))
+      first_so t member
+
+  pub time_so : (t : SettlingTime) (s : Settling) → In t (settling_times d) → t.settling ≡ Some s
+      → (before : List ℕ) × IsSo before t.at s
+  time_so t s member is =
+      let (before, so) =
+      all_so t (subst (λ ats. In t (settling_times_from d None ats)) (times_parts 0 all) member) in
+      (before, so s is)
+
+pub settlings_are_choice_bounds : SettlingsAreChoiceBounds
+settlings_are_choice_bounds d t s playable member is =
+    let (before, so) = time_so d playable t s member is in ((before, so.choice), so.roles)

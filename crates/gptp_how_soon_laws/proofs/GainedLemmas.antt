@@ -1,0 +1,673 @@
+-- The events of a time that are told to be idle or gains are followed: by when ports are capable after them, and
+-- whether what they tell is heard at once.
+use Rattle.std.proofs.Common.{◌≡◌, ◌<◌, ◌≤◌, ◌⊎◌, inl, inr, ◌+◌, ◌*◌, ℕ, Bool, true, false, cond, suc, List, [], ◌∷◌, ◌++◌, length, filter, refl, sym, ap, ap₂, subst, ◌∙◌, append-nil, append_assoc, arith}
+use Rattle.std.specs.Prelude.{◌==◌, ◌&&◌, ◌||◌, not}
+use Rattle.std.specs.List.{AllByRecursion, list_all, list_any}
+use Rattle.std.proofs.lemmas.Bool.{and_parts, false_from_ne_true, ne_eqb, not-true, or_cases, or_parts}
+use Rattle.std.proofs.lemmas.Bool.Decides.{nat_tests}
+use Rattle.gptp_lists.specs.Members.{In}
+use Rattle.gptp_lists.proofs.SystemSpecLemmas.{In-map, In-slice_get}
+use Rattle.gptp_vector.specs.declared.port.PortId.{PortId}
+use Rattle.gptp_links.specs.declared.bounds.Bounds.{Bounds}
+use Rattle.gptp_setup.specs.Intervals.{interval_of}
+use Rattle.gptp_setup.specs.SettlingParams.{largest_interval}
+use Rattle.gptp_setup.specs.declared.setup.Params.{Params}
+use Rattle.gptp_scenario.specs.Calm.{IsLive, NothingLapses}
+use Rattle.gptp_scenario.specs.Change.{link_acted, link_after, with_up}
+use Rattle.gptp_scenario.specs.InUse.{lives}
+use Rattle.gptp_scenario.specs.Network.{IsNetwork, NetworkState, pace_of}
+use Rattle.gptp_scenario.specs.SettlingTime.{capability_span}
+use Rattle.gptp_scenario.specs.SyncWait.{sync_paths}
+use Rattle.gptp_scenario.specs.declared.change.Act.{Act}
+use Rattle.gptp_scenario.specs.declared.change.Act.TheVariants as acts
+use Rattle.gptp_scenario.specs.declared.change.Change.TheVariants as changes
+use Rattle.gptp_scenario.specs.declared.change.Timed.{Timed}
+use Rattle.gptp_scenario.specs.declared.network.LinkSpec.{LinkSpec}
+use Rattle.gptp_scenario.specs.declared.sync_wait.SyncPaths.{SyncPaths}
+use Rattle.gptp_scenario.proofs.AfterLemmas.{after_keeps}
+use Rattle.gptp_model.specs.World.{port_id}
+use Rattle.gptp_theorem.proofs.EventLemmas.{link_behind}
+use Rattle.gptp_network.proofs.PassLemmas.{kept, passes_at}
+use Rattle.gptp_topology.specs.Course.{cable_is_used, cable_of}
+use Rattle.gptp_topology.specs.declared.course.Cable.{Cable}
+use Rattle.gptp_how_soon.specs.Bounds.{asked_again, is_again, is_hard_to_hear, ready, two_exchanges}
+use Rattle.gptp_how_soon.specs.Kinds.{are_heard, is_better, is_gain, is_heard_too, is_idle, is_link_up, is_loss, is_other, is_priority1, is_recovery, is_unused, lowers_unused, makes_nothing, raises_unused, what_of}
+use Rattle.gptp_how_soon.specs.Links.{is_new, new_links, standing_then, varies}
+use Rattle.gptp_how_soon.specs.Times.{told_at, told_of}
+use Rattle.gptp_how_soon.specs.declared.kinds.Told.{Told}
+use Rattle.gptp_settling_time.specs.Gains.{AreSparedBy, ChangesNothing, IsNoWorse, IsSparedBy, JoinsLive, LeavesCapable, SparesFailed, TakesNothing}
+use Rattle.gptp_settling_time.specs.HowSoon.{AfterIdleEvents, AreGainEvents, AreHeardEvents, EachEvent, IsGainEvent, IsGainToo, IsHeardEvent, IsHeardToo, IsIdleEvent, TurnsUnused, way_span}
+use Rattle.gptp_settling_time.specs.InTurn.{BettersClock, BringsUp, MakesNothing, TurnsInVain}
+use Rattle.gptp_settling_time.proofs.SamePathsLemmas.{idle_paths, turned_paths}
+use Rattle.gptp_how_soon_laws.proofs.CalmLemmas.{lives_to, three_from, three_parts}
+use Rattle.gptp_how_soon_laws.proofs.KindLemmas.{Gains, RaisesLink, TurnsBroken, gain_gains, gain_is_not_idle, idle_changes, nothing_or_gain, unused_turns}
+use Rattle.gptp_how_soon_laws.proofs.MoreLemmas.{IsMore, Leaves, more_delay, more_live, more_lives, more_on, one_more, same_more}
+use Rattle.gptp_how_soon_laws.proofs.NamedLemmas.{end_first}
+
+-- ---- lists
+
+all_from : {X : Type 0} (P : X → Type 0) (xs : List X) → ((x : X) → In x xs → P x) → AllByRecursion P xs
+all_from P [] each = tt
+all_from P (x ∷ xs) each = (each x (inl refl), all_from P xs (λ y member. each y (inr member)))
+
+pub none_any : {X : Type 0} (p : X → Bool) (xs : List X) (x : X) → list_any p xs ≡ false → In x xs → p x ≡ false
+none_any p xs x none member = false_from_ne_true (p x) (λ is.
+    let no : true ≡ false = sym (passes_at p xs x member is) ∙ none in cc)
+
+-- ---- what failed systems sent is gone
+
+-- after events that are long over
+spared_past : (n : NetworkState) (time : ℕ) (made events : List Timed) → 0 < time
+    → AllByRecursion (λ (t : Timed). t.at + largest_interval (pace_of n) < time) events → AreSparedBy n made events time
+spared_past n time made [] positive past = positive
+spared_past n time made (event ∷ events) positive past =
+    (inl past.0, spared_past n time (made ++ event ∷ []) events positive past.1)
+
+-- after one event more
+spared_more : (n : NetworkState) (time : ℕ) (made events : List Timed) (event : Timed) → AreSparedBy n made events time
+    → IsSparedBy n (made ++ events) event time → AreSparedBy n made (events ++ event ∷ []) time
+spared_more n time made [] event spared one =
+    (subst (λ es. IsSparedBy n es event time) (append-nil made) one, spared)
+spared_more n time made (first ∷ events) event spared one = (
+  spared.0,
+  spared_more n time (made ++ first ∷ []) events event spared.1
+      (subst (λ es. IsSparedBy n es event time) (sym (append_assoc made (first ∷ []) events)) one),
+)
+
+-- ---- from when ports are capable
+
+not_none : {X : Type 0} (x : X) (xs : List X) → In x xs → (length xs == 0) ≡ false
+not_none x [] member = absurd member
+not_none x (y ∷ ys) member = ne_eqb (length (y ∷ ys)) 0 (λ none. omega (arith, none))
+
+ready_least : (p : Params) (paths : SyncPaths) (told : List Told) (new : List Cable) (c : Cable) → In c new
+    → two_exchanges p paths ≤ ready p paths told new
+ready_least p paths told new c member =
+    by (length new == 0) (list_any (is_again told) new) (not_none c new member)
+  where
+    by : (none again : Bool) → none ≡ false
+        → two_exchanges p paths
+        ≤ cond none 0 (cond again (asked_again p paths) (two_exchanges p paths))
+    by true again is = absurd cc
+    by false true is = omega arith
+    by false false is = omega arith
+
+ready_again : (p : Params) (paths : SyncPaths) (told : List Told) (new : List Cable)
+    → list_any (is_again told) new ≡ true → ready p paths told new ≡ asked_again p paths
+ready_again p paths told [] again = absurd cc
+ready_again p paths told (c ∷ cs) again =
+    ap₂ (λ none test. cond none 0 (cond test (asked_again p paths) (two_exchanges p paths)))
+    (not_none c (c ∷ cs) (inl refl)) again
+
+-- ---- the events of a time
+
+module _ (n : NetworkState) (network : IsNetwork n) (time : ℕ) (first events : List Timed) where
+  -- after all of them
+  abbrev pub all : List Timed
+  all = first ++ events
+
+  abbrev pub tolds : List Told
+  tolds = told_of n first events
+
+  abbrev pub news : List Cable
+  news = new_links n first all false
+
+  abbrev pub paths : SyncPaths
+  paths = sync_paths n all
+
+  abbrev pub start : ℕ
+  start = ready n.params paths tolds news
+
+  abbrev pub next : ℕ
+  next = suc (time + start)
+
+  -- where a system recovers
+  pub record AreFollowed : Type 0 where
+    pub past : AllByRecursion (λ (t : Timed). t.at + largest_interval (pace_of n) < time) first
+    pub capable : capability_span (pace_of n) ≤ time + start
+    pub again : list_any (is_again tolds) news ≡ true
+    pub turns : list_any is_unused tolds ≡ false
+
+  -- where a link turns that isn't used
+  pub record AreTurnsFollowed : Type 0 where
+    pub raised : list_any raises_unused tolds ≡ true
+        → capability_span (pace_of n) + way_span (sync_paths n first) ≤ time
+    pub lowered : list_any lowers_unused tolds ≡ true → list_any is_gain tolds ≡ false
+
+  -- an event of the time that takes nothing away
+  pub record IsTold (e : Told) : Type 0 where
+    pub among : In e tolds
+    pub kind : (makes_nothing e ≡ true) ⊎ (is_gain e ≡ true)
+
+  pub all_told : list_any is_loss tolds ≡ false → list_any is_other tolds ≡ false → AllByRecursion IsTold tolds
+  all_told no_loss no_other = all_from IsTold tolds (λ e member. record {
+    among = member;
+    kind = nothing_or_gain e.clock e.what e.kind (none_any is_loss tolds e no_loss member)
+        (none_any is_other tolds e no_other member);
+  })
+
+  -- ---- what is in use stays in use
+
+  leaves_idle : (made : List Timed) (act : Act) → ChangesNothing n made act → Leaves n made act
+  leaves_idle made (acts.Deliver link direction) idle = tt
+  leaves_idle made (acts.Expire clock timer) idle = tt
+  leaves_idle made (acts.Change (changes.LinkDown clock port)) idle = inl idle
+  leaves_idle made (acts.Change (changes.LinkUp clock port)) idle = tt
+  leaves_idle made (acts.Change (changes.LinkSet clock port least greatest loss)) idle = absurd idle
+  leaves_idle made (acts.Change (changes.Fail number)) idle = idle
+  leaves_idle made (acts.Change (changes.Recover number)) idle = tt
+  leaves_idle made (acts.Change (changes.Priority1 number value)) idle = tt
+  leaves_idle made (acts.Change (changes.Inject clock port octets)) idle = tt
+
+  leaves_gain : (made : List Timed) (act : Act) → Gains n network made act → Leaves n made act
+  leaves_gain made (acts.Deliver link direction) gains = tt
+  leaves_gain made (acts.Expire clock timer) gains = tt
+  leaves_gain made (acts.Change (changes.LinkDown clock port)) gains = absurd gains
+  leaves_gain made (acts.Change (changes.LinkUp clock port)) gains = tt
+  leaves_gain made (acts.Change (changes.LinkSet clock port least greatest loss)) gains = absurd gains
+  leaves_gain made (acts.Change (changes.Fail number)) gains = absurd gains
+  leaves_gain made (acts.Change (changes.Recover number)) gains = tt
+  leaves_gain made (acts.Change (changes.Priority1 number value)) gains = tt
+  leaves_gain made (acts.Change (changes.Inject clock port octets)) gains = tt
+
+  leaves_turned : (made : List Timed) (act : Act) → TurnsBroken n network made act → Leaves n made act
+  leaves_turned made (acts.Deliver link direction) broken = tt
+  leaves_turned made (acts.Expire clock timer) broken = tt
+  leaves_turned made (acts.Change (changes.LinkDown clock port)) broken = inr broken
+  leaves_turned made (acts.Change (changes.LinkUp clock port)) broken = tt
+  leaves_turned made (acts.Change (changes.LinkSet clock port least greatest loss)) broken = absurd broken
+  leaves_turned made (acts.Change (changes.Fail number)) broken = absurd broken
+  leaves_turned made (acts.Change (changes.Recover number)) broken = tt
+  leaves_turned made (acts.Change (changes.Priority1 number value)) broken = tt
+  leaves_turned made (acts.Change (changes.Inject clock port octets)) broken = tt
+
+  leaves_told : (made : List Timed) (act : Act) → IsTold (told_at n made act) → Leaves n made act
+  leaves_told made act is = elim is.kind [
+    | inl nothing ↦ elim (or_cases (is_idle (told_at n made act)) (is_unused (told_at n made act)) nothing) [
+      | inl idle ↦ leaves_idle made act (idle_changes n network made act idle)
+      | inr unused ↦ leaves_turned made act (unused_turns n network made act unused)
+    ]
+    | inr gain ↦ leaves_gain made act (gain_gains n network made act gain)
+  ]
+
+  -- after those that are left
+  more_left : (made left : List Timed) → AllByRecursion IsTold (told_of n made left) → IsMore n made (made ++ left)
+  more_left made [] each = subst (IsMore n made) (sym (append-nil made)) (same_more n made)
+  more_left made (event ∷ left) each =
+      more_on n made (made ++ event ∷ []) (made ++ event ∷ left)
+      (one_more n made event (leaves_told made event.act each.0))
+      (subst (IsMore n (made ++ event ∷ [])) (append_assoc made (event ∷ []) left)
+      (more_left (made ++ event ∷ []) left each.1))
+
+  -- ---- what makes nothing of what stands
+
+  module _ (turns : AreTurnsFollowed) (made : List Timed) (event : Timed) (here : event.at ≡ time)
+      (among : In (told_at n made event.act) tolds) where
+    -- a link turns that isn't used, before any gain
+    turned : sync_paths n made ≡ sync_paths n first → (act : Act) → event.act ≡ act
+        → is_unused (told_at n made act) ≡ true → TurnsBroken n network made act → TurnsUnused n made event act
+    turned same (acts.Deliver link direction) e is broken = absurd broken
+    turned same (acts.Expire clock timer) e is broken = absurd broken
+    turned same (acts.Change (changes.LinkDown clock port)) e is broken = broken
+    turned same (acts.Change (changes.LinkUp clock port)) e is broken =
+        let raised : raises_unused (told_at n made event.act) ≡ true =
+        ap (λ a. raises_unused (told_at n made a)) e ∙ ap (λ test. test && true) is in
+        let shown = turns.raised (passes_at raises_unused tolds (told_at n made event.act) among raised) in (
+          broken,
+          subst (λ (p : SyncPaths). capability_span (pace_of n) + way_span p ≤ event.at) (sym same)
+              (subst (λ at. capability_span (pace_of n) + way_span (sync_paths n first) ≤ at) (sym here) shown),
+        )
+    turned same (acts.Change (changes.LinkSet clock port least greatest loss)) e is broken = absurd broken
+    turned same (acts.Change (changes.Fail number)) e is broken = absurd broken
+    turned same (acts.Change (changes.Recover number)) e is broken = absurd broken
+    turned same (acts.Change (changes.Priority1 number value)) e is broken = absurd broken
+    turned same (acts.Change (changes.Inject clock port octets)) e is broken = absurd broken
+
+    idles : sync_paths n made ≡ sync_paths n first → makes_nothing (told_at n made event.act) ≡ true
+        → IsIdleEvent n made event
+    idles same nothing =
+        elim (or_cases (is_idle (told_at n made event.act)) (is_unused (told_at n made event.act)) nothing) [
+          | inl idle ↦ inl (idle_changes n network made event.act idle)
+          | inr unused ↦ inr (turned same event.act refl unused (unused_turns n network made event.act unused))
+        ]
+
+    -- behind a gain
+    turned_late : list_any is_gain tolds ≡ true → (act : Act) → event.act ≡ act
+        → is_unused (told_at n made act) ≡ true → TurnsBroken n network made act → TurnsInVain n made event next act
+    turned_late gained (acts.Deliver link direction) e is broken = absurd broken
+    turned_late gained (acts.Expire clock timer) e is broken = absurd broken
+    turned_late gained (acts.Change (changes.LinkDown clock port)) e is broken =
+        let lowered : lowers_unused (told_at n made event.act) ≡ true =
+        ap (λ a. lowers_unused (told_at n made a)) e ∙ ap (λ test. test && true) is in
+        let none = turns.lowered (passes_at lowers_unused tolds (told_at n made event.act) among lowered) in
+        let no : true ≡ false = sym gained ∙ none in absurd cc
+    turned_late gained (acts.Change (changes.LinkUp clock port)) e is broken =
+        let raised : raises_unused (told_at n made event.act) ≡ true =
+        ap (λ a. raises_unused (told_at n made a)) e ∙ ap (λ test. test && true) is in
+        let shown = turns.raised (passes_at raises_unused tolds (told_at n made event.act) among raised) in
+        (broken, omega (arith, shown))
+    turned_late gained (acts.Change (changes.LinkSet clock port least greatest loss)) e is broken = absurd broken
+    turned_late gained (acts.Change (changes.Fail number)) e is broken = absurd broken
+    turned_late gained (acts.Change (changes.Recover number)) e is broken = absurd broken
+    turned_late gained (acts.Change (changes.Priority1 number value)) e is broken = absurd broken
+    turned_late gained (acts.Change (changes.Inject clock port octets)) e is broken = absurd broken
+
+    idles_late : NothingLapses n.params → list_any is_gain tolds ≡ true
+        → makes_nothing (told_at n made event.act) ≡ true → MakesNothing n made event next
+    idles_late off gained nothing =
+        elim (or_cases (is_idle (told_at n made event.act)) (is_unused (told_at n made event.act)) nothing) [
+          | inl idle ↦ inl (idle_changes n network made event.act idle)
+          | inr unused ↦ inr (
+            off,
+            turned_late gained event.act refl unused (unused_turns n network made event.act unused),
+          )
+        ]
+
+  idle_ways : (made : List Timed) (event : Timed) → IsIdleEvent n made event
+      → sync_paths n (made ++ event ∷ []) ≡ sync_paths n made
+  idle_ways made event (inl idle) = idle_paths n network made event idle
+  idle_ways made event (inr turns) = turned_paths n made event turns
+
+  -- ---- one event
+
+  -- what is so before it, and after those that come later
+  pub record IsSoFar (made : List Timed) : Type 0 where
+    pub more : IsMore n first made
+    pub spared : list_any is_recovery tolds ≡ true → AreSparedBy n [] made time
+
+  module _ (followed : list_any is_recovery tolds ≡ true → AreFollowed) (made : List Timed) (event : Timed)
+      (here : event.at ≡ time) (so_far : IsSoFar made) (is : IsTold (told_at n made event.act))
+      (later : IsMore n (made ++ event ∷ []) all) where
+    abbrev then : List Timed
+    then = made ++ event ∷ []
+
+    step : IsMore n made then
+    step = one_more n made event (leaves_told made event.act is)
+
+    delay : (sync_paths n then).delay ≤ paths.delay
+    delay = more_delay n then all later
+
+    -- a link comes up
+    module _ (clock port : ℕ) (act : event.act ≡ acts.Change (changes.LinkUp clock port))
+        (up : RaisesLink n network made clock port) where
+      member : In up.link n.links
+      member = In-slice_get up.link n.links up.place up.there
+
+      joins : JoinsLive n then (port_id clock port)
+      joins place v there end =
+          let same = up.only place v there (end_first then (port_id clock port) v end) in
+          let ends = after_keeps then v in (
+            subst (λ (p : PortId). IsLive n.systems then p.clock)
+                (ap (λ (w : LinkSpec). w.a) (sym same) ∙ sym ends.a)
+                (more_live n made then step up.link.a.clock (lives_to n made up.link.a.clock up.a)),
+            subst (λ (p : PortId). IsLive n.systems then p.clock)
+                (ap (λ (w : LinkSpec). w.b) (sym same) ∙ sym ends.b)
+                (more_live n made then step up.link.b.clock (lives_to n made up.link.b.clock up.b)),
+          )
+
+      -- it is new
+      used : cable_is_used (standing_then n all up.link) ≡ true
+      used =
+          let turned : (link_acted event.act (link_after made up.link)).up ≡ true =
+          ap (λ a. (link_acted a (link_after made up.link)).up) act
+          ∙ ap (λ test. (cond test (with_up true (link_after made up.link)) (link_after made up.link)).up) up.at in
+          later.used up.link member
+          (three_from (link_after then up.link).up (lives n.systems then up.link.a.clock)
+          (lives n.systems then up.link.b.clock)
+          (ap (λ (w : LinkSpec). w.up) (link_behind made event up.link) ∙ turned)
+          (more_lives n made then step up.link.a.clock up.a) (more_lives n made then step up.link.b.clock up.b))
+
+      unused : cable_is_used (standing_then n first up.link) ≡ false
+      unused = false_from_ne_true (cable_is_used (standing_then n first up.link)) (λ on.
+          let (still, a, b) =
+          three_parts (link_after made up.link).up (lives n.systems made up.link.a.clock)
+          (lives n.systems made up.link.b.clock) (so_far.more.used up.link member on) in
+          let no : true ≡ false = sym still ∙ up.down in cc)
+
+      new : In (cable_of (link_after all up.link)) news
+      new =
+          In-map (λ (w : LinkSpec). cable_of (link_after all w)) up.link (filter (is_new n first all false) n.links)
+          (kept (is_new n first all false) up.link n.links member
+          (ap₂ (λ on off. on && not (true && off)) used unused))
+
+      capable : event.at + interval_of n.params.pdelay
+          + ((sync_paths n then).delay + n.params.turnaround + (sync_paths n then).delay) + 1
+          ≤ next
+      capable =
+          let least = ready_least n.params paths tolds news (cable_of (link_after all up.link)) new in
+          let less = delay in
+          omega (arith, here, least, less)
+
+      gains_link : IsGainEvent n next made event
+      gains_link =
+          subst (λ a. TakesNothing n made a × LeavesCapable n made event next a) (sym act) (tt, (joins, capable))
+
+      pub brings : list_any (is_hard_to_hear tolds) news ≡ false → BringsUp n made event next
+      brings soft = record {
+        clock = clock;
+        port = port;
+        act = act;
+        down = λ place v there end.
+            ap (λ (w : LinkSpec). (link_after made w).up)
+            (up.only place v there (end_first made (port_id clock port) v end))
+            ∙ up.down;
+        little = λ place v there end.
+            let one = none_any (is_hard_to_hear tolds) news (cable_of (link_after all up.link)) soft new in
+            let steady : varies (cable_of (link_after all up.link)) ≡ false =
+            (or_parts (is_again tolds (cable_of (link_after all up.link))) (varies (cable_of (link_after all up.link)))
+            one).1 in
+            let below : (link_after all up.link).bounds.max < 2 * (link_after all up.link).bounds.min =
+            grind (arith, nat_tests) in
+            let stay = later.bounds up.link member ∙ step.bounds up.link member in
+            let same = up.only place v there (end_first made (port_id clock port) v end) in
+            subst (λ (w : LinkSpec). (link_after made w).bounds.max < 2 * (link_after made w).bounds.min) (sym same)
+            (subst (λ (b : Bounds). b.max < 2 * b.min) stay below);
+        live = joins;
+        capable = capable;
+      }
+
+    -- a system recovers
+    module _ (number : ℕ) (act : event.act ≡ acts.Change (changes.Recover number))
+        (failed : IsLive n.systems made number → ⊥) (recovers : list_any is_recovery tolds ≡ true) where
+      gains_system : IsGainEvent n next made event
+      gains_system =
+          let facts = followed recovers in
+          let soon = facts.capable in
+          let more = ready_again n.params paths tolds news facts.again in
+          let less = delay in
+          subst (λ a. TakesNothing n made a × LeavesCapable n made event next a) (sym act) (
+            tt,
+            (
+              failed,
+              inr (omega (arith, soon)),
+              subst (AreSparedBy n [] made) (sym here) (so_far.spared recovers),
+              omega (arith, here, more, less),
+            ),
+          )
+
+    -- a priority1 gets better
+    module _ (number value : ℕ) (act : event.act ≡ acts.Change (changes.Priority1 number value))
+        (no_worse : IsNoWorse n made number value) where
+      gains_clock : IsGainEvent n next made event
+      gains_clock =
+          subst (λ a. TakesNothing n made a × LeavesCapable n made event next a) (sym act)
+          (no_worse, omega (arith, here))
+
+      pub betters : (sync_paths n made).systems ≤ 255 → BettersClock n made event next
+      betters few = record {
+        clock = number;
+        value = value;
+        act = act;
+        better = no_worse;
+        few = few;
+        later = omega (arith, here);
+      }
+
+    gains_so : (act : Act) → event.act ≡ act → is_gain (told_at n made act) ≡ true → Gains n network made act
+        → IsGainEvent n next made event
+    gains_so (acts.Deliver link direction) same gain gains = absurd gains
+    gains_so (acts.Expire clock timer) same gain gains = absurd gains
+    gains_so (acts.Change (changes.LinkDown clock port)) same gain gains = absurd gains
+    gains_so (acts.Change (changes.LinkUp clock port)) same gain gains = gains_link clock port same gains
+    gains_so (acts.Change (changes.LinkSet clock port least greatest loss)) same gain gains = absurd gains
+    gains_so (acts.Change (changes.Fail number)) same gain gains = absurd gains
+    gains_so (acts.Change (changes.Recover number)) same gain gains =
+        gains_system number same gains
+        (passes_at is_recovery tolds (told_at n made event.act) is.among
+        (ap (λ a. is_recovery (told_at n made a)) same
+        ∙ ap not (gain_is_not_idle number (what_of (acts.Change (changes.Recover number)))
+        (told_at n made (acts.Change (changes.Recover number))).kind gain)))
+    gains_so (acts.Change (changes.Priority1 number value)) same gain gains = gains_clock number value same gains
+    gains_so (acts.Change (changes.Inject clock port octets)) same gain gains = absurd gains
+
+    pub gains : is_gain (told_at n made event.act) ≡ true → IsGainEvent n next made event
+    gains gain = gains_so event.act refl gain (gain_gains n network made event.act gain)
+
+    pub gains_too : AreTurnsFollowed → NothingLapses n.params → list_any is_gain tolds ≡ true → IsGainToo n next made event
+    gains_too turns off gained = elim is.kind [
+      | inl nothing ↦ inr (idles_late turns made event here is.among off gained nothing)
+      | inr gain ↦ inl (gains gain)
+    ]
+
+    -- ---- what failed systems sent
+
+    spares_gain : (act : Act) → event.act ≡ act → Gains n network made act → IsSparedBy n made event time
+    spares_gain (acts.Deliver link direction) same gains = absurd gains
+    spares_gain (acts.Expire clock timer) same gains = absurd gains
+    spares_gain (acts.Change (changes.LinkDown clock port)) same gains = absurd gains
+    spares_gain (acts.Change (changes.LinkUp clock port)) same gains =
+        subst (λ a. (event.at + largest_interval (pace_of n) < time)
+        ⊎ (ChangesNothing n made a ⊎ SparesFailed n made event a)) (sym same)
+        (inr (inr (joins clock port same gains)))
+    spares_gain (acts.Change (changes.LinkSet clock port least greatest loss)) same gains = absurd gains
+    spares_gain (acts.Change (changes.Fail number)) same gains = absurd gains
+    spares_gain (acts.Change (changes.Recover number)) same gains =
+        subst (λ a. (event.at + largest_interval (pace_of n) < time)
+        ⊎ (ChangesNothing n made a ⊎ SparesFailed n made event a)) (sym same)
+        (inr (inr tt))
+    spares_gain (acts.Change (changes.Priority1 number value)) same gains =
+        subst (λ a. (event.at + largest_interval (pace_of n) < time)
+        ⊎ (ChangesNothing n made a ⊎ SparesFailed n made event a)) (sym same)
+        (inr (inr tt))
+    spares_gain (acts.Change (changes.Inject clock port octets)) same gains = absurd gains
+
+    spares : list_any is_recovery tolds ≡ true → IsSparedBy n made event time
+    spares recovers = elim is.kind [
+      | inl nothing ↦
+          elim (or_cases (is_idle (told_at n made event.act)) (is_unused (told_at n made event.act)) nothing) [
+            | inl idle ↦ inr (inl (idle_changes n network made event.act idle))
+            | inr unused ↦
+                let some = passes_at is_unused tolds (told_at n made event.act) is.among unused in
+                let no : true ≡ false = sym some ∙ (followed recovers).turns in absurd cc
+          ]
+      | inr gain ↦ spares_gain event.act refl (gain_gains n network made event.act gain)
+    ]
+
+    pub so_on : IsSoFar then
+    so_on = record {
+      more = more_on n first made then so_far.more step;
+      spared = λ recovers.
+          spared_more n time [] made event (so_far.spared recovers) (spares recovers);
+    }
+
+    -- ---- what is heard at once
+
+    -- a link comes up; or a priority1 gets better, where nothing was heard before
+    heard_so : (heard : Bool) (act : Act) → event.act ≡ act → is_heard_too heard (told_at n made act) ≡ true
+        → list_any (is_hard_to_hear tolds) news ≡ false
+        → BringsUp n made event next
+        ⊎ ((heard ≡ false) × (list_any is_better tolds ≡ true)
+        × ((sync_paths n made).systems ≤ 255 → BettersClock n made event next))
+    heard_so heard act same too soft =
+        let e = told_at n made act in
+        let (gain, rest) = and_parts (is_gain e) (is_link_up e || (is_priority1 e && not heard)) too in
+        by act same gain rest (gain_gains n network made act gain)
+      where
+        by : (act : Act) → event.act ≡ act → is_gain (told_at n made act) ≡ true
+            → (is_link_up (told_at n made act) || (is_priority1 (told_at n made act) && not heard)) ≡ true
+            → Gains n network made act
+            → BringsUp n made event next
+            ⊎ ((heard ≡ false) × (list_any is_better tolds ≡ true)
+            × ((sync_paths n made).systems ≤ 255 → BettersClock n made event next))
+        by (acts.Deliver link direction) same gain rest gains = absurd gains
+        by (acts.Expire clock timer) same gain rest gains = absurd gains
+        by (acts.Change (changes.LinkDown clock port)) same gain rest gains = absurd gains
+        by (acts.Change (changes.LinkUp clock port)) same gain rest gains = inl (brings clock port same gains soft)
+        by (acts.Change (changes.LinkSet clock port least greatest loss)) same gain rest gains = absurd gains
+        by (acts.Change (changes.Fail number)) same gain rest gains = absurd gains
+        by (acts.Change (changes.Recover number)) same gain rest gains = absurd cc
+        by (acts.Change (changes.Priority1 number value)) same gain rest gains =
+            let better : is_better (told_at n made event.act) ≡ true =
+            ap (λ a. is_better (told_at n made a)) same ∙ ap (λ test. test && true) gain in
+            inr (
+              not-true heard rest,
+              passes_at is_better tolds (told_at n made event.act) is.among better,
+              betters number value same gains,
+            )
+        by (acts.Change (changes.Inject clock port octets)) same gain rest gains = absurd gains
+
+    pub heard_first : is_heard_too false (told_at n made event.act) ≡ true
+        → list_any (is_hard_to_hear tolds) news ≡ false
+        → (list_any is_better tolds ≡ true → (sync_paths n made).systems ≤ 255) → IsHeardEvent n next made event
+    heard_first too soft few = elim (heard_so false event.act refl too soft) [
+      | inl up ↦ inl up
+      | inr (none, better, by) ↦ inr (by (few better))
+    ]
+
+    pub heard_then : is_heard_too true (told_at n made event.act) ≡ true
+        → list_any (is_hard_to_hear tolds) news ≡ false → BringsUp n made event next
+    heard_then too soft = elim (heard_so true event.act refl too soft) [
+      | inl up ↦ up
+      | inr (none, better, by) ↦ absurd cc
+    ]
+
+  -- ---- all of them
+
+  -- each makes nothing of what stands
+  pub each_idle : AreTurnsFollowed → (made left : List Timed) → AllByRecursion (λ (t : Timed). t.at ≡ time) left
+      → AllByRecursion (λ (e : Told). In e tolds) (told_of n made left) → sync_paths n made ≡ sync_paths n first
+      → list_all makes_nothing (told_of n made left) ≡ true → EachEvent (IsIdleEvent n) made left
+  each_idle turns made [] now among same nothing = tt
+  each_idle turns made (event ∷ left) now among same nothing =
+      let (one, rest) =
+      and_parts (makes_nothing (told_at n made event.act)) (list_all makes_nothing (told_of n (made ++ event ∷ []) left))
+      nothing in
+      let idle = idles turns made event now.0 among.0 same one in
+      (idle, each_idle turns (made ++ event ∷ []) left now.1 among.1 (idle_ways made event idle ∙ same) rest)
+
+  pub all_idle : AreTurnsFollowed → AllByRecursion (λ (t : Timed). t.at ≡ time) events
+      → list_all makes_nothing tolds ≡ true → EachEvent (IsIdleEvent n) first events
+  all_idle turns now nothing =
+      each_idle turns first events now (all_from (λ (e : Told). In e tolds) tolds (λ e member. member)) refl nothing
+
+  module _ (off : NothingLapses n.params) (turns : AreTurnsFollowed)
+      (followed : list_any is_recovery tolds ≡ true → AreFollowed) where
+    later_than : (made : List Timed) (event : Timed) (left : List Timed) → made ++ event ∷ left ≡ all
+        → AllByRecursion IsTold (told_of n (made ++ event ∷ []) left) → IsMore n (made ++ event ∷ []) all
+    later_than made event left are each =
+        subst (IsMore n (made ++ event ∷ [])) (append_assoc made (event ∷ []) left ∙ are)
+        (more_left (made ++ event ∷ []) left each)
+
+    -- behind a gain each is one, or makes nothing
+    each_gain : list_any is_gain tolds ≡ true → (made left : List Timed) → made ++ left ≡ all
+        → AllByRecursion (λ (t : Timed). t.at ≡ time) left → IsSoFar made
+        → AllByRecursion IsTold (told_of n made left) → EachEvent (IsGainToo n next) made left
+    each_gain gained made [] are now so_far each = tt
+    each_gain gained made (event ∷ left) are now so_far each =
+        let later = later_than made event left are each.1 in (
+          gains_too followed made event now.0 so_far each.0 later turns off gained,
+          each_gain gained (made ++ event ∷ []) left (append_assoc made (event ∷ []) left ∙ are) now.1
+              (so_on followed made event now.0 so_far each.0 later) each.1,
+        )
+
+    -- the first that makes something of what stands is a gain, if there is one
+    after_idle : (made left : List Timed) → made ++ left ≡ all
+        → AllByRecursion (λ (t : Timed). t.at ≡ time) left → IsSoFar made
+        → AllByRecursion IsTold (told_of n made left) → sync_paths n made ≡ sync_paths n first
+        → list_all makes_nothing (told_of n made left) ≡ false → AfterIdleEvents n (AreGainEvents n next) made left
+    after_idle made [] are now so_far each same some = absurd cc
+    after_idle made (event ∷ left) are now so_far each same some =
+        let later = later_than made event left are each.1 in
+        let on = so_on followed made event now.0 so_far each.0 later in
+        let more = append_assoc made (event ∷ []) left ∙ are in
+        elim each.0.kind [
+          | inl nothing ↦
+              let idle = idles turns made event now.0 each.0.among same nothing in
+              inr (
+                idle,
+                after_idle (made ++ event ∷ []) left more now.1 on each.1 (idle_ways made event idle ∙ same)
+                    (ap (λ test. test && list_all makes_nothing (told_of n (made ++ event ∷ []) left)) (sym nothing) ∙ some),
+              )
+          | inr gain ↦ inl (
+            gains followed made event now.0 so_far each.0 later gain,
+            each_gain (passes_at is_gain tolds (told_at n made event.act) each.0.among gain) (made ++ event ∷ []) left more
+                now.1 on each.1,
+          )
+        ]
+
+    module _ (soft : list_any (is_hard_to_hear tolds) news ≡ false) where
+      -- behind what was heard links come up
+      each_heard : list_any is_gain tolds ≡ true → (made left : List Timed) → made ++ left ≡ all
+          → AllByRecursion (λ (t : Timed). t.at ≡ time) left → IsSoFar made
+          → AllByRecursion IsTold (told_of n made left) → are_heard true (told_of n made left) ≡ true
+          → EachEvent (IsHeardToo n next) made left
+      each_heard gained made [] are now so_far each heard = tt
+      each_heard gained made (event ∷ left) are now so_far each heard =
+          let later = later_than made event left are each.1 in
+          let on = so_on followed made event now.0 so_far each.0 later in
+          by (makes_nothing (told_at n made event.act)) refl heard
+          (each_heard gained (made ++ event ∷ []) left (append_assoc made (event ∷ []) left ∙ are) now.1 on each.1)
+          (λ too. heard_then followed made event now.0 so_far each.0 later too soft)
+        where
+          by : (nothing : Bool) → makes_nothing (told_at n made event.act) ≡ nothing
+              → cond nothing (are_heard true (told_of n (made ++ event ∷ []) left))
+              (is_heard_too true (told_at n made event.act) && are_heard true (told_of n (made ++ event ∷ []) left))
+              ≡ true
+              → (are_heard true (told_of n (made ++ event ∷ []) left) ≡ true
+              → EachEvent (IsHeardToo n next) (made ++ event ∷ []) left)
+              → (is_heard_too true (told_at n made event.act) ≡ true → BringsUp n made event next)
+              → IsHeardToo n next made event × EachEvent (IsHeardToo n next) (made ++ event ∷ []) left
+          by true is heard rest one =
+              (inr (idles_late turns made event now.0 each.0.among off gained is), rest heard)
+          by false is heard rest one =
+              let (too, more) =
+              and_parts (is_heard_too true (told_at n made event.act))
+              (are_heard true (told_of n (made ++ event ∷ []) left)) heard in
+              (inl (one too), rest more)
+
+      pub events_heard : (list_any is_better tolds ≡ true → (sync_paths n first).systems ≤ 255)
+          → (made left : List Timed) → made ++ left ≡ all
+          → AllByRecursion (λ (t : Timed). t.at ≡ time) left → IsSoFar made
+          → AllByRecursion IsTold (told_of n made left) → sync_paths n made ≡ sync_paths n first
+          → are_heard false (told_of n made left) ≡ true → AfterIdleEvents n (AreHeardEvents n next) made left
+      events_heard few made [] are now so_far each same heard = absurd cc
+      events_heard few made (event ∷ left) are now so_far each same heard =
+          let later = later_than made event left are each.1 in
+          let on = so_on followed made event now.0 so_far each.0 later in
+          by (makes_nothing (told_at n made event.act)) refl heard
+          (λ idle. events_heard few (made ++ event ∷ []) left (append_assoc made (event ∷ []) left ∙ are) now.1 on
+          each.1 (idle_ways made event idle ∙ same))
+          (λ gain. each_heard (passes_at is_gain tolds (told_at n made event.act) each.0.among gain) (made ++ event ∷ [])
+          left (append_assoc made (event ∷ []) left ∙ are) now.1 on each.1)
+          (λ too. heard_first followed made event now.0 so_far each.0 later too soft
+          (λ better. subst (λ (x : SyncPaths). x.systems ≤ 255) (sym same) (few better)))
+        where
+          by : (nothing : Bool) → makes_nothing (told_at n made event.act) ≡ nothing
+              → cond nothing (are_heard false (told_of n (made ++ event ∷ []) left))
+              (is_heard_too false (told_at n made event.act) && are_heard true (told_of n (made ++ event ∷ []) left))
+              ≡ true
+              → (IsIdleEvent n made event → are_heard false (told_of n (made ++ event ∷ []) left) ≡ true
+              → AfterIdleEvents n (AreHeardEvents n next) (made ++ event ∷ []) left)
+              → (is_gain (told_at n made event.act) ≡ true → are_heard true (told_of n (made ++ event ∷ []) left) ≡ true
+              → EachEvent (IsHeardToo n next) (made ++ event ∷ []) left)
+              → (is_heard_too false (told_at n made event.act) ≡ true → IsHeardEvent n next made event)
+              → (IsHeardEvent n next made event × EachEvent (IsHeardToo n next) (made ++ event ∷ []) left)
+              ⊎ (IsIdleEvent n made event × AfterIdleEvents n (AreHeardEvents n next) (made ++ event ∷ []) left)
+          by true is heard rest others one =
+              let idle = idles turns made event now.0 each.0.among same is in inr (idle, rest idle heard)
+          by false is heard rest others one =
+              let e = told_at n made event.act in
+              let (too, more) =
+              and_parts (is_heard_too false e) (are_heard true (told_of n (made ++ event ∷ []) left)) heard in
+              let (gain, which) = and_parts (is_gain e) (is_link_up e || (is_priority1 e && not false)) too in
+              inl (one too, others gain more)
+
+  -- ---- the bound
+
+  module _ (now : AllByRecursion (λ (t : Timed). t.at ≡ time) events) (off : NothingLapses n.params)
+      (turns : AreTurnsFollowed) (followed : list_any is_recovery tolds ≡ true → AreFollowed) (positive : 0 < time)
+      (no_loss : list_any is_loss tolds ≡ false) (no_other : list_any is_other tolds ≡ false) where
+    begins : IsSoFar first
+    begins = record {
+      more = same_more n first;
+      spared = λ recovers. spared_past n time [] first positive (followed recovers).past;
+    }
+
+    pub all_gained : list_all makes_nothing tolds ≡ false → AfterIdleEvents n (AreGainEvents n next) first events
+    all_gained some = after_idle off turns followed first events refl now begins (all_told no_loss no_other) refl some
+
+    pub all_heard : list_any (is_hard_to_hear tolds) news ≡ false
+        → (list_any is_better tolds ≡ true → (sync_paths n first).systems ≤ 255) → are_heard false tolds ≡ true
+        → AfterIdleEvents n (AreHeardEvents n next) first events
+    all_heard soft few heard =
+        events_heard off turns followed soft few first events refl now begins (all_told no_loss no_other) refl heard

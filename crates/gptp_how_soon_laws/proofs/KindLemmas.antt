@@ -1,0 +1,397 @@
+-- What an event does that is told to be idle, or a gain.
+use Rattle.std.proofs.Common.{◌≡◌, ◌≤◌, ◌⊎◌, inl, inr, ◌+◌, ◌*◌, ◌^◌, ◌%◌, ℕ, Bool, true, false, nat_lt, List, Option, Some, None, slice_get, refl, sym, ap, subst, ◌∙◌, arith}
+use Rattle.std.specs.Prelude.{◌==◌, ◌&&◌, ◌||◌, not, if◌then◌else◌}
+use Rattle.std.specs.List.{find}
+use Rattle.std.proofs.lemmas.Bool.{eqb-true}
+use Rattle.std.proofs.lemmas.Bool.Decides.{nat_tests}
+use Rattle.gptp_vector.specs.declared.port.PortId.{PortId}
+use Rattle.gptp_scenario.specs.Calm.{IsLive}
+use Rattle.gptp_scenario.specs.Change.{is_at, link_after, system_after}
+use Rattle.gptp_scenario.specs.InUse.{lives}
+use Rattle.gptp_scenario.specs.Network.{IsEnd, IsNetwork, NetworkState}
+use Rattle.gptp_scenario.specs.declared.change.Act.{Act}
+use Rattle.gptp_scenario.specs.declared.change.Act.TheVariants as acts
+use Rattle.gptp_scenario.specs.declared.change.Change.TheVariants as changes
+use Rattle.gptp_scenario.specs.declared.change.Timed.{Timed}
+use Rattle.gptp_scenario.specs.declared.network.LinkSpec.{LinkSpec}
+use Rattle.gptp_scenario.specs.declared.network.SystemSpec.{SystemSpec}
+use Rattle.gptp_scenario.proofs.AfterLemmas.{after_keeps}
+use Rattle.gptp_model.specs.World.{port_id}
+use Rattle.gptp_topology.specs.declared.course.Standing.{Standing}
+use Rattle.gptp_how_soon.specs.Kinds.{identity_with, is_gain, is_idle, is_loss, is_other, is_unused, makes_nothing, kind_of_failure, kind_of_link_down, kind_of_link_up, kind_of_priority1, kind_of_recovery, what_of}
+use Rattle.gptp_how_soon.specs.Links.{standings_after}
+use Rattle.gptp_how_soon.specs.Systems.{has_clock, systems_after}
+use Rattle.gptp_how_soon.specs.Times.{is_standing_named, told_at}
+use Rattle.gptp_how_soon.specs.declared.kinds.Kind.{Kind}
+use Rattle.gptp_how_soon.specs.declared.kinds.Kind.TheVariants.{Idle, Unused, Loss, Gain, Other}
+use Rattle.gptp_how_soon.specs.declared.kinds.Told.{Told}
+use Rattle.gptp_how_soon.specs.declared.kinds.What.{What}
+use Rattle.gptp_how_soon.specs.declared.systems.System.{System}
+use Rattle.gptp_settling_time.specs.Gains.{ChangesNothing, EndHasFailed, IsNoWorse}
+use Rattle.gptp_how_soon_laws.proofs.CalmLemmas.{lives_from}
+use Rattle.gptp_how_soon_laws.proofs.NamedLemmas.{LinkNamed, SystemNamed, end_first, named_link, named_system}
+
+-- ---- kinds
+
+abbrev pub told : ℕ → What → Kind → Told
+told clock what kind = record { kind = kind; what = what; clock = clock }
+
+-- what is neither a loss nor another makes nothing or is a gain
+pub nothing_or_gain : (clock : ℕ) (what : What) (kind : Kind) → is_loss (told clock what kind) ≡ false
+    → is_other (told clock what kind) ≡ false
+    → (makes_nothing (told clock what kind) ≡ true) ⊎ (is_gain (told clock what kind) ≡ true)
+nothing_or_gain clock what Idle no_loss no_other = inl refl
+nothing_or_gain clock what Unused no_loss no_other = inl refl
+nothing_or_gain clock what Loss no_loss no_other = absurd cc
+nothing_or_gain clock what Gain no_loss no_other = inr refl
+nothing_or_gain clock what Other no_loss no_other = absurd cc
+
+pub gain_makes_some : (clock : ℕ) (what : What) (kind : Kind) → is_gain (told clock what kind) ≡ true
+    → makes_nothing (told clock what kind) ≡ false
+gain_makes_some clock what Idle gain = absurd cc
+gain_makes_some clock what Unused gain = absurd cc
+gain_makes_some clock what Loss gain = absurd cc
+gain_makes_some clock what Gain gain = refl
+gain_makes_some clock what Other gain = absurd cc
+
+pub gain_is_not_idle : (clock : ℕ) (what : What) (kind : Kind) → is_gain (told clock what kind) ≡ true
+    → is_idle (told clock what kind) ≡ false
+gain_is_not_idle clock what Idle gain = absurd cc
+gain_is_not_idle clock what Unused gain = absurd cc
+gain_is_not_idle clock what Loss gain = absurd cc
+gain_is_not_idle clock what Gain gain = refl
+gain_is_not_idle clock what Other gain = absurd cc
+
+module _ (clock : ℕ) (what : What) where
+  idle_down : (o : Option Standing) → is_idle (told clock what (kind_of_link_down o)) ≡ true
+      → (s : Standing) × (o ≡ Some s) × (s.cable.up ≡ false)
+  idle_down None is = absurd cc
+  idle_down (Some s) is = (s, refl, by s.cable.up (s.a_lives && s.b_lives) is)
+    where
+      by : (up live : Bool)
+          → is_idle (told clock what (if not up then Idle else if live then Loss else Unused)) ≡ true → up ≡ false
+      by false live is = refl
+      by true true is = absurd cc
+      by true false is = absurd cc
+
+  never_down : (o : Option Standing) → is_gain (told clock what (kind_of_link_down o)) ≡ true → ⊥
+  never_down None is = absurd cc
+  never_down (Some s) is = by s.cable.up (s.a_lives && s.b_lives) is
+    where
+      by : (up live : Bool)
+          → is_gain (told clock what (if not up then Idle else if live then Loss else Unused)) ≡ true → ⊥
+      by false live is = absurd cc
+      by true true is = absurd cc
+      by true false is = absurd cc
+
+  unused_down : (o : Option Standing) → is_unused (told clock what (kind_of_link_down o)) ≡ true
+      → (s : Standing) × (o ≡ Some s) × ((s.a_lives && s.b_lives) ≡ false)
+  unused_down None is = absurd cc
+  unused_down (Some s) is = (s, refl, by s.cable.up (s.a_lives && s.b_lives) is)
+    where
+      by : (up live : Bool)
+          → is_unused (told clock what (if not up then Idle else if live then Loss else Unused)) ≡ true → live ≡ false
+      by false live is = absurd cc
+      by true true is = absurd cc
+      by true false is = refl
+
+  unused_up : (o : Option Standing) → is_unused (told clock what (kind_of_link_up o)) ≡ true
+      → (s : Standing) × (o ≡ Some s) × ((s.a_lives && s.b_lives) ≡ false)
+  unused_up None is = absurd cc
+  unused_up (Some s) is = (s, refl, by s.cable.up (s.a_lives && s.b_lives) is)
+    where
+      by : (up live : Bool)
+          → is_unused (told clock what (if up then Idle else if live then Gain else Unused)) ≡ true → live ≡ false
+      by true live is = absurd cc
+      by false true is = absurd cc
+      by false false is = refl
+
+  used_failure : (o : Option System) → is_unused (told clock what (kind_of_failure o)) ≡ true → ⊥
+  used_failure None is = absurd cc
+  used_failure (Some x) is = by x.lives is
+    where
+      by : (live : Bool) → is_unused (told clock what (if live then Loss else Idle)) ≡ true → ⊥
+      by true is = absurd cc
+      by false is = absurd cc
+
+  used_recovery : (o : Option System) → is_unused (told clock what (kind_of_recovery o)) ≡ true → ⊥
+  used_recovery None is = absurd cc
+  used_recovery (Some x) is = by x.lives is
+    where
+      by : (live : Bool) → is_unused (told clock what (if live then Idle else Gain)) ≡ true → ⊥
+      by true is = absurd cc
+      by false is = absurd cc
+
+  used_priority1 : (value : ℕ) (o : Option System) → is_unused (told clock what (kind_of_priority1 value o)) ≡ true → ⊥
+  used_priority1 value None is = absurd cc
+  used_priority1 value (Some x) is =
+      by (not x.lives || (identity_with value x == x.identity)) (nat_lt (identity_with value x) x.identity) is
+    where
+      by : (same lower : Bool)
+          → is_unused (told clock what (if same then Idle else if lower then Gain else Loss)) ≡ true → ⊥
+      by true lower is = absurd cc
+      by false true is = absurd cc
+      by false false is = absurd cc
+
+  idle_up : (o : Option Standing) → is_idle (told clock what (kind_of_link_up o)) ≡ true
+      → (s : Standing) × (o ≡ Some s) × (s.cable.up ≡ true)
+  idle_up None is = absurd cc
+  idle_up (Some s) is = (s, refl, by s.cable.up (s.a_lives && s.b_lives) is)
+    where
+      by : (up live : Bool)
+          → is_idle (told clock what (if up then Idle else if live then Gain else Unused)) ≡ true → up ≡ true
+      by true live is = refl
+      by false true is = absurd cc
+      by false false is = absurd cc
+
+  gain_up : (o : Option Standing) → is_gain (told clock what (kind_of_link_up o)) ≡ true
+      → (s : Standing) × (o ≡ Some s) × (s.cable.up ≡ false) × (s.a_lives ≡ true) × (s.b_lives ≡ true)
+  gain_up None is = absurd cc
+  gain_up (Some s) is = let (down, a, b) = by s.cable.up s.a_lives s.b_lives is in (s, refl, down, a, b)
+    where
+      by : (up a b : Bool)
+          → is_gain (told clock what (if up then Idle else if a && b then Gain else Unused)) ≡ true
+          → (up ≡ false) × (a ≡ true) × (b ≡ true)
+      by true a b is = absurd cc
+      by false true true is = (refl, refl, refl)
+      by false true false is = absurd cc
+      by false false b is = absurd cc
+
+  idle_failure : (o : Option System) → is_idle (told clock what (kind_of_failure o)) ≡ true
+      → (x : System) × (o ≡ Some x) × (x.lives ≡ false)
+  idle_failure None is = absurd cc
+  idle_failure (Some x) is = (x, refl, by x.lives is)
+    where
+      by : (live : Bool) → is_idle (told clock what (if live then Loss else Idle)) ≡ true → live ≡ false
+      by true is = absurd cc
+      by false is = refl
+
+  never_failure : (o : Option System) → is_gain (told clock what (kind_of_failure o)) ≡ true → ⊥
+  never_failure None is = absurd cc
+  never_failure (Some x) is = by x.lives is
+    where
+      by : (live : Bool) → is_gain (told clock what (if live then Loss else Idle)) ≡ true → ⊥
+      by true is = absurd cc
+      by false is = absurd cc
+
+  idle_recovery : (o : Option System) → is_idle (told clock what (kind_of_recovery o)) ≡ true
+      → (x : System) × (o ≡ Some x) × (x.lives ≡ true)
+  idle_recovery None is = absurd cc
+  idle_recovery (Some x) is = (x, refl, by x.lives is)
+    where
+      by : (live : Bool) → is_idle (told clock what (if live then Idle else Gain)) ≡ true → live ≡ true
+      by true is = refl
+      by false is = absurd cc
+
+  gain_recovery : (o : Option System) → is_gain (told clock what (kind_of_recovery o)) ≡ true
+      → (x : System) × (o ≡ Some x) × (x.lives ≡ false)
+  gain_recovery None is = absurd cc
+  gain_recovery (Some x) is = (x, refl, by x.lives is)
+    where
+      by : (live : Bool) → is_gain (told clock what (if live then Idle else Gain)) ≡ true → live ≡ false
+      by true is = absurd cc
+      by false is = refl
+
+  idle_priority1 : (value : ℕ) (o : Option System) → is_idle (told clock what (kind_of_priority1 value o)) ≡ true
+      → (x : System) × (o ≡ Some x) × ((x.lives ≡ false) ⊎ (identity_with value x ≡ x.identity))
+  idle_priority1 value None is = absurd cc
+  idle_priority1 value (Some x) is =
+      (x, refl, by x.lives (identity_with value x == x.identity) (nat_lt (identity_with value x) x.identity) refl is)
+    where
+      by : (live same lower : Bool) → (identity_with value x == x.identity) ≡ same
+          → is_idle (told clock what (if not live || same then Idle else if lower then Gain else Loss)) ≡ true
+          → (live ≡ false) ⊎ (identity_with value x ≡ x.identity)
+      by false same lower e is = inl refl
+      by true true lower e is = inr (eqb-true (identity_with value x) x.identity e)
+      by true false true e is = absurd cc
+      by true false false e is = absurd cc
+
+  gain_priority1 : (value : ℕ) (o : Option System) → is_gain (told clock what (kind_of_priority1 value o)) ≡ true
+      → (x : System) × (o ≡ Some x) × (x.lives ≡ true) × (identity_with value x ≤ x.identity)
+  gain_priority1 value None is = absurd cc
+  gain_priority1 value (Some x) is =
+      let (live, lower) =
+      by x.lives (identity_with value x == x.identity) (nat_lt (identity_with value x) x.identity) refl is in
+      (x, refl, live, lower)
+    where
+      by : (live same lower : Bool) → nat_lt (identity_with value x) x.identity ≡ lower
+          → is_gain (told clock what (if not live || same then Idle else if lower then Gain else Loss)) ≡ true
+          → (live ≡ true) × (identity_with value x ≤ x.identity)
+      by false same lower e is = absurd cc
+      by true true lower e is = absurd cc
+      by true false true e is = (refl, grind (arith, nat_tests))
+      by true false false e is = absurd cc
+
+-- ---- events
+
+module _ (n : NetworkState) (network : IsNetwork n) (made : List Timed) where
+  -- a link that is down comes up between two systems that live
+  pub record RaisesLink (clock port : ℕ) : Type 0 where
+    pub link : LinkSpec
+    pub place : ℕ
+    pub there : slice_get n.links place ≡ Some link
+    pub at : is_at clock port (link_after made link) ≡ true
+    pub only : (i : ℕ) (v : LinkSpec) → slice_get n.links i ≡ Some v → IsEnd (port_id clock port) v → v ≡ link
+    pub down : (link_after made link).up ≡ false
+    pub a : lives n.systems made link.a.clock ≡ true
+    pub b : lives n.systems made link.b.clock ≡ true
+
+  -- what is gained
+  abbrev pub Gains : Act → Type 0
+  Gains (acts.Change (changes.LinkUp clock port)) = RaisesLink clock port
+  Gains (acts.Change (changes.Recover number)) = IsLive n.systems made number → ⊥
+  Gains (acts.Change (changes.Priority1 number value)) = IsNoWorse n made number value
+  Gains act = ⊥
+
+  -- an end has failed of the link that turns
+  abbrev pub TurnsBroken : Act → Type 0
+  TurnsBroken (acts.Change (changes.LinkDown clock port)) = EndHasFailed n made (port_id clock port)
+  TurnsBroken (acts.Change (changes.LinkUp clock port)) = EndHasFailed n made (port_id clock port)
+  TurnsBroken act = ⊥
+
+  abbrev link_at : Act → Option Standing
+  link_at act = find (is_standing_named act) (standings_after n made)
+
+  abbrev system_at : ℕ → Option System
+  system_at number = find (has_clock number) (systems_after n made)
+
+  abbrev failing : ℕ → Act
+  failing number = acts.Change (changes.Fail number)
+
+  abbrev recovering : ℕ → Act
+  recovering number = acts.Change (changes.Recover number)
+
+  abbrev setting : ℕ → ℕ → Act
+  setting number value = acts.Change (changes.Priority1 number value)
+
+  -- whether the system lives that is found
+  not_live : (number : ℕ) (x : System) → SystemNamed n network made number x → x.lives ≡ false
+      → IsLive n.systems made number → ⊥
+  not_live number x one failed live =
+      let same = one.only live.place live.system live.there live.clock in
+      let no : true ≡ false =
+      sym live.live ∙ ap (λ (m : SystemSpec). (system_after made m).live) same
+      ∙ ap (λ (o : System). o.lives) one.is ∙ failed in
+      cc
+
+  pub idle_changes : (act : Act) → is_idle (told_at n made act) ≡ true → ChangesNothing n made act
+  idle_changes (acts.Deliver link direction) is = absurd cc
+  idle_changes (acts.Expire clock timer) is = absurd cc
+  idle_changes (acts.Change (changes.LinkDown clock port)) is =
+      let act = acts.Change (changes.LinkDown clock port) in
+      let (s, found_is, down) = idle_down clock (what_of act) (link_at act) is in
+      let one = named_link n network made clock port act (λ x passed. passed) s found_is in
+      λ place v there end.
+      ap (λ (w : LinkSpec). (link_after made w).up)
+      (one.only place v there (end_first made (port_id clock port) v end))
+      ∙ ap (λ (x : Standing). x.cable.up) one.is ∙ down
+  idle_changes (acts.Change (changes.LinkUp clock port)) is =
+      let act = acts.Change (changes.LinkUp clock port) in
+      let (s, found_is, up) = idle_up clock (what_of act) (link_at act) is in
+      let one = named_link n network made clock port act (λ x passed. passed) s found_is in
+      λ place v there end.
+      ap (λ (w : LinkSpec). (link_after made w).up)
+      (one.only place v there (end_first made (port_id clock port) v end))
+      ∙ ap (λ (x : Standing). x.cable.up) one.is ∙ up
+  idle_changes (acts.Change (changes.LinkSet clock port least greatest loss)) is = absurd cc
+  idle_changes (acts.Change (changes.Fail number)) is =
+      let (x, found_is, failed) = idle_failure number (what_of (failing number)) (system_at number) is in
+      not_live number x (named_system n network made number x found_is) failed
+  idle_changes (acts.Change (changes.Recover number)) is =
+      let (x, found_is, live) = idle_recovery number (what_of (recovering number)) (system_at number) is in
+      let one = named_system n network made number x found_is in
+      record {
+        place = one.place;
+        system = one.system;
+        there = one.there;
+        clock = one.clock;
+        live = ap (λ (o : System). o.lives) one.is ∙ live;
+      }
+  idle_changes (acts.Change (changes.Priority1 number value)) is =
+      let (x, found_is, idle) = idle_priority1 number (what_of (setting number value)) value (system_at number) is in
+      let one = named_system n network made number x found_is in
+      λ place m there named.
+      let same = one.only place m there named in
+      subst (λ (w : SystemSpec). ((system_after made w).live ≡ false)
+      ⊎ (value * 2 ^ 104 + (system_after made w).identity % 2 ^ 104 ≡ (system_after made w).identity)) (sym same)
+      (subst (λ (o : System). (o.lives ≡ false) ⊎ (identity_with value o ≡ o.identity)) (sym one.is) idle)
+  idle_changes (acts.Change (changes.Inject clock port octets)) is = absurd cc
+
+  pub gain_gains : (act : Act) → is_gain (told_at n made act) ≡ true → Gains act
+  gain_gains (acts.Deliver link direction) is = absurd cc
+  gain_gains (acts.Expire clock timer) is = absurd cc
+  gain_gains (acts.Change (changes.LinkDown clock port)) is =
+      let act = acts.Change (changes.LinkDown clock port) in absurd (never_down clock (what_of act) (link_at act) is)
+  gain_gains (acts.Change (changes.LinkUp clock port)) is =
+      let act = acts.Change (changes.LinkUp clock port) in
+      let (s, found_is, down, a, b) = gain_up clock (what_of act) (link_at act) is in
+      let one = named_link n network made clock port act (λ x passed. passed) s found_is in
+      record {
+        link = one.link;
+        place = one.place;
+        there = one.there;
+        at = one.at;
+        only = one.only;
+        down = ap (λ (x : Standing). x.cable.up) one.is ∙ down;
+        a = ap (λ (x : Standing). x.a_lives) one.is ∙ a;
+        b = ap (λ (x : Standing). x.b_lives) one.is ∙ b;
+      }
+  gain_gains (acts.Change (changes.LinkSet clock port least greatest loss)) is = absurd cc
+  gain_gains (acts.Change (changes.Fail number)) is =
+      absurd (never_failure number (what_of (failing number)) (system_at number) is)
+  gain_gains (acts.Change (changes.Recover number)) is =
+      let (x, found_is, failed) = gain_recovery number (what_of (recovering number)) (system_at number) is in
+      not_live number x (named_system n network made number x found_is) failed
+  gain_gains (acts.Change (changes.Priority1 number value)) is =
+      let (x, found_is, live, lower) =
+      gain_priority1 number (what_of (setting number value)) value (system_at number) is in
+      let one = named_system n network made number x found_is in
+      λ place m there named.
+      let same = one.only place m there named in
+      subst (λ (w : SystemSpec). ((system_after made w).live ≡ true)
+      × (value * 2 ^ 104 + (system_after made w).identity % 2 ^ 104 ≤ (system_after made w).identity)) (sym same)
+      (subst (λ (o : System). (o.lives ≡ true) × (identity_with value o ≤ o.identity)) (sym one.is) (live, lower))
+  gain_gains (acts.Change (changes.Inject clock port octets)) is = absurd cc
+
+  either_failed : (a b : Bool) → (a && b) ≡ false → (a ≡ false) ⊎ (b ≡ false)
+  either_failed false b is = inl refl
+  either_failed true false is = inr refl
+  either_failed true true is = absurd cc
+
+  not_alive : (clock own : ℕ) → clock ≡ own → lives n.systems made own ≡ false → IsLive n.systems made clock → ⊥
+  not_alive clock own same failed live =
+      let no : true ≡ false = sym (lives_from n made own (subst (IsLive n.systems made) same live)) ∙ failed in cc
+
+  end_failed : (clock port : ℕ) (s : Standing) → LinkNamed n network made clock port s
+      → (s.a_lives && s.b_lives) ≡ false → EndHasFailed n made (port_id clock port)
+  end_failed clock port s one failed place v there end =
+      let same = one.only place v there (end_first made (port_id clock port) v end) in
+      let ends = after_keeps made one.link in
+      subst (λ (w : LinkSpec). (IsLive n.systems made (link_after made w).a.clock → ⊥)
+      ⊎ (IsLive n.systems made (link_after made w).b.clock → ⊥)) (sym same)
+      (elim (either_failed s.a_lives s.b_lives failed) [
+        | inl a ↦ inl (not_alive (link_after made one.link).a.clock one.link.a.clock
+        (ap (λ (p : PortId). p.clock) ends.a) (ap (λ (x : Standing). x.a_lives) one.is ∙ a))
+        | inr b ↦ inr (not_alive (link_after made one.link).b.clock one.link.b.clock
+        (ap (λ (p : PortId). p.clock) ends.b) (ap (λ (x : Standing). x.b_lives) one.is ∙ b))
+      ])
+
+  pub unused_turns : (act : Act) → is_unused (told_at n made act) ≡ true → TurnsBroken act
+  unused_turns (acts.Deliver link direction) is = absurd cc
+  unused_turns (acts.Expire clock timer) is = absurd cc
+  unused_turns (acts.Change (changes.LinkDown clock port)) is =
+      let act = acts.Change (changes.LinkDown clock port) in
+      let (s, found_is, failed) = unused_down clock (what_of act) (link_at act) is in
+      end_failed clock port s (named_link n network made clock port act (λ x passed. passed) s found_is) failed
+  unused_turns (acts.Change (changes.LinkUp clock port)) is =
+      let act = acts.Change (changes.LinkUp clock port) in
+      let (s, found_is, failed) = unused_up clock (what_of act) (link_at act) is in
+      end_failed clock port s (named_link n network made clock port act (λ x passed. passed) s found_is) failed
+  unused_turns (acts.Change (changes.LinkSet clock port least greatest loss)) is = absurd cc
+  unused_turns (acts.Change (changes.Fail number)) is =
+      absurd (used_failure number (what_of (failing number)) (system_at number) is)
+  unused_turns (acts.Change (changes.Recover number)) is =
+      absurd (used_recovery number (what_of (recovering number)) (system_at number) is)
+  unused_turns (acts.Change (changes.Priority1 number value)) is =
+      absurd (used_priority1 number (what_of (setting number value)) value (system_at number) is)
+  unused_turns (acts.Change (changes.Inject clock port octets)) is = absurd cc

@@ -1,0 +1,11 @@
+mod TimesLemmas
+mod CalmLemmas
+mod NamedLemmas
+mod KindLemmas
+mod MoreLemmas
+mod GainedLemmas
+mod RowLemmas
+pub mod ChoiceLemmas
+pub mod StepLemmas
+mod SettledLemmas
+mod ExactLemmas

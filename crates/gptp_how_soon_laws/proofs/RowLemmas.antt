@@ -1,0 +1,430 @@
+-- What is told of a time, by its row, is so by its events.
+use Rattle.std.proofs.Common.{◌≡◌, ◌<◌, ◌≤◌, ◌⊎◌, inl, inr, ◌+◌, ◌*◌, ℕ, Bool, true, false, cond, List, [], ◌∷◌, ◌++◌, Option, Some, None, length, filter, refl, sym, ap, ap₂, subst, ◌∙◌, arith}
+use Rattle.std.specs.Prelude.{◌==◌, ◌&&◌, ◌||◌, not, nat_le, nat_lt, max, if◌then◌else◌}
+use Rattle.std.specs.List.{AllByRecursion, list_all, list_any}
+use Rattle.std.proofs.lemmas.Bool.{and_parts, eqb-false, eqb-true, not-true, or_cases, or_from, or_parts}
+use Rattle.std.proofs.lemmas.Bool.Decides.{nat_tests}
+use Rattle.gptp_lists.proofs.MappedLemmas.{some_same}
+use Rattle.gptp_lists.proofs.SystemSpecLemmas.{In-map, In-slice_get}
+use Rattle.gptp_setup.specs.SettlingParams.{largest_interval}
+use Rattle.gptp_vector.specs.declared.port.PortId.{PortId}
+use Rattle.gptp_scenario.specs.Calm.{IsLive, NothingLapses}
+use Rattle.gptp_scenario.specs.Change.{link_after}
+use Rattle.gptp_scenario.specs.InUse.{lives}
+use Rattle.gptp_scenario.proofs.AfterLemmas.{after_keeps}
+use Rattle.gptp_scenario.specs.Network.{IsNetwork, NetworkState, pace_of}
+use Rattle.gptp_scenario.specs.SettlingAtOnce.{settling_span_at_once}
+use Rattle.gptp_scenario.specs.SettlingTime.{capability_span, settling_span_with}
+use Rattle.gptp_scenario.specs.SyncWait.{sync_paths}
+use Rattle.gptp_scenario.specs.declared.change.Act.{Act}
+use Rattle.gptp_scenario.specs.declared.change.Act.TheVariants as acts
+use Rattle.gptp_scenario.specs.declared.change.Change.TheVariants as changes
+use Rattle.gptp_scenario.specs.declared.change.Timed.{Timed}
+use Rattle.gptp_network.specs.Snapshot.{events_by}
+use Rattle.gptp_network.proofs.PassLemmas.{kept}
+use Rattle.gptp_topology.specs.Course.{cable_of}
+use Rattle.gptp_topology.specs.declared.course.Cable.{Cable}
+use Rattle.gptp_how_soon.specs.Bounds.{asked_again, choice_by, choice_of_row, is_again, is_hard_to_hear, ready, settled, two_exchanges}
+use Rattle.gptp_how_soon.specs.Kinds.{are_heard, fails_and_recovers, is_better, is_gain, is_idle, is_loss, is_other, is_recover, is_recovery, is_recovery_of, is_unused, lowers_unused, makes_nothing, raises_unused, recovers, sets_link, tells_nothing}
+use Rattle.gptp_how_soon.specs.Links.{is_new, is_unanswered, new_links, standing_then, standings_after, varies}
+use Rattle.gptp_how_soon.specs.Rest.{are_events_followed, are_recoveries_followed, are_turns_followed, have_shown, heard_at_once, is_from_rest, rested, rested_by}
+use Rattle.gptp_how_soon.specs.Times.{View, events_at, gained_at, is_calm, ready_at, row_at, settling_time, told_at, told_of, view_at}
+use Rattle.gptp_how_soon.specs.declared.bounds.Row.{Row}
+use Rattle.gptp_how_soon.specs.declared.bounds.Row.TheVariants.{AnyPast, Unchanged, Gained}
+use Rattle.gptp_how_soon.specs.declared.bounds.Settling.{Settling}
+use Rattle.gptp_how_soon.specs.declared.bounds.SettlingTime.{SettlingTime}
+use Rattle.gptp_how_soon.specs.declared.kinds.Kind.{Kind}
+use Rattle.gptp_how_soon.specs.declared.kinds.Told.{Told}
+use Rattle.gptp_how_soon.specs.declared.kinds.What.{What}
+use Rattle.gptp_how_soon.specs.declared.kinds.What.TheVariants as whats
+use Rattle.gptp_settling_time.specs.HowSoon.{AreStartEvents, BoundsChoice, BoundsGains, BoundsStart, EachEvent, IsIdleEvent, StartsQuietly, way_span}
+use Rattle.gptp_settling_time.specs.InTurn.{NoneUnanswered, TellsNothing, UsedVaryLittle}
+use Rattle.gptp_settling_time.proofs.CutLemmas.{IsBy, all_by}
+use Rattle.gptp_settling_time.proofs.MomentLemmas.{all_at}
+use Rattle.gptp_how_soon_laws.proofs.CalmLemmas.{calm_so, lives_from, lives_to, used_cable}
+use Rattle.gptp_how_soon_laws.proofs.GainedLemmas.{AreFollowed, AreTurnsFollowed, all_gained, all_heard, all_idle, none_any}
+use Rattle.gptp_how_soon_laws.proofs.KindLemmas.{told}
+
+-- ---- what is told
+
+-- by its row the choice of a calm network is bounded
+pub bounds_choice : (n : NetworkState) (Sharp : ℕ → Type 0) (events : List Timed) (row : Row) (gained : ℕ)
+    → is_calm n events ≡ true → (row ≡ Unchanged → Sharp 0) → (row ≡ Gained → NothingLapses n.params → Sharp gained)
+    → BoundsChoice n (Sharp (choice_by n (sync_paths n events) row gained)) events
+    (choice_by n (sync_paths n events) row gained)
+bounds_choice n Sharp events row gained calm unchanged is_gained =
+    (calm_so n events calm, by (n.params.sync_timeout == 0) refl)
+  where
+    span : ℕ
+    span = settling_span_with (pace_of n) (sync_paths n events) (sync_paths n events).systems
+
+    by_row : NothingLapses n.params → (r : Row) → row ≡ r
+        → (choice_of_row n (sync_paths n events) r gained ≡ settling_span_at_once (pace_of n) (sync_paths n events))
+        ⊎ Sharp (choice_of_row n (sync_paths n events) r gained)
+    by_row off AnyPast is = inl refl
+    by_row off Unchanged is = inr (unchanged is)
+    by_row off Gained is = inr (is_gained is off)
+
+    by : (off : Bool) → (n.params.sync_timeout == 0) ≡ off
+        → ((NothingLapses n.params → ⊥)
+        × (cond (not off) span (choice_of_row n (sync_paths n events) row gained) ≡ span))
+        ⊎ (NothingLapses n.params
+        × ((cond (not off) span (choice_of_row n (sync_paths n events) row gained)
+        ≡ settling_span_at_once (pace_of n) (sync_paths n events))
+        ⊎ Sharp (cond (not off) span (choice_of_row n (sync_paths n events) row gained))))
+    by true is = let off = eqb-true n.params.sync_timeout 0 is in inr (off, by_row off row refl)
+    by false is = inl (eqb-false n.params.sync_timeout 0 is, refl)
+
+-- what is told of a calm network
+pub record IsTelling (n : NetworkState) (v : View) (s : Settling) : Type 0 where
+  pub calm : v.calm ≡ true
+  pub choice : s.choice ≡ choice_by n v.paths (row_at n v) (gained_at n v)
+  pub roles : s.roles ≡ s.choice
+  pub rest : s.choice ≤ s.rest
+  pub exact : max (v.at + s.choice) (v.last_set + largest_interval (pace_of n))
+      + v.paths.systems * (n.params.threshold + n.params.residence)
+      ≤ s.exact_from
+
+pub tells : (n : NetworkState) (v : View) (s : Settling) → (settling_time n v).settling ≡ Some s → IsTelling n v s
+tells n v s is = by v.calm refl is
+  where
+    it : Settling
+    it = settled n v.at v.last_set v.paths (sets_link v.told) (choice_by n v.paths (row_at n v) (gained_at n v))
+
+    by : (calm : Bool) → v.calm ≡ calm → (if calm then Some it else None) ≡ Some s → IsTelling n v s
+    by true calm told =
+        let same : it ≡ s = some_same it s told in
+        record {
+          calm = calm;
+          choice = ap (λ (x : Settling). x.choice) (sym same);
+          roles = subst (λ (x : Settling). x.roles ≡ x.choice) same refl;
+          rest = subst (λ (x : Settling). x.choice ≤ x.rest) same (omega arith);
+          exact = subst (λ (x : Settling). max (v.at + x.choice) (v.last_set + largest_interval (pace_of n))
+              + v.paths.systems * (n.params.threshold + n.params.residence)
+              ≤ x.exact_from) same (omega arith);
+        }
+    by false calm told = absurd cc
+
+-- ---- rows
+
+unchanged_from : (rest idle loss : Bool)
+    → (if not rest then AnyPast else if idle then Unchanged else if loss then AnyPast else Gained) ≡ Unchanged
+    → (rest ≡ true) × (idle ≡ true)
+unchanged_from false idle loss is = absurd cc
+unchanged_from true true loss is = (refl, refl)
+unchanged_from true false true is = absurd cc
+unchanged_from true false false is = absurd cc
+
+gained_from : (rest idle loss : Bool)
+    → (if not rest then AnyPast else if idle then Unchanged else if loss then AnyPast else Gained) ≡ Gained
+    → (rest ≡ true) × (loss ≡ false) × (idle ≡ false)
+gained_from false idle loss is = absurd cc
+gained_from true true loss is = absurd cc
+gained_from true false true is = absurd cc
+gained_from true false false is = (refl, refl, refl)
+
+begun_from : (rest : Bool) → (if not rest then AnyPast else Gained) ≡ Gained → rest ≡ true
+begun_from false is = absurd cc
+begun_from true is = refl
+
+never_begun : (rest : Bool) → (if not rest then AnyPast else Gained) ≡ Unchanged → ⊥
+never_begun false is = absurd cc
+never_begun true is = absurd cc
+
+-- ---- at the start
+
+-- nothing is told after such an event
+tells_so : (n : NetworkState) (made : List Timed) (act : Act) → tells_nothing (told_at n made act) ≡ true
+    → TellsNothing act
+tells_so n made (acts.Deliver link direction) is = absurd cc
+tells_so n made (acts.Expire clock timer) is = absurd cc
+tells_so n made (acts.Change (changes.LinkDown clock port)) is = tt
+tells_so n made (acts.Change (changes.LinkUp clock port)) is = tt
+tells_so n made (acts.Change (changes.LinkSet clock port least greatest loss)) is = absurd cc
+tells_so n made (acts.Change (changes.Fail number)) is = tt
+tells_so n made (acts.Change (changes.Recover number)) is = absurd cc
+tells_so n made (acts.Change (changes.Priority1 number value)) is = tt
+tells_so n made (acts.Change (changes.Inject clock port octets)) is = absurd cc
+
+all_tell_so : (n : NetworkState) (made events : List Timed) → list_all tells_nothing (told_of n made events) ≡ true
+    → AreStartEvents events
+all_tell_so n made [] quiet = tt
+all_tell_so n made (event ∷ events) quiet =
+    let (one, rest) =
+    and_parts (tells_nothing (told_at n made event.act))
+    (list_all tells_nothing (told_of n (made ++ event ∷ []) events)) quiet in
+    (tells_so n made event.act one, all_tell_so n (made ++ event ∷ []) events rest)
+
+-- nobody waits for a failed system
+both_live : (up a b : Bool) → (up && (a || b) && not (a && b)) ≡ false → up ≡ true
+    → (a ≡ true → b ≡ true) × (b ≡ true → a ≡ true)
+both_live false a b is on = absurd cc
+both_live true true true is on = (λ live. live, λ live. live)
+both_live true true false is on = absurd cc
+both_live true false true is on = absurd cc
+both_live true false false is on = (λ live. live, λ live. live)
+
+answered : (n : NetworkState) (now : List Timed) → list_any is_unanswered (standings_after n now) ≡ false
+    → NoneUnanswered n now
+answered n now none place v there up =
+    let one =
+    none_any is_unanswered (standings_after n now) (standing_then n now v) none
+    (In-map (standing_then n now) v n.links (In-slice_get v n.links place there)) in
+    let (a_to_b, b_to_a) =
+    both_live (link_after now v).up (lives n.systems now v.a.clock) (lives n.systems now v.b.clock) one up in
+    let ends = after_keeps now v in (
+      λ live. subst (λ (p : PortId). IsLive n.systems now p.clock) (sym ends.b)
+      (lives_to n now v.b.clock
+      (a_to_b (lives_from n now v.a.clock (subst (λ (p : PortId). IsLive n.systems now p.clock) ends.a live)))),
+      λ live. subst (λ (p : PortId). IsLive n.systems now p.clock) (sym ends.a)
+      (lives_to n now v.a.clock
+      (b_to_a (lives_from n now v.b.clock (subst (λ (p : PortId). IsLive n.systems now p.clock) ends.b live)))),
+    )
+
+starts_quietly : (n : NetworkState) (now : List Timed) → AreStartEvents now → NoneUnanswered n now → StartsQuietly n now
+starts_quietly n [] quiet none = tt
+starts_quietly n (event ∷ events) quiet none = (quiet, none)
+
+-- nobody recovers
+no_recovery : (clock : ℕ) (what : What) (kind : Kind) → tells_nothing (told clock what kind) ≡ true
+    → is_recover (told clock what kind) ≡ false
+no_recovery clock whats.LinkDown kind is = refl
+no_recovery clock whats.LinkUp kind is = refl
+no_recovery clock whats.LinkSet kind is = refl
+no_recovery clock whats.Fail kind is = refl
+no_recovery clock whats.Recover kind is = absurd cc
+no_recovery clock whats.Priority1 kind is = refl
+no_recovery clock whats.Inject kind is = refl
+no_recovery clock whats.NoChange kind is = refl
+
+and_none : (a b : Bool) → b ≡ false → (a && b) ≡ false
+and_none true b none = none
+and_none false b none = refl
+
+never_recovers : (clock : ℕ) (es : List Told) → list_all tells_nothing es ≡ true → recovers es clock ≡ false
+never_recovers clock [] quiet = refl
+never_recovers clock (e ∷ es) quiet =
+    let (one, rest) = and_parts (tells_nothing e) (list_all tells_nothing es) quiet in
+    or_from (is_recovery_of clock e) (recovers es clock)
+    (and_none (e.clock == clock) (is_recovery e)
+    (ap (λ test. test && not (is_idle e)) (no_recovery e.clock e.what e.kind one)))
+    (never_recovers clock es rest)
+
+never_again : (es : List Told) → list_all tells_nothing es ≡ true → (cs : List Cable)
+    → list_any (is_again es) cs ≡ false
+never_again es quiet [] = refl
+never_again es quiet (c ∷ cs) =
+    or_from (is_again es c) (list_any (is_again es) cs)
+    (or_from (recovers es c.a.clock) (recovers es c.b.clock) (never_recovers c.a.clock es quiet)
+    (never_recovers c.b.clock es quiet))
+    (never_again es quiet cs)
+
+vary_little : (n : NetworkState) (now : List Timed) (es : List Told)
+    → list_any (is_hard_to_hear es) (new_links n [] now true) ≡ false → UsedVaryLittle n now
+vary_little n now es soft place v there used =
+    let c = cable_of (link_after now v) in
+    let on = used_cable n now v used in
+    let new : In c (new_links n [] now true) =
+    In-map (λ (w : LinkSpec). cable_of (link_after now w)) v (filter (is_new n [] now true) n.links)
+    (kept (is_new n [] now true) v n.links (In-slice_get v n.links place there) (ap (λ test. test && true) on)) in
+    let one = none_any (is_hard_to_hear es) (new_links n [] now true) c soft new in
+    let steady : varies c ≡ false = (or_parts (is_again es c) (varies c) one).1 in
+    grind (arith, nat_tests)
+
+-- nothing is told, and a link is in use
+starts : (n : NetworkState) (now : List Timed) → list_all tells_nothing (told_of n [] now) ≡ true
+    → list_any is_unanswered (standings_after n now) ≡ false → not (length (new_links n [] now true) == 0) ≡ true
+    → BoundsStart n now (gained_at n (view_at n [] now None 0))
+starts n now quiet none some = (
+  starts_quietly n now (all_tell_so n [] now quiet) (answered n now none),
+  by (list_any (is_hard_to_hear (told_of n [] now)) (new_links n [] now true)) refl two,
+)
+  where
+    start : ℕ
+    start = ready n.params (sync_paths n now) (told_of n [] now) (new_links n [] now true)
+
+    exchanges : ℕ
+    exchanges = two_exchanges n.params (sync_paths n now)
+
+    two : start ≡ two_exchanges n.params (sync_paths n now)
+    two =
+        ap₂ (λ none again. cond none 0
+        (cond again (asked_again n.params (sync_paths n now)) (two_exchanges n.params (sync_paths n now))))
+        (not-true (length (new_links n [] now true) == 0) some)
+        (never_again (told_of n [] now) quiet (new_links n [] now true))
+
+    by : (hard : Bool) → list_any (is_hard_to_hear (told_of n [] now)) (new_links n [] now true) ≡ hard
+        → start ≡ two_exchanges n.params (sync_paths n now)
+        → (UsedVaryLittle n now
+        × (start + cond (true && not hard) 0 (largest_interval (pace_of n)) + way_span (sync_paths n now)
+        ≡ exchanges + way_span (sync_paths n now)))
+        ⊎ (start + cond (true && not hard) 0 (largest_interval (pace_of n)) + way_span (sync_paths n now)
+        ≡ exchanges + largest_interval (pace_of n) + way_span (sync_paths n now))
+    by true is same = inr (omega (arith, same))
+    by false is same = inl (vary_little n now (told_of n [] now) is, omega (arith, same))
+
+-- time 0 with its row
+pub started : (n : NetworkState) (now : List Timed) → row_at n (view_at n [] now None 0) ≡ Gained
+    → BoundsStart n now (gained_at n (view_at n [] now None 0))
+started n now row =
+    let v = view_at n [] now None 0 in
+    let from = begun_from (is_from_rest n v.at v.paths_before v.standings v.told v.new (ready_at n v) v.before) row in
+    let (two, some) =
+    and_parts (list_all tells_nothing v.told && not (list_any is_unanswered v.standings)) (not (length v.new == 0)) from
+    in
+    let (quiet, none) =
+    and_parts (list_all tells_nothing v.told) (not (list_any is_unanswered v.standings)) two in
+    starts n now quiet (not-true (list_any is_unanswered v.standings) none) some
+
+pub never_unchanged : (n : NetworkState) (now : List Timed) → row_at n (view_at n [] now None 0) ≡ Unchanged → ⊥
+never_unchanged n now row =
+    let v = view_at n [] now None 0 in
+    never_begun (is_from_rest n v.at v.paths_before v.standings v.told v.new (ready_at n v) v.before) row
+
+-- ---- later
+
+-- what was at the time before has come to rest
+pub record HasComeToRest (b : SettlingTime) (at : ℕ) : Type 0 where
+  pub settling : Settling
+  pub is : b.settling ≡ Some settling
+  pub passed : b.at + settling.rest < at
+
+rested_so : (b : SettlingTime) (at : ℕ) (o : Option Settling) → b.settling ≡ o → rested_by b at o ≡ true
+    → HasComeToRest b at
+rested_so b at None is rested = absurd cc
+rested_so b at (Some s) is rested = record { settling = s; is = is; passed = grind (arith, nat_tests) }
+
+at_most : (a b : ℕ) → nat_le a b ≡ true → a ≤ b
+at_most a b is = grind (arith, nat_tests)
+
+not_both : (a b : Bool) → (a && b) ≡ false → a ≡ true → b ≡ false
+not_both true b none is = none
+not_both false b none is = absurd cc
+
+over_before : (last most time : ℕ) (events : List Timed) → last + most < time → AllByRecursion (IsBy last) events
+    → AllByRecursion (λ (t : Timed). t.at + most < time) events
+over_before last most time [] late by = tt
+over_before last most time (event ∷ events) late by =
+    let one = by.0 in (omega (arith, one, late), over_before last most time events late by.1)
+
+module _ (n : NetworkState) (network : IsNetwork n) (events : List Timed) (b : SettlingTime) (at : ℕ)
+    (late : b.at < at) where
+  abbrev made : List Timed
+  made = events_by b.at events
+
+  abbrev now : List Timed
+  now = events_at at events
+
+  abbrev v : View
+  v = view_at n made now (Some b) at
+
+  -- it is from rest
+  record IsFromRest : Type 0 where
+    pub rested : HasComeToRest b at
+    pub others : list_any is_other v.told ≡ false
+    pub turns : AreTurnsFollowed n network at made now
+    pub followed : list_any is_recovery v.told ≡ true
+        → are_recoveries_followed n b.at at v.told v.new (ready_at n v) ≡ true
+
+  turns_so : are_turns_followed n at v.paths_before v.told ≡ true → AreTurnsFollowed n network at made now
+  turns_so is =
+      let (rise, fall) =
+      and_parts (not (list_any raises_unused v.told) || have_shown n v.paths_before at)
+      (not (list_any lowers_unused v.told && list_any is_gain v.told)) is in
+      record {
+        raised = λ some. elim (or_cases (not (list_any raises_unused v.told)) (have_shown n v.paths_before at) rise) [
+          | inl none ↦
+              let no : true ≡ false = sym some ∙ not-true (list_any raises_unused v.told) none in absurd cc
+          | inr shown ↦ at_most (capability_span (pace_of n) + way_span (sync_paths n made)) at shown
+        ];
+        lowered = not_both (list_any lowers_unused v.told) (list_any is_gain v.told)
+            (not-true (list_any lowers_unused v.told && list_any is_gain v.told) fall);
+      }
+
+  from_rest : is_from_rest n at v.paths_before v.standings v.told v.new (ready_at n v) (Some b) ≡ true → IsFromRest
+  from_rest is =
+      let (three, third) =
+      and_parts (rested b at && are_events_followed v.told && are_turns_followed n at v.paths_before v.told)
+      (not (list_any is_recovery v.told) || are_recoveries_followed n b.at at v.told v.new (ready_at n v)) is in
+      let (two, turns_are) =
+      and_parts (rested b at && are_events_followed v.told) (are_turns_followed n at v.paths_before v.told) three in
+      let (rest, events_are) = and_parts (rested b at) (are_events_followed v.told) two in
+      let (known, apart) =
+      and_parts (not (list_any is_other v.told)) (not (fails_and_recovers v.told)) events_are in
+      record {
+        rested = rested_so b at b.settling refl rest;
+        others = not-true (list_any is_other v.told) known;
+        turns = turns_so turns_are;
+        followed = λ recovers. elim (or_cases (not (list_any is_recovery v.told))
+            (are_recoveries_followed n b.at at v.told v.new (ready_at n v)) third) [
+              | inl none ↦
+                  let no : true ≡ false = sym recovers ∙ not-true (list_any is_recovery v.told) none in absurd cc
+              | inr are ↦ are
+            ];
+      }
+
+  recoveries : are_recoveries_followed n b.at at v.told v.new (ready_at n v) ≡ true → AreFollowed n network at made now
+  recoveries is =
+      let past_test : Bool = nat_lt (b.at + largest_interval (pace_of n)) at in
+      let capable_test : Bool = nat_le (capability_span (pace_of n)) (at + ready_at n v) in
+      let again_test : Bool = list_any (is_again v.told) v.new in
+      let (three, turns) =
+      and_parts (past_test && capable_test && again_test) (not (list_any is_unused v.told)) is in
+      let (two, again) = and_parts (past_test && capable_test) again_test three in
+      let (past, capable) = and_parts past_test capable_test two in
+      let over : b.at + largest_interval (pace_of n) < at = grind (arith, nat_tests) in
+      let late_enough : capability_span (pace_of n) ≤ at + ready_at n v = grind (arith, nat_tests) in
+      record {
+        past = over_before b.at (largest_interval (pace_of n)) at made over (all_by b.at events);
+        capable = late_enough;
+        again = again;
+        turns = not-true (list_any is_unused v.told) turns;
+      }
+
+  pub unchanged : row_at n v ≡ Unchanged → HasComeToRest b at × EachEvent (IsIdleEvent n) made now
+  unchanged row =
+      let (from, idle) =
+      unchanged_from (is_from_rest n at v.paths_before v.standings v.told v.new (ready_at n v) (Some b)) (list_all makes_nothing v.told)
+      (list_any is_loss v.told) row in
+      let facts = from_rest from in (facts.rested, all_idle n network at made now facts.turns (all_at at events) idle)
+
+  pub gained : row_at n v ≡ Gained → NothingLapses n.params → HasComeToRest b at × BoundsGains n made now at (ready_at n v) (gained_at n v)
+  gained row off =
+      let (from, none, some) =
+      gained_from (is_from_rest n at v.paths_before v.standings v.told v.new (ready_at n v) (Some b)) (list_all makes_nothing v.told)
+      (list_any is_loss v.told) row in
+      let facts = from_rest from in
+      (facts.rested, by facts none some (heard_at_once false v.paths_before v.told)
+      (list_any (is_hard_to_hear v.told) v.new) refl refl)
+    where
+      followed : IsFromRest → list_any is_recovery v.told ≡ true → AreFollowed n network at made now
+      followed facts recovers = recoveries (facts.followed recovers)
+
+      few_before : (nat_le v.paths_before.systems 255 || not (list_any is_better v.told)) ≡ true
+          → list_any is_better v.told ≡ true → (sync_paths n made).systems ≤ 255
+      few_before is better = elim (or_cases (nat_le v.paths_before.systems 255) (not (list_any is_better v.told)) is) [
+        | inl few ↦ grind (arith, nat_tests)
+        | inr none ↦ let no : true ≡ false = sym better ∙ not-true (list_any is_better v.told) none in absurd cc
+      ]
+
+      by : IsFromRest → list_any is_loss v.told ≡ false → list_all makes_nothing v.told ≡ false → (heard hard : Bool)
+          → heard_at_once false v.paths_before v.told ≡ heard
+          → list_any (is_hard_to_hear v.told) v.new ≡ hard
+          → BoundsGains n made now at (ready_at n v)
+          (ready_at n v + cond (heard && not hard) 0 (largest_interval (pace_of n)) + way_span v.paths)
+      by facts none some true false is soft =
+          let (heard, few) =
+          and_parts (are_heard false v.told) (nat_le v.paths_before.systems 255 || not (list_any is_better v.told)) is in
+          inl (
+            all_heard n network at made now (all_at at events) off facts.turns (followed facts) (omega (arith, late)) none facts.others
+                soft (few_before few) heard,
+            omega arith,
+          )
+      by facts none some true true is hard = inr (
+        all_gained n network at made now (all_at at events) off facts.turns (followed facts) (omega (arith, late)) none facts.others some,
+        refl,
+      )
+      by facts none some false hard is soft = inr (
+        all_gained n network at made now (all_at at events) off facts.turns (followed facts) (omega (arith, late)) none facts.others some,
+        refl,
+      )

@@ -1,0 +1,91 @@
+-- The choice bound of two systems of which the second gets a better priority1 as they begin.
+use Rattle.std.proofs.Common.{◌≡◌, ◌<◌, ◌+◌, ◌*◌, ℕ, zero, suc, true, List, [], ◌∷◌, Some, slice_get, refl, sym, subst, inl, inr, arith}
+use Rattle.std.proofs.lemmas.Option.{none-some, same_Some}
+use Rattle.gptp_setup.specs.SettlingParams.{SettlingParams}
+use Rattle.gptp_scenario.specs.Calm.{AllRest, IsLive}
+use Rattle.gptp_scenario.specs.Change.{link_after}
+use Rattle.gptp_scenario.specs.Network.{IsNetwork, pace_of, wire}
+use Rattle.gptp_scenario.specs.SyncWait.{sync_paths}
+use Rattle.gptp_scenario.specs.InUse.{path_systems}
+use Rattle.gptp_scenario.specs.declared.change.Act.TheVariants.{Change as Changing}
+use Rattle.gptp_scenario.specs.declared.change.Change.TheVariants.{Priority1}
+use Rattle.gptp_scenario.specs.declared.change.Timed.{Timed}
+use Rattle.gptp_scenario.specs.declared.network.LinkSpec.{LinkSpec}
+use Rattle.gptp_scenario.specs.declared.sync_wait.SyncPaths.{SyncPaths}
+use Rattle.gptp_invariants.specs.WorldEncodableLaws.{SetsAnOctet}
+use Rattle.gptp_model.specs.World.{port_id}
+use Rattle.gptp_theorem.specs.PlayedLaws.{IsPlayable}
+use Rattle.gptp_settling_time.specs.HowSoon.{IsChoiceBound, two_exchanges, way_span}
+use Rattle.gptp_settling_time.specs.InTurn.{NoneUnanswered, UsedVaryLittle}
+use Rattle.gptp_network_tests.specs.Pair.{end_station, first_member, pair_network, pair_pace, pair_paths, second_member}
+use Rattle.gptp_network_tests.specs.Soon.{early_document}
+use Rattle.gptp_network_tests.proofs.PairLemmas.{pace_is}
+
+abbrev event : Timed
+event = record { at = 0; act = Changing (Priority1 2 245) }
+
+abbrev events : List Timed
+events = event ∷ []
+
+abbrev link : LinkSpec
+link = wire 0 (port_id 1 1) (port_id 2 1) 500 500 0 true
+
+pub early_playable : IsNetwork pair_network → IsPlayable early_document
+early_playable network = record {
+  network = network;
+  events = record {
+    in_order = tt;
+    each = (record { early = omega arith; change = Priority1 2 245; act = refl; fits = refl }, tt);
+  };
+  octets = octets;
+}
+  where
+    octets : (place : ℕ) (timed : Timed) → slice_get events place ≡ Some timed → SetsAnOctet timed.act
+    octets zero timed there =
+        subst (λ (t : Timed). SetsAnOctet t.act) (same_Some event timed there) (omega arith)
+    octets (suc place) timed there = absurd (none-some timed there)
+
+links_rest : AllRest pair_network.params pair_network.systems pair_network.links events
+links_rest zero x early = λ used. record { lossless = refl; good = omega arith }
+links_rest (suc i) x early = absurd (omega (arith, early))
+
+paths_then : sync_paths pair_network events ≡ pair_paths
+unfolding path_systems
+paths_then = refl
+
+first_lives : IsLive pair_network.systems events 1
+first_lives = record { place = 0; system = end_station first_member; there = refl; clock = refl; live = refl }
+
+second_lives : IsLive pair_network.systems events 2
+second_lives = record { place = 1; system = end_station second_member; there = refl; clock = refl; live = refl }
+
+answered : NoneUnanswered pair_network events
+answered zero v there up =
+    subst (λ (x : LinkSpec).
+    (IsLive pair_network.systems events (link_after events x).a.clock
+    → IsLive pair_network.systems events (link_after events x).b.clock)
+    × (IsLive pair_network.systems events (link_after events x).b.clock
+    → IsLive pair_network.systems events (link_after events x).a.clock)) (same_Some link v there)
+    ((λ lives. second_lives), (λ lives. first_lives))
+answered (suc place) v there up = absurd (none-some v there)
+
+little : UsedVaryLittle pair_network events
+little zero v there used =
+    subst (λ (x : LinkSpec). (link_after events x).bounds.max < 2 * (link_after events x).bounds.min)
+    (same_Some link v there) (omega arith)
+little (suc place) v there used = absurd (none-some v there)
+
+-- two exchanges and the delay of the link, as without it
+pub early_bound : IsChoiceBound early_document 0 1000002500
+early_bound = (
+  [],
+  (refl, (record { links = links_rest; lapses = inl refl }, inr (refl, inr (((tt, tt), answered), inl (little, is))))),
+)
+  where
+    is : 1000002500
+        ≡ two_exchanges (pace_of pair_network) (sync_paths pair_network events)
+        + way_span (sync_paths pair_network events)
+    is =
+        subst (λ (p : SettlingParams). 1000002500
+        ≡ two_exchanges p (sync_paths pair_network events) + way_span (sync_paths pair_network events)) (sym pace_is)
+        (subst (λ (x : SyncPaths). 1000002500 ≡ two_exchanges pair_pace x + way_span x) (sym paths_then) refl)

@@ -1,0 +1,100 @@
+-- A document without its events after a time.
+use Rattle.std.proofs.Common.{◌≡◌, inl, inr, ◌<◌, ◌≤◌, ◌+◌, ℕ, Bool, true, false, cond, nat_le, List, [], ◌∷◌, filter, slice_get, Some, refl, sym, ap, ap₂, subst, arith}
+use Rattle.std.specs.Prelude.{◌==◌, if◌then◌else◌}
+use Rattle.std.specs.List.{AllByRecursion}
+use Rattle.std.proofs.lemmas.Bool.{ne_eqb}
+use Rattle.std.proofs.lemmas.Bool.Decides.{nat_tests}
+use Rattle.gptp_lists.specs.Members.{In}
+use Rattle.gptp_invariants.specs.WorldEncodableLaws.{SetsAnOctet}
+use Rattle.gptp_network.specs.Document.{DocumentState}
+use Rattle.gptp_network.specs.Events.{IsEvent}
+use Rattle.gptp_network.specs.Snapshot.{events_by}
+use Rattle.gptp_network.proofs.SnapshotLemmas.{from_filter}
+use Rattle.gptp_scenario.specs.Network.{NetworkState}
+use Rattle.gptp_scenario.specs.declared.change.Timed.{Timed}
+use Rattle.gptp_settling_time.specs.HowSoon.{BoundsChoice, BoundsEvents, BoundsStart, IsChoiceBoundAfter, NoneBetween, events_at}
+use Rattle.gptp_theorem.specs.PlayedLaws.{IsPlayable}
+use Rattle.gptp_timeline.proofs.EventLemmas.{filter_each, filter_in_order}
+use Rattle.gptp_timeline.proofs.PastLemmas.{by_sooner}
+
+abbrev pub shortened : ℕ → DocumentState → DocumentState
+shortened time d = record { network = d.network; events = events_by time d.events }
+
+-- ---- it can be played
+
+all_kept : {X : Type 0} (P : X → Type 0) (test : X → Bool) (xs : List X) → AllByRecursion P xs
+    → AllByRecursion P (filter test xs)
+all_kept P test [] all = tt
+all_kept P test (x ∷ xs) all = by (test x) (all_kept P test xs all.1)
+  where
+    by : (passes : Bool) → AllByRecursion P (filter test xs)
+        → AllByRecursion P (cond passes (x ∷ filter test xs) (filter test xs))
+    by true rest = (all.0, rest)
+    by false rest = rest
+
+pub playable_by : (time : ℕ) (d : DocumentState) → IsPlayable d → IsPlayable (shortened time d)
+playable_by time d playable =
+    let test : Timed → Bool = λ (t : Timed). nat_le t.at time in
+    record {
+      network = playable.network;
+      events = record {
+        in_order = filter_in_order test d.events playable.events.in_order;
+        each = all_kept (IsEvent d.network) test d.events playable.events.each;
+      };
+      octets = filter_each (λ (t : Timed). SetsAnOctet t.act) test d.events playable.octets;
+    }
+
+-- ---- it has the same choice bounds by then
+
+at_sooner : (time until : ℕ) (events : List Timed) → time ≤ until
+    → events_at time (events_by until events) ≡ events_at time events
+at_sooner time until [] le = refl
+at_sooner time until (e ∷ es) le = by (nat_le e.at until) refl (at_sooner time until es le)
+  where
+    by : (due : Bool) → nat_le e.at until ≡ due → events_at time (events_by until es) ≡ events_at time es
+        → events_at time (events_by until (e ∷ es)) ≡ events_at time (e ∷ es)
+    by true test rest = rw test (ap (λ fs. if e.at == time then e ∷ fs else fs) rest)
+    by false test rest =
+        let late : until < e.at = grind (arith, nat_tests) in
+        let other : (e.at == time) ≡ false = ne_eqb e.at time (λ same. omega (arith, late, same, le)) in
+        rw (test, other) rest
+
+bounds_by : (n : NetworkState) (Sharp More : Type 0) (events : List Timed) (choice : ℕ) → (Sharp → More)
+    → BoundsChoice n Sharp events choice → BoundsChoice n More events choice
+bounds_by n Sharp More events choice more (calm, inl lapses) = (calm, inl lapses)
+bounds_by n Sharp More events choice more (calm, inr (off, inl any)) = (calm, inr (off, inl any))
+bounds_by n Sharp More events choice more (calm, inr (off, inr sharp)) = (calm, inr (off, inr (more sharp)))
+
+module _ (n : NetworkState) (all : List Timed) (until : ℕ) where
+  pub bound_by : (earlier : List ℕ) (time choice : ℕ) → time ≤ until → IsChoiceBoundAfter n all earlier time choice
+      → IsChoiceBoundAfter n (events_by until all) earlier time choice
+  bound_by [] time choice le (start, bounds) = (
+    start,
+    subst (λ es. BoundsChoice n (BoundsStart n es choice) es choice) (sym (by_sooner time until all le)) bounds,
+  )
+  bound_by (last ∷ earlier) time choice le (late, between, bounds) = (
+    late,
+    λ event member. between event (from_filter (λ (t : Timed). nat_le t.at until) event all member).0,
+    subst (λ es. BoundsChoice n
+        ((choice_then : ℕ) × IsChoiceBoundAfter n (events_by until all) earlier last choice_then
+        × (last + choice_then < time)
+        × BoundsEvents n (events_by last (events_by until all)) (events_at time (events_by until all)) time choice)
+        es choice) (sym (by_sooner time until all le))
+        (bounds_by n
+        ((choice_then : ℕ) × IsChoiceBoundAfter n all earlier last choice_then × (last + choice_then < time)
+        × BoundsEvents n (events_by last all) (events_at time all) time choice)
+        ((choice_then : ℕ) × IsChoiceBoundAfter n (events_by until all) earlier last choice_then
+        × (last + choice_then < time)
+        × BoundsEvents n (events_by last (events_by until all)) (events_at time (events_by until all)) time choice)
+        (events_by time all) choice
+        (λ sharp. (
+          sharp.0,
+          bound_by earlier last sharp.0 (omega (arith, late, le)) sharp.1,
+          sharp.2,
+          subst (λ made. BoundsEvents n made (events_at time (events_by until all)) time choice)
+              (sym (by_sooner last until all (omega (arith, late, le))))
+              (subst (λ now. BoundsEvents n (events_by last all) now time choice) (sym (at_sooner time until all le))
+              sharp.3),
+        ))
+        bounds),
+  )

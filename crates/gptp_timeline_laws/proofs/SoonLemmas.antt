@@ -1,0 +1,218 @@
+-- The stretches of a timeline settle by the choice that is told of the times at which they begin.
+use Rattle.std.proofs.Common.{◌≡◌, ◌⊎◌, inl, inr, ◌<◌, ◌≤◌, ◌+◌, ◌-◌, ℕ, Bool, true, false, nat_le, suc, List, [], ◌∷◌, length, map, slice_get, Option, Some, None, IfSome, option_map, refl, sym, ap, subst, ◌∙◌, arith}
+use Rattle.std.specs.List.{AllByRecursion, range_with_len}
+use Rattle.std.specs.Option.{is_some}
+use Rattle.std.proofs.lemmas.Bool.Decides.{nat_tests}
+use Rattle.std.proofs.lemmas.Option.{same_Some}
+use Rattle.gptp_graph.specs.Snapshot.{IsWellFormed, Snapshot, System}
+use Rattle.gptp_graph.proofs.SystemLemmas.{same_clock}
+use Rattle.gptp_how_soon.specs.Times.{settling_times}
+use Rattle.gptp_how_soon_laws.proofs.ChoiceLemmas.{settlings_are_choice_bounds}
+use Rattle.gptp_how_soon_laws.proofs.StepLemmas.{IsKept, kept}
+use Rattle.gptp_invariants.specs.WorldStanding.{snapshot_of}
+use Rattle.gptp_invariants.proofs.WorldStandsLemmas.{stands_well}
+use Rattle.gptp_links.specs.declared.bounds.Bounds.{Bounds}
+use Rattle.gptp_lists.specs.Members.{In}
+use Rattle.gptp_model.specs.Course.{Begun}
+use Rattle.gptp_model.specs.Sound.{HaveOwnClocks}
+use Rattle.gptp_model.specs.Views.{rising_clocks}
+use Rattle.gptp_model.specs.World.{WorldState}
+use Rattle.gptp_network.specs.Document.{DocumentState}
+use Rattle.gptp_network.specs.Snapshot.{events_by}
+use Rattle.gptp_network.proofs.SnapshotLemmas.{from_filter}
+use Rattle.gptp_report.specs.Transitions.{Courses, Unfolds}
+use Rattle.gptp_roles.specs.declared.role.Role.{Role}
+use Rattle.gptp_scenario.specs.declared.change.Timed.{Timed}
+use Rattle.gptp_settling_time.specs.HowSoon.{IsChoiceBound, NoneBetween}
+use Rattle.gptp_settling_time.specs.Unchanged.{LeavesShown, ShowsSameChoice, ShowsSameRoles}
+use Rattle.gptp_settling_time.proofs.ChoiceBoundLemmas.{choice_bounds_hold}
+use Rattle.gptp_settling_time.proofs.CutLemmas.{acts_by}
+use Rattle.gptp_system.specs.Start.{role_at}
+use Rattle.gptp_system.specs.State.{SystemState, clock, is_capable_at}
+use Rattle.gptp_system.specs.Steps.{HasPortNumber}
+use Rattle.gptp_theorem.specs.PlayedLaws.{IsPlayable}
+use Rattle.gptp_timeline.specs.Laws.{AllNear}
+use Rattle.gptp_timeline.specs.Ports.{shown_port, shown_ports}
+use Rattle.gptp_timeline.specs.Shown.{live_system, same_choice, same_roles, shown, shown_of}
+use Rattle.gptp_timeline.specs.Stretch.{at_of}
+use Rattle.gptp_timeline.specs.Timeline.{StretchTrace, TimelineOf, later_than}
+use Rattle.gptp_timeline.specs.declared.ports.ShownPort.{ShownPort}
+use Rattle.gptp_timeline.specs.declared.shown.Shown.{Shown}
+use Rattle.gptp_timeline.specs.declared.timeline.TimelineOptions.{TimelineOptions}
+use Rattle.gptp_timeline.proofs.BehindLemmas.{IsStill, ShowsTheSame, StillBehind, last_choice, last_roles}
+use Rattle.gptp_timeline.proofs.EventLemmas.{filter_in_order, now_by}
+use Rattle.gptp_timeline.proofs.PastLemmas.{by_sooner}
+use Rattle.gptp_timeline.proofs.RestLemmas.{lives_there, shows_live, stands_there}
+use Rattle.gptp_timeline.proofs.SameLemmas.{choice_itself, roles_itself}
+use Rattle.gptp_timeline.proofs.SettlingLemmas.{begins, keeps_first, left_first}
+use Rattle.gptp_timeline.proofs.ShownLemmas.{live_shown}
+use Rattle.gptp_timeline.proofs.StandLemmas.{map_same}
+use Rattle.gptp_timeline_laws.specs.Soon.{StretchesSettleSoon}
+use Rattle.gptp_timeline_laws.proofs.ShortenedLemmas.{bound_by, playable_by, shortened}
+use Rattle.gptp_timeline_laws.proofs.StretchRunLemmas.{RunsTo, courses_after, ends_on, runs_to}
+use Rattle.gptp_world.specs.Transitions.{ActTrace}
+
+-- ---- what shows the same is shown the same
+
+in_range : (k from i n : ℕ) → slice_get (range_with_len from k) i ≡ Some n → (from ≤ n) × (n < from + k)
+in_range 0 from i n there = absurd cc
+in_range (suc k) from 0 n there = let is : from ≡ n = same_Some from n there in (omega arith, omega arith)
+in_range (suc k) from (suc i) n there =
+    let (low, high) = in_range k (from + 1) i n there in (omega (arith, low), omega (arith, high))
+
+module _ (s s' : SystemState) (count : length s'.ports ≡ length s.ports) (choice : ShowsSameChoice s s')
+    (roles : ShowsSameRoles s s') where
+  abbrev made : Role → Bool → ShownPort
+  made r c = record { role = r; capable = c }
+
+  ports_are : shown_ports s' ≡ shown_ports s
+  ports_are =
+      ap (λ k. map (shown_port s') (range_with_len 1 k)) count
+      ∙ sym (map_same (shown_port s) (shown_port s') (range_with_len 1 (length s.ports)) (λ i n there.
+      let (low, high) = in_range (length s.ports) 1 i n there in
+      let has : HasPortNumber s n = record { least = low; most = omega (arith, high) } in
+      ap (λ r. made r (is_capable_at s' n)) (roles.role n has) ∙ ap (made (role_at s n)) (roles.capable n has)))
+
+  abbrev shows : ℕ → ℕ → Option ℕ → List ShownPort → Shown
+  shows root steps slave ports =
+      record { root = root; steps = steps; slave = slave; known = is_some s'.offset; ports = ports }
+
+  shown_is : shown_of s' ≡ shows s.root s.steps s.slave (shown_ports s)
+  shown_is =
+      ap (λ r. shows r s'.steps s'.slave (shown_ports s')) choice.root
+      ∙ ap (λ k. shows s.root k s'.slave (shown_ports s')) choice.steps
+      ∙ ap (λ l. shows s.root s.steps l (shown_ports s')) choice.slave
+      ∙ ap (shows s.root s.steps s.slave) ports_are
+
+  shown_alike : (same_choice (Some (shown_of s)) (Some (shown_of s')) ≡ true)
+      × (same_roles (Some (shown_of s)) (Some (shown_of s')) ≡ true)
+  shown_alike = (
+    ap (λ x. same_choice (Some (shown_of s)) (Some x)) shown_is ∙ choice_itself (Some (shown_of s)),
+    ap (λ x. same_roles (Some (shown_of s)) (Some x)) shown_is ∙ roles_itself (Some (shown_of s)),
+  )
+
+-- two worlds of one snapshot, of which the second shows what the first does
+module _ (g : Snapshot) (well : IsWellFormed g) (w w' : WorldState) (is : snapshot_of w ≡ g) (is' : snapshot_of w' ≡ g)
+    (own : HaveOwnClocks w) (own' : HaveOwnClocks w') (leaves : LeavesShown w w') (name : ℕ) where
+  abbrev Alike : Option SystemState → Option SystemState → Type 0
+  Alike a b = (same_choice (option_map shown_of a) (option_map shown_of b) ≡ true)
+      × (same_roles (option_map shown_of a) (option_map shown_of b) ≡ true)
+
+  by_states : (a b : Option SystemState) → live_system name w ≡ a → live_system name w' ≡ b → Alike a b
+  by_states None None a b = (refl, refl)
+  by_states (Some s) None a b =
+      let on = leaves.stays name s (shows_live name w s a) in
+      let no : Some on.state ≡ None = sym (live_shown name w' on.state own' on.shows) ∙ b in absurd cc
+  by_states None (Some s') a b =
+      let (s, live) = leaves.comes name (s', shows_live name w' s' b) in
+      let no : Some s ≡ None = sym (live_shown name w s own live) ∙ a in absurd cc
+  by_states (Some s) (Some s') a b =
+      let on = leaves.stays name s (shows_live name w s a) in
+      let it : on.state ≡ s' = same_Some on.state s' (sym (live_shown name w' on.state own' on.shows) ∙ b) in
+      let (x, member, clock_is, ports, named) = stands_there w name s a in
+      let (x', member', clock_is', ports', named') = stands_there w' name s' b in
+      let same : x' ≡ x =
+      same_clock g x' x well (subst (λ (h : Snapshot). In x' h.systems) is' member')
+      (subst (λ (h : Snapshot). In x h.systems) is member)
+      (clock_is' ∙ named' ∙ sym named ∙ sym clock_is) in
+      shown_alike s s' (sym ports' ∙ ap (λ (y : System). y.ports) same ∙ ports)
+      (subst (ShowsSameChoice s) it on.choice) (subst (ShowsSameRoles s) it on.roles)
+
+  shown_left : (same_choice (shown name w) (shown name w') ≡ true) × (same_roles (shown name w) (shown name w') ≡ true)
+  shown_left = by_states (live_system name w) (live_system name w') refl refl
+
+-- ---- a stretch
+
+module _ {F : Type 0} (answers : Bounds → ℕ → F → Option ℕ → F → Type 0) (d : DocumentState) (playable : IsPlayable d)
+    (until : ℕ) (p : StretchTrace) (choice : ℕ) (fate started : F) (start : WorldState)
+    (begun : Begun answers d.network fate started start)
+    (run : RunsTo answers p 0 (events_by until d.events) started start) (due : p.from ≤ until) (on : p.from ≤ p.to)
+    (bound : IsChoiceBound d p.from choice) (near : AllNear (snapshot_of p.after)) where
+  abbrev short : DocumentState
+  short = shortened p.from d
+
+  unfolds : Unfolds answers short p.to fate start run.ts p.after
+  unfolds = record {
+    started = started;
+    begun = begun;
+    drawn = run.drawn;
+    courses = subst (λ es. Courses answers p.to es run.ts started run.drawn start p.after)
+        (by_sooner p.from until d.events due ∙ sym (now_by p.from p.to d.events on)) run.courses;
+  }
+
+  none : NoneBetween short.events p.from (suc p.to)
+  none event member late =
+      let early : nat_le event.at p.from ≡ true =
+      (from_filter (λ (t : Timed). nat_le t.at p.from) event d.events member).1 in
+      let soon : event.at ≤ p.from = grind (arith, nat_tests) in
+      absurd (omega (arith, soon, late))
+
+  bounded : IsChoiceBound short p.from choice
+  bounded = (bound.0, bound_by d.network d.events p.from bound.0 p.from choice (omega arith) bound.1)
+
+  still_act : (a : ActTrace) → In a p.acts → p.from + choice < at_of a → ShowsTheSame a
+  still_act a member late =
+      let among = run.among a member in
+      let soon = acts_by answers short p.to fate start p.after run.ts unfolds a among in
+      let fit = playable_by p.from d playable in
+      let early : at_of a < suc p.to = omega (arith, soon) in
+      let (settled, leaves) =
+      choice_bounds_hold answers short p.from choice (suc p.to) p.to fate start p.after run.ts a fit unfolds among
+      bounded none late early in
+      let keeps = kept answers short p.from choice (suc p.to) p.to fate start p.after run.ts a fit unfolds among bounded
+      none (omega (arith, late)) early in
+      let same = courses_after answers p.from p.to p.events p.acts run.fate_then run.drawn run.begins p.after run.early
+      run.own a member (omega (arith, late)) in
+      let shows = leaves (subst AllNear same near) in
+      let world = keeps.before.claim.world in
+      let well = stands_well a.before world.sound world.between world.encodable in
+      let both = shown_left (snapshot_of a.before) well a.before a.after refl keeps.same world.sound.wired.clocks
+      keeps.after.claim.world.sound.wired.clocks shows in
+      record { choice = λ name. (both name).0; roles = λ name. (both name).1 }
+
+  still : StillBehind (p.from + choice) p.acts
+  still = all p.acts (λ a member. member)
+    where
+      by : (a : ActTrace) → In a p.acts → (early : Bool) → nat_le (at_of a) (p.from + choice) ≡ early
+          → IsStill (p.from + choice) a
+      by a member true test = inl (grind (arith, nat_tests))
+      by a member false test =
+          let late : p.from + choice < at_of a = grind (arith, nat_tests) in inr (still_act a member late)
+
+      all : (ts : List ActTrace) → ((a : ActTrace) → In a ts → In a p.acts) → StillBehind (p.from + choice) ts
+      all [] among = tt
+      all (t ∷ ts) among = (
+        by t (among t (inl refl)) (nat_le (at_of t) (p.from + choice)) refl,
+        all ts (λ a member. among a (inr member)),
+      )
+
+-- ---- the law
+
+within : (from bound : ℕ) (last : Option ℕ) → IfSome last (λ time. time ≤ from + bound)
+    → IfSome (option_map (λ time. time - from) last) (λ time. time ≤ bound)
+within from bound None is = tt
+within from bound (Some last) is = omega (arith, is)
+
+pub stretches_settle_soon : {F : Type 0} (answers : Bounds → ℕ → F → Option ℕ → F → Type 0)
+    → StretchesSettleSoon answers
+stretches_settle_soon answers d until options fate lines exceeded t playable p time s names carried member told at_is is
+    near =
+    let order = filter_in_order (λ (e : Timed). nat_le e.at until) d.events playable.events.in_order in
+    let run = runs_to answers d until t.passages 0 (events_by until d.events) t.started t.fate_after t.start t.after p
+    order t.pass member in
+    let (bound, roles) = settlings_are_choice_bounds d time s playable told is in
+    let here : IsChoiceBound d p.from s.choice = subst (λ at. IsChoiceBound d at s.choice) at_is bound in
+    let clocks = rising_clocks t.start in
+    let b = begins answers d playable clocks true until t.passages 0 [] (events_by until d.events) t.started
+    t.fate_after t.start t.after p (left_first answers d playable clocks until)
+    (keeps_first answers d playable clocks fate t.started t.start refl t.begun) t.pass member in
+    let from_is = b.passage.from_is in
+    let to_is = b.passage.to_is in
+    let due = b.is_left.within in
+    let ends = ends_on until b.from b.left (later_than b.from b.left) refl due in
+    let calm = still answers d playable until p s.choice fate t.started t.start t.begun run
+    (omega (arith, from_is, due)) (omega (arith, from_is, to_is, ends)) here near in (
+      within p.from s.choice _ (last_choice names (p.from + s.choice) p.acts calm),
+      subst (λ r. IfSome (option_map (λ time. time - p.from) _) (λ time. time ≤ r)) (sym roles)
+          (within p.from s.choice _ (last_roles names (p.from + s.choice) p.acts calm)),
+    )
