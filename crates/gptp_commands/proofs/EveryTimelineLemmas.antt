@@ -10,6 +10,7 @@ use Rattle.gptp_scenario.specs.Network.{IsNetwork}
 use Rattle.gptp_theorem.specs.PlayedLaws.{IsPlayable}
 use Rattle.gptp_theorem.proofs.OctetLemmas.{documents_playable}
 use Rattle.gptp_how_soon.specs.Times.{settling_times}
+use Rattle.gptp_how_soon.proofs.ShortLemmas.{watched_shortly}
 use Rattle.gptp_accuracy.specs.TimeErrors.{AreTimeErrors}
 use Rattle.gptp_accuracy.specs.declared.errors.TimeErrors.{TimeErrors}
 use Rattle.gptp_accuracy.specs.declared.options.AccuracyOptions.{AccuracyOptions}
@@ -35,7 +36,6 @@ use Rattle.gptp_commands.proofs.DrawLemmas.{draws_answer_all}
 use Rattle.gptp_commands.proofs.EveryPassLemmas.{document_passes}
 use Rattle.gptp_commands.proofs.EveryQuestionLemmas.{each_has_text}
 use Rattle.gptp_commands.proofs.InjectLemmas.{meant_injects}
-use Rattle.gptp_commands.proofs.WatchLemmas.{watched_shortly}
 
 -- ---- time errors
 

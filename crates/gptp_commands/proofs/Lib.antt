@@ -37,4 +37,3 @@ pub mod RunLemmas
 pub mod RunSoFarLemmas
 pub mod DocumentLemmas
 pub mod WhereLemmas
-pub mod WatchLemmas

@@ -1,5 +1,7 @@
+use Rattle.std.proofs.Common.{◌∙◌}
 use Rattle.std.proofs.lemmas.Result.{on_err_weaker, on_ok_weaker}
 use Rattle.gptp_sink.proofs.SinkLemmas.{after_error}
+use Rattle.gptp_timeline.proofs.TimelineLemmas.{no_failed_write}
 use Rattle.gptp_commands.proofs.RunSoFarLemmas.{plays_all, plays_front, plays_some}
 use Rattle.gptp_commands.proofs.run.play_document.Goals as goal
 
@@ -24,3 +26,6 @@ returns-clause-whole g c =
     (rw (until, c.new-fate.ensures) at led.1) (g.K.Sink.written c.args.sink.now)
     (g.K.Sink.written c.run_document.new.sink) (g.K.Sink.written c.tell.new.sink) led.2)
     (rw until at c.tell.ensures.whole)
+
+pub returns-clause-works : goal.returns-clause-works
+returns-clause-works g c = λ other. c.tell.ensures.works other ∙ c.in_ok-world.ensures.works (no_failed_write _)
