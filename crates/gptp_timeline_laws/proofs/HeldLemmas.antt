@@ -58,7 +58,7 @@ use Rattle.gptp_world.specs.Transitions.{ActTrace}
 
 -- ---- a receipt is the use of a Follow_Up
 
-uses_follow_up : (name time : ℕ) (act : Act) (w : WorldState) (draws : List Draw) (done : Done) (w' : WorldState)
+pub uses_follow_up : (name time : ℕ) (act : Act) (w : WorldState) (draws : List Draw) (done : Done) (w' : WorldState)
     → Acts act (at time w) draws done w' → received_by done ≡ Some name → UsesFollowUp name done
 uses_follow_up name time (Deliver link direction) w draws Quiet w' k told = absurd k.told
 uses_follow_up name time (Deliver link direction) w draws (Heard number port answer frame) w' k told =

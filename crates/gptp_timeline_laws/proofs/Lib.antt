@@ -22,3 +22,4 @@ pub mod BestLemmas
 pub mod ShortenedLemmas
 pub mod StretchRunLemmas
 pub mod SoonLemmas
+pub mod ExactSoonLemmas
