@@ -27,8 +27,9 @@ use Rattle.gptp_theorem.specs.PlayedLaws.{IsPlayable}
 use Rattle.gptp_theorem.proofs.SyncPathLemmas.{paths_stand}
 use Rattle.gptp_settling_time.specs.HowSoon.{IsChoiceBound, NoneBetween}
 use Rattle.gptp_settling_time.specs.ExactInTurn.{last_set, sets_link}
-use Rattle.gptp_settling_time.proofs.ChoiceBoundLemmas.{choice_bounds_are_exact}
+use Rattle.gptp_settling_time.proofs.ChoiceBoundLemmas.{choice_bounds_are_exact, choice_bounds_carry}
 use Rattle.gptp_settling_time.proofs.CutLemmas.{IsBy, all_by}
+use Rattle.gptp_settling_time.proofs.ExactInTurnLemmas.{IsCarried}
 use Rattle.gptp_how_soon_laws.specs.Exact.{IsExact, IsExactSoon}
 use Rattle.gptp_how_soon_laws.proofs.ChoiceLemmas.{time_so}
 use Rattle.gptp_how_soon_laws.proofs.StepLemmas.{IsKept, kept}
@@ -107,7 +108,7 @@ module _ {F : Type 0} (answers : Bounds → ℕ → F → Option ℕ → F → T
     few : suc steps < (sync_paths d.network (events_by time d.events)).systems
     few = few_links d (events_by time d.events) t steps number error playable kept_then way
 
-    come : time + max choice (largest_interval (pace_of d.network)) + 1
+    pub come : time + max choice (largest_interval (pace_of d.network)) + 1
         + suc steps * (d.network.params.threshold + d.network.params.residence)
         ≤ t.told.timed.at
     come =
@@ -119,6 +120,15 @@ module _ {F : Type 0} (answers : Bounds → ℕ → F → Option ℕ → F → T
     -- the choice stands then
     pub stands_then : time + choice < t.told.timed.at
     stands_then = let is = come in omega (arith, is)
+
+  -- and time has been carried right since then
+  pub carried_then : t.told.timed.at ≤ 10 ^ 18
+      → time + max choice (largest_interval (pace_of d.network)) + 1 ≤ t.told.timed.at
+      → IsCarried answers (pace_of d.network) (time + max choice (largest_interval (pace_of d.network)) + 1) t
+  carried_then shown late =
+      let set = set_by time d.events in
+      choice_bounds_carry answers d time choice next (time + max choice (largest_interval (pace_of d.network)) + 1)
+      until fate first w ts t playable k member shown bound none (omega arith) (omega (arith, set)) late early
 
   pub exact_then : t.told.timed.at ≤ 10 ^ 18
       → IsExact d.network.params t.before t.told.timed.at t.after t.told.done

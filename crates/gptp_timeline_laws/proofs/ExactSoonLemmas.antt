@@ -60,19 +60,13 @@ use Rattle.gptp_timeline.proofs.SettlingLemmas.{begins, ends_by, keeps_first, le
 use Rattle.gptp_timeline.proofs.WayLemmas.{way_there}
 use Rattle.gptp_timeline.proofs.WithinLemmas.{has_bound, HasBound, has_error, shown_by, size_within}
 use Rattle.gptp_timeline_laws.specs.ExactSoon.{TimelinesAreExactSoon}
-use Rattle.gptp_timeline_laws.proofs.HeldLemmas.{uses_follow_up}
+use Rattle.gptp_timeline_laws.proofs.HeldLemmas.{received_name, uses_follow_up}
 use Rattle.gptp_timeline_laws.proofs.ShortenedLemmas.{bound_by, playable_by, shortened}
 use Rattle.gptp_timeline_laws.proofs.SoonLemmas.{told_time, unfolds}
 use Rattle.gptp_timeline_laws.proofs.StretchRunLemmas.{ends_on, RunsTo, runs_to}
 use Rattle.gptp_world.specs.Transitions.{ActTrace}
 
 -- ---- an act
-
--- who receives by it
-received_name : (name : ℕ) (received : Option ℕ) → option_map_or (λ c. c == name) received false ≡ true
-    → received ≡ Some name
-received_name name None none = absurd cc
-received_name name (Some c) is = let same : c ≡ name = grind (arith, nat_tests) in ap Some same
 
 -- What is said of a system by the network of a document after some events is so of an act that a document with the same
 -- network keeps to these events.
