@@ -17,6 +17,7 @@ use Rattle.gptp_invariants.specs.WorldStanding.{snapshot_of}
 use Rattle.gptp_invariants.specs.SyncFollowers.{follower_parts}
 use Rattle.gptp_links.specs.declared.bounds.Bounds.{Bounds}
 use Rattle.gptp_links.specs.Fate.{Draw}
+use Rattle.gptp_lists.specs.Members.{In}
 use Rattle.gptp_lists.proofs.SystemSpecLemmas.{slice_get-In}
 use Rattle.gptp_messages.specs.declared.message.Message.TheVariants as messages
 use Rattle.gptp_messages.specs.Grammar.{Reads}
@@ -330,3 +331,12 @@ module _ {F : Type 0} (answers : Bounds → ℕ → F → Option ℕ → F → T
               bounded come_down leaves close
               (record { way = has.way; phase = leads_there.0; leads = leads_there.1; is = refl }) best;
         })
+
+-- Each of these acts from a time on is right for a system, in worlds that keep to these events, as long as clocks can
+-- show the time.
+abbrev pub AreRight : {F : Type 0} (answers : Bounds → ℕ → F → Option ℕ → F → Type 0) (d : DocumentState)
+    (playable : IsPlayable d) (names : List ℕ) (events : List Timed) (name from : ℕ) (error_then : ℕ → ℕ)
+    (acts : List ActTrace) → Type 0
+AreRight {F} answers d playable names events name from error_then acts = (until : ℕ) (t : ActTrace) (fate drawn : F)
+    (w : WorldState) → Happens answers until t.told fate drawn w t.after → Keeps answers d playable names events w
+    → t.before ≡ w → until ≤ 10 ^ 18 → In t acts → from ≤ at_of t → IsRight name error_then t w
