@@ -4,15 +4,15 @@ use Rattle.std.specs.Option.{option_map_or}
 use Rattle.std.proofs.lemmas.Bool.Decides.{nat_tests}
 use Rattle.std.proofs.lemmas.Option.{none-some, same_Some}
 use Rattle.gptp_accuracy.specs.Settlings.{settling_of}
-use Rattle.gptp_accuracy.specs.TimeErrors.{AreTimeErrors}
+use Rattle.gptp_accuracy.specs.TimeErrors.{AreTimeErrors, exact_from}
 use Rattle.gptp_graph.specs.Best.{IsBest}
-use Rattle.gptp_graph.specs.Distance.{IsNear}
+use Rattle.gptp_graph.specs.Distance.{IsDistance, IsNear}
 use Rattle.gptp_graph.specs.Snapshot.{IsWellFormed, Snapshot, System}
 use Rattle.gptp_how_soon.specs.Times.{settling_times}
 use Rattle.gptp_how_soon.specs.declared.bounds.Settling.{Settling}
 use Rattle.gptp_how_soon_laws.specs.Exact.{IsExact}
 use Rattle.gptp_how_soon_laws.proofs.ChoiceLemmas.{IsSo, time_so}
-use Rattle.gptp_how_soon_laws.proofs.ExactLemmas.{exact_then, kept_then, stands_then}
+use Rattle.gptp_how_soon_laws.proofs.ExactLemmas.{carried_then, come, exact_then, kept_then, stands_then}
 use Rattle.gptp_how_soon_laws.proofs.StepLemmas.{IsKept}
 use Rattle.gptp_invariants.specs.ChoiceSettled.{IsSettledSystem, Settled}
 use Rattle.gptp_invariants.specs.SyncExact.{IsWayError}
@@ -39,8 +39,10 @@ use Rattle.gptp_scenario.specs.declared.change.Timed.{Timed}
 use Rattle.gptp_settling_time.specs.HowSoon.{IsChoiceBound, NoneBetween}
 use Rattle.gptp_settling_time.proofs.ChoiceBoundLemmas.{choice_bounds_hold}
 use Rattle.gptp_settling_time.proofs.CutLemmas.{acts_by}
+use Rattle.gptp_settling_time.proofs.ExactInTurnLemmas.{IsCarried}
 use Rattle.gptp_settling_time.proofs.MomentLemmas.{last_by}
 use Rattle.gptp_setup.specs.SettlingParams.{largest_interval}
+use Rattle.gptp_sync_machine.specs.Tree.{IsWayTo}
 use Rattle.gptp_system.specs.State.{clock, local_time, SystemState}
 use Rattle.gptp_theorem.specs.AlikeLaws.{AreAlike}
 use Rattle.gptp_theorem.specs.PlayedLaws.{IsPlayable}
@@ -80,22 +82,24 @@ module _ {F : Type 0} (answers : Bounds → ℕ → F → Option ℕ → F → T
       let is = snapshots_stand d.network events t.before g k.stands k.claim.world.sound has.stands in
       record { systems = is.0; links = is.1 }
 
-  well : IsWellFormed (snapshot_of t.before)
+  pub well : IsWellFormed (snapshot_of t.before)
   well = let world = kept.before.claim.world in stands_well t.before world.sound world.between world.encodable
 
-  near : IsNear (snapshot_of t.before) name
-  near = (
-    suc has.steps,
-    distance g (snapshot_of t.before) (turned (snapshot_of t.before) g alike) name (suc has.steps) has.far,
-    has.near,
-  )
+  pub far : IsDistance (snapshot_of t.before) name (suc has.steps)
+  far = distance g (snapshot_of t.before) (turned (snapshot_of t.before) g alike) name (suc has.steps) has.far
 
-  way : IsWayError d.network.params t.before name (suc has.steps) bound
-  way =
+  pub near : IsNear (snapshot_of t.before) name
+  near = (suc has.steps, far, has.near)
+
+  pub leads_there : (phase : ℕ → ℕ)
+      × IsWayTo (follower_parts d.network.params t.before) (snapshot_of t.before) (suc has.steps) name has.way phase
+  leads_there =
       let k = kept.before in
-      let (phase, leads) = way_there d.network playable.network events t.before k.stands k.claim.world.sound
-      k.claim.world.encodable g alike (suc has.steps) name has.way well has.far has.leads in
-      record { way = has.way; phase = phase; leads = leads; is = has.bound_is }
+      way_there d.network playable.network events t.before k.stands k.claim.world.sound k.claim.world.encodable g alike
+      (suc has.steps) name has.way well has.far has.leads
+
+  pub way : IsWayError d.network.params t.before name (suc has.steps) bound
+  way = record { way = has.way; phase = leads_there.0; leads = leads_there.1; is = has.bound_is }
 
   -- the act leaves clocks as they were
   same_time : (number : ℕ) (s s' : SystemState) → live_system number t.after ≡ Some s'
@@ -106,7 +110,7 @@ module _ {F : Type 0} (answers : Bounds → ℕ → F → Option ℕ → F → T
       (same_parts d.network.params (at (at_of t) t.before) t.after kept.network)
       ∙ sym (shown_by (pace_of d.network) t.before kept.before.claim number s before (at_of t))
 
-  settled_system : Settled t.after → (s : SystemState) → live_system name t.after ≡ Some s
+  pub settled_system : Settled t.after → (s : SystemState) → live_system name t.after ≡ Some s
       → IsSettledSystem (snapshot_of t.after) s
   settled_system settled s is =
       let live = found_live name t.after.stations s is in
@@ -178,28 +182,28 @@ module _ {F : Type 0} (answers : Bounds → ℕ → F → Option ℕ → F → T
   abbrev short : DocumentState
   short = shortened p.from d
 
-  fit : IsPlayable short
+  pub fit : IsPlayable short
   fit = playable_by p.from d playable
 
-  runs : Unfolds answers short p.to fate start run.ts p.after
+  pub runs : Unfolds answers short p.to fate start run.ts p.after
   runs = unfolds answers d playable until p fate started start begun run due on
 
-  none : NoneBetween short.events time (suc p.to)
+  pub none : NoneBetween short.events time (suc p.to)
   none event among later =
       let (place, there) = slice_get-In event events among in
       let soon : event.at ≤ time = each_there (λ (e : Timed). e.at ≤ time) events past place event there in
       absurd (omega (arith, soon, later))
 
-  bounded : IsChoiceBound short time choice
+  pub bounded : IsChoiceBound short time choice
   bounded = (bounds.0, bound_by d.network d.events p.from bounds.0 time choice le bounds.1)
 
-  soon : at_of a ≤ p.to
+  pub soon : at_of a ≤ p.to
   soon = acts_by answers short p.to fate start p.after run.ts runs a (run.among a member)
 
-  early : at_of a < suc p.to
+  pub early : at_of a < suc p.to
   early = let is = soon in omega (arith, is)
 
-  told_short : time + max choice (largest_interval (pace_of d.network))
+  pub told_short : time + max choice (largest_interval (pace_of d.network))
       + (sync_paths d.network (events_by time events)).systems
       * (d.network.params.threshold + d.network.params.residence)
       ≤ exact
@@ -208,7 +212,7 @@ module _ {F : Type 0} (answers : Bounds → ℕ → F → Option ℕ → F → T
       + (sync_paths d.network es).systems * (d.network.params.threshold + d.network.params.residence)
       ≤ exact) (sym (by_sooner time p.from d.events le)) told
 
-  kept : IsKept short events a
+  pub kept : IsKept short events a
   kept =
       subst (λ es. IsKept short es a) (now_all time events past)
       (kept_then answers short time choice exact (suc p.to) p.to fate start p.after run.ts a fit runs
@@ -216,7 +220,7 @@ module _ {F : Type 0} (answers : Bounds → ℕ → F → Option ℕ → F → T
 
   module _ (names : List ℕ) (g : Snapshot) (name from bound : ℕ)
       (has : HasBound answers d playable names events g name from bound) where
-    settled : Settled a.after
+    pub settled : Settled a.after
     settled =
         let passed = stands_then answers short time choice exact (suc p.to) p.to fate start p.after run.ts a fit runs
         (run.among a member) bounded none told_short late early has.steps name bound
@@ -224,7 +228,23 @@ module _ {F : Type 0} (answers : Bounds → ℕ → F → Option ℕ → F → T
         (choice_bounds_hold answers short time choice (suc p.to) p.to fate start p.after run.ts a fit runs
         (run.among a member) bounded none passed early).0.settled.tree.settled
 
-    stretch_within : p.to ≤ 10 ^ 18 → ErrorIsWithin name exact bound a
+    -- time is carried right since a Sync may have come down the way
+    pub carried : p.to ≤ 10 ^ 18
+        → IsCarried answers (pace_of d.network) (time + max choice (largest_interval (pace_of d.network)) + 1) a
+        × (time + max choice (largest_interval (pace_of d.network)) + 1
+        + suc has.steps * (d.network.params.threshold + d.network.params.residence)
+        ≤ at_of a)
+    carried ends =
+        let by = soon in
+        let down = come answers short time choice exact (suc p.to) p.to fate start p.after run.ts a fit runs
+        (run.among a member) bounded none told_short late early has.steps name bound
+        (way answers d playable names events events g name from bound has a kept) in (
+          carried_then answers short time choice exact (suc p.to) p.to fate start p.after run.ts a fit runs
+              (run.among a member) bounded none told_short late early (omega (arith, by, ends)) (omega (arith, down)),
+          down,
+        )
+
+    pub stretch_within : p.to ≤ 10 ^ 18 → ErrorIsWithin name exact bound a
     stretch_within ends error from_then own is =
         let by = soon in
         act_within answers d playable names events events g name from bound has a kept settled
@@ -232,13 +252,39 @@ module _ {F : Type 0} (answers : Bounds → ℕ → F → Option ℕ → F → T
         (run.among a member) bounded none told_short late early (omega (arith, by, ends)))
         error own is
 
--- ---- the law
+-- ---- what is told of a time
+
+-- From a time on errors hold of a document as it is at another: by a choice bound of its last change.
+pub record IsTold (d : DocumentState) (at from : ℕ) : Type 0 where
+  pub choice : ℕ
+  pub bounds : IsChoiceBound d (last_change (events_by at d.events)) choice
+  pub told : last_change (events_by at d.events) + max choice (largest_interval (pace_of d.network))
+      + (sync_paths d.network (events_by (last_change (events_by at d.events)) d.events)).systems
+      * (d.network.params.threshold + d.network.params.residence)
+      ≤ from
 
 -- the settling from which a time is told
 told_exact : (settling : Option Settling) (from : ℕ) → option_map (λ (s : Settling). s.exact_from) settling ≡ Some from
     → (s : Settling) × (settling ≡ Some s) × (s.exact_from ≡ from)
 told_exact None from none = absurd (none-some from none)
 told_exact (Some s) from some = (s, refl, same_Some s.exact_from from some)
+
+pub is_told : (d : DocumentState) (at from : ℕ) → IsPlayable d → exact_from d at ≡ Some from → IsTold d at from
+is_told d at from playable is =
+    let last = last_change (events_by at d.events) in
+    let (s, settling, exact_is) = told_exact (settling_of d last) from is in
+    let (time, among, at_is, told) = told_time (settling_times d) last s settling in
+    let (earlier, so_then) = time_so d playable time s among told in
+    let so : IsSo d playable earlier last s = subst (λ at. IsSo d playable earlier at s) at_is so_then in record {
+      choice = s.choice;
+      bounds = (earlier, so.choice);
+      told = subst (λ e. last + max s.choice (largest_interval (pace_of d.network))
+          + (sync_paths d.network (events_by last d.events)).systems
+          * (d.network.params.threshold + d.network.params.residence)
+          ≤ e) exact_is so.exact;
+    }
+
+-- ---- the law
 
 pub timelines_are_exact_soon : {F : Type 0} (answers : Bounds → ℕ → F → Option ℕ → F → Type 0)
     → TimelinesAreExactSoon answers
@@ -256,10 +302,7 @@ timelines_are_exact_soon answers d until options fate lines exceeded t playable 
     subst (AreErrorsBy d b.from p.to) are b.passage.errors_are in
     let say : AreTimeErrors d p.from errors = subst (λ at. AreTimeErrors d at errors) (sym begins_at) hold.0 in
     let last = last_change (events_by p.from d.events) in
-    let (s, settling, exact_is) = told_exact (settling_of d last) from (sym say.from ∙ from_is) in
-    let (time, among, at_is, told) = told_time (settling_times d) last s settling in
-    let (earlier, so_then) = time_so d playable time s among told in
-    let so : IsSo d playable earlier last s = subst (λ at. IsSo d playable earlier at s) at_is so_then in
+    let it = is_told d p.from from playable (sym say.from ∙ from_is) in
     let past = all_past last (events_by p.from d.events)
     (filter_in_order (λ (e : Timed). nat_le e.at p.from) d.events playable.events.in_order) (omega arith) in
     let due = b.is_left.within in
@@ -272,12 +315,7 @@ timelines_are_exact_soon answers d until options fate lines exceeded t playable 
     (record { snapshot = say.snapshot; stands = say.is; is = refl }) says in
     let each : (act : ActTrace) → In act p.acts → ErrorIsWithin name from bound act = λ act here error late.
     stretch_within answers d playable until p fate t.started t.start t.begun run (omega (arith, begins_at, due))
-    (omega (arith, begins_at, to_is, over)) last s.choice from past (last_by p.from d.events)
-    (earlier, so.choice)
-    (subst (λ e. last + max s.choice (largest_interval (pace_of d.network))
-    + (sync_paths d.network (events_by last d.events)).systems
-    * (d.network.params.threshold + d.network.params.residence)
-    ≤ e) exact_is so.exact)
+    (omega (arith, begins_at, to_is, over)) last it.choice from past (last_by p.from d.events) it.bounds it.told
     act here late names say.snapshot name
     (exact_by_span d.network (events_by p.from d.events) say.snapshot) bound has (omega (arith, ends, shown))
     error late in

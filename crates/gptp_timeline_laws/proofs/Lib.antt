@@ -23,3 +23,4 @@ pub mod ShortenedLemmas
 pub mod StretchRunLemmas
 pub mod SoonLemmas
 pub mod ExactSoonLemmas
+pub mod ReadSoonLemmas

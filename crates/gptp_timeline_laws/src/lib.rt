@@ -7,7 +7,7 @@
 //! that they are roots. `specs/Age.antt` says how old what is read may be. `specs/Right.antt` has all of it at once.
 //!
 //! `specs/Soon.antt` says by when a stretch has settled, as it is computed for the document, and `specs/ExactSoon.antt`
-//! from when on what is received is exact.
+//! from when on what is received and read is exact.
 //!
 //! Each function of this crate is a law: it does nothing, and its contract is a theorem about the definitions.
 #![tactic(auto)]
@@ -23,7 +23,9 @@ mod sources;
 
 pub use age::timelines_hear_in_time;
 pub use exact::{timelines_bound_receipts, timelines_read_exactly};
-pub use exact_soon::timelines_are_exact_soon;
+pub use exact_soon::{
+    timelines_are_exact_soon, timelines_bound_receipts_soon, timelines_read_exactly_soon,
+};
 pub use looks::looks_suffice;
 pub use moments::times_bound_moments;
 pub use right::timelines_read_right;
