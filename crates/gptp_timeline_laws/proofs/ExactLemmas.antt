@@ -11,7 +11,6 @@ use Rattle.gptp_accuracy.proofs.ReadingLemmas.{reading_errors_are_of_ways}
 use Rattle.gptp_accuracy.proofs.WayLemmas.{one_way}
 use Rattle.gptp_error_laws.specs.TimeError.{reading_error_after, reading_error_at}
 use Rattle.gptp_error_laws.specs.TimeError.{reading_error as way_error}
-use Rattle.gptp_graph.specs.Snapshot.{Snapshot}
 use Rattle.gptp_invariants.proofs.ChoiceCalmKeptLemmas.{acts_keep}
 use Rattle.gptp_links.specs.declared.bounds.Bounds.{Bounds}
 use Rattle.gptp_lists.specs.Members.{In}

@@ -1,13 +1,11 @@
 -- Receipts of a stretch are exact from the time on that its time errors say.
-use Rattle.std.proofs.Common.{◌≡◌, ◌==◌, ◌≤◌, ◌<◌, ◌+◌, ◌*◌, ◌^◌, ◌-ℤ◌, ℕ, suc, max, ℤ, Bool, true, false, List, [], ◌∷◌, ◌++◌, nat_le, Option, Some, None, option_map, unsigned_abs, refl, sym, ap, subst, ◌∙◌, append-nil, arith}
-use Rattle.std.specs.Option.{option_map_or}
-use Rattle.std.proofs.lemmas.Bool.Decides.{nat_tests}
+use Rattle.std.proofs.Common.{◌≡◌, ◌≤◌, ◌<◌, ◌+◌, ◌*◌, ◌^◌, ◌-ℤ◌, ℕ, suc, max, ℤ, true, List, [], nat_le, Option, Some, None, option_map, unsigned_abs, refl, sym, ap, subst, ◌∙◌, append-nil, arith}
 use Rattle.std.proofs.lemmas.Option.{none-some, same_Some}
 use Rattle.gptp_accuracy.specs.Settlings.{settling_of}
 use Rattle.gptp_accuracy.specs.TimeErrors.{AreTimeErrors, exact_from}
 use Rattle.gptp_graph.specs.Best.{IsBest}
 use Rattle.gptp_graph.specs.Distance.{IsDistance, IsNear}
-use Rattle.gptp_graph.specs.Snapshot.{IsWellFormed, Snapshot, System}
+use Rattle.gptp_graph.specs.Snapshot.{IsWellFormed, Snapshot}
 use Rattle.gptp_how_soon.specs.Times.{settling_times}
 use Rattle.gptp_how_soon.specs.declared.bounds.Settling.{Settling}
 use Rattle.gptp_how_soon_laws.specs.Exact.{IsExact}
@@ -43,7 +41,7 @@ use Rattle.gptp_settling_time.proofs.ExactInTurnLemmas.{IsCarried}
 use Rattle.gptp_settling_time.proofs.MomentLemmas.{last_by}
 use Rattle.gptp_setup.specs.SettlingParams.{largest_interval}
 use Rattle.gptp_sync_machine.specs.Tree.{IsWayTo}
-use Rattle.gptp_system.specs.State.{clock, local_time, SystemState}
+use Rattle.gptp_system.specs.State.{local_time, SystemState}
 use Rattle.gptp_theorem.specs.AlikeLaws.{AreAlike}
 use Rattle.gptp_theorem.specs.PlayedLaws.{IsPlayable}
 use Rattle.gptp_theorem.proofs.AlikeLemmas.{distance, turned}

@@ -1,5 +1,5 @@
 -- What systems read is exact from the time on that the time errors of a stretch say.
-use Rattle.std.proofs.Common.{◌≡◌, ◌≤◌, ◌<◌, ◌+◌, ◌*◌, ◌^◌, ℕ, suc, max, Bool, List, [], ◌∷◌, nat_le, Option, Some, None, inl, inr, refl, sym, subst, ◌∙◌, arith}
+use Rattle.std.proofs.Common.{◌≡◌, ◌≤◌, ◌<◌, ◌+◌, ◌*◌, ◌^◌, ℕ, suc, max, Bool, List, [], ◌∷◌, nat_le, Option, Some, inl, inr, refl, sym, subst, ◌∙◌, arith}
 use Rattle.gptp_accuracy.specs.TimeErrors.{AreTimeErrors}
 use Rattle.gptp_accuracy.specs.declared.errors.TimeErrors.{TimeErrors}
 use Rattle.gptp_error_laws.specs.TimeError.{reading_error_at}
