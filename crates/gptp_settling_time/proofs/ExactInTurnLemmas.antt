@@ -170,8 +170,8 @@ module _ (d : DocumentState) (playable : IsPlayable d) (all : List Timed) (calm 
   carries_right w is on shown =
       record { is = settled_from w is.so on shown; right = right w is.so on shown; carries = is.carries on shown }
 
--- Such an act was done in a world in which time is carried right from when it has settled on, as if that had been changed
--- last at another time.
+-- An act was done in a world in which time is carried right from when it has settled on, where that is seen as if its
+-- last change had been at another time.
 pub record IsCarried {F : Type 0} (answers : Bounds → ℕ → F → Option ℕ → F → Type 0) (p : SettlingParams)
     (settled : ℕ) (t : ActTrace) : Type 0 where
   pub since : ℕ

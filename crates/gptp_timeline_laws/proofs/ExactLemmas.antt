@@ -313,7 +313,8 @@ module _ {F : Type 0} (answers : Bounds → ℕ → F → Option ℕ → F → T
         → NoReads name xs → Tracked (readings_after acts rs) (reads_over (Some from) rs xs acts) to after
     courses_track before [] to last rs xs fate fate_after w after are early less past fits keeps k none =
         let kept = subst (λ fs. Keeps answers d playable names fs w) (sym (are ∙ append-nil before)) keeps in
-        let on = passes_track to acts fate fate_after w w k.between rs xs early (λ t member. member) (λ n time. refl) k.ahead k.passes kept
+        let on = passes_track to acts fate fate_after w w k.between rs xs early (λ t member. member)
+        (λ n time. refl) k.ahead k.passes kept
         (λ r there. absurd (none-some r (sym none ∙ there))) in record {
           base = on.base;
           same = λ n time. ap (λ v. clock_time n time v) k.is ∙ on.same n time;

@@ -137,8 +137,8 @@ pub record IsBounded (name : ℕ) (error_then : ℕ → ℕ) (base : WorldState)
   pub each : (time : ℕ) (error : ℤ) → last ≤ time → reading_error time base name kept ≡ Some error
       → unsigned_abs error ≤ error_then (time - last)
 
--- An act in a world is right for a system: the system doesn't take over by it, and a receipt of it leaves a reading that
--- is bounded so.
+-- An act in a world is right for a system: the system doesn't take over by it, and a receipt of it leaves a reading
+-- that is bounded so.
 pub record IsRight (name : ℕ) (error_then : ℕ → ℕ) (t : ActTrace) (w : WorldState) : Type 0 where
   pub no_takeover : (u : NewReading) → u.clock ≡ name → IsTakenOver t.after u → ⊥
   pub bounds : (u : NewReading) → u.clock ≡ name → IsReceived t.told.done t.after u → (base : WorldState)
@@ -305,7 +305,8 @@ module _ {F : Type 0} (answers : Bounds → ℕ → F → Option ℕ → F → T
         late in
         let bounded = paths_bounded answers d playable names events g name from bound has until t fate drawn w happens
         keeps late in
-        let close = near answers d playable names events g name from bound has until t fate drawn w happens keeps late in
+        let close = near answers d playable names events g name from bound has until t fate drawn w happens keeps
+        late in
         right_for name has.way has.steps t w (record {
           well = well answers d playable names events g name from bound has until t fate drawn w happens keeps late;
           far = far answers d playable names events g name from bound has until t fate drawn w happens keeps late;
