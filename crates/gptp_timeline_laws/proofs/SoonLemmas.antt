@@ -164,10 +164,10 @@ module _ {F : Type 0} (answers : Bounds → ℕ → F → Option ℕ → F → T
           let (settled, leaves) =
           choice_bounds_hold answers short p.from choice (suc p.to) p.to fate start p.after run.ts a fit unfolds among
           bounded none late early in
-          let keeps = kept answers short p.from choice (suc p.to) p.to fate start p.after run.ts a fit unfolds among bounded
-          none (omega (arith, late)) early in
-          let same = courses_after answers p.from p.to p.events p.acts run.fate_then run.drawn run.begins p.after run.early
-          run.own a member (omega (arith, late)) in
+          let keeps = kept answers short p.from choice (suc p.to) p.to fate start p.after run.ts a fit unfolds among
+          bounded none (omega (arith, late)) early in
+          let same = courses_after answers p.from p.to p.events p.acts run.fate_then run.drawn run.begins p.after
+          run.early run.own a member (omega (arith, late)) in
           let shows = leaves (subst AllNear same near) in
           let world = keeps.before.claim.world in
           let well = stands_well a.before world.sound world.between world.encodable in

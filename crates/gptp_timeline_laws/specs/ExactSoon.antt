@@ -35,8 +35,8 @@ TimelinesAreExactSoon {F} answers = (d : DocumentState) (until : ℕ) (options :
 
 -- ---- what is read
 
--- At a moment of a stretch at which a system received time last at that time or later, what it reads is within the error
--- for so long after a receipt.
+-- At a moment of a stretch at which a system received time last at that time or later, what it reads is within the
+-- error for so long after a receipt.
 abbrev pub ReceiptsBoundSoon : WorldState → Carried → List StretchTrace → Type 0
 ReceiptsBoundSoon start first passages = (p : StretchTrace) (w : WorldState) (c : Carried) (rs : List SystemReading)
     (errors : TimeErrors) (name from bound last time : ℕ) (read source : ℤ) (most : ℕ) (moment : Moment p time)

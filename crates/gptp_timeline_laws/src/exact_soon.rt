@@ -1,6 +1,7 @@
 //! From when on what systems receive, and what they read, is exact, as `accuracy` lines say it.
 
-ghost use Rattle.gptp_timeline_laws.specs.ExactSoon.{TimelinesAreExactSoon, TimelinesBoundReceiptsSoon, TimelinesReadExactlySoon};
+ghost use Rattle.gptp_timeline_laws.specs.ExactSoon.{TimelinesAreExactSoon};
+ghost use Rattle.gptp_timeline_laws.specs.ExactSoon.{TimelinesBoundReceiptsSoon, TimelinesReadExactlySoon};
 
 use gptp_links::Fate;
 
@@ -16,8 +17,8 @@ pub fn timelines_bound_receipts_soon<F: Fate>()
     ensures { TimelinesBoundReceiptsSoon F.answers }
 {}
 
-/// What a system reads in such a stretch from its first receipt at that time or later on is off by at most the error for
-/// the longest time from one such receipt to the next, or to the end of the stretch.
+/// What a system reads in such a stretch from its first receipt at that time or later on is off by at most the error
+/// for the longest time from one such receipt to the next, or to the end of the stretch.
 pub fn timelines_read_exactly_soon<F: Fate>()
     ensures { TimelinesReadExactlySoon F.answers }
 {}
