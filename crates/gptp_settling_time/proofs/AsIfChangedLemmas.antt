@@ -170,7 +170,8 @@ module _ (since : ℕ) where
 
   -- ---- offsets
 
-  shows_so : {number : ℕ} {w : WorldState} {s : SystemState} → ShowsLive number w s → ShowsLive number (changed_at since w) s
+  pub shows_so : {number : ℕ} {w : WorldState} {s : SystemState} → ShowsLive number w s
+      → ShowsLive number (changed_at since w) s
   shows_so k = record {
     place = k.place;
     station = k.station;

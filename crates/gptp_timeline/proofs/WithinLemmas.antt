@@ -75,16 +75,16 @@ pub size_within : (bound : ℕ) (offset ahead : ℤ) → AreWithin bound offset 
 size_within bound offset ahead within = omega (arith, ints, within.low, within.high)
 
 -- It is that of the offset of a live system, by its clock and that of the live system whose clock its root names.
-record HasError (name : ℕ) (t : ActTrace) (error : ℤ) : Type 0 where
-  own : SystemState
-  lives : live_system name t.after ≡ Some own
-  offset : ℤ
-  left : own.offset ≡ Some offset
-  leader : SystemState
-  leads : live_system (clock_of own.root) t.after ≡ Some leader
-  is : error ≡ offset -ℤ (local_time own (at_of t) -ℤ local_time leader (at_of t))
+pub record HasError (name : ℕ) (t : ActTrace) (error : ℤ) : Type 0 where
+  pub own : SystemState
+  pub lives : live_system name t.after ≡ Some own
+  pub offset : ℤ
+  pub left : own.offset ≡ Some offset
+  pub leader : SystemState
+  pub leads : live_system (clock_of own.root) t.after ≡ Some leader
+  pub is : error ≡ offset -ℤ (local_time own (at_of t) -ℤ local_time leader (at_of t))
 
-has_error : (name : ℕ) (t : ActTrace) (error : ℤ) → error_at name t ≡ Some error → HasError name t error
+pub has_error : (name : ℕ) (t : ActTrace) (error : ℤ) → error_at name t ≡ Some error → HasError name t error
 has_error name t error is = by_own (live_system name t.after) refl is
   where
     off_by : SystemState → ℤ → SystemState → ℤ
@@ -119,7 +119,7 @@ has_error name t error is = by_own (live_system name t.after) refl is
 -- ---- clocks
 
 -- what the clock of a live system shows
-shown_by : (p : SettlingParams) (w : WorldState) → KeepsAll p w → (name : ℕ) (s : SystemState)
+pub shown_by : (p : SettlingParams) (w : WorldState) → KeepsAll p w → (name : ℕ) (s : SystemState)
     → live_system name w ≡ Some s
     → (time : ℕ) → local_time s time
     ≡ local_clock ((follower_parts p.params w).phase name) ((follower_parts p.params w).drift name) time
