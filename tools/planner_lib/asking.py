@@ -15,9 +15,9 @@ from .program import NOT_BUILT
 from .refusal import NotBuilt, Refused
 
 _LAUNCHER = Path(__file__).resolve().parents[2] / "gptp_sim"
-# the options that take a time; those of bounds and of detection are here when the program has them
-TIMES = ("--until", "--at", "--hold", "--reads", "--max-choice", "--max-holdover", "--max-error", "--max-time",
-         "--max-apart", "--max-step", "--max-first")
+# the options that take a time; that of detection is here when the program has it
+TIMES = ("--until", "--at", "--hold", "--reads", "--max-choice", "--max-holdover", "--max-error", "--max-bound",
+         "--max-time", "--max-apart", "--max-step", "--max-first")
 _CLOCK = re.compile(r"[0-9a-fA-F]{16}")
 
 

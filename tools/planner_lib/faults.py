@@ -13,7 +13,8 @@ from .texts import Line, read_line
 
 _WORDS = ("choice", "holdover", "error", "without", "roots", "alone")
 _TIMES = ("time", "apart", "step", "first")
-# what a verdict may name, in the order in which it looks; cut, astray and bound the program doesn't have yet
+_BOUNDS = ("bound", "roles_bound")
+# what a verdict may name, in the order in which it looks; cut and astray the program doesn't have yet
 VERDICTS = (*_WORDS, "cut", "astray", "bound", *_TIMES)
 _ORDER = ("without", "roots", "holdover", "choice", "alone")
 
@@ -70,9 +71,11 @@ def measure(line: Line, word: str) -> int | Decimal | None:
 
 
 def size(line: Line, word: str) -> int | Decimal:
-    """A measure for comparing: none is below 0."""
+    """A measure for comparing: none is below 0, but a bound that is none above all."""
     value = measure(line, word)
-    return -1 if value is None else value
+    if value is None:
+        return Decimal("Infinity") if word in _BOUNDS else -1
+    return value
 
 
 def read(lines: Sequence[Line], source: str) -> Faults:
@@ -124,7 +127,7 @@ def merge(parts: Sequence[tuple[str, Faults]], counts: range) -> Faults:
     cases = tuple(sorted((case for _, part in parts for case in part.cases), key=Case.rank))
     _whole(sorted(case.number for case in cases), parts, counts)
     head = _line("cases", f"cases {len(cases)} {heads.pop()}")
-    worst = _worst("worst", [part.worst for _, part in parts], _WORDS)
+    worst = _worst("worst", [part.worst for _, part in parts], _WORDS, _BOUNDS)
     times = [part.worst_times for _, part in parts if part.worst_times]
     return Faults(head, cases, worst, _verdict([part for _, part in parts]),
                   _worst("worst_times", times, _TIMES) if len(times) == len(parts) else None)
@@ -165,11 +168,17 @@ def _could_have(case: int, parts: Sequence[tuple[str, Faults]], counts: range) -
     return sorted(could - there.keys())
 
 
-def _worst(kind: str, lines: Sequence[Line], words: Sequence[str]) -> Line:
-    """The line of a kind with the greatest of each measure of some."""
-    greatest = {word: max(lines, key=lambda line: size(line, word))[word] for word in words}
-    told = " ".join(f"{word} {'none' if value is None else value}" for word, value in greatest.items())
-    return _line(kind, f"{kind} {told}")
+def _worst(kind: str, lines: Sequence[Line], words: Sequence[str], bounds: Sequence[str] = ()) -> Line:
+    """The line of a kind with the greatest of each measure of some, and of each bound behind the word `bound`."""
+    told = [part for word in words for part in (word, _greatest(lines, word))]
+    told += ["bound"] * bool(bounds) + [_greatest(lines, word) for word in bounds]
+    return _line(kind, " ".join([kind, *told]))
+
+
+def _greatest(lines: Sequence[Line], word: str) -> str:
+    """The greatest of a measure of some lines, as it is written."""
+    value = max(lines, key=lambda line: size(line, word))[word]
+    return "none" if value is None else str(value)
 
 
 def _verdict(parts: Iterable[Faults]) -> Line:

@@ -74,8 +74,8 @@ def kind(text: str) -> str:
 
 
 _LONGEST = 10**15
-# the options of `faults` that a part takes as the whole does; those of power, of detection and of bounds are here when
-# the program has them
+# the options of `faults` that a part takes as the whole does; those of power and of detection are here when the program
+# has them
 FAULTS_OPTIONS: dict[str, Callable[[str], int | str]] = {
     "--seeds": whole(1, 1000),
     "--moments": whole(1, 1000),
@@ -88,6 +88,7 @@ FAULTS_OPTIONS: dict[str, Callable[[str], int | str]] = {
     "--max-without": whole(0, _LONGEST),
     "--max-roots": whole(0, _LONGEST),
     "--max-alone": whole(0, _LONGEST),
+    "--max-bound": time(0, _LONGEST),
     "--max-time": time(0, _LONGEST),
     "--max-apart": time(0, _LONGEST),
     "--max-step": time(0, _LONGEST),

@@ -56,5 +56,5 @@ class Readable:
         elif self._units and _NUMBER.fullmatch(word):
             if span.name in _MOMENTS:
                 yield (span.begin, span.end), f"{in_seconds(int(word))}s"
-            elif before and before[0] in _BEFORE:
+            elif span.name == "roles_bound" or before and before[0] in _BEFORE:
                 yield (span.begin, span.end), in_units(Decimal(word))

@@ -13,7 +13,8 @@ from .refusal import Refused
 Value = str | int | Decimal | bool | None | list[str]
 
 _COUNTS = "without WITHOUT roots ROOTS alone ALONE"
-_MEASURES = f"holdover HOLDOVER HOLDOVER_CLOCK error ERROR ERROR_CLOCK {_COUNTS} bound BOUND"
+_BOUNDS = "bound BOUND ROLES_BOUND"
+_MEASURES = f"holdover HOLDOVER HOLDOVER_CLOCK error ERROR ERROR_CLOCK {_COUNTS} {_BOUNDS}"
 _LINK = "A_CLOCK A_PORT B_CLOCK B_PORT"
 _SHOWN = "root ROOT_ID steps STEPS gm GM slave SLAVE offset OFFSET"
 _BY = "[ by FIELD FIRST SECOND]"
@@ -64,7 +65,7 @@ _TEMPLATES = (
     ("down_times", f"down_times {_TIMES}"),
     ("back_times", f"back_times {_TIMES}"),
     ("follow", "follow ROOT_ID SYSTEMS"),
-    ("worst", f"worst choice CHOICE holdover HOLDOVER error ERROR {_COUNTS}"),
+    ("worst", f"worst choice CHOICE holdover HOLDOVER error ERROR {_COUNTS} {_BOUNDS}"),
     ("worst_times", "worst_times time TIME apart APART step STEP first FIRST"),
     # lint
     ("unknown", "unknown PLACE key KEY[ near NEAR]"),

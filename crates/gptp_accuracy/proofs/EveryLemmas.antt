@@ -23,7 +23,7 @@ use Rattle.gptp_error_laws.specs.TimeError.{WayLink, Way, time_error}
 use Rattle.gptp_error_laws.specs.WayLaws.{longer}
 use Rattle.gptp_accuracy.specs.AccuracyText.{accuracy_lines, error_is_exceeded}
 use Rattle.gptp_accuracy.specs.Laws.{EachIsExact}
-use Rattle.gptp_accuracy.specs.TimeErrors.{AreTimeErrors, HasByWay, IsExact, IsFrom, exact_from, greatest_age, root_is_capable}
+use Rattle.gptp_accuracy.specs.TimeErrors.{AreTimeErrors, HasByWay, IsExact, exact_from, greatest_age, root_is_capable}
 use Rattle.gptp_accuracy.specs.Readings.{ReadingTerms, reading_terms}
 use Rattle.gptp_accuracy.specs.Ways.{HasDrift, IsLinkTo, IsWay, root_way}
 use Rattle.gptp_accuracy.specs.declared.errors.SystemError.{SystemError}
@@ -156,10 +156,6 @@ module _ (n : NetworkState) (events : List Timed) (g : Snapshot) (stands : Stand
         ];
       }
 
-  from_exists : Dec (IsCalm n events) → (from : Option ℕ) × IsFrom n events g from
-  from_exists (yes calm) = (Some (exact_from n events g), inl (calm, refl))
-  from_exists (no restless) = (None, inr (restless, refl))
-
 -- ---- the errors of a document
 
 -- a list of systems as it stands in memory
@@ -181,7 +177,7 @@ errors_exist d until g network stands wf =
     let n = d.network in
     let events = events_by until d.events in
     let all = all_exist n events g stands wf (clocks g) (λ v live. live) in
-    let (from, is_from) = from_exists n events g stands wf (calm_dec n events) in
+    let from : Option ℕ = exact_from d until in
     let many : length all.systems ≡ length g.systems =
     sym (length-map all.systems clock_in) ∙ ap length all.clocks_are
     ∙ length-map g.systems (λ (s : System). s.clock) in
@@ -198,7 +194,7 @@ errors_exist d until g network stands wf =
         is = stands;
         network = wf;
         time = refl;
-        from = is_from;
+        from = refl;
         age = refl;
         systems = record { clocks = all.clocks_are; each = all.each };
       },

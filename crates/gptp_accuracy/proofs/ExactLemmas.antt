@@ -1,5 +1,5 @@
 -- The systems of the settled choice with their time errors, line by line.
-use Rattle.std.proofs.Common.{◌≡◌, inl, inr, ℕ, ◌+◌, Bool, true, false, not, ◌&&◌, if◌then◌else◌, List, [], ◌∷◌, ◌++◌, length, map, Option, Some, None, is_some, slice_get, refl, sym, ap, ap₂, subst, ◌∙◌, arith}
+use Rattle.std.proofs.Common.{◌≡◌, ◌↔◌, inl, inr, ℕ, ◌+◌, Bool, IsTrue, true, false, not, ◌&&◌, if◌then◌else◌, List, [], ◌∷◌, ◌++◌, length, map, Option, Some, None, slice_get, refl, sym, ap, ap₂, subst, ◌∙◌, arith}
 use Rattle.std.proofs.lemmas.List.{length-map, map-append, take_all}
 use Rattle.std.proofs.lemmas.Option.{same_Some}
 use Rattle.gptp_lists.proofs.MappedLemmas.{mapped_there, taken}
@@ -9,6 +9,7 @@ use Rattle.gptp_graph.specs.Distance.{IsDistance}
 use Rattle.gptp_graph.specs.Order.{IsRising}
 use Rattle.gptp_graph.specs.SettledChoice.{IsBestIdentity, IsSettledChoice}
 use Rattle.gptp_graph.specs.Snapshot.{System, Snapshot, clocks}
+use Rattle.gptp_scenario.specs.Calm.{IsCalm}
 use Rattle.gptp_scenario.specs.Network.{NetworkState}
 use Rattle.gptp_scenario.specs.declared.change.Timed.{Timed}
 use Rattle.gptp_checker.proofs.PlaceLemmas.{AreLinesFor, lines_of_passed}
@@ -16,7 +17,7 @@ use Rattle.gptp_error_laws.specs.TimeError.{Way, time_error}
 use Rattle.gptp_accuracy.specs.Passing.{AreNearWithin, IsDoneAt}
 use Rattle.gptp_accuracy.specs.Readings.{ReadingTerms, reading_terms}
 use Rattle.gptp_accuracy.specs.Sums.{AreSummed, SumsAreWithin, terms_of}
-use Rattle.gptp_accuracy.specs.TimeErrors.{AreEntries, AreExact, HasByWay, IsEntry, IsErrorOf, IsFrom, IsReadingOf, IsSystemOf, if_promised, root_is_capable}
+use Rattle.gptp_accuracy.specs.TimeErrors.{AreEntries, AreExact, HasByWay, IsEntry, IsErrorOf, IsReadingOf, IsSystemOf, if_promised, root_is_capable}
 use Rattle.gptp_accuracy.specs.Ways.{IsWay}
 use Rattle.gptp_accuracy.specs.declared.errors.SystemError.{SystemError}
 use Rattle.gptp_accuracy.specs.declared.sums.Sums.{Sums}
@@ -52,9 +53,6 @@ line_clocks_are (s ∷ systems) [] h = absurd h
 line_clocks_are (s ∷ systems) (line ∷ lines) h =
     ap₂ (λ (c : ℕ) (cs : List ℕ). c ∷ cs) h.0.clock (line_clocks_are systems lines h.1)
 
-none_some : {A : Type 0} {a : A} → None ≡ Some a → ⊥
-none_some e = absurd cc
-
 module _ (n : NetworkState) (events : List Timed) (g : Snapshot) (lines : List SystemLine) (sums : List Sums)
     (choice : IsSettledChoice g lines)
     (done : (place : ℕ) → IsDoneAt n events g lines sums place) where
@@ -74,53 +72,50 @@ module _ (n : NetworkState) (events : List Timed) (g : Snapshot) (lines : List S
         )
 
     by_line : (s : SystemError) (line : SystemLine) (place : ℕ) (to : Sums) → slice_get lines place ≡ Some line
-        → slice_get sums place ≡ Some to → (calm : Bool) → IsSystemOf calm line to s → (from : Option ℕ)
-        → IsFrom n events g from → (far : Bool) → line.far ≡ far → (capable : Bool)
+        → slice_get sums place ≡ Some to → (shown : Bool) → IsSystemOf shown line to s → (calm : Bool)
+        → IsTrue calm ↔ IsCalm n events → (far : Bool) → line.far ≡ far → (capable : Bool)
         → root_is_capable line.root ≡ capable → HasByWay n events g s by_way
-        (if is_some from && (not far && capable) then Some (by_sums to) else None)
-    by_line s line place to there stands calm is None (inl from) far is_far capable known =
-        absurd (none_some from.1)
-    by_line s line place to there stands calm is None (inr from) far is_far capable known = inl from.0
-    by_line s line place to there stands calm is (Some t) from true is_far capable known =
+        (if calm && (not far && capable) then Some (by_sums to) else None)
+    by_line s line place to there stands shown is false decides far is_far capable known =
+        inl (λ calm. let clash : false ≡ true = decides.1 calm in absurd cc)
+    by_line s line place to there stands shown is true decides true is_far capable known =
         let above = (choice.settled line (In-slice_get line lines place there)).far is_far in
         inr (inl (omega (arith, is.steps, above)))
-    by_line s line place to there stands calm is (Some t) from false is_far false known =
+    by_line s line place to there stands shown is true decides false is_far false known =
         inr (inr (ap root_is_capable is.root ∙ known))
-    by_line s line place to there stands calm is (Some t) (inr from) false is_far true known =
-        absurd (none_some (sym from.1))
-    by_line s line place to there stands calm is (Some t) (inl from) false is_far true known =
+    by_line s line place to there stands shown is true decides false is_far true known =
         let below = (choice.settled line (In-slice_get line lines place there)).near is_far in (
-          from.0,
+          decides.0 refl,
           omega (arith, is.steps, below),
           ap root_is_capable is.root ∙ known,
           summed_up s line place to there stands is.clock is.steps is_far,
         )
 
     -- what a system has
-    by_entry : (from : Option ℕ) (s : SystemError) → IsFrom n events g from → (e : IsEntry (is_some from) lines sums s)
-        → HasByWay n events g s by_way (if_promised (is_some from) e.line.far e.line.root (by_sums e.to))
-    by_entry from s is_from e =
-        by_line s e.line e.place e.to e.there e.summed (is_some from) e.is from is_from e.line.far refl
+    by_entry : (calm : Bool) (s : SystemError) → IsTrue calm ↔ IsCalm n events → (e : IsEntry calm lines sums s)
+        → HasByWay n events g s by_way (if_promised calm e.line.far e.line.root (by_sums e.to))
+    by_entry calm s decides e =
+        by_line s e.line e.place e.to e.there e.summed calm e.is calm decides e.line.far refl
         (root_is_capable e.line.root) refl
 
-  error_is : (from : Option ℕ) (s : SystemError) → IsFrom n events g from → IsEntry (is_some from) lines sums s
+  error_is : (calm : Bool) (s : SystemError) → IsTrue calm ↔ IsCalm n events → IsEntry calm lines sums s
       → IsErrorOf n events g s s.error
-  error_is from s is_from e =
+  error_is calm s decides e =
       subst (IsErrorOf n events g s) (sym e.is.error)
-      (by_entry time_error (λ (k : Sums). k.error) (λ links w to summed. summed.sums.error) from s is_from e)
+      (by_entry time_error (λ (k : Sums). k.error) (λ links w to summed. summed.sums.error) calm s decides e)
 
-  reading_is : (from : Option ℕ) (s : SystemError) → IsFrom n events g from → IsEntry (is_some from) lines sums s
+  reading_is : (calm : Bool) (s : SystemError) → IsTrue calm ↔ IsCalm n events → IsEntry calm lines sums s
       → IsReadingOf n events g s s.reading
-  reading_is from s is_from e =
+  reading_is calm s decides e =
       subst (IsReadingOf n events g s) (sym e.is.reading)
-      (by_entry reading_terms terms_of (λ links w to summed. terms_are n.params w to links summed) from s is_from e)
+      (by_entry reading_terms terms_of (λ links w to summed. terms_are n.params w to links summed) calm s decides e)
 
 -- the systems by their lines
 pub are_exact : (n : NetworkState) (events : List Timed) (g : Snapshot) (lines : List SystemLine) (sums : List Sums)
-    (from : Option ℕ) (systems : List SystemError) → IsRising (clocks g) → IsRising (line_clocks lines)
-    → IsSettledChoice g lines → ((place : ℕ) → IsDoneAt n events g lines sums place) → IsFrom n events g from
-    → AreEntries (is_some from) lines sums (length lines) systems → AreExact n events g systems
-are_exact n events g lines sums from systems rising lines_rising choice done is_from entries = record {
+    (calm : Bool) (systems : List SystemError) → IsRising (clocks g) → IsRising (line_clocks lines)
+    → IsSettledChoice g lines → ((place : ℕ) → IsDoneAt n events g lines sums place) → IsTrue calm ↔ IsCalm n events
+    → AreEntries calm lines sums (length lines) systems → AreExact n events g systems
+are_exact n events g lines sums calm systems rising lines_rising choice done decides entries = record {
   clocks = entries.clocks
       ∙ take_all (length lines) (line_clocks lines) (omega (arith, length-map lines (λ (l : SystemLine). l.clock)))
       ∙ line_clocks_are g.systems lines (lines_of_passed g lines rising lines_rising choice.systems);
@@ -134,8 +129,8 @@ are_exact n events g lines sums from systems rising lines_rising choice done is_
             (subst (λ v. IsDistance g v e.line.steps) (sym e.is.clock) settled.steps);
         near = λ near. let below = settled.near (sym e.is.far ∙ near) in omega (arith, e.is.steps, below);
         far = λ far. let above = settled.far (sym e.is.far ∙ far) in omega (arith, e.is.steps, above);
-        error = error_is n events g lines sums choice done from s is_from e;
-        reading = reading_is n events g lines sums choice done from s is_from e;
+        error = error_is n events g lines sums choice done calm s decides e;
+        reading = reading_is n events g lines sums choice done calm s decides e;
       };
 }
 

@@ -15,7 +15,7 @@ use Rattle.gptp_error_laws.specs.TimeError.{Way, time_error}
 use Rattle.gptp_accuracy.specs.AccuracyText.{accuracy_time_line, accuracy_verdict, accuracy_verdict_lines, error_is_exceeded, first_above, system_line}
 use Rattle.gptp_accuracy.specs.Laws.{OneAccuracy}
 use Rattle.gptp_accuracy.specs.Readings.{ReadingTerms, reading_terms}
-use Rattle.gptp_accuracy.specs.TimeErrors.{AreExact, AreTimeErrors, HasByWay, IsErrorOf, IsExact, IsFrom, IsReadingOf, greatest_age}
+use Rattle.gptp_accuracy.specs.TimeErrors.{AreExact, AreTimeErrors, HasByWay, IsErrorOf, IsExact, IsReadingOf, greatest_age}
 use Rattle.gptp_accuracy.specs.declared.errors.SystemError.{SystemError}
 use Rattle.gptp_accuracy.specs.declared.errors.TimeErrors.{TimeErrors}
 use Rattle.gptp_accuracy.proofs.WayLemmas.{HasOneEach, one_each, one_way_of}
@@ -103,12 +103,6 @@ module _ (n : NetworkState) (events : List Timed) (g : Snapshot) (network : HasO
         (exact_once s t clock (a s (inl refl)) (b t (inl refl)))
         (all_once ss ts rest (λ k member. a k (inr member)) (λ k member. b k (inr member)))
 
-    from_once : (one other : Option ℕ) → IsFrom n events g one → IsFrom n events g other → one ≡ other
-    from_once one other (inl a) (inl b) = a.1 ∙ sym b.1
-    from_once one other (inl a) (inr b) = absurd (b.0 a.0)
-    from_once one other (inr a) (inl b) = absurd (a.0 b.0)
-    from_once one other (inr a) (inr b) = a.1 ∙ sym b.1
-
 -- what is said of a document at a time: the last time of events, from when on errors hold, how old the last receipt is
 -- at most, and the errors of all systems
 pub record AreSameErrors (t u : TimeErrors) : Type 0 where
@@ -126,9 +120,7 @@ errors_once d until t u network a b =
     let same : b.snapshot ≡ g = one_snapshot d until b.snapshot g b.is a.is in
     let exact : AreExact n events g u.systems.items =
     subst (λ h. AreExact n events h u.systems.items) same b.systems in
-    let from =
-    from_once n events g network a.network t.from u.from a.from (subst (λ h. IsFrom n events h u.from) same b.from) in
-    record {
+    let from = a.from ∙ sym b.from in record {
       time = a.time ∙ sym b.time;
       from = from;
       age = a.age ∙ ap (λ (f : Option ℕ). greatest_age n events (is_some f)) from ∙ sym b.age;

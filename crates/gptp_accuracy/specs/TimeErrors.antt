@@ -1,20 +1,21 @@
 -- How exact the time is that each live system gets, after the events of a document up to a time (profile).
-use Rattle.std.specs.Prelude.{◌≡◌, ◌⊎◌, ◌<◌, ◌≤◌, ℕ, ◌+◌, ◌*◌, ◌/◌, ◌^◌, Bool, true, false, not, ◌&&◌, ◌==◌, nat_lt, if◌then◌else◌, List, take, Option, Some, None, is_some, map, slice_get}
+use Rattle.std.specs.Prelude.{◌≡◌, ◌⊎◌, ◌<◌, ◌≤◌, ℕ, ◌/◌, ◌^◌, Bool, true, false, not, ◌&&◌, ◌==◌, nat_lt, if◌then◌else◌, List, take, Option, Some, None, is_some, map, slice_get}
+use Rattle.std.specs.Option.{option_map}
 use Rattle.gptp_lists.specs.Members.{In}
 use Rattle.gptp_graph.specs.Distance.{IsDistance}
 use Rattle.gptp_graph.specs.Labelling.{SystemLine, line_clocks}
-use Rattle.gptp_graph.specs.PathBound.{path_bound}
 use Rattle.gptp_graph.specs.SettledChoice.{IsBestIdentity}
 use Rattle.gptp_graph.specs.Snapshot.{Snapshot, IsWellFormed, clocks}
 use Rattle.gptp_scenario.specs.Calm.{IsCalm, last_change}
-use Rattle.gptp_scenario.specs.Network.{NetworkState, pace_of}
-use Rattle.gptp_scenario.specs.SettlingTime.{settling_span_with}
+use Rattle.gptp_scenario.specs.Network.{NetworkState}
 use Rattle.gptp_scenario.specs.SyncWait.{sync_paths, sync_wait}
 use Rattle.gptp_scenario.specs.declared.change.Timed.{Timed}
 use Rattle.gptp_network.specs.Document.{DocumentState}
 use Rattle.gptp_network.specs.Snapshot.{IsSnapshot, events_by}
 use Rattle.gptp_error_laws.specs.TimeError.{Way, time_error}
+use Rattle.gptp_how_soon.specs.declared.bounds.Settling.{Settling}
 use Rattle.gptp_accuracy.specs.Readings.{ReadingTerms, reading_terms}
+use Rattle.gptp_accuracy.specs.Settlings.{settling_of}
 use Rattle.gptp_accuracy.specs.Sums.{terms_of}
 use Rattle.gptp_accuracy.specs.Ways.{IsWay}
 use Rattle.gptp_accuracy.specs.declared.errors.SystemError.{SystemError}
@@ -25,21 +26,14 @@ use Rattle.gptp_accuracy.specs.declared.sums.Sums.{Sums}
 abbrev pub root_is_capable : ℕ → Bool
 root_is_capable root = nat_lt (root / 2 ^ 104) 255
 
--- From when on the errors hold after these events, where the network is calm then: it has settled, and what each system
--- uses has come down the settled tree, at most a threshold and a residence for each system of a path.
-abbrev pub exact_from : NetworkState → List Timed → Snapshot → ℕ
-exact_from n events g =
-    last_change events + settling_span_with (pace_of n) (sync_paths n events) (path_bound g)
-    + path_bound g * (n.params.threshold + n.params.residence)
-
--- that time, or none where the network isn't calm
-abbrev pub IsFrom : NetworkState → List Timed → Snapshot → Option ℕ → Type 0
-IsFrom n events g from =
-    (IsCalm n events × (from ≡ Some (exact_from n events g))) ⊎ ((IsCalm n events → ⊥) × (from ≡ None))
+-- From when on the errors of a document hold after its events up to a time: from when on it is exact after the last of
+-- them. None where it isn't calm then.
+abbrev pub exact_from : DocumentState → ℕ → Option ℕ
+exact_from d until =
+    option_map (λ (s : Settling). s.exact_from) (settling_of d (last_change (events_by until d.events)))
 
 -- How old the last receipt of a system is at most, from when on a network that is calm then has settled: for how long
--- it
--- waits for the next. It is known where what the Slave port holds lapses for want of Sync.
+-- it waits for the next. It is known where what the Slave port holds lapses for want of Sync.
 abbrev pub greatest_age : NetworkState → List Timed → Bool → Option ℕ
 greatest_age n events calm =
     if calm && not (n.params.sync_timeout == 0) then Some (sync_wait n.params (sync_paths n events)) else None
@@ -111,6 +105,6 @@ pub record AreTimeErrors (d : DocumentState) (until : ℕ) (t : TimeErrors) : Ty
   pub is : IsSnapshot d until snapshot
   pub network : IsWellFormed snapshot
   pub time : t.time ≡ last_change (events_by until d.events)
-  pub from : IsFrom d.network (events_by until d.events) snapshot t.from
+  pub from : t.from ≡ exact_from d until
   pub age : t.age ≡ greatest_age d.network (events_by until d.events) (is_some t.from)
   pub systems : AreExact d.network (events_by until d.events) snapshot t.systems.items

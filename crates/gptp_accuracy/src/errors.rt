@@ -1,23 +1,26 @@
 //! The time errors of all systems of a document.
 
-ghost use Rattle.std.specs.Prelude.{◌≡◌, ◌+◌, ◌≤◌, ◌<◌, ℕ, false, length, IfOk, OnOk, map};
+ghost use Rattle.std.specs.Prelude.{◌≡◌, ◌+◌, ◌≤◌, ◌<◌, ◌↔◌, ℕ, IsTrue, false, length, IfOk, OnOk, map};
 ghost use Rattle.gptp_lists.specs.Members.{In};
 ghost use Rattle.gptp_graph.specs.Labelling.{line_clocks};
 ghost use Rattle.gptp_scenario.specs.Allowed.{AreAllowed};
 ghost use Rattle.gptp_scenario.specs.Calm.{last_change};
 ghost use Rattle.gptp_network.specs.Events.{AreInOrder};
-ghost use Rattle.gptp_network.specs.Snapshot.{StandsAfter, events_by};
+ghost use Rattle.gptp_network.specs.Snapshot.{events_by};
 ghost use Rattle.gptp_certificate_text.specs.Certificate.{line_of};
 ghost use Rattle.gptp_accuracy.specs.Passing.{AreNearWithin};
+ghost use Rattle.gptp_accuracy.specs.Settlings.{AreTimesOf};
 ghost use Rattle.gptp_accuracy.specs.Sums.{SumsAreWithin, terms_of};
-ghost use Rattle.gptp_accuracy.specs.TimeErrors.{AreEntries, AreTimeErrors, IsFrom, IsSystemOf, if_promised, exact_from, greatest_age};
+ghost use Rattle.gptp_accuracy.specs.TimeErrors.{AreEntries, AreTimeErrors, IsSystemOf, if_promised, exact_from, greatest_age};
 
 use crate::reading::ReadingError;
+use crate::settlings::settling_of;
 use crate::sums::Sums;
 use crate::ways::sums_of_all;
 use gptp_certificate_text::{Certificate, SystemLine};
 use gptp_choice::settled_choice;
-use gptp_network::{Document, Snapshot};
+use gptp_how_soon::{SettlingTime, settling_times};
+use gptp_network::Document;
 use gptp_scenario::{Network, Timed};
 use gptp_vector::{ClockId, Identity};
 use std::alloc::{AllocError, Global};
@@ -92,30 +95,17 @@ fn last_change(events: &[Timed]) -> u64
     }
 }
 
-/// The time from which on a network that is calm after these events is as exact as is said.
-fn holds_from(network: &Network, events: &[Timed], snapshot: &Snapshot) -> u64
-    requires allowed { AreAllowed events.now }
-    requires stands { StandsAfter network.now events.now snapshot.now }
-    ensures { result ≡ exact_from network.now events.now snapshot.now }
+/// From when on time errors hold of a document whose times these are, after all events with time up to `until`, in ns;
+/// `None` where the network isn't calm then.
+pub fn exact_from(document: &Document, times: &[SettlingTime], until: u64) -> Option<u64>
+    requires { AreTimesOf document.now times.now }
+    ensures { result ≡ exact_from document.now until }
 {
-    network.well_formed();
-    let systems = snapshot.path_bound();
-    let params = network.params();
-    last_change(events)
-        + snapshot.settling_span(network, events)
-        + systems as u64 * (params.threshold + params.residence)
-}
-
-/// From when on time errors hold, if the network is calm.
-fn holds_from_if_calm(network: &Network, events: &[Timed], snapshot: &Snapshot) -> Option<u64>
-    requires allowed { AreAllowed events.now }
-    requires stands { StandsAfter network.now events.now snapshot.now }
-    ensures { IsFrom network.now events.now snapshot.now result }
-{
-    if network.is_calm(events) {
-        Some(holds_from(network, events, snapshot))
-    } else {
-        None
+    document.well_formed();
+    let events = events_by(document.events(), until);
+    match settling_of(times, last_change(events)) {
+        Some(settling) => Some(settling.exact_from),
+        None => None,
     }
 }
 
@@ -210,13 +200,15 @@ fn systems_of(
     Ok(systems)
 }
 
-/// How exact the time is that each live system gets, of the network of a document as it stands after all events with
-/// time up to `until`, in ns. The only error is that memory ran out.
-///
-/// That the runs of a network keep to it is a law of gptp_reading: `RunsReadExactly` says that what a system reads so
-/// long after a receipt is off by at most its reading error (`IsReadingErrorOf`, by `reading_error_at` of
-/// gptp_error_laws), and `RunsReadLately` that its last receipt is no older than the greatest age.
-pub fn time_errors(alloc: Global, document: &Document, until: u64) -> Result<TimeErrors, AllocError>
+/// How exact the time is that each live system gets, of the network of a document, whose times these are, as it stands
+/// after all events with time up to `until`, in ns. The only error is that memory ran out.
+pub fn time_errors_among(
+    alloc: Global,
+    document: &Document,
+    times: &[SettlingTime],
+    until: u64,
+) -> Result<TimeErrors, AllocError>
+    requires { AreTimesOf document.now times.now }
     ensures { IfOk result (AreTimeErrors document.now until) }
 {
     document.well_formed();
@@ -226,13 +218,28 @@ pub fn time_errors(alloc: Global, document: &Document, until: u64) -> Result<Tim
     let certificate = settled_choice(alloc, &snapshot)?;
     snapshot.well_formed();
     certificate.well_formed();
-    let from = holds_from_if_calm(network, events, &snapshot);
+    let calm = network.is_calm(events);
     let sums = sums_of_all(alloc, network, events, &snapshot, &certificate)?;
-    let systems = systems_of(alloc, from.is_some(), &certificate, &sums)?;
+    let systems = systems_of(alloc, calm, &certificate, &sums)?;
+    let from = exact_from(document, times, until);
     Ok(TimeErrors {
         time: last_change(events),
         from,
         age: greatest_age(network, events, from.is_some()),
         systems,
     })
+}
+
+/// How exact the time is that each live system gets, of the network of a document as it stands after all events with
+/// time up to `until`, in ns. The only error is that memory ran out.
+///
+/// That the runs of a network keep to it is a law of gptp_reading: `RunsReadExactly` says that what a system reads so
+/// long after a receipt is off by at most its reading error (`IsReadingErrorOf`, by `reading_error_at` of
+/// gptp_error_laws), and `RunsReadLately` that its last receipt is no older than the greatest age. They hold from when
+/// on a network is exact whatever came before, which is no sooner than what is said here.
+pub fn time_errors(alloc: Global, document: &Document, until: u64) -> Result<TimeErrors, AllocError>
+    ensures { IfOk result (AreTimeErrors document.now until) }
+{
+    let times = settling_times(alloc, document)?;
+    time_errors_among(alloc, document, &times, until)
 }

@@ -12,11 +12,13 @@ mod errors;
 pub mod laws;
 mod options;
 mod reading;
+mod settlings;
 mod sums;
 mod text;
 mod ways;
 
-pub use errors::{SystemError, TimeErrors, time_errors};
+pub use errors::{SystemError, TimeErrors, exact_from, time_errors, time_errors_among};
 pub use options::AccuracyOptions;
 pub use reading::ReadingError;
+pub use settlings::settling_of;
 pub use text::{Thousandths, write_accuracy};

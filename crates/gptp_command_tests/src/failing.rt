@@ -142,6 +142,7 @@ const ORDER: TimelineOrder = TimelineOrder {
                 None,
                 None,
                 None,
+                None,
             ],
         },
     },

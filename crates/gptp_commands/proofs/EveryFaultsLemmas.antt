@@ -32,7 +32,7 @@ use Rattle.gptp_commands.specs.Every.{HasText, HaveText}
 use Rattle.gptp_commands.specs.Failure.{status_by}
 use Rattle.gptp_commands.specs.FaultsText.{FaultsText, TellsFaults}
 use Rattle.gptp_commands.proofs.DrawLemmas.{draws_answer_all}
-use Rattle.gptp_commands.proofs.EveryPassLemmas.{bound_at, document_passes}
+use Rattle.gptp_commands.proofs.EveryPassLemmas.{document_passes}
 use Rattle.gptp_commands.proofs.EveryQuestionLemmas.{each_has_text, refused_so}
 use Rattle.gptp_commands.proofs.InjectLemmas.{meant_injects}
 
@@ -89,7 +89,7 @@ has_ends : (asked : Bool) (d : DocumentState) (until : ℕ) (fate : Lcg) → IsP
 has_ends asked d until fate playable injects early some =
     let (start, ts, w, run, goes_on) =
     documents_unfold draws draws_answer_all d until fate playable injects early in
-    let k = document_passes draws false d until (λ at. bound_at d at playable.network) (λ at to. (None, refl))
+    let k = document_passes draws false d until (λ at to. (None, refl))
     playable.events ts run.started run.drawn start w run.courses in
     let (two, are) = ends_of draws asked d until (rising_clocks start) (events_by until d.events) run.started
     run.drawn start w k.first k.others k.pass some in (

@@ -7,27 +7,14 @@ use Rattle.gptp_links.specs.declared.bounds.Bounds.{Bounds}
 use Rattle.gptp_network.specs.Document.{DocumentState}
 use Rattle.gptp_network.specs.Events.{AreEvents, AreInOrder}
 use Rattle.gptp_network.specs.Snapshot.{events_by}
-use Rattle.gptp_network.specs.Span.{IsBound, IsCalmAt}
-use Rattle.gptp_network.proofs.SpanLemmas.{bound_exists}
-use Rattle.gptp_scenario.specs.Network.{IsNetwork}
 use Rattle.gptp_scenario.specs.declared.change.Timed.{Timed}
 use Rattle.gptp_world.specs.Transitions.{PassesTo, ActTrace, transition}
 use Rattle.gptp_report.specs.Transitions.{Courses, Makes}
 use Rattle.gptp_accuracy.specs.declared.errors.TimeErrors.{TimeErrors}
-use Rattle.gptp_accuracy.proofs.CalmLemmas.{calm_dec}
+use Rattle.gptp_accuracy.specs.Settlings.{settling_of}
 use Rattle.gptp_timeline.specs.Timeline.{AllPass, AreErrorsIf, StretchTrace, end_before, later_than, now_of}
 use Rattle.gptp_timeline.proofs.EventLemmas.{all_now, fewer_later, filter_in_order}
 use Rattle.gptp_timeline.proofs.UnfoldLemmas.{now_and_later}
-
--- ---- what is known of a stretch by the document
-
--- a document has a bound at each time, or none
-pub bound_at : (d : DocumentState) (at : ℕ) → IsNetwork d.network → (bound : Option ℕ) × IsBound d at bound
-bound_at d at network = by (calm_dec d.network (events_by at d.events))
-  where
-    by : Dec (IsCalmAt d at) → (bound : Option ℕ) × IsBound d at bound
-    by (yes calm) = bound_exists d at true network (λ is. calm, λ again. refl)
-    by (no restless) = bound_exists d at false network (λ is. absurd cc, λ calm. absurd (restless calm))
 
 module _ {F : Type 0} (answers : Bounds → ℕ → F → Option ℕ → F → Type 0) where
   -- ---- two parts of what happens
@@ -111,8 +98,7 @@ module _ {F : Type 0} (answers : Bounds → ℕ → F → Option ℕ → F → T
     CanPass from events = (ts : List ActTrace) (fate fate_after : F) (w w' : WorldState)
         → Courses answers until events ts fate fate_after w w' → HavePassed from events fate fate_after w w'
 
-    module _ (bounds : (at : ℕ) → (bound : Option ℕ) × IsBound d at bound)
-        (errors : (at to : ℕ) → (errors : Option TimeErrors) × AreErrorsIf exact d at to errors) where
+    module _ (errors : (at to : ℕ) → (errors : Option TimeErrors) × AreErrorsIf exact d at to errors) where
       abbrev passage : ℕ → ℕ → List Timed → List ActTrace → WorldState → StretchTrace
       passage from to events acts after = record {
         from = from;
@@ -120,7 +106,7 @@ module _ {F : Type 0} (answers : Bounds → ℕ → F → Option ℕ → F → T
         events = events;
         acts = acts;
         after = after;
-        bound = (bounds from).0;
+        settling = settling_of d from;
         errors = (errors from to).0;
       }
 
@@ -135,7 +121,7 @@ module _ {F : Type 0} (answers : Bounds → ℕ → F → Option ℕ → F → T
             to_is = sym (ap (end_before until) none);
             events_are = sym (all_now from events none);
             courses = courses;
-            bound_is = (bounds from).1;
+            settling_is = refl;
             errors_are = (errors from until).1;
           },
           none,
@@ -165,7 +151,7 @@ module _ {F : Type 0} (answers : Bounds → ℕ → F → Option ℕ → F → T
                 to_is = sym (ap (end_before until) later);
                 events_are = refl;
                 courses = k.begins;
-                bound_is = (bounds from).1;
+                settling_is = refl;
                 errors_are = (errors from e.at).1;
               },
               some,

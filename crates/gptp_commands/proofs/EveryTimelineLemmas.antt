@@ -1,39 +1,28 @@
 -- Each input has a text of its timeline.
-use Rattle.std.proofs.Common.{◌≡◌, ◌≤◌, ◌+◌, ◌*◌, ℕ, Bool, true, false, List, [], ◌∷◌, ◌++◌, Option, Some, None, IfSome, refl, sym, subst, ◌∙◌, arith}
-use Rattle.std.proofs.lemmas.Nat.{mul-le}
+use Rattle.std.proofs.Common.{◌≡◌, ◌≤◌, ℕ, Bool, true, false, List, [], ◌∷◌, ◌++◌, Option, Some, None, IfSome, refl, sym, subst, ◌∙◌, arith}
 use Rattle.std.proofs.lemmas.Option.{none-some, same_Some}
 use native.Mathlib.Decide.{dec_le}
 use Rattle.gptp_model.specs.Views.{rising_clocks}
-use Rattle.gptp_graph.specs.PathBound.{path_bound}
-use Rattle.gptp_invariants.proofs.ChoiceSettlesAsMachineLemmas.{paths_fewer}
 use Rattle.gptp_network.specs.Document.{DocumentState, Means}
 use Rattle.gptp_network.specs.Events.{AreEvents}
-use Rattle.gptp_network.proofs.EventLemmas.{early_from, events_allowed}
-use Rattle.gptp_network.proofs.ExistenceLemmas.{snapshot_exists}
-use Rattle.gptp_network.proofs.LawLemmas.{within_limits}
 use Rattle.gptp_network.proofs.MeantLemmas.{meant_document}
-use Rattle.gptp_scenario.specs.Calm.{last_change}
-use Rattle.gptp_scenario.specs.Network.{IsNetwork, pace_of}
-use Rattle.gptp_scenario.specs.SettlingTime.{settling_span_with}
-use Rattle.gptp_scenario.specs.SyncWait.{sync_paths}
-use Rattle.gptp_scenario.proofs.InUseLemmas.{short_delay}
-use Rattle.gptp_scenario.proofs.LogLemmas.{largest_log, smallest_log}
-use Rattle.gptp_scenario.proofs.SyncWaitLemmas.{short_time}
+use Rattle.gptp_scenario.specs.Network.{IsNetwork}
 use Rattle.gptp_theorem.specs.PlayedLaws.{IsPlayable}
 use Rattle.gptp_theorem.proofs.OctetLemmas.{documents_playable}
-use Rattle.gptp_setup.specs.Intervals.{interval_of}
-use Rattle.gptp_setup.proofs.IntervalLemmas.{interval_most}
+use Rattle.gptp_how_soon.specs.Times.{settling_times}
+use Rattle.gptp_how_soon.proofs.ShortLemmas.{watched_shortly}
 use Rattle.gptp_accuracy.specs.TimeErrors.{AreTimeErrors}
 use Rattle.gptp_accuracy.specs.declared.errors.TimeErrors.{TimeErrors}
 use Rattle.gptp_accuracy.specs.declared.options.AccuracyOptions.{AccuracyOptions}
 use Rattle.gptp_accuracy.proofs.EveryLemmas.{each_is_exact}
 use Rattle.gptp_accuracy.proofs.OneLemmas.{errors_once}
 use Rattle.gptp_accuracy.proofs.WayLemmas.{one_each}
-use Rattle.gptp_timeline.specs.End.{IsDefaultEnd, end_behind}
+use Rattle.gptp_timeline.specs.End.{default_end}
 use Rattle.gptp_timeline.specs.Limits.{is_exceeded, verdict_lines}
 use Rattle.gptp_timeline.specs.Timeline.{AreErrorsBy, HoldsBy, Carried, StretchTrace, TimelineOf, all_exceeded, all_lines, none_carried, start_lines, tracks}
 use Rattle.gptp_timeline.specs.declared.limits.Limit.{Limit}
 use Rattle.gptp_timeline.specs.declared.timeline.TimelineOptions.{TimelineOptions}
+use Rattle.gptp_timeline.proofs.DefaultEndLemmas.{end_in_time}
 use Rattle.gptp_timeline.proofs.RightLemmas.{timelines_are_right}
 use Rattle.gptp_timeline_laws.proofs.RightLemmas.{timelines_read_right}
 use Rattle.gptp_determinism.specs.ExistenceLaws.{AllInject}
@@ -44,7 +33,7 @@ use Rattle.gptp_commands.specs.Failure.{status_by}
 use Rattle.gptp_commands.specs.RunText.{draws, generator}
 use Rattle.gptp_commands.specs.TimelineText.{EndsAt, TellsTimeline, TimelineText}
 use Rattle.gptp_commands.proofs.DrawLemmas.{draws_answer_all}
-use Rattle.gptp_commands.proofs.EveryPassLemmas.{bound_at, document_passes}
+use Rattle.gptp_commands.proofs.EveryPassLemmas.{document_passes}
 use Rattle.gptp_commands.proofs.EveryQuestionLemmas.{each_has_text}
 use Rattle.gptp_commands.proofs.InjectLemmas.{meant_injects}
 
@@ -78,45 +67,13 @@ module _ (d : DocumentState) (network : IsNetwork d.network) (at to : ℕ) where
 
 -- ---- the end
 
--- so many ns are within the longest run
-end_within : (last span way sync : ℕ) → last ≤ 800000000000000 → span ≤ 195000000000000 → way ≤ 1024000000000
-    → sync ≤ 16000000000 → last + span + way + 8 * sync ≤ 1000000000000000
-end_within last span way sync l s w i = omega (arith, l, s, w, i)
-
--- a run has an end by default, in time
-default_end : (d : DocumentState) → IsNetwork d.network → AreEvents d.network d.events
-    → (until : ℕ) × IsDefaultEnd d until × (until ≤ 1000000000000000)
-default_end d network events =
-    let (g, stands) = snapshot_exists d (last_change d.events) network in
-    let most = (within_limits d (last_change d.events) g network stands).systems in
-    let fewer = paths_fewer g in
-    let few : path_bound g ≤ 512 = omega (arith, most, fewer) in
-    let span : settling_span_with (pace_of d.network) (sync_paths d.network d.events) (path_bound g)
-    ≤ 195000000000000 =
-    short_time (pace_of d.network) (sync_paths d.network d.events) (path_bound g) network.params
-    (largest_log d.network network) few
-    (short_delay d.network d.events network
-    (events_allowed d.network d.events (smallest_log d.network network) events)) in
-    let threshold = network.params.ranges.params.threshold in
-    let residence = network.params.ranges.params.residence in
-    let way : path_bound g * (d.network.params.threshold + d.network.params.residence) ≤ 1024000000000 =
-    mul-le (path_bound g) (d.network.params.threshold + d.network.params.residence) 512 2000000000 few
-    (omega (arith, threshold, residence)) in
-    let sync = interval_most d.network.params.sync network.params.ranges.params.sync in (
-      end_behind d.network d.events g,
-      record { snapshot = g; stands = stands; is = refl },
-      end_within (last_change d.events)
-          (settling_span_with (pace_of d.network) (sync_paths d.network d.events) (path_bound g))
-          (path_bound g * (d.network.params.threshold + d.network.params.residence))
-          (interval_of d.network.params.sync) (early_from d.network d.events events) span way sync,
-    )
-
--- the one that is asked for, or that
+-- the one that is asked for, or that by default, which is in time
 end_exists : (d : DocumentState) (asked : Option ℕ) → IsNetwork d.network → AreEvents d.network d.events
     → IfSome asked (λ until. until ≤ 1000000000000000)
     → (until : ℕ) × EndsAt asked d until × (until ≤ 1000000000000000)
 end_exists d (Some asked) network events early = (asked, refl, early)
-end_exists d None network events early = default_end d network events
+end_exists d None network events early =
+    (default_end d, refl, end_in_time (settling_times d) (watched_shortly d network events))
 
 -- ---- a timeline
 
@@ -144,7 +101,7 @@ module _ (input : List ℕ) (d : DocumentState) (means : Means input d) where
   timeline_exists until seed options early =
       let (start, ts, w, run, goes_on) =
       documents_unfold draws draws_answer_all d until (generator seed) playable injects early in
-      let k = document_passes draws true d until (λ at. bound_at d at network) errors_at events ts run.started run.drawn
+      let k = document_passes draws true d until errors_at events ts run.started run.drawn
       start w run.courses in
       let passages : List StretchTrace = k.first ∷ k.others in
       let names : List ℕ = rising_clocks start in

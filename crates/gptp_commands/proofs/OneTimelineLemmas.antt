@@ -6,16 +6,8 @@ use Rattle.gptp_links.specs.declared.bounds.Bounds.{Bounds}
 use Rattle.gptp_model.specs.Initial.{initial}
 use Rattle.gptp_model.specs.Views.{rising_clocks}
 use Rattle.gptp_model.specs.World.{WorldState}
-use Rattle.gptp_graph.specs.PathBound.{path_bound}
-use Rattle.gptp_graph.specs.Snapshot.{Snapshot}
 use Rattle.gptp_network.specs.Document.{DocumentState}
 use Rattle.gptp_network.specs.Snapshot.{events_by}
-use Rattle.gptp_network.specs.Span.{IsBound}
-use Rattle.gptp_network.proofs.LawLemmas as network_laws
-use Rattle.gptp_scenario.specs.Calm.{last_change}
-use Rattle.gptp_scenario.specs.Network.{pace_of}
-use Rattle.gptp_scenario.specs.SettlingTime.{settling_span_with}
-use Rattle.gptp_scenario.specs.SyncWait.{sync_paths}
 use Rattle.gptp_scenario.specs.declared.change.Timed.{Timed}
 use Rattle.gptp_report.specs.Transitions.{Courses, ActTrace}
 use Rattle.gptp_determinism.specs.Named.{AnswersOnce, IsNamed}
@@ -28,7 +20,6 @@ use Rattle.gptp_accuracy.specs.declared.errors.SystemError.{SystemError}
 use Rattle.gptp_accuracy.specs.declared.errors.TimeErrors.{TimeErrors}
 use Rattle.gptp_accuracy.proofs.OneLemmas.{errors_once}
 use Rattle.gptp_accuracy.proofs.WayLemmas.{HasOneEach}
-use Rattle.gptp_timeline.specs.End.{end_behind}
 use Rattle.gptp_timeline.specs.Limits.{exceeded_after, is_exceeded, verdict_lines}
 use Rattle.gptp_timeline.specs.Shown.{shown}
 use Rattle.gptp_timeline.specs.Stretch.{counted, measured}
@@ -51,15 +42,6 @@ use Rattle.gptp_commands.proofs.OneAnswerLemmas.{one_answer}
 use Rattle.gptp_commands.proofs.VerdictLemmas.{AreSame}
 
 -- ---- what is known of a stretch by the document
-
-one_bound : (d : DocumentState) (at : ℕ) (a b : Option ℕ) → IsBound d at a → IsBound d at b → a ≡ b
-one_bound d at None None x y = refl
-one_bound d at None (Some span) x y = absurd (x y.0)
-one_bound d at (Some span) None x y = absurd (y x.0)
-one_bound d at (Some m) (Some n) (_, x) (_, y) =
-    let same = network_laws.one_snapshot d at x.snapshot y.snapshot x.stands y.stands in
-    let paths = sync_paths d.network (events_by at d.events) in
-    ap Some (x.is ∙ ap (λ (g : Snapshot). settling_span_with (pace_of d.network) paths (path_bound g)) same ∙ sym y.is)
 
 -- as far as they are told, errors are the same, or there are none
 abbrev pub SameErrors : Option TimeErrors → Option TimeErrors → Type 0
@@ -93,7 +75,7 @@ pub record IsSamePassage (p q : StretchTrace) : Type 0 where
   pub events : p.events ≡ q.events
   pub acts : SameTransitions p.acts q.acts
   pub after : p.after ≡ q.after
-  pub bound : p.bound ≡ q.bound
+  pub settling : p.settling ≡ q.settling
   pub errors : SameErrors p.errors q.errors
 
 module _ {F : Type 0} (answers : Bounds → ℕ → F → Option ℕ → F → Type 0) (once : AnswersOnce answers)
@@ -115,7 +97,7 @@ module _ {F : Type 0} (answers : Bounds → ℕ → F → Option ℕ → F → T
           events = made;
           acts = way.acts;
           after = way.world;
-          bound = one_bound d from p.bound q.bound k.bound_is l.bound_is;
+          settling = k.settling_is ∙ sym l.settling_is;
           errors = one_errors_if exact d from q.to p.errors q.errors names errors l.errors_are;
         },
         way.fate_is,
@@ -219,7 +201,7 @@ same_stretch names carried p q k =
       from = k.from i;
       to = k.to i;
       begins_with_event = is_begun (k.events i);
-      bound = k.bound i;
+      settling = k.settling i;
       measures = measures i;
       counts = counted (map (λ name. shown name (k.after i)) names);
       times = times i;
@@ -310,10 +292,7 @@ one_timeline_of {F} answers once d until options fate xs ys a b names is k l =
 -- it ends at one time
 one_end : (asked : Option ℕ) (d : DocumentState) (m n : ℕ) → EndsAt asked d m → EndsAt asked d n → m ≡ n
 one_end (Some asked) d m n x y = x ∙ sym y
-one_end None d m n x y =
-    let last = last_change d.events in
-    let same = network_laws.one_snapshot d last x.snapshot y.snapshot x.stands y.stands in
-    x.is ∙ ap (end_behind d.network d.events) same ∙ sym y.is
+one_end None d m n x y = x ∙ sym y
 
 -- ways are determined where names mean one thing
 pub each_named : (d : DocumentState) → NamesOne d.network → HasOneEach d.network

@@ -10,8 +10,9 @@ use Rattle.gptp_commands.specs.declared.failure.Status.{Status}
 use Rattle.gptp_commands.specs.Failure.{status_by}
 use Rattle.gptp_commands.specs.Documents.{Answers, AnswersInput, RefusesFault}
 
--- The table of its cases, whose `follow` lines are those of the settled choice where faults stay by default and are
--- bounded. It is refused where a limit is exceeded, and where it would be with the two events of some run.
+-- The table of its cases, whose `follow` lines are those of the settled choice where a case stays down as long as the
+-- calm network takes at most to settle. It is refused where a limit is exceeded, and where it would be with the two
+-- events of some run.
 abbrev pub TellsFaults : DocumentState → FaultsOptions → List (List ℕ) → Status → Type 0
 TellsFaults d options output status =
     ((exceeded : Bool) × (f : FaultsOf d options output exceeded) × FollowSettled d options f.times.from f.outcomes

@@ -1,7 +1,7 @@
 -- What `timeline` writes for a document, and its status (profile).
 use Rattle.std.specs.Prelude.{◌≡◌, ℕ, Bool, List, Option, Some, None}
 use Rattle.gptp_network.specs.Document.{DocumentState}
-use Rattle.gptp_timeline.specs.End.{IsDefaultEnd}
+use Rattle.gptp_timeline.specs.End.{default_end}
 use Rattle.gptp_timeline.specs.Laws.{TimelineIsRight}
 use Rattle.gptp_timeline.specs.Timeline.{BeginsTimeline, TimelineOf}
 use Rattle.gptp_timeline_laws.specs.Right.{TimelineReadsRight}
@@ -11,10 +11,10 @@ use Rattle.gptp_commands.specs.Failure.{status_by}
 use Rattle.gptp_commands.specs.Documents.{AnswersInput, BeginsInput}
 use Rattle.gptp_commands.specs.RunText.{draws, generator}
 
--- the end of the run: that which is asked for, or by default some Syncs after the time from which on it is exact
+-- the end of the run: that which is asked for, or by default as much after the last event as is watched then
 abbrev pub EndsAt : Option ℕ → DocumentState → ℕ → Type 0
 EndsAt (Some asked) d until = until ≡ asked
-EndsAt None d until = IsDefaultEnd d until
+EndsAt None d until = until ≡ default_end d
 
 -- The timeline of a document, with delays and losses drawn from the generator of the seed, which is right: as a run of
 -- the document, in its last lines, its bounds, whom systems follow then, and its errors, and in what it says of the

@@ -65,9 +65,9 @@ pub(crate) mod rows {
     pub(crate) const MOMENTS: Row = ("moments", (Form::Number(1, 1000), &["8"], "N"),
         "At how many moments each case is tried, within an announce and a Sync interval");
     pub(crate) const AT: Row = ("at", NANOSECONDS,
-        "The first moment, in ns; by default when the network has settled behind the last event");
+        "The first moment, in ns; by default when the network rests behind the last event");
     pub(crate) const HOLD: Row = ("hold", (Form::Number(1, 1_000_000_000_000_000), &[], "NS"),
-        "How long a fault stays, and each run goes on behind it, in ns; by default until it has settled");
+        "How long a fault stays, and each run goes on behind it, in ns; by default until the network rests");
     pub(crate) const ONLY: Row = ("only", (Form::Word, &[], "KIND"), "Let nothing but 'links' fail, or 'systems'");
     pub(crate) const PARTS: Row = ("parts", PARTED, "In how many parts the cases are dealt out, one after another");
     pub(crate) const PART: Row = ("part", PARTED, "The part that is tried");
@@ -83,6 +83,8 @@ pub(crate) mod rows {
         ("max-without", MANY, "Say whether where a stretch ends at most so many systems go without time"),
         ("max-roots", MANY, "Say whether at most so many roots are followed there by two systems or more"),
         ("max-alone", MANY, "Say whether at most so many systems follow a root there that no other does"),
+        ("max-bound", NANOSECONDS,
+            "Say whether behind each event the choice stands within this whatever the seed, in ns"),
         TIMES,
         ("max-time", NANOSECONDS, "Say whether what each system reads is always off by at most this, in ns"),
         ("max-apart", NANOSECONDS, "Say whether no two systems ever read further apart than this, in ns"),
@@ -100,6 +102,8 @@ pub(crate) mod rows {
         ("max-without", MANY, "Say whether at most so many systems go without time in the end"),
         ("max-roots", MANY, "Say whether at most so many roots are followed then by two systems or more"),
         ("max-alone", MANY, "Say whether at most so many systems follow a root then that no other does"),
+        ("max-bound", NANOSECONDS,
+            "Say whether the choice always stands within this whatever the seed, in ns"),
         ("times", FLAG,
             "Say too how far off systems read time, how far apart, and when it last came from another source"),
         ("max-time", NANOSECONDS, "Say whether what each system reads is always off by at most this, in ns"),

@@ -5,20 +5,19 @@ use Rattle.gptp_faults.specs.Cases.{AreCases}
 use Rattle.gptp_faults.specs.Faults.{AnswersFaultsOf, IsTable}
 use Rattle.gptp_faults.specs.FaultsText.{table_lines}
 use Rattle.gptp_faults.specs.Refusals.{any_late, fault_before}
-use Rattle.gptp_faults.specs.Times.{ArePlanned, AreTimes}
+use Rattle.gptp_faults.specs.Times.{AreTimes}
 use Rattle.gptp_faults.specs.declared.cases.Case.{Case}
-use Rattle.gptp_faults.specs.declared.cases.Planned.{Planned}
 use Rattle.gptp_faults.specs.declared.faults.Answer.{Answer}
 use Rattle.gptp_faults.specs.declared.faults.Answer.TheVariants.{Refused, Table}
 use Rattle.gptp_faults.specs.declared.options.FaultsOptions.{FaultsOptions}
 use Rattle.gptp_faults.specs.declared.times.Times.{Times}
 
-pub answered : (d : DocumentState) (options : FaultsOptions) (cases : List Case) (t : Times) (planned : List Planned)
+pub answered : (d : DocumentState) (options : FaultsOptions) (cases : List Case) (t : Times)
     → AreCases d options.only cases → AreTimes d options t → fault_before d t cases ≡ None
-    → ArePlanned d options t cases planned → any_late t planned ≡ false
-    → (answer : Answer) → IsTable d options t planned answer → AnswersFaultsOf d options answer
-answered d options cases t planned are_cases are_times before are_planned in_time (Refused fault) none = absurd none
-answered d options cases t planned are_cases are_times before are_planned in_time (Table text exceeded)
+    → any_late d options.hold t cases ≡ false
+    → (answer : Answer) → IsTable d options t cases answer → AnswersFaultsOf d options answer
+answered d options cases t are_cases are_times before in_time (Refused fault) none = absurd none
+answered d options cases t are_cases are_times before in_time (Table text exceeded)
     (outcomes, told, are_outcomes, are_told, text_is, exceeded_is) = (
       table_lines options t told,
       record {
@@ -27,8 +26,6 @@ answered d options cases t planned are_cases are_times before are_planned in_tim
         times = t;
         are_times = are_times;
         before = before;
-        planned = planned;
-        are_planned = are_planned;
         in_time = in_time;
         outcomes = outcomes;
         are_outcomes = are_outcomes;

@@ -9,13 +9,12 @@ use Rattle.gptp_faults.specs.EveryLaws.{EachHasFaults, HasFaults, RunsEnd}
 use Rattle.gptp_faults.specs.Faults.{FaultsOf}
 use Rattle.gptp_faults.specs.FaultsText.{exceeds_limit, table_lines}
 use Rattle.gptp_faults.specs.Refusals.{any_late, fault_before}
-use Rattle.gptp_faults.specs.Times.{AreOptions, ArePlanned, AreTimes}
+use Rattle.gptp_faults.specs.Times.{AreOptions, AreTimes}
 use Rattle.gptp_faults.specs.declared.cases.Case.{Case}
-use Rattle.gptp_faults.specs.declared.cases.Planned.{Planned}
 use Rattle.gptp_faults.specs.declared.options.FaultsOptions.{FaultsOptions}
 use Rattle.gptp_faults.specs.declared.times.Times.{Times}
 use Rattle.gptp_faults.proofs.EveryOutcomeLemmas.{outcomes_exist}
-use Rattle.gptp_faults.proofs.EveryPlanLemmas.{cases_exist, planned_exist, times_exist}
+use Rattle.gptp_faults.proofs.EveryPlanLemmas.{cases_exist, times_exist}
 use Rattle.gptp_faults.proofs.EveryRankingLemmas.{each_is_ranked}
 use Rattle.gptp_faults.proofs.FollowLemmas.{follow_settles}
 
@@ -23,11 +22,10 @@ module _ (d : DocumentState) (options : FaultsOptions) (playable : IsPlayable d)
     (asked : AreOptions options) (least : IfSome options.hold (λ hold. 1 ≤ hold)) (cases : List Case)
     (are : AreCases d options.only cases) (t : Times) (times : AreTimes d options t) where
   -- none of its cases is refused
-  has_table : (planned : List Planned) → ArePlanned d options t cases planned → fault_before d t cases ≡ None
-      → any_late t planned ≡ false → HasFaults d options
-  has_table planned are_planned before in_time =
+  has_table : fault_before d t cases ≡ None → any_late d options.hold t cases ≡ false → HasFaults d options
+  has_table before in_time =
       let (outcomes, are_outcomes) = outcomes_exist d playable runs options asked least cases are t times before
-      planned are_planned in_time in
+      in_time in
       let (told, ranked) = each_is_ranked outcomes in
       let lines : List (List ℕ) = table_lines options t told in
       let exceeded : Bool = exceeds_limit options.limits told in
@@ -37,8 +35,6 @@ module _ (d : DocumentState) (options : FaultsOptions) (playable : IsPlayable d)
         times = t;
         are_times = times;
         before = before;
-        planned = planned;
-        are_planned = are_planned;
         in_time = in_time;
         outcomes = outcomes;
         are_outcomes = are_outcomes;
@@ -50,31 +46,23 @@ module _ (d : DocumentState) (options : FaultsOptions) (playable : IsPlayable d)
       inl (lines, exceeded, table, follow_settles d options lines exceeded table playable)
 
   -- by whether one is late
-  by_late : (late : Bool) (planned : List Planned) → ArePlanned d options t cases planned
-      → fault_before d t cases ≡ None → any_late t planned ≡ late → HasFaults d options
-  by_late false planned are_planned before is = has_table planned are_planned before is
-  by_late true planned are_planned before is = inr (
+  by_late : (late : Bool) → fault_before d t cases ≡ None → any_late d options.hold t cases ≡ late
+      → HasFaults d options
+  by_late false before is = has_table before is
+  by_late true before is = inr (
     OutOfRange,
     record {
       cases = cases;
       are_cases = are;
       times = t;
       are_times = times;
-      refuses = inr (record {
-        before = before;
-        planned = planned;
-        are_planned = are_planned;
-        late = is;
-        is = refl;
-      });
+      refuses = inr (record { before = before; late = is; is = refl });
     },
   )
 
   -- and by whether the first moment is refused
   by_first : (fault : Option DocumentFault) → fault_before d t cases ≡ fault → HasFaults d options
-  by_first None is =
-      let (planned, are_planned) = planned_exist d options t cases playable.network in
-      by_late (any_late t planned) planned are_planned is refl
+  by_first None is = by_late (any_late d options.hold t cases) is refl
   by_first (Some fault) is = inr (
     fault,
     record { cases = cases; are_cases = are; times = t; are_times = times; refuses = inl is },

@@ -1,9 +1,10 @@
 -- Where runs end, something becomes of each case.
-use Rattle.std.proofs.Common.{◌≡◌, ◌≤◌, ◌<◌, ◌+◌, ◌/◌, ℕ, zero, suc, Bool, false, List, [], ◌∷◌, length, None, IfSome, refl, sym, subst, inl, inr, arith}
+use Rattle.std.proofs.Common.{◌≡◌, ◌≤◌, ◌<◌, ◌+◌, ◌/◌, ℕ, zero, suc, false, List, [], ◌∷◌, length, None, IfSome, refl, inl, inr, arith}
 use Rattle.std.specs.List.{range_with_len}
 use Rattle.std.proofs.lemmas.Nat.{mul-le}
 use Rattle.gptp_lists.specs.Members.{In}
 use Rattle.gptp_lists.proofs.PlaceLemmas.{member_there}
+use Rattle.gptp_lists.proofs.SystemSpecLemmas.{In-slice_get}
 use Rattle.gptp_network.specs.Document.{DocumentState}
 use Rattle.gptp_network.proofs.SnapshotLemmas.{from_filter}
 use Rattle.gptp_theorem.specs.PlayedLaws.{IsPlayable}
@@ -14,18 +15,18 @@ use Rattle.gptp_faults.specs.EveryLaws.{InjectsNothing, RunsEnd}
 use Rattle.gptp_faults.specs.Extremes.{greatest_behind, of_one}
 use Rattle.gptp_faults.specs.Options.{tracks}
 use Rattle.gptp_faults.specs.Outcomes.{AreOutcomes, IsOutcome, IsOutcomeAt, OutcomeState, backs, is_of_part, downs, case_numbers}
-use Rattle.gptp_faults.specs.Refusals.{any_late, fault_before, latest_event}
-use Rattle.gptp_faults.specs.Runs.{CaseRunEnds, generator, run_moment, runs_of, seed_of, with_case}
-use Rattle.gptp_faults.specs.Times.{AreOptions, ArePlanned, AreTimes, RunsEndInTime, IsPlanned, last_moment}
+use Rattle.gptp_faults.specs.Refusals.{any_late, fault_before, is_late}
+use Rattle.gptp_faults.specs.Runs.{CaseRunEnds, generator, run_moment, runs_of, seed_of}
+use Rattle.gptp_faults.specs.Stays.{document_of, end_at, hold_of}
+use Rattle.gptp_faults.specs.Times.{AreOptions, AreTimes}
 use Rattle.gptp_faults.specs.declared.cases.Case.{Case}
 use Rattle.gptp_faults.specs.declared.cases.Case.TheVariants as cases
-use Rattle.gptp_faults.specs.declared.cases.Planned.{Planned}
 use Rattle.gptp_faults.specs.declared.options.FaultsOptions.{FaultsOptions}
 use Rattle.gptp_faults.specs.declared.times.Times.{Times}
-use Rattle.gptp_faults.proofs.EveryPlanLemmas.{back_early, each_at, each_exists, from_behind, hold_some, moment_within}
+use Rattle.gptp_faults.proofs.EveryPlanLemmas.{each_exists, from_behind, hold_some, moment_from}
 use Rattle.gptp_faults.proofs.EveryRankingLemmas.{roots_are_followed}
 use Rattle.gptp_faults.proofs.PlayableLemmas.{case_playable}
-use Rattle.gptp_faults.proofs.RefusalLemmas.{each_in_time}
+use Rattle.gptp_faults.proofs.RefusalLemmas.{ends_early, not_late, not_late_at, returns_early}
 use Rattle.gptp_faults.proofs.RunLemmas.{moment_below}
 
 -- ---- numbers
@@ -51,16 +52,16 @@ injects_nothing (cases.Link a b) = (tt, tt)
 injects_nothing (cases.System clock) = (tt, tt)
 
 -- what becomes of a case of which each run is there
-outcome_of : (asked : Bool) (d : DocumentState) (t : Times) (p : Planned) (number : ℕ)
+outcome_of : (options : FaultsOptions) (d : DocumentState) (t : Times) (c : Case) (number : ℕ)
     (all : List (EndState × EndState))
-    → 0 < runs_of t → Each (CaseRunEnds asked d t p) (range_with_len 0 (runs_of t)) all
-    → (o : OutcomeState) × IsOutcome asked d t number p o
-outcome_of asked d t p number [] some each = absurd (none_for (CaseRunEnds asked d t p) (runs_of t) some each)
-outcome_of asked d t p number (first ∷ others) some each =
+    → 0 < runs_of t → Each (CaseRunEnds options d t c) (range_with_len 0 (runs_of t)) all
+    → (o : OutcomeState) × IsOutcome options d t number c o
+outcome_of options d t c number [] some each = absurd (none_for (CaseRunEnds options d t c) (runs_of t) some each)
+outcome_of options d t c number (first ∷ others) some each =
     let (follow, are) = roots_are_followed first.0.roots in (
       record {
         number = number;
-        failing = p.failing;
+        failing = c;
         down = greatest_behind (of_one first.0.stretch) (downs others);
         back = greatest_behind (of_one first.1.stretch) (backs others);
         follow = follow;
@@ -92,45 +93,40 @@ module _ (d : DocumentState) (playable : IsPlayable d) (runs : RunsEnd d) (optio
   some_run : 0 < runs_of t
   some_run = let product = mul-le 1 1 t.moments t.seeds some_moment some_seed in omega (arith, product)
 
-  -- a case that comes back early, and whose runs end in time
-  case_run : (p : Planned) → In p.failing all → 0 < p.hold → last_moment t + p.hold ≤ latest_event → RunsEndInTime t p
-      → (run : ℕ) → run < runs_of t → (ends : EndState × EndState) × CaseRunEnds (tracks options) d t p run ends
-  case_run p member some early in_time run below =
-      let (from, last) = moment_within t (run / t.seeds) some_moment
-      (moment_below run t.moments t.seeds some_seed below) in
-      let behind = from_behind d t all p.failing member before in
-      let back : last_moment t + p.hold ≤ 800000000000000 = early in
-      let end : last_moment t + p.hold + t.behind ≤ 1000000000000000 = in_time in
-      let can : IsPlayable (with_case (run_moment t run) p d) =
-      case_playable d options.only all p.failing (run_moment t run) (run_moment t run + p.hold) playable are member
-      (omega (arith, behind, from)) (omega arith) (omega (arith, last, back)) in
-      let nothing = injects_nothing p.failing in
-      runs (tracks options) (run_moment t run) (run_moment t run + p.hold) (run_moment t run + p.hold + t.behind)
-      (fault_of p.failing) (return_of p.failing) (generator (seed_of t run)) nothing.0 nothing.1 can
-      (omega (arith, some)) (omega arith)
-      (omega (arith, last, end))
+  -- a case that isn't late
+  case_run : (c : Case) → In c all → is_late d options.hold t c ≡ false → (run : ℕ) → run < runs_of t
+      → (ends : EndState × EndState) × CaseRunEnds options d t c run ends
+  case_run c member in_time run below =
+      let at = run_moment t run in let hold = hold_of d options.hold c at in
+      let number = moment_below run t.moments t.seeds some_seed below in
+      let from = moment_from t (run / t.seeds) in
+      let behind = from_behind d t all c member before in
+      let late = not_late_at d options.hold t c (run / t.seeds) in_time number in
+      let back : at + hold ≤ 800000000000000 = returns_early d options.hold c at late in
+      let end : end_at d options.hold c at ≤ 1000000000000000 = ends_early d options.hold c at late in
+      let some = hold_some d c at options.hold playable.network least in
+      let can : IsPlayable (document_of d options.hold c at) =
+      case_playable d options.only all c at (at + hold) playable are member (omega (arith, behind, from)) (omega arith)
+      back in
+      let nothing = injects_nothing c in
+      runs (tracks options) at (at + hold) (end_at d options.hold c at) (fault_of c) (return_of c)
+      (generator (seed_of t run)) nothing.0 nothing.1 can (omega (arith, some)) (omega arith) end
 
-  module _ (planned : List Planned) (are_planned : ArePlanned d options t all planned)
-      (in_time : any_late t planned ≡ false) where
-    outcome_at : (number : ℕ) → number < length planned
-        → (o : OutcomeState) × IsOutcomeAt (tracks options) d t planned number o
+  module _ (in_time : any_late d options.hold t all ≡ false) where
+    outcome_at : (number : ℕ) → number < length all
+        → (o : OutcomeState) × IsOutcomeAt options d t all number o
     outcome_at number below =
-        let (p, there) = member_there planned number below in
-        let (c, member, (same, hold)) = each_at (IsPlanned d options t) all planned number p are_planned there in
-        let failing : In p.failing all = subst (λ x. In x all) (sym same) member in
-        let some = hold_some d t c options.hold p.hold playable.network least hold in
-        let run = case_run p failing some (back_early t planned in_time number p there)
-        (each_in_time t planned in_time number p there) in
-        let (ends, each) = each_exists (CaseRunEnds (tracks options) d t p) (range_with_len 0 (runs_of t))
+        let (c, there) = member_there all number below in
+        let member = In-slice_get c all number there in
+        let run = case_run c member (not_late d options.hold t all in_time number c there) in
+        let (ends, each) = each_exists (CaseRunEnds options d t c) (range_with_len 0 (runs_of t))
         (λ n among. run n (below_count (runs_of t) n among)) in
-        let (o, outcome) = outcome_of (tracks options) d t p number ends some_run each in
-        (o, (p, there, outcome))
+        let (o, outcome) = outcome_of options d t c number ends some_run each in
+        (o, (c, there, outcome))
 
-    pub outcomes_exist : (outcomes : List OutcomeState) × AreOutcomes d t options planned outcomes
+    pub outcomes_exist : (outcomes : List OutcomeState) × AreOutcomes d t options all outcomes
     outcomes_exist =
-        each_exists (IsOutcomeAt (tracks options) d t planned)
-        (case_numbers options.parts options.part (length planned))
+        each_exists (IsOutcomeAt options d t all) (case_numbers options.parts options.part (length all))
         (λ number member.
-        let among = from_filter (is_of_part options.parts options.part) number (range_with_len 0 (length planned))
-        member in
-        outcome_at number (below_count (length planned) number among.0))
+        let among = from_filter (is_of_part options.parts options.part) number (range_with_len 0 (length all)) member in
+        outcome_at number (below_count (length all) number among.0))

@@ -1,8 +1,11 @@
--- Each document has cases, times and what is planned of each case; and what isn't refused comes in time.
-use Rattle.std.proofs.Common.{◌≡◌, ◌≤◌, ◌<◌, ◌+◌, ◌-◌, ◌*◌, ℕ, zero, suc, Bool, true, false, nat_lt, List, [], ◌∷◌, ◌++◌, length, slice_get, Option, Some, None, IfSome, unwrap_or, refl, subst, inl, inr, arith}
+-- Each document has cases and times, each fault stays for some time, and none comes before the last event.
+use Rattle.std.proofs.Common.{◌≡◌, ◌≤◌, ◌<◌, ◌+◌, ◌*◌, ℕ, Bool, true, false, nat_lt, List, [], ◌∷◌, ◌++◌, length, max, ◌==◌, Option, Some, None, IfSome, unwrap_or, refl, sym, ◌∙◌, inl, inr, arith}
+use Rattle.std.proofs.lemmas.Bool.{eq-eqb, eqb-true}
 use Rattle.std.proofs.lemmas.Bool.Decides.{nat_tests}
 use Rattle.std.proofs.lemmas.Nat.{mul-le}
 use Rattle.gptp_graph.specs.PathBound.{path_bound}
+use Rattle.gptp_how_soon.specs.Times.{settling_times_from, time_at}
+use Rattle.gptp_how_soon.specs.declared.bounds.SettlingTime.{SettlingTime}
 use Rattle.gptp_lists.specs.Members.{In}
 use Rattle.gptp_network.specs.Adding.{with_event}
 use Rattle.gptp_network.specs.Document.{DocumentState}
@@ -14,21 +17,21 @@ use Rattle.gptp_scenario.specs.Network.{IsNetwork, largest_of, pace_of}
 use Rattle.gptp_scenario.specs.SettlingTime.{settling_span, settling_span_with}
 use Rattle.gptp_scenario.specs.SyncWait.{sync_paths}
 use Rattle.gptp_scenario.specs.declared.sync_wait.SyncPaths.{SyncPaths}
-use Rattle.gptp_scenario.proofs.LogLemmas.{largest_log}
+use Rattle.gptp_scenario.specs.declared.change.Act.TheVariants as acts
+use Rattle.gptp_scenario.specs.declared.change.Timed.{Timed}
 use Rattle.gptp_setup.specs.Intervals.{IsLog, interval_of}
 use Rattle.gptp_setup.specs.SettlingParams.{SettlingParams}
 use Rattle.gptp_setup.proofs.IntervalLemmas.{interval_positive}
 use Rattle.gptp_timeline.specs.Each.{Each}
+use Rattle.gptp_topology.specs.Times.{times_from, times_of}
 use Rattle.gptp_faults.specs.Cases.{AreCases, fault_of, link_cases, system_cases}
-use Rattle.gptp_faults.specs.Refusals.{any_late, fault_before, latest_end, latest_event}
-use Rattle.gptp_faults.specs.Times.{ArePlanned, AreTimes, IsHold, IsPlanned, last_moment, moment}
+use Rattle.gptp_faults.specs.Refusals.{fault_before, latest_event}
+use Rattle.gptp_faults.specs.Stays.{hold_of, watch_among, watch_of}
+use Rattle.gptp_faults.specs.Times.{AreTimes, moment}
 use Rattle.gptp_faults.specs.declared.cases.Case.{Case}
-use Rattle.gptp_faults.specs.declared.cases.Planned.{Planned}
 use Rattle.gptp_faults.specs.declared.options.FaultsOptions.{FaultsOptions}
 use Rattle.gptp_faults.specs.declared.options.Only.{Only}
 use Rattle.gptp_faults.specs.declared.times.Times.{Times}
-use Rattle.gptp_faults.proofs.RefusalLemmas.{neither, not_late}
-use Rattle.gptp_faults.proofs.TimesLemmas.{div_grows}
 
 -- ---- two lists, member by member
 
@@ -40,16 +43,6 @@ each_exists P (x ∷ xs) one =
     let (y, is) = one x (inl refl) in
     let (ys, each) = each_exists P xs (λ z member. one z (inr member)) in
     (y ∷ ys, (is, each))
-
--- each place of that is for some member
-pub each_at : {X Y : Type 0} (P : X → Y → Type 0) (xs : List X) (ys : List Y) (place : ℕ) (y : Y) → Each P xs ys
-    → slice_get ys place ≡ Some y → (x : X) × In x xs × P x y
-each_at P [] [] place y each there = absurd cc
-each_at P [] (z ∷ zs) place y each there = absurd each
-each_at P (x ∷ xs) [] place y each there = absurd cc
-each_at P (x ∷ xs) (z ∷ zs) zero y each there = let same : z ≡ y = cc in (x, inl refl, subst (P x) same each.0)
-each_at P (x ∷ xs) (z ∷ zs) (suc place) y each there =
-    let (w, member, is) = each_at P xs zs place y each.1 there in (w, inr member, is)
 
 -- ---- what is known of a document
 
@@ -69,13 +62,12 @@ cases_exist d kind network =
 pub times_exist : (d : DocumentState) (options : FaultsOptions) → IsNetwork d.network
     → (t : Times) × AreTimes d options t
 times_exist d options network =
-    let (span, is) = span_exists d (last_change d.events) network in (
+    let last = last_change d.events in let (span, is) = span_exists d last network in (
       record {
-        from = unwrap_or options.at (last_change d.events + span);
+        from = unwrap_or options.at (last + max span (watch_of d last));
         spread = interval_of (largest_of d.network) + interval_of d.network.params.sync;
         moments = options.moments;
         seeds = options.seeds;
-        behind = unwrap_or options.hold span;
       },
       record {
         span = span;
@@ -84,20 +76,8 @@ times_exist d options network =
         spread_is = refl;
         moments_are = refl;
         seeds_are = refl;
-        behind_is = refl;
       },
     )
-
-hold_exists : (d : DocumentState) (t : Times) (c : Case) (asked : Option ℕ) → IsNetwork d.network
-    → (hold : ℕ) × IsHold d t c asked hold
-hold_exists d t c (Some asked) network = (asked, refl)
-hold_exists d t c None network = span_exists (with_event t.from (fault_of c) d) t.from network
-
-pub planned_exist : (d : DocumentState) (options : FaultsOptions) (t : Times) (cases : List Case)
-    → IsNetwork d.network → (planned : List Planned) × ArePlanned d options t cases planned
-planned_exist d options t cases network =
-    each_exists (IsPlanned d options t) cases (λ c member.
-    let (hold, is) = hold_exists d t c options.hold network in (record { failing = c; hold = hold }, (refl, is)))
 
 -- ---- a fault stays some time
 
@@ -109,27 +89,47 @@ span_some p paths n log =
     mul-le 1 1 ((p.params.timeout + 3) * n + p.params.lost + 5) (interval_of p.largest) (omega arith) interval in
     omega (arith, some)
 
-pub hold_some : (d : DocumentState) (t : Times) (c : Case) (asked : Option ℕ) (hold : ℕ) → IsNetwork d.network
-    → IfSome asked (λ least. 1 ≤ least) → IsHold d t c asked hold → 0 < hold
-hold_some d t c (Some asked) hold network some is = omega (arith, some, is)
-hold_some d t c None hold network some is =
-    let failed = with_event t.from (fault_of c) d in
-    let least = span_some (pace_of d.network) (sync_paths d.network (events_by t.from failed.events))
-    (path_bound is.snapshot) (largest_log d.network network) in
-    let same = is.is in
-    omega (arith, least, same)
+-- the last event of a document has one of its times
+last_time : (from : ℕ) (es : List Timed) (e : Timed) → In e.at (times_from from (es ++ e ∷ []))
+last_time from [] e = by (e.at == from) refl
+  where
+    by : (t : Bool) → (e.at == from) ≡ t → In e.at (times_from from (e ∷ []))
+    by true is = rw is (inl (eqb-true e.at from is))
+    by false is = rw is (inr (inl refl))
+last_time from (x ∷ xs) e = by (x.at == from) refl (last_time from xs e) (last_time x.at xs e)
+  where
+    by : (t : Bool) → (x.at == from) ≡ t → In e.at (times_from from (xs ++ e ∷ []))
+        → In e.at (times_from x.at (xs ++ e ∷ [])) → In e.at (times_from from ((x ∷ xs) ++ e ∷ []))
+    by true is same other = rw is same
+    by false is same other = rw is (inr other)
 
--- ---- moments
+-- and each of them is watched for some time
+watched_some : (d : DocumentState) → IsLog d.network.params.sync → (before : Option SettlingTime) (ats : List ℕ)
+    (at : ℕ) → In at ats → 0 < watch_among (settling_times_from d before ats) at
+watched_some d log before [] at member = absurd member
+watched_some d log before (x ∷ xs) at member =
+    by (x == at) refl member (watched_some d log (Some (time_at d before x)) xs at)
+  where
+    by : (t : Bool) → (x == at) ≡ t → In at (x ∷ xs)
+        → (In at xs → 0 < watch_among (settling_times_from d (Some (time_at d before x)) xs) at)
+        → 0 < watch_among (settling_times_from d before (x ∷ xs)) at
+    by true is among others =
+        let interval = interval_positive d.network.params.sync log in
+        let some : 0 < (time_at d before x).watch = omega (arith, interval) in rw is some
+    by false is (inl same) others = let no : true ≡ false = sym (eq-eqb x at (sym same)) ∙ is in absurd cc
+    by false is (inr later) others = rw is (others later)
 
--- each is no earlier than the first and no later than the last
-pub moment_within : (t : Times) (number : ℕ) → 1 ≤ t.moments → number < t.moments
-    → (t.from ≤ moment t number) × (moment t number ≤ last_moment t)
-moment_within t number some below =
-    let product : number * t.spread ≤ (t.moments - 1) * t.spread =
-    mul-le number t.spread (t.moments - 1) t.spread (omega (arith, below)) (omega arith) in
-    let quotient = div_grows (number * t.spread) ((t.moments - 1) * t.spread) t.moments (omega (arith, some))
-    product in
-    (omega arith, omega (arith, quotient))
+pub hold_some : (d : DocumentState) (c : Case) (at : ℕ) (asked : Option ℕ) → IsNetwork d.network
+    → IfSome asked (λ least. 1 ≤ least) → 0 < hold_of d asked c at
+hold_some d c at (Some asked) network some = omega (arith, some)
+hold_some d c at None network some =
+    let failed = with_event at (fault_of c) d in
+    watched_some failed network.params.ranges.params.sync None (times_of failed.events) at
+    (last_time 0 d.events (record { at = at; act = acts.Change (fault_of c) }))
+
+-- each moment is no earlier than the first
+pub moment_from : (t : Times) (number : ℕ) → t.from ≤ moment t number
+moment_from t number = omega arith
 
 -- ---- what isn't refused
 
@@ -147,11 +147,3 @@ from_behind d t (x ∷ xs) c member none =
     by false a true b early k = absurd (let no = rw (a, b) at none in cc)
     by false a false b true k = absurd (let no = rw (a, b, k) at none in cc)
     by false a false b false k = grind (arith, nat_tests)
-
--- such a case comes back no later than an event may be
-pub back_early : (t : Times) (planned : List Planned) → any_late t planned ≡ false → (place : ℕ) (p : Planned)
-    → slice_get planned place ≡ Some p → last_moment t + p.hold ≤ latest_event
-back_early t planned none place p there =
-    let early = (neither (nat_lt latest_event (last_moment t + p.hold))
-    (nat_lt latest_end (last_moment t + p.hold + t.behind)) (not_late t planned none place p there)).0 in
-    grind (arith, nat_tests)

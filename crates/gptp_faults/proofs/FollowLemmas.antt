@@ -1,17 +1,17 @@
 -- The roots that are followed while a case is down are those of the settled choice.
-use Rattle.std.proofs.Common.{◌≡◌, ◌≤◌, ◌<◌, ◌+◌, ◌*◌, ◌/◌, ℕ, zero, suc, Bool, false, nat_le, List, [], ◌∷◌, ◌++◌, Some, None, refl, sym, ap, subst, ◌∙◌, inl, inr, append-nil, arith}
+use Rattle.std.proofs.Common.{◌≡◌, ◌≤◌, ◌<◌, ◌+◌, ◌*◌, ◌/◌, ℕ, zero, suc, Bool, false, nat_le, List, [], ◌∷◌, ◌++◌, Option, Some, refl, sym, ap, subst, ◌∙◌, inl, inr, append-nil, arith}
 use Rattle.std.specs.List.{range_with_len}
 use Rattle.std.proofs.lemmas.Bool.Decides.{nat_tests}
 use Rattle.gptp_model.specs.Views.{rising_clocks}
 use Rattle.gptp_graph.specs.PathBound.{path_bound}
 use Rattle.gptp_graph.specs.Snapshot.{Snapshot}
 use Rattle.gptp_lists.specs.Members.{In}
+use Rattle.gptp_lists.proofs.SystemSpecLemmas.{In-slice_get}
 use Rattle.gptp_network.specs.Adding.{with_event}
 use Rattle.gptp_network.specs.Document.{DocumentState}
 use Rattle.gptp_network.specs.Snapshot.{events_by, IsSnapshot, StandsAfter}
-use Rattle.gptp_network.specs.Span.{IsSpan}
-use Rattle.gptp_network.proofs.LawLemmas.{one_snapshot}
-use Rattle.gptp_scenario.specs.Calm.{last_change}
+use Rattle.gptp_network.specs.Span.{IsBound}
+use Rattle.gptp_scenario.specs.Calm.{IsCalm, last_change}
 use Rattle.gptp_scenario.specs.Network.{pace_of}
 use Rattle.gptp_scenario.specs.SettlingTime.{settling_span_with}
 use Rattle.gptp_scenario.specs.SyncWait.{sync_paths}
@@ -23,27 +23,26 @@ use Rattle.gptp_timeline.specs.Ends.{EndState}
 use Rattle.gptp_timeline.specs.LastTwo.{EndsOf}
 use Rattle.gptp_timeline.specs.Laws.{AreRoots}
 use Rattle.gptp_timeline.specs.Timeline.{none_carried}
-use Rattle.gptp_timeline.specs.declared.stretch.Stretch.{Stretch}
 use Rattle.gptp_timeline.proofs.FollowedLemmas.{follow_there}
 use Rattle.gptp_scenario.proofs.LogLemmas.{largest_log}
 use Rattle.gptp_timeline.proofs.PastLemmas.{all_past, by_past, past_later, PastBy}
 use Rattle.gptp_timeline.proofs.SettlingLemmas.{keeps_first}
 use Rattle.gptp_faults.specs.Cases.{fault_of, return_of}
-use Rattle.gptp_faults.specs.Extremes.{greatest_behind, greatest_of_two, of_one}
 use Rattle.gptp_faults.specs.Faults.{FaultsOf}
 use Rattle.gptp_faults.specs.Laws.{FollowSettled}
 use Rattle.gptp_faults.specs.Options.{tracks}
-use Rattle.gptp_faults.specs.Outcomes.{downs, IsOutcomeAt}
-use Rattle.gptp_faults.specs.Runs.{draws, generator, CaseRunEnds, run_moment, runs_of, seed_of, with_case}
-use Rattle.gptp_faults.specs.Times.{IsHold, IsPlanned, moment}
-use Rattle.gptp_faults.specs.declared.cases.Planned.{Planned}
-use Rattle.gptp_faults.specs.declared.extremes.Extremes.{Extremes}
+use Rattle.gptp_faults.specs.Outcomes.{IsOutcomeAt}
+use Rattle.gptp_faults.specs.Refusals.{is_late, latest_event}
+use Rattle.gptp_faults.specs.Runs.{draws, generator, CaseRunEnds, run_moment, runs_of, seed_of}
+use Rattle.gptp_faults.specs.Stays.{document_of, end_at, hold_of, return_at}
+use Rattle.gptp_faults.specs.Times.{moment}
+use Rattle.gptp_faults.specs.declared.cases.Case.{Case}
 use Rattle.gptp_faults.specs.declared.options.FaultsOptions.{FaultsOptions}
 use Rattle.gptp_faults.specs.declared.times.Times.{Times}
 use Rattle.gptp_faults.proofs.DownLemmas.{AreLast, last_but_one}
 use Rattle.gptp_faults.proofs.PlayableLemmas.{case_playable}
-use Rattle.gptp_faults.proofs.RefusalLemmas.{each_early}
-use Rattle.gptp_faults.proofs.EveryPlanLemmas.{each_at, from_behind, span_some}
+use Rattle.gptp_faults.proofs.RefusalLemmas.{not_late, not_late_at, returns_early}
+use Rattle.gptp_faults.proofs.EveryPlanLemmas.{from_behind, span_some}
 
 -- ---- two lists, member by member
 
@@ -85,45 +84,64 @@ all_but_last time es e past late =
 zero_over : (n : ℕ) → 0 / n ≡ 0
 zero_over n = omega arith
 
-first_moment : (t : Times) → run_moment t 0 ≡ t.from
-first_moment t =
+moment_first : (t : Times) → moment t 0 ≡ t.from
+moment_first t =
     let none : 0 * t.spread ≡ 0 = omega arith in
     let first : t.from + 0 ≡ t.from = omega arith in
-    ap (moment t) (zero_over t.seeds) ∙ ap (λ n. t.from + n / t.moments) none
-    ∙ ap (λ n. t.from + n) (zero_over t.moments) ∙ first
+    ap (λ n. t.from + n / t.moments) none ∙ ap (λ n. t.from + n) (zero_over t.moments) ∙ first
+
+first_moment : (t : Times) → run_moment t 0 ≡ t.from
+first_moment t = ap (moment t) (zero_over t.seeds) ∙ moment_first t
 
 first_run : {Y : Type 0} (P : ℕ → Y → Type 0) (count : ℕ) (y : Y) (ys : List Y)
     → Each P (range_with_len 0 count) (y ∷ ys) → P 0 y
 first_run P zero y ys each = absurd each
 first_run P (suc count) y ys each = each.0
 
--- the bound is that of the first
-bound_kept : (e : Extremes) (ss : List Stretch) → (greatest_behind e ss).bound ≡ e.bound
-bound_kept e [] = refl
-bound_kept e (s ∷ ss) = bound_kept (greatest_of_two e (of_one s)) ss
+-- so there is a moment where there is a run
+some_run : {Y : Type 0} (P : ℕ → Y → Type 0) (count : ℕ) (y : Y) (ys : List Y)
+    → Each P (range_with_len 0 count) (y ∷ ys) → 0 < count
+some_run P zero y ys each = absurd each
+some_run P (suc count) y ys each = omega arith
+
+some_moment : (moments seeds : ℕ) → 0 < moments * seeds → 0 < moments
+some_moment zero seeds some = let none : 0 * seeds ≡ 0 = omega arith in absurd (omega (arith, some, none))
+some_moment (suc moments) seeds some = omega arith
+
+-- and a case that isn't late comes back early from the first
+back_early : (d : DocumentState) (asked : Option ℕ) (t : Times) (c : Case) → is_late d asked t c ≡ false
+    → 0 < t.moments → return_at d asked c t.from ≤ latest_event
+back_early d asked t c none some =
+    subst (λ at. return_at d asked c at ≤ latest_event) (moment_first t)
+    (returns_early d asked c (moment t 0) (not_late_at d asked t c 0 none some))
 
 -- ---- a run of a case
 
-module _ (asked : Bool) (d : DocumentState) (t : Times) (p : Planned) (playable : IsPlayable d)
-    (last : last_change d.events ≤ t.from) (hold : IsHold d t p.failing None p.hold) where
+module _ (options : FaultsOptions) (d : DocumentState) (t : Times) (c : Case) (playable : IsPlayable d)
+    (last : last_change d.events ≤ t.from) (span : ℕ)
+    (bound : IsBound (with_event t.from (fault_of c) d) t.from (Some span))
+    (stays : span ≤ hold_of d options.hold c t.from) where
+  abbrev hold : ℕ
+  hold = hold_of d options.hold c t.from
+
   abbrev failed : DocumentState
-  failed = with_event t.from (fault_of p.failing) d
+  failed = with_event t.from (fault_of c) d
 
   abbrev whole : DocumentState
-  whole = with_case t.from p d
+  whole = document_of d options.hold c t.from
 
   abbrev fails : Timed
-  fails = record { at = t.from; act = acts.Change (fault_of p.failing) }
+  fails = record { at = t.from; act = acts.Change (fault_of c) }
 
   abbrev returns : Timed
-  returns = record { at = t.from + p.hold; act = acts.Change (return_of p.failing) }
+  returns = record { at = t.from + hold; act = acts.Change (return_of c) }
 
-  holds : 0 < p.hold
+  holds : 0 < hold
   holds =
       let paths = sync_paths d.network (events_by t.from failed.events) in
       let log = largest_log d.network playable.network in
-      let some = span_some (pace_of d.network) paths (path_bound hold.snapshot) log in
-      let is = hold.is in omega (arith, some, is)
+      let some = span_some (pace_of d.network) paths (path_bound bound.1.snapshot) log in
+      let is = bound.1.is in omega (arith, some, is, stays)
 
   past : PastBy t.from d.events
   past = all_past t.from d.events playable.events.in_order last
@@ -138,8 +156,7 @@ module _ (asked : Bool) (d : DocumentState) (t : Times) (p : Planned) (playable 
       all_but_last t.from (d.events ++ fails ∷ []) returns past_failed (omega (arith, some))
       ∙ sym (all_by t.from (d.events ++ fails ∷ []) past_failed)
 
-  both_last : (until : ℕ) → t.from + p.hold ≤ until
-      → AreLast t.from (t.from + p.hold) 0 (events_by until whole.events)
+  both_last : (until : ℕ) → t.from + hold ≤ until → AreLast t.from (t.from + hold) 0 (events_by until whole.events)
   both_last until within =
       let some = holds in record {
         others = d.events;
@@ -156,69 +173,65 @@ module _ (asked : Bool) (d : DocumentState) (t : Times) (p : Planned) (playable 
         early = omega arith;
       }
 
-  -- so long as the stretch in which it is down has a bound, it lasts as long
-  lasts : (at bound : ℕ) → at ≡ t.from → IsSpan whole at bound → at + bound ≤ t.from + p.hold
-  lasts at bound is span =
-      let stands : IsSnapshot failed t.from span.snapshot =
-      subst (λ es. StandsAfter d.network es span.snapshot) (ap (λ time. events_by time whole.events) is ∙ by_fault)
-      span.stands in
-      let same = one_snapshot failed t.from span.snapshot hold.snapshot stands hold.stands in
-      let pace = pace_of d.network in
-      let made : events_by at whole.events ≡ events_by t.from failed.events =
-      ap (λ time. events_by time whole.events) is ∙ by_fault in
-      let equal : bound ≡ p.hold =
-      span.is ∙ ap (λ es. settling_span_with pace (sync_paths d.network es) (path_bound span.snapshot)) made
-      ∙ ap (λ g. settling_span_with pace (sync_paths d.network (events_by t.from failed.events)) (path_bound g)) same
-      ∙ sym hold.is in
-      omega (arith, is, equal)
+  -- so the stretch in which it is down is bounded by the span too
+  spans : (at : ℕ) → at ≡ t.from → IsBound whole at (Some span)
+  spans at is =
+      let n = d.network in
+      let made : events_by t.from failed.events ≡ events_by at whole.events =
+      sym (ap (λ time. events_by time whole.events) is ∙ by_fault) in (
+        subst (IsCalm n) made bound.0,
+        record {
+          snapshot = bound.1.snapshot;
+          stands = subst (λ es. StandsAfter n es bound.1.snapshot) made bound.1.stands;
+          is = subst (λ es. span ≡ settling_span_with (pace_of n) (sync_paths n es) (path_bound bound.1.snapshot)) made
+              bound.1.is;
+        },
+      )
 
   -- the roots where its first run ends to be down are those of the settled choice
-  roots_settle : (a b : EndState) (bound : ℕ) (g : Snapshot) → IsPlayable whole → CaseRunEnds asked d t p 0 (a, b)
-      → a.stretch.bound ≡ Some bound → IsSnapshot failed t.from g → AreRoots g a.roots
-  roots_settle a b bound g can run bounded stands =
-      let until = t.from + p.hold + t.behind in
-      let e : EndsOf draws asked whole until (generator (seed_of t 0)) (Some (a, b)) =
-      subst (λ at. EndsOf draws asked (with_case at p d) (at + p.hold + t.behind) (generator (seed_of t 0))
-      (Some (a, b))) (first_moment t) run in
+  roots_settle : (a b : EndState) (g : Snapshot) → IsPlayable whole → CaseRunEnds options d t c 0 (a, b)
+      → IsSnapshot failed t.from g → AreRoots g a.roots
+  roots_settle a b g can run stands =
+      let until = end_at d options.hold c t.from in
+      let e : EndsOf draws (tracks options) whole until (generator (seed_of t 0)) (Some (a, b)) =
+      subst (λ at. EndsOf draws (tracks options) (document_of d options.hold c at) (end_at d options.hold c at)
+      (generator (seed_of t 0)) (Some (a, b))) (first_moment t) run in
       let names = rising_clocks e.start in
-      let k = last_but_one draws whole until names e.passages t.from (t.from + p.hold) 0 (events_by until whole.events)
-      (none_carried asked names) e.started e.fate_after e.start e.after a b (both_last until (omega arith)) e.pass
-      (sym e.are) in
-      let begins : k.passage.bound ≡ Some bound = ap (λ (x : EndState). x.stretch.bound) (sym k.ended) ∙ bounded in
-      let to = k.to_is in
+      let k = last_but_one draws whole until names e.passages t.from (t.from + hold) 0 (events_by until whole.events)
+      (none_carried (tracks options) names) e.started e.fate_after e.start e.after a b (both_last until (omega arith))
+      e.pass (sym e.are) in
+      let from = k.from_is in let to = k.to_is in
       let there : IsSnapshot whole k.passage.from g =
       subst (λ es. StandsAfter d.network es g)
       (sym (ap (λ time. events_by time whole.events) k.from_is ∙ by_fault)) stands in
       subst (AreRoots g) (ap (λ (x : EndState). x.roots) (sym k.ended))
       (follow_there draws whole can names false until e.passages e.started e.fate_after e.start e.after k.passage
-      bound g
+      span g
       (keeps_first draws whole can names (generator (seed_of t 0)) e.started e.start refl e.begun) e.pass k.member
-      begins (λ span. let late = lasts k.passage.from bound k.from_is span in omega (arith, late, to)) there)
+      (spans k.passage.from from) (omega (arith, from, to, stays)) there)
 
 -- ---- the law
 
 pub follow_settles : (d : DocumentState) (options : FaultsOptions) (lines : List (List ℕ)) (exceeded : Bool)
     (f : FaultsOf d options lines exceeded) → IsPlayable d → FollowSettled d options f.times.from f.outcomes
-follow_settles d options lines exceeded f playable o bound g default member bounded stands =
+follow_settles d options lines exceeded f playable o g span member bound stays stands =
     let t = f.times in
-    let (number, of_part, (p, there, outcome)) =
-    each_for (IsOutcomeAt (tracks options) d t f.planned) _ f.outcomes o f.are_outcomes member in
-    let (c, a_case, (is_case, hold_is)) =
-    each_at (IsPlanned d options t) f.cases f.planned number p f.are_planned there in
+    let (number, of_part, (c, there, outcome)) =
+    each_for (IsOutcomeAt options d t f.cases) _ f.outcomes o f.are_outcomes member in
+    let a_case = In-slice_get c f.cases number there in
     let failing = outcome.failing in
-    let hold : IsHold d t p.failing None p.hold =
-    subst (λ x. IsHold d t x None p.hold) (sym is_case) (subst (λ asked. IsHold d t c asked p.hold) default hold_is) in
+    let bounded = subst (λ x. IsBound (with_event t.from (fault_of x) d) t.from (Some span)) failing bound in
+    let held = subst (λ x. span ≤ hold_of d options.hold x t.from) failing stays in
+    let g_stands = subst (λ x. IsSnapshot (with_event t.from (fault_of x) d) t.from g) failing stands in
     let last = from_behind d t f.cases c a_case f.before in
-    let early = each_early t f.planned f.in_time number p there in
-    let playable_whole = case_playable d options.only f.cases p.failing t.from (t.from + p.hold) playable f.are_cases
-    (subst (λ x. In x f.cases) (sym is_case) a_case) last (omega arith) early in
     let first = outcome.first in
-    let run = first_run (CaseRunEnds (tracks options) d t p) (runs_of t) first outcome.others outcome.runs in
-    let kept : first.0.stretch.bound ≡ Some bound =
-    sym (bound_kept (of_one first.0.stretch) (downs outcome.others))
-    ∙ ap (λ (e : Extremes). e.bound) (sym outcome.down) ∙ bounded in
-    let g_stands = subst (λ x. IsSnapshot (with_event t.from (fault_of x) d) t.from g) failing stands in (
+    let first_of_all = first_run (CaseRunEnds options d t c) (runs_of t) first outcome.others outcome.runs in
+    let some = some_run (CaseRunEnds options d t c) (runs_of t) first outcome.others outcome.runs in
+    let early = back_early d options.hold t c (not_late d options.hold t f.cases f.in_time number c there)
+    (some_moment t.moments t.seeds some) in
+    let can = case_playable d options.only f.cases c t.from (return_at d options.hold c t.from) playable f.are_cases
+    a_case last (omega arith) early in (
       first.0.roots,
-      roots_settle (tracks options) d t p playable last hold first.0 first.1 bound g playable_whole run kept g_stands,
+      roots_settle options d t c playable last span bounded held first.0 first.1 g can first_of_all g_stands,
       outcome.follow,
     )

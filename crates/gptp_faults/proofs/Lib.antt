@@ -1,6 +1,7 @@
 pub mod EachLemmas
 pub mod RootLemmas
 pub mod CaseLemmas
+pub mod StayLemmas
 pub mod TimesLemmas
 pub mod RunLemmas
 pub mod OutcomeLemmas

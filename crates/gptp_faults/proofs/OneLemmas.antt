@@ -1,5 +1,5 @@
 -- A document has one table of its faults, or is refused in one way, where runs end in one way.
-use Rattle.std.proofs.Common.{◌≡◌, ◌⊎◌, ◌+◌, ℕ, Bool, true, List, [], ◌∷◌, ◌++◌, length, Option, Some, None, unwrap_or, refl, sym, ap, ap₂, subst, ◌∙◌, inl, inr}
+use Rattle.std.proofs.Common.{◌≡◌, ◌⊎◌, ◌+◌, ℕ, Bool, List, [], ◌∷◌, ◌++◌, length, max, Some, unwrap_or, refl, sym, ap, ap₂, subst, ◌∙◌, inl, inr}
 use Rattle.std.proofs.lemmas.Option.{same_Some}
 use Rattle.gptp_graph.specs.PathBound.{path_bound}
 use Rattle.gptp_graph.specs.Snapshot.{Snapshot}
@@ -28,11 +28,11 @@ use Rattle.gptp_faults.specs.Laws.{NeverRefused, OneRefusal, OneTable, RunsEndOn
 use Rattle.gptp_faults.specs.Options.{tracks}
 use Rattle.gptp_faults.specs.Outcomes.{AreOutcomes, IsOutcome, IsOutcomeAt, OutcomeState, backs, downs, case_numbers}
 use Rattle.gptp_faults.specs.Ranking.{OutcomesAreRanked}
-use Rattle.gptp_faults.specs.Refusals.{IsLate, RefusesFaults, any_late, fault_before}
-use Rattle.gptp_faults.specs.Runs.{CaseRunEnds, generator, run_moment, seed_of, with_case}
-use Rattle.gptp_faults.specs.Times.{ArePlanned, AreTimes, IsHold, IsPlanned}
+use Rattle.gptp_faults.specs.Refusals.{IsLate, RefusesFaults, fault_before}
+use Rattle.gptp_faults.specs.Runs.{CaseRunEnds, generator, run_moment, seed_of}
+use Rattle.gptp_faults.specs.Stays.{document_of, end_at, watch_of}
+use Rattle.gptp_faults.specs.Times.{AreTimes}
 use Rattle.gptp_faults.specs.declared.cases.Case.{Case}
-use Rattle.gptp_faults.specs.declared.cases.Planned.{Planned}
 use Rattle.gptp_faults.specs.declared.options.FaultsOptions.{FaultsOptions}
 use Rattle.gptp_faults.specs.declared.times.Times.{Times}
 use Rattle.gptp_faults.proofs.OrderLemmas.{ranked_once}
@@ -66,21 +66,21 @@ follows_once roots a b k l =
 
 -- ---- a run
 
-module _ (d : DocumentState) (once : RunsEndOnce d) where
-  run_once : (asked : Bool) (t : Times) (p : Planned) (run : ℕ) (a b : EndState × EndState)
-      → CaseRunEnds asked d t p run a → CaseRunEnds asked d t p run b → a ≡ b
-  run_once asked t p run a b k l =
+module _ (d : DocumentState) (once : RunsEndOnce d) (options : FaultsOptions) (t : Times) where
+  run_once : (c : Case) (run : ℕ) (a b : EndState × EndState) → CaseRunEnds options d t c run a
+      → CaseRunEnds options d t c run b → a ≡ b
+  run_once c run a b k l =
       let at = run_moment t run in
-      same_Some a b (once asked (with_case at p d) (at + p.hold + t.behind) (generator (seed_of t run)) (Some a)
-      (Some b) refl k l)
+      same_Some a b (once (tracks options) (document_of d options.hold c at) (end_at d options.hold c at)
+      (generator (seed_of t run)) (Some a) (Some b) refl k l)
 
   -- ---- a case
 
-  outcome_once : (asked : Bool) (t : Times) (number : ℕ) (p : Planned) (a b : OutcomeState)
-      → IsOutcome asked d t number p a → IsOutcome asked d t number p b → a ≡ b
-  outcome_once asked t number p a b k l =
-      let runs = each_once (CaseRunEnds asked d t p) (run_once asked t p) _ (k.first ∷ k.others)
-      (l.first ∷ l.others) k.runs l.runs in
+  outcome_once : (number : ℕ) (c : Case) (a b : OutcomeState) → IsOutcome options d t number c a
+      → IsOutcome options d t number c b → a ≡ b
+  outcome_once number c a b k l =
+      let runs = each_once (CaseRunEnds options d t c) (run_once c) _ (k.first ∷ k.others) (l.first ∷ l.others) k.runs
+      l.runs in
       let first : k.first ≡ l.first = cc in
       let others : k.others ≡ l.others = cc in
       let numbers : a.number ≡ b.number = k.number_is ∙ sym l.number_is in
@@ -102,19 +102,19 @@ module _ (d : DocumentState) (once : RunsEndOnce d) where
         follow = follow i;
       }
 
-  outcome_at_once : (asked : Bool) (t : Times) (planned : List Planned) (number : ℕ) (a b : OutcomeState)
-      → IsOutcomeAt asked d t planned number a → IsOutcomeAt asked d t planned number b → a ≡ b
-  outcome_at_once asked t planned number a b (p, at, k) (q, there, l) =
-      let same : q ≡ p = same_Some q p (sym there ∙ at) in
-      outcome_once asked t number p a b k (subst (λ (r : Planned). IsOutcome asked d t number r b) same l)
+  outcome_at_once : (cases : List Case) (number : ℕ) (a b : OutcomeState) → IsOutcomeAt options d t cases number a
+      → IsOutcomeAt options d t cases number b → a ≡ b
+  outcome_at_once cases number a b (c, at, k) (e, there, l) =
+      let same : e ≡ c = same_Some e c (sym there ∙ at) in
+      outcome_once number c a b k (subst (λ (x : Case). IsOutcome options d t number x b) same l)
 
-  outcomes_once : (t : Times) (options : FaultsOptions) (planned : List Planned) (a b : List OutcomeState)
-      → AreOutcomes d t options planned a → AreOutcomes d t options planned b → a ≡ b
-  outcomes_once t options planned a b k l =
-      each_once (IsOutcomeAt (tracks options) d t planned) (outcome_at_once (tracks options) t planned)
-      (case_numbers options.parts options.part (length planned)) a b k l
+  outcomes_once : (cases : List Case) (a b : List OutcomeState) → AreOutcomes d t options cases a
+      → AreOutcomes d t options cases b → a ≡ b
+  outcomes_once cases a b k l =
+      each_once (IsOutcomeAt options d t cases) (outcome_at_once cases)
+      (case_numbers options.parts options.part (length cases)) a b k l
 
--- ---- what is planned
+-- ---- cases and times
 
 span_once : (d : DocumentState) (at m n : ℕ) → IsSpan d at m → IsSpan d at n → m ≡ n
 span_once d at m n x y =
@@ -131,32 +131,16 @@ cases_once d options a b k l =
 times_once : (d : DocumentState) (options : FaultsOptions) (t u : Times) → AreTimes d options t → AreTimes d options u
     → t ≡ u
 times_once d options t u k l =
-    let spans = span_once d _ k.span l.span k.span_is l.span_is in
+    let last = last_change d.events in
+    let spans = span_once d last k.span l.span k.span_is l.span_is in
     let from : t.from ≡ u.from =
-    k.from_is ∙ ap (λ (span : ℕ). unwrap_or options.at (last_change d.events + span)) spans ∙ sym l.from_is in
+    k.from_is ∙ ap (λ (span : ℕ). unwrap_or options.at (last + max span (watch_of d last))) spans ∙ sym l.from_is in
     let spread : t.spread ≡ u.spread = k.spread_is ∙ sym l.spread_is in
     let moments : t.moments ≡ u.moments = k.moments_are ∙ sym l.moments_are in
     let seeds : t.seeds ≡ u.seeds = k.seeds_are ∙ sym l.seeds_are in
-    let behind : t.behind ≡ u.behind = k.behind_is ∙ ap (unwrap_or options.hold) spans ∙ sym l.behind_is in
-    λ i. record { from = from i; spread = spread i; moments = moments i; seeds = seeds i; behind = behind i }
-
-hold_once : (d : DocumentState) (t : Times) (c : Case) (asked : Option ℕ) (m n : ℕ) → IsHold d t c asked m
-    → IsHold d t c asked n → m ≡ n
-hold_once d t c (Some asked) m n k l = k ∙ sym l
-hold_once d t c None m n k l = span_once _ t.from m n k l
-
-planned_once : (d : DocumentState) (options : FaultsOptions) (t : Times) (c : Case) (p q : Planned)
-    → IsPlanned d options t c p → IsPlanned d options t c q → p ≡ q
-planned_once d options t c p q k l =
-    let failing : p.failing ≡ q.failing = k.0 ∙ sym l.0 in
-    let hold : p.hold ≡ q.hold = hold_once d t c options.hold p.hold q.hold k.1 l.1 in
-    λ i. record { failing = failing i; hold = hold i }
+    λ i. record { from = from i; spread = spread i; moments = moments i; seeds = seeds i }
 
 module _ (d : DocumentState) (options : FaultsOptions) where
-  all_planned_once : (t : Times) (cases : List Case) (a b : List Planned) → ArePlanned d options t cases a
-      → ArePlanned d options t cases b → a ≡ b
-  all_planned_once t cases a b k l = each_once (IsPlanned d options t) (planned_once d options t) cases a b k l
-
   -- ---- a table, or a refusal
 
   module _ (once : RunsEndOnce d) where
@@ -165,14 +149,10 @@ module _ (d : DocumentState) (options : FaultsOptions) where
     one_table_of xs ys a b k l =
         let cases = cases_once d options k.cases l.cases k.are_cases l.are_cases in
         let times = times_once d options k.times l.times k.are_times l.are_times in
-        let planned : k.planned ≡ l.planned =
-        all_planned_once l.times l.cases k.planned l.planned
-        (subst (λ (cs : List Case). ArePlanned d options l.times cs k.planned) cases
-        (subst (λ (t : Times). ArePlanned d options t k.cases k.planned) times k.are_planned)) l.are_planned in
         let outcomes : k.outcomes ≡ l.outcomes =
-        outcomes_once d once l.times options l.planned k.outcomes l.outcomes
-        (subst (λ (ps : List Planned). AreOutcomes d l.times options ps k.outcomes) planned
-        (subst (λ (t : Times). AreOutcomes d t options k.planned k.outcomes) times k.are_outcomes)) l.are_outcomes in
+        outcomes_once d once options l.times l.cases k.outcomes l.outcomes
+        (subst (λ (cs : List Case). AreOutcomes d l.times options cs k.outcomes) cases
+        (subst (λ (t : Times). AreOutcomes d t options k.cases k.outcomes) times k.are_outcomes)) l.are_outcomes in
         let told : k.told ≡ l.told =
         ranked_once l.outcomes k.told l.told
         (subst (λ (os : List OutcomeState). OutcomesAreRanked os k.told) outcomes k.are_told) l.are_told in (
@@ -199,12 +179,7 @@ module _ (d : DocumentState) (options : FaultsOptions) where
       by : (fault_before d k.times k.cases ≡ Some fault) ⊎ IsLate d options k.times k.cases fault → ⊥
       by (inl early) = let none = k.before in absurd cc
       by (inr late) =
-          let same : late.planned ≡ k.planned =
-          all_planned_once k.times k.cases late.planned k.planned late.are_planned k.are_planned in
-          let in_time = k.in_time in
-          let too_late : any_late k.times k.planned ≡ true =
-          subst (λ (ps : List Planned). any_late k.times ps ≡ true) same late.late in
-          absurd cc
+          let in_time = k.in_time in let too_late = late.late in absurd cc
 
   -- and has one fault
   refusals_once : (f g : DocumentFault) → RefusesFaults d options f → RefusesFaults d options g → f ≡ g

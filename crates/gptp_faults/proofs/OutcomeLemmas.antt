@@ -1,5 +1,5 @@
 -- The worst of runs, and cases in their order, one after another.
-use Rattle.std.proofs.Common.{◌≡◌, ◌+◌, ◌++◌, ◌∷◌, [], ℕ, zero, suc, Bool, true, false, List, filter, refl, sym, ap, subst, ◌∙◌, append-nil, arith}
+use Rattle.std.proofs.Common.{◌≡◌, ◌+◌, ◌++◌, ◌∷◌, [], ℕ, zero, suc, true, false, List, filter, refl, sym, ap, subst, ◌∙◌, append-nil, arith}
 use Rattle.std.specs.List.{range_with_len}
 use Rattle.std.proofs.lemmas.List.{map-append}
 use Rattle.std.proofs.lemmas.List.Elements.{filter-append}
@@ -13,7 +13,8 @@ use Rattle.gptp_faults.specs.Outcomes.{backs, is_of_part, downs, IsOutcome, IsOu
 use Rattle.gptp_faults.specs.Runs.{CaseRunEnds, runs_of}
 use Rattle.gptp_faults.specs.declared.extremes.Extremes.{Extremes}
 use Rattle.gptp_faults.specs.declared.follows.Follow.{Follow}
-use Rattle.gptp_faults.specs.declared.cases.Planned.{Planned}
+use Rattle.gptp_faults.specs.declared.cases.Case.{Case}
+use Rattle.gptp_faults.specs.declared.options.FaultsOptions.{FaultsOptions}
 use Rattle.gptp_faults.specs.declared.times.Times.{Times}
 use Rattle.gptp_faults.proofs.EachLemmas.{each_more}
 
@@ -39,20 +40,20 @@ greatest_more e [] s = refl
 greatest_more e (x ∷ xs) s = greatest_more (greatest_of_two e (of_one x)) xs s
 
 -- Some runs of a case were made; so great is the worst of them, and so many systems follow which roots in the first.
-pub record AreTried (asked : Bool) (d : DocumentState) (t : Times) (p : Planned) (count : ℕ)
+pub record AreTried (options : FaultsOptions) (d : DocumentState) (t : Times) (c : Case) (count : ℕ)
     (down back : Extremes) (follow : List Follow) : Type 0 where
   pub first : EndState × EndState
   pub others : List (EndState × EndState)
-  pub runs : Each (CaseRunEnds asked d t p) (range_with_len 0 count) (first ∷ others)
+  pub runs : Each (CaseRunEnds options d t c) (range_with_len 0 count) (first ∷ others)
   pub down_is : down ≡ greatest_behind (of_one first.0.stretch) (downs others)
   pub back_is : back ≡ greatest_behind (of_one first.1.stretch) (backs others)
   pub follow_is : AreFollows first.0.roots follow
 
-module _ (asked : Bool) (d : DocumentState) (t : Times) (p : Planned) where
+module _ (options : FaultsOptions) (d : DocumentState) (t : Times) (c : Case) where
   pub one_tried : (first : EndState × EndState) (down back : Extremes) (follow : List Follow)
-      → CaseRunEnds asked d t p 0 first
+      → CaseRunEnds options d t c 0 first
       → down ≡ of_one first.0.stretch → back ≡ of_one first.1.stretch → AreFollows first.0.roots follow
-      → AreTried asked d t p 1 down back follow
+      → AreTried options d t c 1 down back follow
   one_tried first down back follow run down_is back_is follow_is = record {
     first = first;
     others = [];
@@ -63,16 +64,17 @@ module _ (asked : Bool) (d : DocumentState) (t : Times) (p : Planned) where
   }
 
   pub more_tried : (count : ℕ) (down back down_after back_after : Extremes) (follow : List Follow)
-      → AreTried asked d t p count down back follow → (ends : EndState × EndState) → CaseRunEnds asked d t p count ends
+      → AreTried options d t c count down back follow → (ends : EndState × EndState)
+      → CaseRunEnds options d t c count ends
       → down_after ≡ greatest_of_two down (of_one ends.0.stretch)
       → back_after ≡ greatest_of_two back (of_one ends.1.stretch)
-      → AreTried asked d t p (count + 1) down_after back_after follow
+      → AreTried options d t c (count + 1) down_after back_after follow
   more_tried count down back down_after back_after follow tried ends run down_is back_is = record {
     first = tried.first;
     others = tried.others ++ ends ∷ [];
-    runs = subst (λ ns. Each (CaseRunEnds asked d t p) ns (tried.first ∷ tried.others ++ ends ∷ []))
+    runs = subst (λ ns. Each (CaseRunEnds options d t c) ns (tried.first ∷ tried.others ++ ends ∷ []))
         (sym (range_with_one count))
-        (each_more (CaseRunEnds asked d t p) (range_with_len 0 count) (tried.first ∷ tried.others) count ends
+        (each_more (CaseRunEnds options d t c) (range_with_len 0 count) (tried.first ∷ tried.others) count ends
         tried.runs run);
     down_is = down_is ∙ ap (λ e. greatest_of_two e (of_one ends.0.stretch)) tried.down_is
         ∙ sym (greatest_more (of_one tried.first.0.stretch) (downs tried.others) ends.0.stretch)
@@ -87,13 +89,14 @@ module _ (asked : Bool) (d : DocumentState) (t : Times) (p : Planned) where
 
   -- all of them
   pub all_tried : (number count : ℕ) (down back : Extremes) (follow : List Follow) (o : OutcomeState)
-      → AreTried asked d t p count down back follow → count ≡ runs_of t
-      → o ≡ record { number = number; failing = p.failing; down = down; back = back; follow = follow }
-      → IsOutcome asked d t number p o
+      → AreTried options d t c count down back follow → count ≡ runs_of t
+      → o ≡ record { number = number; failing = c; down = down; back = back; follow = follow }
+      → IsOutcome options d t number c o
   all_tried number count down back follow o tried all is = record {
     first = tried.first;
     others = tried.others;
-    runs = subst (λ n. Each (CaseRunEnds asked d t p) (range_with_len 0 n) (tried.first ∷ tried.others)) all tried.runs;
+    runs = subst (λ n. Each (CaseRunEnds options d t c) (range_with_len 0 n) (tried.first ∷ tried.others)) all
+        tried.runs;
     number_is = ap (λ (x : OutcomeState). x.number) is;
     failing = ap (λ (x : OutcomeState). x.failing) is;
     down = ap (λ (x : OutcomeState). x.down) is ∙ tried.down_is;
@@ -120,18 +123,18 @@ module _ (parts part count : ℕ) where
       numbers_more ∙ ap (λ ns. case_numbers parts part count ++ ns) (rw is refl)
       ∙ append-nil (case_numbers parts part count)
 
-module _ (asked : Bool) (d : DocumentState) (t : Times) (planned : List Planned) (parts part count : ℕ)
+module _ (options : FaultsOptions) (d : DocumentState) (t : Times) (cases : List Case) (parts part count : ℕ)
     (tried : List OutcomeState)
-    (so_far : Each (IsOutcomeAt asked d t planned) (case_numbers parts part count) tried) where
+    (so_far : Each (IsOutcomeAt options d t cases) (case_numbers parts part count) tried) where
   -- a case more that belongs to the part was tried
-  pub case_tried : is_of_part parts part count ≡ true → (o : OutcomeState) → IsOutcomeAt asked d t planned count o
-      → Each (IsOutcomeAt asked d t planned) (case_numbers parts part (count + 1)) (tried ++ o ∷ [])
+  pub case_tried : is_of_part parts part count ≡ true → (o : OutcomeState) → IsOutcomeAt options d t cases count o
+      → Each (IsOutcomeAt options d t cases) (case_numbers parts part (count + 1)) (tried ++ o ∷ [])
   case_tried is o outcome =
-      subst (λ ns. Each (IsOutcomeAt asked d t planned) ns (tried ++ o ∷ [])) (sym (one_number parts part count is))
-      (each_more (IsOutcomeAt asked d t planned) (case_numbers parts part count) tried count o so_far outcome)
+      subst (λ ns. Each (IsOutcomeAt options d t cases) ns (tried ++ o ∷ [])) (sym (one_number parts part count is))
+      (each_more (IsOutcomeAt options d t cases) (case_numbers parts part count) tried count o so_far outcome)
 
   -- it doesn't belong to it
   pub case_passed : is_of_part parts part count ≡ false
-      → Each (IsOutcomeAt asked d t planned) (case_numbers parts part (count + 1)) tried
+      → Each (IsOutcomeAt options d t cases) (case_numbers parts part (count + 1)) tried
   case_passed is =
-      subst (λ ns. Each (IsOutcomeAt asked d t planned) ns tried) (sym (no_number parts part count is)) so_far
+      subst (λ ns. Each (IsOutcomeAt options d t cases) ns tried) (sym (no_number parts part count is)) so_far

@@ -12,7 +12,6 @@ use Rattle.gptp_faults.specs.Faults.{IsTable}
 use Rattle.gptp_faults.specs.Outcomes.{is_of_part, case_numbers}
 use Rattle.gptp_faults.specs.Progress.{all_begun, begun, part_begun, part_count, TellsCases}
 use Rattle.gptp_faults.specs.declared.cases.Case.{Case}
-use Rattle.gptp_faults.specs.declared.cases.Planned.{Planned}
 use Rattle.gptp_faults.specs.declared.faults.Answer.{Answer}
 use Rattle.gptp_faults.specs.declared.faults.Answer.TheVariants.{Refused, Table}
 use Rattle.gptp_faults.specs.declared.options.FaultsOptions.{FaultsOptions}
@@ -65,20 +64,18 @@ told_still asked count before after old new same so =
     subst (λ n. Appends old new (text_of (all_begun asked count n))) (sym same) so
 
 -- of all
-pub told_all : (options : FaultsOptions) (planned count told : ℕ) (old new : Option (List ℕ))
-    → count ≡ part_count options planned → told ≡ part_count options planned
+pub told_all : (options : FaultsOptions) (cases count told : ℕ) (old new : Option (List ℕ))
+    → count ≡ part_count options cases → told ≡ part_count options cases
     → Appends old new (text_of (all_begun options.progress count told))
-    → Appends old new (text_of (part_begun options planned))
-told_all options planned count told old new count_is told_is so =
-    let lines : all_begun options.progress count told ≡ part_begun options planned =
+    → Appends old new (text_of (part_begun options cases))
+told_all options cases count told old new count_is told_is so =
+    let lines : all_begun options.progress count told ≡ part_begun options cases =
     ap (λ n. all_begun options.progress n told) count_is
-    ∙ ap (all_begun options.progress (part_count options planned)) told_is in
+    ∙ ap (all_begun options.progress (part_count options cases)) told_is in
     subst (λ ls. Appends old new (text_of ls)) lines so
 
-pub tells : (d : DocumentState) (options : FaultsOptions) (t : Times) (cases : List Case) (planned : List Planned)
-    (old new : Option (List ℕ)) → AreCases d options.only cases → length planned ≡ length cases → (answer : Answer)
-    → IsTable d options t planned answer → Appends old new (text_of (part_begun options (length planned)))
-    → TellsCases d options old new answer
-tells d options t cases planned old new are many (Refused fault) none told = absurd none
-tells d options t cases planned old new are many (Table text exceeded) table told =
-    (cases, are, subst (λ n. Appends old new (text_of (part_begun options n))) many told)
+pub tells : (d : DocumentState) (options : FaultsOptions) (t : Times) (cases : List Case) (old new : Option (List ℕ))
+    → AreCases d options.only cases → (answer : Answer) → IsTable d options t cases answer
+    → Appends old new (text_of (part_begun options (length cases))) → TellsCases d options old new answer
+tells d options t cases old new are (Refused fault) none told = absurd none
+tells d options t cases old new are (Table text exceeded) table told = (cases, are, told)

@@ -33,8 +33,8 @@ RunsEnd d = (asked : Bool) (at later until : ℕ) (change other : Change) (fate 
     → 0 < later → later ≤ until → until ≤ 1000000000000000
     → HasEnds asked (with_event later other (with_event at change d)) until fate
 
--- a table whose `follow` lines are those of the settled choice where faults stay by default and are bounded, or a
--- refusal
+-- a table whose `follow` lines are those of the settled choice where faults stay as long as the network takes at most
+-- to settle, or a refusal
 abbrev pub HasFaults : DocumentState → FaultsOptions → Type 0
 HasFaults d options =
     ((lines : List (List ℕ)) × (exceeded : Bool) × (f : FaultsOf d options lines exceeded)

@@ -2,6 +2,7 @@
 use Rattle.std.specs.Prelude.{ℕ, ◌-◌, max, nat_lt, if◌then◌else◌, List, [], ◌∷◌, Option, Some, None}
 use Rattle.std.specs.Option.{option_map}
 use Rattle.gptp_timeline.specs.Limits.{choice_after, first_amount}
+use Rattle.gptp_how_soon.specs.declared.bounds.Settling.{Settling}
 use Rattle.gptp_timeline.specs.Looks.{apart}
 use Rattle.gptp_timeline.specs.Measures.{better_if, one_at}
 use Rattle.gptp_timeline.specs.declared.counts.Counts.{Counts}
@@ -10,6 +11,7 @@ use Rattle.gptp_timeline.specs.declared.measures.Greatest.{Greatest}
 use Rattle.gptp_timeline.specs.declared.stretch.Stretch.{Stretch}
 use Rattle.gptp_faults.specs.declared.extremes.Apart.{Apart}
 use Rattle.gptp_faults.specs.declared.extremes.Extremes.{Extremes}
+use Rattle.gptp_faults.specs.declared.extremes.HowSoon.{HowSoon}
 use Rattle.gptp_faults.specs.declared.extremes.TimeExtremes.{TimeExtremes}
 
 -- ---- the greater of two, of equals the first
@@ -26,6 +28,12 @@ greater_counts a b = record {
   roots = max a.roots b.roots;
   alone = max a.alone b.alone;
 }
+
+-- of how soon the choice and the roles stand, none is above every number
+abbrev pub later_bounds : Option HowSoon → Option HowSoon → Option HowSoon
+later_bounds None b = None
+later_bounds (Some x) None = None
+later_bounds (Some x) (Some y) = Some (record { choice = max x.choice y.choice; roles = max x.roles y.roles })
 
 -- with the sources of that stretch
 abbrev pub further : Apart → Apart → Apart
@@ -71,6 +79,10 @@ times_of_two a b = record {
 
 -- ---- all amounts
 
+-- how soon the choice and the roles stand at most
+abbrev pub bounds_of : Option Settling → Option HowSoon
+bounds_of = option_map (λ (s : Settling). record { choice = s.choice; roles = s.roles })
+
 -- of one stretch
 abbrev pub of_one : Stretch → Extremes
 of_one s = record {
@@ -78,18 +90,18 @@ of_one s = record {
   holdover = s.measures.holdover;
   error = s.measures.error;
   counts = s.counts;
-  bound = s.bound;
+  bounds = bounds_of s.settling;
   times = times_by s s.times;
 }
 
--- of two: each the greater, of equals the first; the bound of the first
+-- of two: each the greater, of equals the first
 abbrev pub greatest_of_two : Extremes → Extremes → Extremes
 greatest_of_two a b = record {
   choice = greater_if a.choice b.choice;
   holdover = better_if a.holdover b.holdover;
   error = better_if a.error b.error;
   counts = greater_counts a.counts b.counts;
-  bound = a.bound;
+  bounds = later_bounds a.bounds b.bounds;
   times = times_of_two a.times b.times;
 }
 
@@ -105,6 +117,6 @@ of_none = record {
   holdover = None;
   error = None;
   counts = record { without = 0; roots = 0; alone = 0 };
-  bound = None;
+  bounds = Some (record { choice = 0; roles = 0 });
   times = nothing_read;
 }

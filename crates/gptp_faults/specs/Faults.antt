@@ -7,12 +7,11 @@ use Rattle.gptp_faults.specs.FaultsText.{exceeds_limit, table_lines}
 use Rattle.gptp_faults.specs.Outcomes.{AreOutcomes, OutcomeState}
 use Rattle.gptp_faults.specs.Ranking.{OutcomesAreRanked}
 use Rattle.gptp_faults.specs.Refusals.{any_late, fault_before, RefusesFaults}
-use Rattle.gptp_faults.specs.Times.{ArePlanned, AreTimes}
+use Rattle.gptp_faults.specs.Times.{AreTimes}
 use Rattle.gptp_faults.specs.declared.cases.Case.{Case}
 use Rattle.gptp_faults.specs.declared.faults.Answer.{Answer}
 use Rattle.gptp_faults.specs.declared.faults.Answer.TheVariants.{Refused, Table}
 use Rattle.gptp_faults.specs.declared.options.FaultsOptions.{FaultsOptions}
-use Rattle.gptp_faults.specs.declared.cases.Planned.{Planned}
 use Rattle.gptp_faults.specs.declared.times.Times.{Times}
 
 -- Each case of a part fails and comes back in several runs, of which none is refused. These are the lines of what
@@ -24,21 +23,19 @@ pub record FaultsOf (d : DocumentState) (options : FaultsOptions) (lines : List 
     pub times : Times
     pub are_times : AreTimes d options times
     pub before : fault_before d times cases ≡ None
-    pub planned : List Planned
-    pub are_planned : ArePlanned d options times cases planned
-    pub in_time : any_late times planned ≡ false
+    pub in_time : any_late d options.hold times cases ≡ false
     pub outcomes : List OutcomeState
-    pub are_outcomes : AreOutcomes d times options planned outcomes
+    pub are_outcomes : AreOutcomes d times options cases outcomes
     pub told : List OutcomeState
     pub are_told : OutcomesAreRanked outcomes told
     pub are : lines ≡ table_lines options times told
     pub exceeded_is : exceeded ≡ exceeds_limit options.limits told
 
 -- the table of cases of which none is refused
-abbrev pub IsTable : DocumentState → FaultsOptions → Times → List Planned → Answer → Type 0
-IsTable d options t planned (Refused fault) = ⊥
-IsTable d options t planned (Table text exceeded) =
-    (outcomes told : List OutcomeState) × AreOutcomes d t options planned outcomes × OutcomesAreRanked outcomes told
+abbrev pub IsTable : DocumentState → FaultsOptions → Times → List Case → Answer → Type 0
+IsTable d options t cases (Refused fault) = ⊥
+IsTable d options t cases (Table text exceeded) =
+    (outcomes told : List OutcomeState) × AreOutcomes d t options cases outcomes × OutcomesAreRanked outcomes told
     × (string_bytes text ≡ text_of (table_lines options t told)) × (exceeded ≡ exceeds_limit options.limits told)
 
 -- the table, or why there is none

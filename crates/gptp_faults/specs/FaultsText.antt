@@ -1,14 +1,15 @@
 -- The lines of cases (profile).
-use Rattle.std.specs.Prelude.{ℕ, List, [], ◌∷◌, ◌++◌, codes, length, map, is_some, Bool, Option, Some}
+use Rattle.std.specs.Prelude.{ℕ, List, [], ◌∷◌, ◌++◌, codes, length, map, is_some, Bool, Option, Some, None}
 use Rattle.std.specs.Fmt.{decimal}
 use Rattle.std.specs.List.{flat_map}
+use Rattle.std.specs.Option.{option_map}
 use Rattle.gptp_words.specs.Digits.{clock_text, identity_text, or_none}
 use Rattle.gptp_timeline.specs.Amounts.{near_text}
-use Rattle.gptp_timeline.specs.Limits.{all_limits, amount_of, first_exceeded, verdict_line}
+use Rattle.gptp_timeline.specs.Limits.{all_limits, amount_of, exceeds, first_exceeded, verdict_line}
 use Rattle.gptp_timeline.specs.StretchText.{longest_text, worst_text}
 use Rattle.gptp_timeline.specs.declared.counts.Counts.{Counts}
 use Rattle.gptp_timeline.specs.declared.limits.Limit.{Limit}
-use Rattle.gptp_timeline.specs.declared.limits.Limit.TheVariants.{Alone, Apart, Choice, Error, First, Holdover, Roots, Step, Time, Without}
+use Rattle.gptp_timeline.specs.declared.limits.Limit.TheVariants.{Alone, Apart, Bound, Choice, Error, First, Holdover, Roots, Step, Time, Without}
 use Rattle.gptp_timeline.specs.declared.limits.Limits.{Limits}
 use Rattle.gptp_vector.specs.declared.port.PortId.{PortId}
 use Rattle.gptp_faults.specs.Extremes.{greatest_of_two, of_none}
@@ -18,6 +19,7 @@ use Rattle.gptp_faults.specs.TimeText.{times_lines, worst_times_lines}
 use Rattle.gptp_faults.specs.declared.cases.Case.{Case}
 use Rattle.gptp_faults.specs.declared.cases.Case.TheVariants as cases
 use Rattle.gptp_faults.specs.declared.extremes.Extremes.{Extremes}
+use Rattle.gptp_faults.specs.declared.extremes.HowSoon.{HowSoon}
 use Rattle.gptp_faults.specs.declared.follows.Follow.{Follow}
 use Rattle.gptp_faults.specs.declared.options.FaultsOptions.{FaultsOptions}
 use Rattle.gptp_faults.specs.declared.times.Times.{Times}
@@ -48,6 +50,11 @@ counts_text c =
     ++ codes " roots " ++ decimal c.roots
     ++ codes " alone " ++ decimal c.alone
 
+-- how soon the choice and the roles stand at most
+abbrev pub bounds_text : Option HowSoon → List ℕ
+bounds_text None = codes " bound none none"
+bounds_text (Some b) = codes " bound " ++ decimal b.choice ++ codes " " ++ decimal b.roles
+
 abbrev pub amounts_words : List ℕ → Extremes → List ℕ
 amounts_words word e =
     word
@@ -58,7 +65,7 @@ amounts_words word e =
 -- the greatest of all runs, with whose they are
 abbrev pub extremes_line : List ℕ → Extremes → List ℕ
 extremes_line word e =
-    amounts_words word e ++ counts_text e.counts ++ codes " bound " ++ or_none decimal e.bound
+    amounts_words word e ++ counts_text e.counts ++ bounds_text e.bounds
 
 -- and behind it that of what systems read, where it is asked for
 abbrev pub extremes_lines : Bool → List ℕ → Extremes → List (List ℕ)
@@ -91,10 +98,14 @@ worst_words choice holdover error =
 
 abbrev pub worst_line : Extremes → List ℕ
 worst_line e =
-    worst_words e.choice (amount_or_0 (amount_of e.holdover)) (amount_or_0 (amount_of e.error)) ++ counts_text e.counts
+    worst_words e.choice (amount_or_0 (amount_of e.holdover)) (amount_or_0 (amount_of e.error))
+    ++ (counts_text e.counts ++ bounds_text e.bounds)
 
 abbrev pub worst_lines : Bool → Extremes → List (List ℕ)
 worst_lines asked e = worst_line e ∷ worst_times_lines asked (codes "worst") e.times
+
+abbrev pub choice_bound : Option HowSoon → Option ℕ
+choice_bound = option_map (λ (b : HowSoon). b.choice)
 
 -- what a limit asks for in it
 abbrev pub worst_amount : Extremes → Limit → Option ℕ
@@ -104,14 +115,18 @@ worst_amount e Error = amount_of e.error
 worst_amount e Without = Some e.counts.without
 worst_amount e Roots = Some e.counts.roots
 worst_amount e Alone = Some e.counts.alone
+worst_amount e Bound = choice_bound e.bounds
 worst_amount e Time = amount_of e.times.time
 worst_amount e Apart = Some e.times.apart.amount
 worst_amount e Step = amount_of e.times.step
 worst_amount e First = e.times.first_asked
 
+abbrev pub worst_exceeds : Limits → Extremes → Limit → Bool
+worst_exceeds limits e limit = exceeds limits limit (worst_amount e limit)
+
 -- the first limit that it exceeds
 abbrev pub exceeded_by : Limits → Extremes → Option Limit
-exceeded_by limits e = first_exceeded limits (worst_amount e) all_limits
+exceeded_by limits e = first_exceeded (worst_exceeds limits e) all_limits
 
 abbrev pub exceeds_limit : Limits → List OutcomeState → Bool
 exceeds_limit limits outcomes = is_some (exceeded_by limits (worst_of_all outcomes))

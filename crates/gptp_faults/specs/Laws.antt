@@ -1,11 +1,12 @@
 -- Laws of faults.
-use Rattle.std.specs.Prelude.{◌≡◌, ℕ, Bool, List, Option, Some, None}
+use Rattle.std.specs.Prelude.{◌≡◌, ◌≤◌, ℕ, Bool, List, Option, Some}
 use Rattle.gptp_graph.specs.Snapshot.{Snapshot}
 use Rattle.gptp_lists.specs.Members.{In}
 use Rattle.rand_pcg.specs.Lcg.{Lcg}
 use Rattle.gptp_network.specs.Adding.{with_event}
 use Rattle.gptp_network.specs.Document.{DocumentState}
 use Rattle.gptp_network.specs.Snapshot.{IsSnapshot}
+use Rattle.gptp_network.specs.Span.{IsBound}
 use Rattle.gptp_network.specs.declared.fault.DocumentFault.{DocumentFault}
 use Rattle.gptp_timeline.specs.Ends.{EndState}
 use Rattle.gptp_timeline.specs.LastTwo.{EndsOf}
@@ -17,6 +18,7 @@ use Rattle.gptp_faults.specs.Follows.{AreFollows}
 use Rattle.gptp_faults.specs.Outcomes.{OutcomeState}
 use Rattle.gptp_faults.specs.Refusals.{RefusesFaults}
 use Rattle.gptp_faults.specs.Runs.{draws}
+use Rattle.gptp_faults.specs.Stays.{hold_of}
 use Rattle.gptp_faults.specs.declared.options.FaultsOptions.{FaultsOptions}
 
 -- the network of a document as it stands where a case fails at a time
@@ -27,11 +29,12 @@ StandsWithout d at o = IsSnapshot (with_event at (fault_of o.failing) d) at
 abbrev pub TellsSettled : Snapshot → OutcomeState → Type 0
 TellsSettled g o = (roots : List ℕ) × AreRoots g roots × AreFollows roots o.follow
 
--- Where faults stay by default, and the `down` line of a case that fails at this time has a bound, its `follow` lines
--- are those of the settled choice of the network without what has failed.
+-- Where the network without what fails in a case at this time is calm, and the case stays down as long as it takes at
+-- most to settle, its `follow` lines are those of the settled choice of the network without it.
 abbrev pub FollowSettled : DocumentState → FaultsOptions → ℕ → List OutcomeState → Type 0
-FollowSettled d options at outcomes = (o : OutcomeState) (bound : ℕ) (g : Snapshot)
-    → options.hold ≡ None → In o outcomes → o.down.bound ≡ Some bound → StandsWithout d at o g → TellsSettled g o
+FollowSettled d options at outcomes = (o : OutcomeState) (g : Snapshot) (span : ℕ) → In o outcomes
+    → IsBound (with_event at (fault_of o.failing) d) at (Some span) → span ≤ hold_of d options.hold o.failing at
+    → StandsWithout d at o g → TellsSettled g o
 
 -- The lines on followers are settled in every document that is playable.
 abbrev pub FollowLinesSettle : Type 0

@@ -1,5 +1,6 @@
 pub mod Options
 pub mod Cases
+pub mod Stays
 pub mod Times
 pub mod Runs
 pub mod Extremes

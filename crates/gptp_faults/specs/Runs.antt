@@ -1,17 +1,18 @@
 -- The runs of a case (profile).
-use Rattle.std.specs.Prelude.{◌≡◌, ℕ, Bool, ◌+◌, ◌*◌, ◌/◌, ◌%◌, Option, Some}
+use Rattle.std.specs.Prelude.{◌≡◌, ℕ, ◌+◌, ◌*◌, ◌/◌, ◌%◌, Option, Some}
 use Rattle.rand_core.specs.Pcg32Seed.{pcg32_seed}
 use Rattle.rand_pcg.specs.Lcg.{Lcg}
 use Rattle.rand_pcg.specs.Pcg.{pcg64_of_seed}
 use Rattle.gptp_links.specs.Draws.{drawn}
 use Rattle.gptp_links.specs.declared.bounds.Bounds.{Bounds}
-use Rattle.gptp_network.specs.Adding.{with_event}
 use Rattle.gptp_network.specs.Document.{DocumentState}
 use Rattle.gptp_timeline.specs.Ends.{EndState}
 use Rattle.gptp_timeline.specs.LastTwo.{EndsOf}
-use Rattle.gptp_faults.specs.Cases.{fault_of, return_of}
+use Rattle.gptp_faults.specs.Options.{tracks}
+use Rattle.gptp_faults.specs.Stays.{document_of, end_at}
 use Rattle.gptp_faults.specs.Times.{moment}
-use Rattle.gptp_faults.specs.declared.cases.Planned.{Planned}
+use Rattle.gptp_faults.specs.declared.cases.Case.{Case}
+use Rattle.gptp_faults.specs.declared.options.FaultsOptions.{FaultsOptions}
 use Rattle.gptp_faults.specs.declared.times.Times.{Times}
 
 -- delays and losses are drawn from the generator of the seed
@@ -31,12 +32,9 @@ seed_of t run = run % t.seeds + 1
 abbrev pub runs_of : Times → ℕ
 runs_of t = t.moments * t.seeds
 
--- a document in which a case fails at a time, and comes back when it was held so long
-abbrev pub with_case : ℕ → Planned → DocumentState → DocumentState
-with_case at p d = with_event (at + p.hold) (return_of p.failing) (with_event at (fault_of p.failing) d)
-
 -- How the last two stretches of a run end, in which a case is down and is back, where it is asked what systems read,
 -- or isn't.
-abbrev pub CaseRunEnds : Bool → DocumentState → Times → Planned → ℕ → EndState × EndState → Type 0
-CaseRunEnds asked d t p run ends = EndsOf draws asked (with_case (run_moment t run) p d)
-    (run_moment t run + p.hold + t.behind) (generator (seed_of t run)) (Some ends)
+abbrev pub CaseRunEnds : FaultsOptions → DocumentState → Times → Case → ℕ → EndState × EndState → Type 0
+CaseRunEnds options d t c run ends =
+    EndsOf draws (tracks options) (document_of d options.hold c (run_moment t run))
+    (end_at d options.hold c (run_moment t run)) (generator (seed_of t run)) (Some ends)

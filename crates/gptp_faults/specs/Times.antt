@@ -1,16 +1,12 @@
--- When faults come, and how long they stay (profile).
-use Rattle.std.specs.Prelude.{◌≡◌, ◌≤◌, ℕ, ◌+◌, ◌-◌, ◌*◌, ◌/◌, List, Option, Some, None, IfSome, unwrap_or}
-use Rattle.gptp_network.specs.Adding.{with_event}
+-- When faults come (profile).
+use Rattle.std.specs.Prelude.{◌≡◌, ◌≤◌, ℕ, ◌+◌, ◌-◌, ◌*◌, ◌/◌, max, IfSome, unwrap_or}
 use Rattle.gptp_network.specs.Document.{DocumentState}
 use Rattle.gptp_network.specs.Span.{IsSpan}
 use Rattle.gptp_scenario.specs.Calm.{last_change}
 use Rattle.gptp_scenario.specs.Network.{largest_of}
 use Rattle.gptp_setup.specs.Intervals.{interval_of}
-use Rattle.gptp_faults.specs.Cases.{fault_of}
-use Rattle.gptp_timeline.specs.Each.{Each}
-use Rattle.gptp_faults.specs.declared.cases.Case.{Case}
+use Rattle.gptp_faults.specs.Stays.{watch_of}
 use Rattle.gptp_faults.specs.declared.options.FaultsOptions.{FaultsOptions}
-use Rattle.gptp_faults.specs.declared.cases.Planned.{Planned}
 use Rattle.gptp_faults.specs.declared.times.Times.{Times}
 
 -- the numbers of what is asked are in their ranges
@@ -27,17 +23,16 @@ pub record AreOptions (o : FaultsOptions) : Type 0 where
 
 -- The moments lie from `from` on within `spread`, an announce interval (the largest of any port) and a Sync interval:
 -- so they meet the Announce and the Sync at different phases. By default the first is as long after the last event as
--- the network takes at most to settle then, and so long each run goes on after the return.
+-- the network takes at most to settle then, and no earlier than it is watched.
 pub record AreTimes (d : DocumentState) (options : FaultsOptions) (t : Times) : Type 0 where
   pub span : ℕ
   pub span_is : IsSpan d (last_change d.events) span
-  pub from_is : t.from ≡ unwrap_or options.at (last_change d.events + span)
+  pub from_is : t.from ≡ unwrap_or options.at (last_change d.events + max span (watch_of d (last_change d.events)))
   pub spread_is : t.spread ≡ interval_of (largest_of d.network) + interval_of d.network.params.sync
   pub moments_are : t.moments ≡ options.moments
   pub seeds_are : t.seeds ≡ options.seeds
-  pub behind_is : t.behind ≡ unwrap_or options.hold span
 
--- the first moment, the spread and the span after the return, in ns, and the numbers of moments and seeds are bounded
+-- the first moment and the spread, in ns, and the numbers of moments and seeds are bounded
 pub record TimesAreBounded (t : Times) : Type 0 where
   pub from : t.from ≤ 1000000000000000
   pub spread : t.spread ≤ 32000000000
@@ -45,7 +40,6 @@ pub record TimesAreBounded (t : Times) : Type 0 where
   pub moments : t.moments ≤ 1000
   pub some_seed : 1 ≤ t.seeds
   pub seeds : t.seeds ≤ 1000
-  pub behind : t.behind ≤ 1000000000000000
 
 -- a moment by its number, from 0
 abbrev pub moment : Times → ℕ → ℕ
@@ -54,19 +48,3 @@ moment t number = t.from + number * t.spread / t.moments
 -- the last of them, which is the latest
 abbrev pub last_moment : Times → ℕ
 last_moment t = moment t (t.moments - 1)
-
--- How long the fault of a case stays: by default as long as the network takes at most to settle after it.
-abbrev pub IsHold : DocumentState → Times → Case → Option ℕ → ℕ → Type 0
-IsHold d t c (Some asked) hold = hold ≡ asked
-IsHold d t c None hold = IsSpan (with_event t.from (fault_of c) d) t.from hold
-
--- Each of its runs ends no later than one may.
-abbrev pub RunsEndInTime : Times → Planned → Type 0
-RunsEndInTime t p = last_moment t + p.hold + t.behind ≤ 1000000000000000
-
--- what is planned of each case
-abbrev pub IsPlanned : DocumentState → FaultsOptions → Times → Case → Planned → Type 0
-IsPlanned d options t c p = (p.failing ≡ c) × IsHold d t c options.hold p.hold
-
-abbrev pub ArePlanned : DocumentState → FaultsOptions → Times → List Case → List Planned → Type 0
-ArePlanned d options t = Each (IsPlanned d options t)

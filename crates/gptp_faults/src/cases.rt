@@ -20,41 +20,6 @@ pub(crate) enum Case {
     System { clock: ClockId },
 }
 
-/// What is planned of a case.
-#[derive(Clone, Copy, Debug)]
-pub(crate) struct Planned {
-    /// What fails.
-    pub failing: Case,
-    /// How long it stays down, in ns.
-    pub hold: u64,
-}
-
-/// A copy of a case.
-fn same(case: &Case) -> Case
-    ensures { result ≡ case.now }
-{
-    match case {
-        Case::Link { a, b } => Case::Link { a: *a, b: *b },
-        Case::System { clock } => Case::System { clock: *clock },
-    }
-}
-
-/// Puts what is planned of a case after others: how long it stays down, in ns.
-pub(crate) fn push_planned(
-    planned: &mut Vec<Planned>,
-    case: &Case,
-    hold: u64,
-) -> Result<(), AllocError>
-    ensures { OnOk result (planned.new.items
-        ≡ planned.old.items ++ record { failing = case.now; hold = hold } ∷ []) }
-{
-    planned.push(Planned {
-        failing: same(case),
-        hold,
-    })?;
-    Ok(())
-}
-
 /// What it is that fails.
 pub(crate) fn fault_of(case: &Case) -> Change
     ensures is { result ≡ fault_of case.now }

@@ -1,8 +1,9 @@
 //! The greatest of several stretches.
 
 ghost use Rattle.std.specs.Prelude.{◌≡◌};
-ghost use Rattle.gptp_faults.specs.Extremes.{changed_since, further, greater_counts, greater_if, greatest_of_two, of_one, times_by, times_measured, times_of_two};
+ghost use Rattle.gptp_faults.specs.Extremes.{bounds_of, changed_since, further, greater_counts, greater_if, greatest_of_two, later_bounds, of_one, times_by, times_measured, times_of_two};
 
+use gptp_how_soon::Settling;
 use gptp_timeline::{Counts, Difference, Greatest, Stretch, TimeMeasures, better_if};
 
 /// How far apart systems read in a stretch.
@@ -29,6 +30,15 @@ pub(crate) struct TimeExtremes {
     pub first_asked: Option<u128>,
 }
 
+/// How soon the choice and the roles stand at most.
+#[derive(Clone, Copy, Debug)]
+pub(crate) struct HowSoon {
+    /// The choice, in ns after the begin of the stretch.
+    pub choice: u64,
+    /// The roles, in ns after that too.
+    pub roles: u64,
+}
+
 /// The greatest of several stretches, of each amount by itself.
 #[derive(Clone, Copy, Debug)]
 pub(crate) struct Extremes {
@@ -40,8 +50,8 @@ pub(crate) struct Extremes {
     pub error: Option<Greatest>,
     /// What was counted where stretches ended.
     pub counts: Counts,
-    /// How long the network takes at most to settle, in the first, in ns.
-    pub bound: Option<u64>,
+    /// How soon the choice and the roles stand at most; none where one has no such bounds.
+    pub bounds: Option<HowSoon>,
     /// What systems read, where that is asked.
     pub times: TimeExtremes,
 }
@@ -68,7 +78,10 @@ pub(crate) const OF_NONE: Extremes = Extremes {
         roots: 0,
         alone: 0,
     },
-    bound: None,
+    bounds: Some(HowSoon {
+        choice: 0,
+        roles: 0,
+    }),
     times: NOTHING_READ,
 };
 
@@ -111,6 +124,19 @@ fn times_of(stretch: &Stretch) -> TimeExtremes
     }
 }
 
+/// How soon the choice and the roles stand at most, of all that is told of a time.
+fn bounds_of(settling: Option<Settling>) -> Option<HowSoon>
+    ensures { result ≡ bounds_of settling }
+{
+    match settling {
+        Some(settling) => Some(HowSoon {
+            choice: settling.choice,
+            roles: settling.roles,
+        }),
+        None => None,
+    }
+}
+
 /// Those of one.
 pub(crate) fn of_one(stretch: &Stretch) -> Extremes
     ensures { result ≡ of_one stretch.now }
@@ -120,7 +146,7 @@ pub(crate) fn of_one(stretch: &Stretch) -> Extremes
         holdover: stretch.measures.holdover,
         error: stretch.measures.error,
         counts: stretch.counts,
-        bound: stretch.bound,
+        bounds: bounds_of(stretch.settling),
         times: times_of(stretch),
     }
 }
@@ -133,6 +159,19 @@ fn greater_if(a: Option<u128>, b: Option<u128>) -> Option<u128>
         (_, None) => a,
         (None, Some(_)) => b,
         (Some(x), Some(y)) => { if x < y { Some(y) } else { Some(x) } }
+    }
+}
+
+/// The later of two, of the choice and of the roles; none is later than all.
+fn later_bounds(a: Option<HowSoon>, b: Option<HowSoon>) -> Option<HowSoon>
+    ensures { result ≡ later_bounds a b }
+{
+    match (a, b) {
+        (Some(x), Some(y)) => Some(HowSoon {
+            choice: x.choice.max(y.choice),
+            roles: x.roles.max(y.roles),
+        }),
+        _ => None,
     }
 }
 
@@ -176,7 +215,7 @@ pub(crate) fn joined(a: &Extremes, b: &Extremes) -> Extremes
         holdover: better_if(a.holdover, b.holdover),
         error: better_if(a.error, b.error),
         counts: greater_counts(a.counts, b.counts),
-        bound: a.bound,
+        bounds: later_bounds(a.bounds, b.bounds),
         times: times_joined(&a.times, &b.times),
     }
 }

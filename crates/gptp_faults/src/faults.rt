@@ -4,19 +4,18 @@ ghost use Rattle.std.specs.Prelude.{◌≡◌, ◌≢◌, ◌≤◌, ◌+◌, �
 ghost use Rattle.std.specs.Io.KnownBytes.{Appends};
 ghost use Rattle.gptp_words.specs.Lines.{text_of};
 ghost use Rattle.gptp_faults.specs.Faults.{AnswersFaultsOf, IsTable};
-ghost use Rattle.gptp_faults.specs.Options.{tracks};
 ghost use Rattle.gptp_faults.specs.Outcomes.{AreOutcomes, is_of_part, IsOutcome, OutcomeState};
 ghost use Rattle.gptp_faults.specs.Progress.{TellsCases, begun, begun_line, part_begun, part_count};
-ghost use Rattle.gptp_faults.specs.Refusals.{any_late};
-ghost use Rattle.gptp_faults.specs.Times.{TimesAreBounded, AreOptions, RunsEndInTime};
+ghost use Rattle.gptp_faults.specs.Refusals.{any_late, is_late};
+ghost use Rattle.gptp_faults.specs.Times.{TimesAreBounded, AreOptions};
 
-use crate::cases::{Planned, cases_of};
+use crate::cases::{Case, cases_of};
 use crate::options::FaultsOptions;
 use crate::outcome::{Outcome, push_outcome, try_case};
 use crate::ranking::rank;
 use crate::refusals::{any_late, fault_before};
 use crate::text::write_table;
-use crate::times::{Times, plan_cases, times_of};
+use crate::times::{Times, times_of};
 use gptp_network::{Document, DocumentFault};
 use gptp_report::sink::Sink;
 use gptp_report::{Cut, write_whole};
@@ -95,14 +94,15 @@ fn try_next<P: Sink>(
     options: &FaultsOptions,
     times: &Times,
     number: usize,
-    planned: &Planned,
+    failing: &Case,
     count: usize,
     outcomes: &mut Vec<Outcome>,
     progress: &mut P,
 ) -> Result<(), Cut>
     requires bounded { TimesAreBounded times.now }
-    requires in_time { RunsEndInTime times.now planned.now }
-    ensures tried { OnOk result ((o : OutcomeState) × IsOutcome (tracks options.now) document.old times.now number planned.now o
+    requires options { AreOptions options.now }
+    requires in_time { is_late document.old options.now.hold times.now failing.now ≡ false }
+    ensures tried { OnOk result ((o : OutcomeState) × IsOutcome options.now document.old times.now number failing.now o
         × (outcomes.new.items ≡ outcomes.old.items ++ (o ∷ []))) }
     ensures told { OnOk result (Appends (P.written progress.old) (P.written progress.new)
         (text_of (begun options.now.progress count (length outcomes.old.items + 1)))) }
@@ -111,7 +111,7 @@ fn try_next<P: Sink>(
     ensures fails { result ≡ Err Cut.Write → P.failures progress.new ≢ P.failures progress.old }
 {
     tell(alloc, options.progress, count, outcomes.len() + 1, progress)?;
-    let outcome = try_case(alloc, document, times, options.tracks(), number, planned)?;
+    let outcome = try_case(alloc, document, options, times, number, failing)?;
     push_outcome(outcomes, outcome)?;
     Ok(())
 }
@@ -122,21 +122,21 @@ fn try_cases<P: Sink>(
     document: &mut Document,
     options: &FaultsOptions,
     times: &Times,
-    planned: &[Planned],
+    cases: &[Case],
     progress: &mut P,
 ) -> Result<Vec<Outcome>, Cut>
     requires options { AreOptions options.now }
     requires bounded { TimesAreBounded times.now }
-    requires in_time { any_late times.now planned.now ≡ false }
-    ensures outcomes { IfOk result (λ v. AreOutcomes document.old times.now options.now planned.now v.items) }
+    requires in_time { any_late document.old options.now.hold times.now cases.now ≡ false }
+    ensures outcomes { IfOk result (λ v. AreOutcomes document.old times.now options.now cases.now v.items) }
     ensures told { OnOk result (Appends (P.written progress.old) (P.written progress.new)
-        (text_of (part_begun options.now (length planned.now)))) }
+        (text_of (part_begun options.now (length cases.now)))) }
     ensures works { result ≢ Err Cut.Write → P.failures progress.new ≡ P.failures progress.old }
     ensures fails { result ≡ Err Cut.Write → P.failures progress.new ≢ P.failures progress.old }
 {
-    let count = count_of(options, planned.len());
+    let count = count_of(options, cases.len());
     let mut outcomes = Vec::new(alloc);
-    for number in 0..planned.len() {
+    for number in 0..cases.len() {
         if belongs(options, number) {
             try_next(
                 alloc,
@@ -144,7 +144,7 @@ fn try_cases<P: Sink>(
                 options,
                 times,
                 number,
-                &planned[number],
+                &cases[number],
                 count,
                 &mut outcomes,
                 progress,
@@ -160,19 +160,19 @@ fn table_of<P: Sink>(
     document: &mut Document,
     options: &FaultsOptions,
     times: &Times,
-    planned: &[Planned],
+    cases: &[Case],
     progress: &mut P,
 ) -> Result<Answer, Cut>
     requires options { AreOptions options.now }
     requires bounded { TimesAreBounded times.now }
-    requires in_time { any_late times.now planned.now ≡ false }
-    ensures table { IfOk result (IsTable document.old options.now times.now planned.now) }
+    requires in_time { any_late document.old options.now.hold times.now cases.now ≡ false }
+    ensures table { IfOk result (IsTable document.old options.now times.now cases.now) }
     ensures told { OnOk result (Appends (P.written progress.old) (P.written progress.new)
-        (text_of (part_begun options.now (length planned.now)))) }
+        (text_of (part_begun options.now (length cases.now)))) }
     ensures works { result ≢ Err Cut.Write → P.failures progress.new ≡ P.failures progress.old }
     ensures fails { result ≡ Err Cut.Write → P.failures progress.new ≢ P.failures progress.old }
 {
-    let mut outcomes = try_cases(alloc, document, options, times, planned, progress)?;
+    let mut outcomes = try_cases(alloc, document, options, times, cases, progress)?;
     rank(&mut outcomes)?;
     let mut text = String::new(alloc);
     let exceeded = write_table(&mut text, options, times, &outcomes)?;
@@ -203,9 +203,8 @@ pub fn fail_each<P: Sink>(
     if let Some(fault) = fault_before(document, &times, &cases) {
         return Ok(Answer::Refused(fault));
     }
-    let planned = plan_cases(alloc, document, options, &times, &cases)?;
-    if any_late(&times, &planned) {
+    if any_late(alloc, document, options.hold, &times, &cases)? {
         return Ok(Answer::Refused(DocumentFault::OutOfRange));
     }
-    table_of(alloc, document, options, &times, &planned, progress)
+    table_of(alloc, document, options, &times, &cases, progress)
 }

@@ -3,8 +3,9 @@
 ghost use Rattle.gptp_faults.specs.EveryLaws.{EachHasFaults};
 ghost use Rattle.gptp_faults.specs.Laws.{FollowLinesSettle, NeverRefused, OneRefusal, OneTable};
 
-/// Where faults stay by default, and the `down` line of a case has a bound, its `follow` lines are those of the settled
-/// choice: so many near systems have this best in their component of the network without what has failed.
+/// Where the network without what fails in a case is calm, and the case stays down as long as that network takes at
+/// most to settle from any past, its `follow` lines are those of the settled choice: so many near systems have this
+/// best in their component.
 pub fn follow_lines_settle()
     ensures { FollowLinesSettle }
 {}

@@ -15,6 +15,7 @@ mod outcome;
 mod ranking;
 mod refusals;
 mod runs;
+mod stays;
 mod text;
 mod time_text;
 mod times;

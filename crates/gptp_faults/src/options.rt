@@ -19,10 +19,10 @@ pub struct FaultsOptions {
     /// At how many moments; at least 1, at most 1,000.
     pub moments: u64,
     /// The first moment, in ns, at most 10^15; `None` where that is the time by which the network has settled after
-    /// its last event.
+    /// its last event and was watched.
     pub at: Option<u64>,
     /// How long a fault stays and how long each run goes on after it, in ns, at most 10^15; `None` where that is as
-    /// long as the network takes at most to settle then.
+    /// long as the network is watched after the fault, and after the return.
     pub hold: Option<u64>,
     /// Which kind is left.
     pub only: Option<Only>,

@@ -1,12 +1,14 @@
 //! What becomes of a case.
 
-ghost use Rattle.std.specs.Prelude.{◌≡◌, ◌≤◌, ◌<◌, ◌+◌, ◌++◌, ◌∷◌, [], IfErr, IfOk, OnOk};
+ghost use Rattle.std.specs.Prelude.{◌≡◌, ◌++◌, ◌∷◌, [], IfErr, IfOk, OnOk, false};
 ghost use Rattle.gptp_faults.specs.Outcomes.{IsOutcome};
-ghost use Rattle.gptp_faults.specs.Times.{TimesAreBounded, RunsEndInTime};
+ghost use Rattle.gptp_faults.specs.Refusals.{is_late};
+ghost use Rattle.gptp_faults.specs.Times.{AreOptions, TimesAreBounded};
 
-use crate::cases::{Case, Planned};
+use crate::cases::Case;
 use crate::extremes::{Extremes, joined, of_one};
 use crate::follows::{Follow, follows_of};
+use crate::options::FaultsOptions;
 use crate::runs::{run_case, runs_of};
 use crate::times::Times;
 use gptp_network::Document;
@@ -115,30 +117,30 @@ pub(crate) fn push_outcome(outcomes: &mut Vec<Outcome>, outcome: Outcome) -> Res
     Ok(())
 }
 
-/// Lets a case fail and come back in each of its runs, and answers what becomes of it: also what systems read, where
-/// that is asked.
+/// Lets a case fail and come back in each of its runs, and answers what becomes of it.
 pub(crate) fn try_case(
     alloc: Global,
     document: &mut Document,
+    options: &FaultsOptions,
     times: &Times,
-    asked: bool,
     number: usize,
-    planned: &Planned,
+    failing: &Case,
 ) -> Result<Outcome, Cut>
     requires bounded { TimesAreBounded times.now }
-    requires in_time { RunsEndInTime times.now planned.now }
-    ensures outcome { IfOk result (IsOutcome asked document.old times.now number planned.now) }
+    requires options { AreOptions options.now }
+    requires in_time { is_late document.old options.now.hold times.now failing.now ≡ false }
+    ensures outcome { IfOk result (IsOutcome options.now document.old times.now number failing.now) }
     ensures same { OnOk result (document.new ≡ document.old) }
     ensures memory { IfErr result (λ e. e ≡ Cut.Memory) }
 {
-    let (first_down, first_back) = run_case(alloc, document, times, asked, planned, 0)?;
+    let (first_down, first_back) = run_case(alloc, document, options, times, failing, 0)?;
     let follow = follows_of(alloc, first_down.roots())?;
     let mut down = of_one(first_down.stretch());
     let mut back = of_one(first_back.stretch());
     for run in 1..runs_of(times) {
-        let (next_down, next_back) = run_case(alloc, document, times, asked, planned, run)?;
+        let (next_down, next_back) = run_case(alloc, document, options, times, failing, run)?;
         down = joined(&down, &of_one(next_down.stretch()));
         back = joined(&back, &of_one(next_back.stretch()));
     }
-    Ok(Outcome::new(number, planned.failing, down, back, follow))
+    Ok(Outcome::new(number, *failing, down, back, follow))
 }

@@ -1,11 +1,14 @@
 //! The runs of a case.
 
-ghost use Rattle.std.specs.Prelude.{◌≡◌, ◌≤◌, ◌<◌, ◌+◌, IfErr, IfOk, OnOk, Some};
+ghost use Rattle.std.specs.Prelude.{◌≡◌, ◌≤◌, ◌<◌, IfErr, IfOk, OnOk, Some, false};
+ghost use Rattle.gptp_faults.specs.Refusals.{is_late};
 ghost use Rattle.gptp_faults.specs.Runs.{CaseRunEnds, run_moment, runs_of, seed_of};
-ghost use Rattle.gptp_faults.specs.Times.{TimesAreBounded, RunsEndInTime, last_moment};
+ghost use Rattle.gptp_faults.specs.Times.{AreOptions, TimesAreBounded, last_moment};
 
-use crate::cases::{Planned, fault_of, return_of};
-use crate::times::{Times, add, moment};
+use crate::cases::{Case, fault_of, return_of};
+use crate::options::FaultsOptions;
+use crate::stays::{add, behind_of, hold_of};
+use crate::times::{Times, moment};
 use gptp_links::PcgFate;
 use gptp_network::Document;
 use gptp_report::Cut;
@@ -57,25 +60,28 @@ fn both(ends: Option<(StretchEnd, StretchEnd)>) -> Result<(StretchEnd, StretchEn
 pub(crate) fn run_case(
     alloc: Global,
     document: &mut Document,
+    options: &FaultsOptions,
     times: &Times,
-    asked: bool,
-    planned: &Planned,
+    failing: &Case,
     run: u64,
 ) -> Result<(StretchEnd, StretchEnd), Cut>
     requires bounded { TimesAreBounded times.now }
     requires run { run < runs_of times.now }
-    requires in_time { RunsEndInTime times.now planned.now }
-    ensures run { IfOk result (CaseRunEnds asked document.old times.now planned.now run) }
+    requires options { AreOptions options.now }
+    requires in_time { is_late document.old options.now.hold times.now failing.now ≡ false }
+    ensures run { IfOk result (CaseRunEnds options.now document.old times.now failing.now run) }
     ensures same { OnOk result (document.new ≡ document.old) }
     ensures memory { IfErr result (λ e. e ≡ Cut.Memory) }
 {
-    let count = document.events().len();
     let down = moment_of(times, run);
-    let back = down + planned.hold;
-    add(document, down, fault_of(&planned.failing))?;
-    add(document, back, return_of(&planned.failing))?;
+    let hold = hold_of(alloc, document, options.hold, failing, down)?;
+    let behind = behind_of(alloc, document, options.hold, failing, down, hold)?;
+    let back = down + hold;
+    let count = document.events().len();
+    add(document, down, fault_of(failing))?;
+    add(document, back, return_of(failing))?;
     let fate = PcgFate::new(seed_of(times, run));
-    let ends = last_stretches(alloc, document, fate, back + times.behind, asked)?;
+    let ends = last_stretches(alloc, document, fate, back + behind, options.tracks())?;
     document.truncate(count);
     both(ends)
 }

@@ -1,24 +1,20 @@
 //! The lines of cases.
 
-ghost use Rattle.std.specs.Prelude.{◌≡◌, ◌++◌, ◌∷◌, [], IfOk, OnOk, codes, map, string_bytes};
-ghost use Rattle.std.specs.Fmt.{decimal};
+ghost use Rattle.std.specs.Prelude.{◌≡◌, ◌++◌, ◌∷◌, [], IfOk, OnOk, map, string_bytes};
 ghost use Rattle.std.specs.List.{flat_map};
 ghost use Rattle.gptp_words.specs.Lines.{text_of};
-ghost use Rattle.gptp_words.specs.Digits.{or_none};
 ghost use Rattle.gptp_timeline.specs.Limits.{first_exceeded};
-ghost use Rattle.gptp_faults.specs.FaultsText.{amounts_words, case_line, counts_text, exceeded_by, exceeds_limit, extremes_line, extremes_lines, follow_line, head_line, outcome_lines, table_lines, worst_amount, worst_line, worst_lines, worst_of_all, worst_words};
+ghost use Rattle.gptp_faults.specs.FaultsText.{amounts_words, bounds_text, case_line, choice_bound, counts_text, exceeded_by, exceeds_limit, extremes_line, extremes_lines, follow_line, head_line, outcome_lines, table_lines, worst_amount, worst_exceeds, worst_line, worst_lines, worst_of_all, worst_words};
 
 use crate::cases::Case;
-use crate::extremes::{Extremes, OF_NONE, joined};
+use crate::extremes::{Extremes, HowSoon, OF_NONE, joined};
 use crate::follows::Follow;
 use crate::options::FaultsOptions;
 use crate::outcome::Outcome;
 use crate::ranking::amount_or_0;
 use crate::time_text::{write_times, write_worst_times};
 use crate::times::Times;
-use gptp_timeline::{
-    Counts, Limit, Limits, Longest, Near, TimeOrNone, Worst, amount_of, write_first_exceeded,
-};
+use gptp_timeline::{Counts, Limit, Limits, Longest, Near, Worst, amount_of, write_first_exceeded};
 use gptp_vector::PortId;
 use gptp_words::{ClockDigits, IdentityDigits};
 use std::alloc::AllocError;
@@ -96,6 +92,24 @@ impl fmt::Display for CountsText {
     }
 }
 
+/// How soon the choice and the roles stand at most.
+#[derive(Clone, Copy)]
+struct BoundsText(Option<HowSoon>);
+
+impl fmt::Display for BoundsText {
+    ghost use Rattle.std.specs.Prelude.{Some};
+    ghost use Rattle.gptp_faults.specs.FaultsText.{bounds_text};
+
+    ghost output = { λ bounds. Some (bounds_text bounds.0) };
+
+    fn fmt<W: fmt::Write>(&self, f: &mut fmt::Formatter<W>) -> fmt::Result {
+        match self.0 {
+            Some(bounds) => write!(f, " bound {} {}", bounds.choice, bounds.roles),
+            None => f.write_str(" bound none none"),
+        }
+    }
+}
+
 /// Appends the line of how many cases there are.
 fn write_head(text: &mut String, count: usize, times: &Times) -> Result<(), AllocError>
     ensures { OnOk result (string_bytes text.new ≡ string_bytes text.old ++ (head_line count times.now ++ 10 ∷ [])) }
@@ -127,12 +141,16 @@ fn write_amounts(text: &mut String, word: &str, extremes: &Extremes) -> Result<(
     )
 }
 
-/// Appends what was counted, and the bound.
-fn write_bound(text: &mut String, counts: Counts, bound: Option<u64>) -> Result<(), AllocError>
+/// Appends what was counted, and how soon the choice and the roles stand at most.
+fn write_counts(
+    text: &mut String,
+    counts: Counts,
+    bounds: Option<HowSoon>,
+) -> Result<(), AllocError>
     ensures { OnOk result (string_bytes text.new
-        ≡ string_bytes text.old ++ ((counts_text counts ++ codes " bound " ++ or_none decimal bound) ++ 10 ∷ [])) }
+        ≡ string_bytes text.old ++ ((counts_text counts ++ bounds_text bounds) ++ 10 ∷ [])) }
 {
-    writeln!(text, "{} bound {}", CountsText(counts), TimeOrNone(bound))
+    writeln!(text, "{}{}", CountsText(counts), BoundsText(bounds))
 }
 
 /// Appends the line of the greatest of all runs.
@@ -141,7 +159,7 @@ fn write_extremes(text: &mut String, word: &str, extremes: &Extremes) -> Result<
         ≡ string_bytes text.old ++ (extremes_line word.now extremes.now ++ 10 ∷ [])) }
 {
     write_amounts(text, word, extremes)?;
-    write_bound(text, extremes.counts, extremes.bound)
+    write_counts(text, extremes.counts, extremes.bounds)
 }
 
 /// Appends that line, and behind it that of what systems read, where it is asked for.
@@ -230,13 +248,6 @@ fn write_worst_amounts(
     )
 }
 
-/// Appends what was counted, at the end of a line.
-fn write_counts(text: &mut String, counts: Counts) -> Result<(), AllocError>
-    ensures { OnOk result (string_bytes text.new ≡ string_bytes text.old ++ (counts_text counts ++ 10 ∷ [])) }
-{
-    writeln!(text, "{}", CountsText(counts))
-}
-
 /// Appends the line of the greatest of all.
 fn write_worst(text: &mut String, worst: &Extremes) -> Result<(), AllocError>
     ensures { OnOk result (string_bytes text.new ≡ string_bytes text.old ++ (worst_line worst.now ++ 10 ∷ [])) }
@@ -244,7 +255,7 @@ fn write_worst(text: &mut String, worst: &Extremes) -> Result<(), AllocError>
     let holdover = amount_or_0(amount_of(worst.holdover));
     let error = amount_or_0(amount_of(worst.error));
     write_worst_amounts(text, worst.choice, holdover, error)?;
-    write_counts(text, worst.counts)
+    write_counts(text, worst.counts, worst.bounds)
 }
 
 /// Appends that line, and behind it that of what systems read, where it is asked for.
@@ -254,6 +265,16 @@ fn write_all_worst(text: &mut String, asked: bool, worst: &Extremes) -> Result<(
 {
     write_worst(text, worst)?;
     write_worst_times(text, asked, "worst", &worst.times)
+}
+
+/// How soon the choice stands at most, in ns.
+fn choice_bound(bounds: Option<HowSoon>) -> Option<u128>
+    ensures { result ≡ choice_bound bounds }
+{
+    match bounds {
+        Some(bounds) => Some(u128::from(bounds.choice)),
+        None => None,
+    }
 }
 
 /// The amount that a limit asks for in the greatest of all: times in ns, errors and what systems read in units of
@@ -268,6 +289,7 @@ fn worst_amount(worst: &Extremes, limit: Limit) -> Option<u128>
         Limit::Without => Some(u128::from(worst.counts.without)),
         Limit::Roots => Some(u128::from(worst.counts.roots)),
         Limit::Alone => Some(u128::from(worst.counts.alone)),
+        Limit::Bound => choice_bound(worst.bounds),
         Limit::Time => amount_of(worst.times.time),
         Limit::Apart => Some(worst.times.apart.amount),
         Limit::Step => amount_of(worst.times.step),
@@ -277,7 +299,7 @@ fn worst_amount(worst: &Extremes, limit: Limit) -> Option<u128>
 
 /// The first of several limits that it exceeds.
 fn first_exceeded(limits: &Limits, worst: &Extremes, among: &[Limit]) -> Option<Limit>
-    ensures { result ≡ first_exceeded limits.now (worst_amount worst.now) among.now }
+    ensures { result ≡ first_exceeded (worst_exceeds limits.now worst.now) among.now }
 {
     for limit in among {
         if limits.exceeds(*limit, worst_amount(worst, *limit)) {

@@ -1,15 +1,11 @@
-//! When faults come, and how long they stay.
+//! When faults come.
 
-ghost use Rattle.std.specs.Prelude.{◌≡◌, ◌≤◌, ◌<◌, ◌++◌, ◌∷◌, [], IfOk, IfErr, IfSome, OnOk, None, length, take, unwrap_or};
-ghost use Rattle.gptp_network.specs.Adding.{with_event};
-ghost use Rattle.gptp_network.specs.Events.{IsInRange};
-ghost use Rattle.gptp_faults.specs.Times.{TimesAreBounded, AreOptions, ArePlanned, AreTimes, IsHold, IsPlanned, last_moment, moment};
+ghost use Rattle.std.specs.Prelude.{◌≡◌, ◌≤◌, ◌<◌, IfOk, IfSome, unwrap_or};
+ghost use Rattle.gptp_faults.specs.Times.{TimesAreBounded, AreOptions, AreTimes, last_moment, moment};
 
-use crate::cases::{Case, Planned, fault_of, push_planned};
 use crate::options::FaultsOptions;
+use crate::stays::watch_at;
 use gptp_network::Document;
-use gptp_report::Cut;
-use gptp_scenario::Change;
 use gptp_setup::interval_of;
 use std::alloc::{AllocError, Global};
 
@@ -24,8 +20,6 @@ pub(crate) struct Times {
     pub moments: u64,
     /// How many seeds.
     pub seeds: u64,
-    /// How long each run goes on after the return, in ns.
-    pub behind: u64,
 }
 
 /// What is asked, or a default.
@@ -57,12 +51,12 @@ pub(crate) fn times_of(
     network.well_formed();
     let last = document.last_change();
     let span = document.span_at(alloc, last)?;
+    let watch = watch_at(alloc, document, last)?;
     Ok(Times {
-        from: asked_or(options.at, last + span),
+        from: asked_or(options.at, last + span.max(watch)),
         spread: interval_of(network.largest()) + interval_of(network.params().sync),
         moments: options.moments,
         seeds: options.seeds,
-        behind: asked_or(options.hold, span),
     })
 }
 
@@ -84,90 +78,4 @@ pub(crate) fn last_moment(times: &Times) -> u64
     ensures bound { result ≤ 2000000000000000 }
 {
     moment(times, times.moments - 1)
-}
-
-/// Puts an event after the others. What it names is there, so it is refused for want of memory.
-pub(crate) fn add(document: &mut Document, at: u64, change: Change) -> Result<(), Cut>
-    requires { IsInRange change }
-    ensures added { OnOk result (document.new ≡ with_event at change document.old) }
-    ensures memory { IfErr result (λ e. e ≡ Cut.Memory) }
-{
-    match document.add(at, change) {
-        Ok(()) => Ok(()),
-        Err(_) => Err(Cut::Memory),
-    }
-}
-
-/// How long the network takes at most to settle after the fault of a case, in ns.
-fn settling_hold(
-    alloc: Global,
-    document: &mut Document,
-    times: &Times,
-    failing: &Case,
-) -> Result<u64, Cut>
-    ensures hold { IfOk result (IsHold document.old times.now failing.now None) }
-    ensures same { OnOk result (document.new ≡ document.old) }
-    ensures memory { IfErr result (λ e. e ≡ Cut.Memory) }
-{
-    let count = document.events().len();
-    add(document, times.from, fault_of(failing))?;
-    let hold = document.span_at(alloc, times.from)?;
-    document.truncate(count);
-    Ok(hold)
-}
-
-/// How long the fault of a case stays, in ns.
-fn hold_of(
-    alloc: Global,
-    document: &mut Document,
-    options: &FaultsOptions,
-    times: &Times,
-    failing: &Case,
-) -> Result<u64, Cut>
-    ensures hold { IfOk result (IsHold document.old times.now failing.now options.now.hold) }
-    ensures same { OnOk result (document.new ≡ document.old) }
-    ensures memory { IfErr result (λ e. e ≡ Cut.Memory) }
-{
-    match options.hold {
-        Some(hold) => Ok(hold),
-        None => settling_hold(alloc, document, times, failing),
-    }
-}
-
-/// Plans a case, after those before it.
-fn plan_case(
-    alloc: Global,
-    document: &mut Document,
-    options: &FaultsOptions,
-    times: &Times,
-    failing: &Case,
-    planned: &mut Vec<Planned>,
-) -> Result<(), Cut>
-    ensures planned { OnOk result ((p : Planned) × IsPlanned document.old options.now times.now failing.now p
-        × (planned.new.items ≡ planned.old.items ++ p ∷ [])) }
-    ensures same { OnOk result (document.new ≡ document.old) }
-    ensures memory { IfErr result (λ e. e ≡ Cut.Memory) }
-{
-    let hold = hold_of(alloc, document, options, times, failing)?;
-    push_planned(planned, failing, hold)?;
-    Ok(())
-}
-
-/// Plans all cases.
-pub(crate) fn plan_cases(
-    alloc: Global,
-    document: &mut Document,
-    options: &FaultsOptions,
-    times: &Times,
-    cases: &[Case],
-) -> Result<Vec<Planned>, Cut>
-    ensures planned { IfOk result (λ v. ArePlanned document.old options.now times.now cases.now v.items) }
-    ensures same { OnOk result (document.new ≡ document.old) }
-    ensures memory { IfErr result (λ e. e ≡ Cut.Memory) }
-{
-    let mut planned = Vec::new(alloc);
-    for place in 0..cases.len() {
-        plan_case(alloc, document, options, times, &cases[place], &mut planned)?;
-    }
-    Ok(planned)
 }

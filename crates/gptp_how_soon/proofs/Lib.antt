@@ -5,3 +5,4 @@ pub mod RisingLemmas
 pub mod TimesLemmas
 pub mod SettleLemmas
 pub mod CalmLemmas
+pub mod ShortLemmas

@@ -1,7 +1,8 @@
 -- Offsets are exact in each run from the time on that is told of a time.
-use Rattle.std.proofs.Common.{◌≡◌, ◌<◌, ◌≤◌, ◌+◌, ◌*◌, ℕ, Bool, true, false, cond, suc, max, List, [], ◌∷◌, Option, filter, refl, ap, ap₂, arith}
+use Rattle.std.proofs.Common.{◌≡◌, ◌<◌, ◌≤◌, ◌+◌, ◌*◌, ◌^◌, ℕ, Bool, true, false, cond, suc, max, List, [], ◌∷◌, Option, filter, refl, ap, arith}
 use Rattle.std.specs.List.{AllByRecursion}
 use Rattle.std.proofs.Math.Nat.{mul-le-mul}
+use Rattle.gptp_lists.specs.Members.{In}
 use Rattle.gptp_graph.specs.PathBound.{path_bound}
 use Rattle.gptp_graph.proofs.PathBoundLemmas.{IsDistance-within, paths_within}
 use Rattle.gptp_links.specs.declared.bounds.Bounds.{Bounds}
@@ -14,9 +15,11 @@ use Rattle.gptp_scenario.specs.declared.change.Act.TheVariants as acts
 use Rattle.gptp_scenario.specs.declared.change.Change.TheVariants as changes
 use Rattle.gptp_scenario.specs.declared.change.Timed.{Timed}
 use Rattle.gptp_scenario.specs.declared.sync_wait.SyncPaths.{SyncPaths}
+use Rattle.gptp_scenario.proofs.LogLemmas.{largest_log}
+use Rattle.gptp_model.specs.World.{WorldState}
 use Rattle.gptp_network.specs.Document.{DocumentState}
 use Rattle.gptp_network.specs.Snapshot.{events_by}
-use Rattle.gptp_report.specs.Transitions.{ActTrace}
+use Rattle.gptp_report.specs.Transitions.{ActTrace, Unfolds}
 use Rattle.gptp_invariants.specs.SyncExact.{IsWayError}
 use Rattle.gptp_invariants.specs.SyncFollowers.{follower_parts}
 use Rattle.gptp_invariants.specs.WorldStanding.{snapshot_of}
@@ -24,11 +27,12 @@ use Rattle.gptp_invariants.proofs.SyncFollowWayLemmas.{way_distance}
 use Rattle.gptp_invariants.proofs.WorldStandsLemmas.{stands_well}
 use Rattle.gptp_theorem.specs.PlayedLaws.{IsPlayable}
 use Rattle.gptp_theorem.proofs.SyncPathLemmas.{paths_stand}
-use Rattle.gptp_how_soon.specs.Kinds.{sets_bounds}
-use Rattle.gptp_how_soon.specs.Times.{last_set as set_here}
+use Rattle.gptp_settling_time.specs.HowSoon.{IsChoiceBound, NoneBetween}
 use Rattle.gptp_settling_time.specs.ExactInTurn.{last_set, sets_link}
-use Rattle.gptp_settling_time.proofs.ChoiceBoundLemmas.{choice_bounds_are_exact}
-use Rattle.gptp_how_soon_laws.specs.Exact.{IsExactSoon}
+use Rattle.gptp_settling_time.proofs.ChoiceBoundLemmas.{choice_bounds_are_exact, choice_bounds_carry}
+use Rattle.gptp_settling_time.proofs.CutLemmas.{IsBy, all_by}
+use Rattle.gptp_settling_time.proofs.ExactInTurnLemmas.{IsCarried}
+use Rattle.gptp_how_soon_laws.specs.Exact.{IsExact, IsExactSoon}
 use Rattle.gptp_how_soon_laws.proofs.ChoiceLemmas.{time_so}
 use Rattle.gptp_how_soon_laws.proofs.StepLemmas.{IsKept, kept}
 
@@ -93,26 +97,65 @@ come_down steps systems hop most settled exact at few some is told on =
     let more : suc (suc steps) * hop ≡ suc steps * hop + hop = omega arith in
     omega (arith, times, more, some, is, told, on)
 
+-- each act that is done from then on, by a choice bound of a time, and before the next event
+module _ {F : Type 0} (answers : Bounds → ℕ → F → Option ℕ → F → Type 0) (d : DocumentState)
+    (time choice exact next until : ℕ) (fate : F) (first w : WorldState) (ts : List ActTrace) (t : ActTrace)
+    (playable : IsPlayable d) (k : Unfolds answers d until fate first ts w) (member : In t ts)
+    (bound : IsChoiceBound d time choice) (none : NoneBetween d.events time next)
+    (told : time + max choice (largest_interval (pace_of d.network))
+    + (sync_paths d.network (events_by time d.events)).systems
+    * (d.network.params.threshold + d.network.params.residence)
+    ≤ exact)
+    (on : exact ≤ t.told.timed.at) (early : t.told.timed.at < next) where
+  some : 1 ≤ largest_interval (pace_of d.network)
+  some = interval_positive (pace_of d.network).largest (largest_log d.network playable.network)
+
+  least : 1 ≤ d.network.params.threshold + d.network.params.residence
+  least = let one = playable.network.params.ranges.params.threshold-least in omega (arith, one)
+
+  pub kept_then : IsKept d (events_by time d.events) t
+  kept_then =
+      let one = some in
+      kept answers d time choice next until fate first w ts t playable k member bound none
+      (omega (arith, one, told, on)) early
+
+  module _ (steps number error : ℕ) (way : IsWayError d.network.params t.before number (suc steps) error) where
+    few : suc steps < (sync_paths d.network (events_by time d.events)).systems
+    few = few_links d (events_by time d.events) t steps number error playable kept_then way
+
+    pub come : time + max choice (largest_interval (pace_of d.network)) + 1
+        + suc steps * (d.network.params.threshold + d.network.params.residence)
+        ≤ t.told.timed.at
+    come =
+        come_down steps (sync_paths d.network (events_by time d.events)).systems
+        (d.network.params.threshold + d.network.params.residence)
+        (time + max choice (largest_interval (pace_of d.network)))
+        (time + max choice (largest_interval (pace_of d.network)) + 1) exact t.told.timed.at few least refl told on
+
+    -- the choice stands then
+    pub stands_then : time + choice < t.told.timed.at
+    stands_then = let is = come in omega (arith, is)
+
+  -- and time has been carried right since then
+  pub carried_then : t.told.timed.at ≤ 10 ^ 18
+      → time + max choice (largest_interval (pace_of d.network)) + 1 ≤ t.told.timed.at
+      → IsCarried answers (pace_of d.network) (time + max choice (largest_interval (pace_of d.network)) + 1) t
+  carried_then shown late =
+      let set = set_by time d.events in
+      choice_bounds_carry answers d time choice next (time + max choice (largest_interval (pace_of d.network)) + 1)
+      until fate first w ts t playable k member shown bound none (omega arith) (omega (arith, set)) late early
+
+  pub exact_then : t.told.timed.at ≤ 10 ^ 18
+      → IsExact d.network.params t.before t.told.timed.at t.after t.told.done
+  exact_then shown steps number error offset ahead leaves near way is_ahead =
+      let set = set_by time d.events in
+      choice_bounds_are_exact answers d time choice next
+      (time + max choice (largest_interval (pace_of d.network)) + 1) until fate first w ts t playable k member shown
+      bound none (omega arith) (omega (arith, set)) early steps number error offset ahead
+      (come steps number error way) leaves near way is_ahead
+
 pub exact_soon : {F : Type 0} (answers : Bounds → ℕ → F → Option ℕ → F → Type 0) → IsExactSoon answers
-exact_soon answers d time s next until fate first w ts t playable k member shown told is none behind on early steps
-    number error offset ahead leaves near way is_ahead =
+exact_soon answers d time s next until fate first w ts t playable k member shown told is none on early =
     let (before, so) = time_so d playable time s told is in
-    let at = t.told.timed.at in
-    let interval : ℕ = largest_interval (pace_of d.network) in
-    let hop : ℕ = d.network.params.threshold + d.network.params.residence in
-    let systems : ℕ = (sync_paths d.network (events_by time.at d.events)).systems in
-    let last : ℕ = set_here (events_by time.at d.events) in
-    let most : ℕ = max (time.at + s.choice) (last + interval) in
-    let settled : ℕ = most + 1 in
-    let exact : most + systems * hop ≤ s.exact_from = so.exact in
-    let late : time.at + s.choice < settled = omega arith in
-    let few : suc steps < systems =
-    few_links d (events_by time.at d.events) t steps number error playable
-    (kept answers d time.at s.choice next until fate first w ts t playable k member (before, so.choice) none behind
-    early)
-    way in
-    let least : 1 ≤ hop = let one = playable.network.params.ranges.params.threshold-least in omega (arith, one) in
-    let set = same_set (events_by time.at d.events) in
-    choice_bounds_are_exact answers d time.at s.choice next settled until fate first w ts t playable k member shown
-    (before, so.choice) none late (omega (arith, set)) early steps number error offset ahead
-    (come_down steps systems hop most settled s.exact_from at few least refl exact on) leaves near way is_ahead
+    exact_then answers d time.at s.choice s.exact_from next until fate first w ts t playable k member
+    (before, so.choice) none so.exact on early shown

@@ -4,13 +4,14 @@ use Rattle.gptp_lists.specs.Members.{In}
 use Rattle.gptp_links.specs.declared.bounds.Bounds.{Bounds}
 use Rattle.gptp_scenario.specs.Calm.{last_change}
 use Rattle.gptp_scenario.specs.declared.change.Timed.{Timed}
-use Rattle.gptp_model.specs.Acts.{at}
+use Rattle.gptp_links.specs.Fate.{Draw}
+use Rattle.gptp_model.specs.Acts.{Acts, at}
 use Rattle.gptp_model.specs.World.{WorldState}
 use Rattle.gptp_network.specs.Document.{DocumentState}
 use Rattle.gptp_network.specs.Snapshot.{events_by}
 use Rattle.gptp_report.specs.Transitions.{ActTrace, Unfolds}
 use Rattle.gptp_invariants.specs.WorldStanding.{snapshot_of}
-use Rattle.gptp_invariants.proofs.ChoiceCalmKeptLemmas.{acts_keep, same_snapshot}
+use Rattle.gptp_invariants.proofs.ChoiceCalmKeptLemmas.{acts_keep, KeepsNetwork, same_snapshot}
 use Rattle.gptp_theorem.specs.PlayedLaws.{IsPlayable}
 use Rattle.gptp_settling_time.specs.HowSoon.{IsChoiceBound, NoneBetween}
 use Rattle.gptp_settling_time.proofs.DocumentLemmas.{run_to}
@@ -19,10 +20,14 @@ use Rattle.gptp_settling_time.proofs.InTurnLemmas.{after_keeps, passed_in_turn}
 use Rattle.gptp_settling_time.proofs.KeptToLemmas.{KeepsTo}
 use Rattle.gptp_settling_time.proofs.MomentLemmas.{last_by, none_later}
 
--- the worlds keep what all do and stand as the document does after these events, and their snapshot is one
+-- the worlds keep what all do and stand as the document does after these events, and the act leaves the network as it
+-- was, and so its snapshot
 pub record IsKept (d : DocumentState) (events : List Timed) (t : ActTrace) : Type 0 where
   pub before : KeepsTo d events t.before
   pub after : KeepsTo d events t.after
+  pub draws : List Draw
+  pub acts : Acts t.told.timed.act (at t.told.timed.at t.before) draws t.told.done t.after
+  pub network : KeepsNetwork (at t.told.timed.at t.before) t.after
   pub same : snapshot_of t.after ≡ snapshot_of t.before
 
 -- each act that is later than a time with a choice bound, and before the next event
@@ -46,9 +51,13 @@ module _ {F : Type 0} (answers : Bounds → ℕ → F → Option ℕ → F → T
       let run = run_to answers d until fate first w ts t playable k member in
       let steps = passed_in_turn answers d now settled fate first run.w run.ts playable run.unfolds is in
       let step = steps.each t run.member later in
+      let network =
+      acts_keep t.told.timed.act (at now t.before) step.was.draws t.told.done t.after step.none step.was.acts in
       subst (λ es. IsKept d es t) same (record {
         before = after_keeps d events is.last t.before step.before;
         after = after_keeps d events is.last t.after step.after;
-        same = same_snapshot (at now t.before) t.after
-            (acts_keep t.told.timed.act (at now t.before) step.was.draws t.told.done t.after step.none step.was.acts);
+        draws = step.was.draws;
+        acts = step.was.acts;
+        network = network;
+        same = same_snapshot (at now t.before) t.after network;
       })

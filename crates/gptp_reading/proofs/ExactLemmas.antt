@@ -50,7 +50,7 @@ use Rattle.gptp_invariants.specs.WorldSettlingInvariant.{KeepsAll}
 use Rattle.gptp_invariants.specs.SyncFollowers.{HasWay, IsFollower, follower_clock, follower_setting, follower_parts, follower_state}
 use Rattle.gptp_invariants.specs.DelayLinkView.{LinkPlace, other_direction}
 use Rattle.gptp_invariants.specs.WorldStanding.{snapshot_of}
-use Rattle.gptp_invariants.specs.SyncTimed.{AllMeasureRight, IsSettledFrom}
+use Rattle.gptp_invariants.specs.SyncTimed.{AllMeasureRight, CarriesTime, IsSettledFrom}
 use Rattle.gptp_invariants.specs.SyncTimedClaim.{WorldInvariant, CarriesWhereCalm, IsCalmBy}
 use Rattle.gptp_invariants.specs.SyncTimedLaws.{IsRootOf}
 use Rattle.gptp_invariants.specs.ChoiceView.{port_identity_number}
@@ -69,8 +69,8 @@ use Rattle.gptp_invariants.proofs.SyncTimeStepLemmas.{knows_on}
 use Rattle.gptp_invariants.proofs.WorldWayLemmas.{one_way}
 use Rattle.gptp_theorem.specs.Headline.{HasComeDown, WorldIsCalm, UsesFollowUp}
 use Rattle.gptp_theorem.proofs.HeadlineLemmas.{quiet_as}
-use Rattle.gptp_reading.specs.Reading.{IsBestsTime, reading}
-use Rattle.gptp_reading.specs.Readings.{LeavesTime, WorldsHaveReadings, WorldsLeaveTime, WorldsReadExactly}
+use Rattle.gptp_reading.specs.Reading.{IsBestsTime, IsReadingErrorOf, reading}
+use Rattle.gptp_reading.specs.Readings.{LeavesReading, LeavesTime, WorldsHaveReadings, WorldsLeaveTime, WorldsReadExactly}
 use Rattle.gptp_reading.proofs.UsedLemmas.{IsUsedBy, has_reading, leaves_time, used_by, used_exactly}
 
 -- ---- who uses a Follow_Up
@@ -210,46 +210,16 @@ module _ (p : SettlingParams) (settled longest : ℕ) (w : WorldState) (is : IsS
         used = subst (λ q. IsUsedBy q u.message w.time (follower_state place w f) u.after) (sym ports) used;
       }
 
--- ---- in a calm world
+-- ---- where time is carried right
 
 module _ (link : ℕ) (direction : Direction) (w w' : WorldState) (draws : List Draw) (number : ℕ) (done : Done)
-    (p : SettlingParams) (m steps : ℕ) (system : SystemState) (way : Way) (phase : ℕ → ℕ)
+    (p : SettlingParams) (settled steps : ℕ) (system : SystemState) (way : Way) (phase : ℕ → ℕ)
     (k : Acts (Deliver link direction) w draws done w') (uses : UsesFollowUp number done)
-    (shows : ShowsLive number w' system) (claimed : KeepsAll p w) (carries : CarriesWhereCalm p w)
-    (calm : WorldIsCalm p w)
-    (bounded : BoundsPaths (snapshot_of w) m) (come : HasComeDown p m (suc steps) w.time w)
-    (early : w.time ≤ 10 ^ 18) (near : IsNear (snapshot_of w) number)
+    (shows : ShowsLive number w' system) (is : IsSettledFrom p settled p.params.threshold w)
+    (right : AllMeasureRight p.params w) (carries : CarriesTime p.params settled p.params.threshold w)
+    (late : settled + suc steps * (p.params.threshold + p.params.residence) ≤ w.time)
+    (near : IsNear (snapshot_of w) number)
     (leads : IsWayTo (follower_parts p.params w) (snapshot_of w) (suc steps) number way phase) where
-  abbrev settled : ℕ
-  settled = w.last_change + settling_span_with p (sync_paths_of w) m
-
-  late : settled + suc steps * (p.params.threshold + p.params.residence) ≤ w.time
-  late = omega (arith, come)
-
-  already : settled ≤ w.time
-  already = let passed = late in omega (arith, passed)
-
-  calm_by : IsCalmBy p m settled w
-  calm_by = record {
-    quiet = quiet_as p w calm;
-    bounded = bounded;
-    passed = let same : settled ≤ settled = omega arith in same;
-  }
-
-  is_settled : IsSettledFrom p settled p.params.threshold w
-  is_settled = settled_from p m settled w claimed calm_by already early
-
-  right : AllMeasureRight p.params w
-  right =
-      let set : IsCalmFor (span_over m) w = record {
-        pace = p;
-        set = calm.of;
-        quiet = quiet_as p w calm;
-        late = already;
-      } in
-      measured_right p settled p.params.threshold w is_settled
-      (claimed_measured w (record { pace = p; is = claimed }) (over_capable m w set))
-
   by_whom : HasUser direction link w w' number
   by_whom = user link direction w w' draws number done k uses
 
@@ -257,7 +227,7 @@ module _ (link : ℕ) (direction : Direction) (w w' : WorldState) (draws : List 
   followed =
       let parent = leads.0 in
       let named = sym by_whom.named in
-      follows_parent p settled p.params.threshold w is_settled by_whom.place by_whom.station by_whom.there by_whom.live
+      follows_parent p settled p.params.threshold w is by_whom.place by_whom.station by_whom.there by_whom.live
       (subst (IsNear (snapshot_of w)) named near) parent
       (subst (λ n. IsParent (snapshot_of w) n parent) named leads.2)
 
@@ -280,27 +250,26 @@ module _ (link : ℕ) (direction : Direction) (w w' : WorldState) (draws : List 
 
   here : IsUsedHere w followed.at followed.follower by_whom.octets by_whom.message by_whom.after
   here =
-      used_here p settled p.params.threshold w is_settled followed.at followed.follower link direction w' number by_whom
+      used_here p settled p.params.threshold w is followed.at followed.follower link direction w' number by_whom
       followed.own_is named_so
 
   left : system ≡ by_whom.after
-  left = left_is link direction w w' draws number done claimed.world.sound k by_whom system shows
+  left = left_is link direction w w' draws number done is.world.sound k by_whom system shows
 
   -- the timestamp that is known has nanoseconds
   small : by_whom.message.origin.nanos < 1000000000
   small =
-      let knows = claimed.world.known.time by_whom.place by_whom.station by_whom.there by_whom.live in
+      let knows = is.world.known.time by_whom.place by_whom.station by_whom.there by_whom.live in
       let port = (receiver direction by_whom.channel).port in
       let after = knows_on (FrameHeard port by_whom.octets) w.time by_whom.station.system by_whom.after by_whom.sends
       answers.Used by_whom.steps knows in
       after.stamped (together by_whom.message here.used.kept) here.used.left.known
 
-  pub has_reading_here : (moment : ℕ) → IsSome (reading system moment)
-  has_reading_here moment =
+  has_reading_there : (moment : ℕ) → IsSome (reading system moment)
+  has_reading_there moment =
       subst (λ (y : SystemState). IsSome (reading y moment)) (sym left)
-      (has_reading p settled p.params.threshold w is_settled right (carries m settled calm_by already early) followed.at
-      followed.follower steps has_way by_whom.octets here.rest here.front by_whom.message by_whom.reads by_whom.after
-      here.used from_then small moment)
+      (has_reading p settled p.params.threshold w is right carries followed.at followed.follower steps has_way
+      by_whom.octets here.rest here.front by_whom.message by_whom.reads by_whom.after here.used from_then small moment)
 
   module _ (later error : ℕ) (read shown : ℤ) (reads_it : reading system (w.time + later) ≡ Some read)
       (error_is : error ≡ reading_error_at way steps later) (best : IsBestsTime w number (w.time + later) shown) where
@@ -313,16 +282,68 @@ module _ (link : ℕ) (direction : Direction) (w w' : WorldState) (draws : List 
       named = best.shows.is.named;
     }
 
-    pub reads_exactly : AreWithin error read shown
-    reads_exactly =
-        let exact = used_exactly p settled p.params.threshold w is_settled right
-        (carries m settled calm_by already early) followed.at followed.follower steps has_way by_whom.octets here.rest
-        here.front by_whom.message by_whom.reads by_whom.after here.used from_then later best.shows.station root read
+    reads_there : AreWithin error read shown
+    reads_there =
+        let exact = used_exactly p settled p.params.threshold w is right carries followed.at followed.follower steps
+        has_way by_whom.octets here.rest here.front by_whom.message by_whom.reads by_whom.after here.used from_then
+        later best.shows.station root read
         (subst (λ (y : SystemState). reading y (w.time + later) ≡ Some read) left reads_it) in
         let root_time : local_time best.shows.station.system (w.time + later) ≡ shown =
         sym (best.is ∙ ap (λ (y : SystemState). local_time y (w.time + later)) best.shows.state) in
         subst (λ e. AreWithin e read shown) (sym error_is)
         (subst (AreWithin (reading_error_at way steps later) read) root_time exact)
+
+-- ---- in a calm world
+
+module _ (link : ℕ) (direction : Direction) (w w' : WorldState) (draws : List Draw) (number : ℕ) (done : Done)
+    (p : SettlingParams) (m steps : ℕ) (system : SystemState) (way : Way) (phase : ℕ → ℕ)
+    (k : Acts (Deliver link direction) w draws done w') (uses : UsesFollowUp number done)
+    (shows : ShowsLive number w' system) (claimed : KeepsAll p w) (carries : CarriesWhereCalm p w)
+    (calm : WorldIsCalm p w)
+    (bounded : BoundsPaths (snapshot_of w) m) (come : HasComeDown p m (suc steps) w.time w)
+    (early : w.time ≤ 10 ^ 18) (near : IsNear (snapshot_of w) number)
+    (leads : IsWayTo (follower_parts p.params w) (snapshot_of w) (suc steps) number way phase) where
+  abbrev settled : ℕ
+  settled = w.last_change + settling_span_with p (sync_paths_of w) m
+
+  come_late : settled + suc steps * (p.params.threshold + p.params.residence) ≤ w.time
+  come_late = omega (arith, come)
+
+  already : settled ≤ w.time
+  already = let passed = come_late in omega (arith, passed)
+
+  calm_by : IsCalmBy p m settled w
+  calm_by = record {
+    quiet = quiet_as p w calm;
+    bounded = bounded;
+    passed = let same : settled ≤ settled = omega arith in same;
+  }
+
+  is_settled : IsSettledFrom p settled p.params.threshold w
+  is_settled = settled_from p m settled w claimed calm_by already early
+
+  measured : AllMeasureRight p.params w
+  measured =
+      let set : IsCalmFor (span_over m) w = record {
+        pace = p;
+        set = calm.of;
+        quiet = quiet_as p w calm;
+        late = already;
+      } in
+      measured_right p settled p.params.threshold w is_settled
+      (claimed_measured w (record { pace = p; is = claimed }) (over_capable m w set))
+
+  pub has_reading_here : (moment : ℕ) → IsSome (reading system moment)
+  has_reading_here =
+      has_reading_there link direction w w' draws number done p settled steps system way phase k uses shows is_settled
+      measured (carries m settled calm_by already early) come_late near leads
+
+  pub reads_exactly : (later error : ℕ) (read shown : ℤ) → reading system (w.time + later) ≡ Some read
+      → error ≡ reading_error_at way steps later → IsBestsTime w number (w.time + later) shown
+      → AreWithin error read shown
+  reads_exactly =
+      reads_there link direction w w' draws number done p settled steps system way phase k uses shows is_settled
+      measured (carries m settled calm_by already early) come_late near leads
 
 -- ---- every act
 
@@ -404,6 +425,40 @@ worlds_have_readings answers timed fate fate_after w w' done all k moment p m st
         claimed carries (calm_then p w timed.at calm) bounded come (omega (arith, moment)) near leads time
     by (Expire name timer) (quiet, rest) = absurd (subst (UsesFollowUp number) quiet uses)
     by (Changing change) (quiet, rest) = absurd (subst (UsesFollowUp number) quiet uses)
+
+-- each act in a world in which time is carried right leaves exact readings too
+module _ {F : Type 0} (answers : Bounds → ℕ → F → Option ℕ → F → Type 0) (timed : Timed) (fate fate_after : F)
+    (w w' : WorldState) (done : Done) (k : WasDone answers timed fate fate_after w w' done) (p : SettlingParams)
+    (settled steps number : ℕ) (is : IsSettledFrom p settled p.params.threshold (at timed.at w))
+    (right : AllMeasureRight p.params (at timed.at w))
+    (carries : CarriesTime p.params settled p.params.threshold (at timed.at w))
+    (late : settled + suc steps * (p.params.threshold + p.params.residence) ≤ timed.at)
+    (near : IsNear (snapshot_of w) number) where
+  pub carried_reads : (later error : ℕ) (read shown : ℤ) → LeavesReading number w' done (timed.at + later) read
+      → IsReadingErrorOf p.params w number steps later error → IsBestsTime w number (timed.at + later) shown
+      → AreWithin error read shown
+  carried_reads later error read shown leaves way best = by timed.act k.acts
+    where
+      by : (act : Act) → Acts act (at timed.at w) k.draws done w' → AreWithin error read shown
+      by (Deliver link direction) acts =
+          reads_there link direction (at timed.at w) w' k.draws number done p settled steps leaves.system way.way
+          way.phase acts leaves.uses leaves.shows is right carries late near way.leads later error read shown leaves.is
+          way.is (best_then w timed.at number (timed.at + later) shown best)
+      by (Expire name timer) (quiet, rest) = absurd (subst (UsesFollowUp number) quiet leaves.uses)
+      by (Changing change) (quiet, rest) = absurd (subst (UsesFollowUp number) quiet leaves.uses)
+
+  pub carried_have_readings : (s : SystemState) (way : Way) (phase : ℕ → ℕ) → UsesFollowUp number done
+      → ShowsLive number w' s
+      → IsWayTo (follower_parts p.params w) (snapshot_of w) (suc steps) number way phase
+      → (moment : ℕ) → IsSome (reading s moment)
+  carried_have_readings s way phase uses shows leads moment = by timed.act k.acts
+    where
+      by : (act : Act) → Acts act (at timed.at w) k.draws done w' → IsSome (reading s moment)
+      by (Deliver link direction) acts =
+          has_reading_there link direction (at timed.at w) w' k.draws number done p settled steps s way phase acts uses
+          shows is right carries late near leads moment
+      by (Expire name timer) (quiet, rest) = absurd (subst (UsesFollowUp number) quiet uses)
+      by (Changing change) (quiet, rest) = absurd (subst (UsesFollowUp number) quiet uses)
 
 -- a system that uses a Follow_Up is live afterwards, with the same clock
 pub used_shows : {F : Type 0} (answers' : Bounds → ℕ → F → Option ℕ → F → Type 0) (timed : Timed) (fate fate_after : F)

@@ -170,7 +170,7 @@ module _ (since : ℕ) where
 
   -- ---- offsets
 
-  shows_so : {number : ℕ} {w : WorldState} {s : SystemState} → ShowsLive number w s
+  pub shows_so : {number : ℕ} {w : WorldState} {s : SystemState} → ShowsLive number w s
       → ShowsLive number (changed_at since w) s
   shows_so k = record {
     place = k.place;

@@ -1,13 +1,19 @@
 -- The choice bound of a document holds of every run, and offsets are exact soon after it.
-use Rattle.std.proofs.Common.{◌<◌, ◌≤◌, ◌+◌, ℕ, Option, sym, subst, arith}
+use Rattle.std.proofs.Common.{◌<◌, ◌≤◌, ◌+◌, ◌^◌, ℕ, List, Option, sym, subst, arith}
+use Rattle.gptp_lists.specs.Members.{In}
 use Rattle.gptp_links.specs.declared.bounds.Bounds.{Bounds}
 use Rattle.gptp_setup.specs.SettlingParams.{largest_interval}
 use Rattle.gptp_scenario.specs.Calm.{last_change}
 use Rattle.gptp_scenario.specs.Network.{pace_of}
+use Rattle.gptp_model.specs.World.{WorldState}
+use Rattle.gptp_network.specs.Document.{DocumentState}
 use Rattle.gptp_network.specs.Snapshot.{events_by}
+use Rattle.gptp_report.specs.Transitions.{ActTrace, Unfolds}
+use Rattle.gptp_theorem.specs.PlayedLaws.{IsPlayable}
 use Rattle.gptp_settling_time.specs.ChoiceBounds.{ChoiceBoundsAreExact, ChoiceBoundsHold}
 use Rattle.gptp_settling_time.specs.ExactInTurn.{last_set}
-use Rattle.gptp_settling_time.proofs.ExactInTurnLemmas.{acts_are_exact_in_turn}
+use Rattle.gptp_settling_time.specs.HowSoon.{IsChoiceBound, NoneBetween}
+use Rattle.gptp_settling_time.proofs.ExactInTurnLemmas.{acts_are_carried_in_turn, acts_are_exact_in_turn, IsCarried}
 use Rattle.gptp_settling_time.proofs.FollowedLemmas.{bound_settles}
 use Rattle.gptp_settling_time.proofs.InTurnLemmas.{acts_find_settled_in_turn}
 use Rattle.gptp_settling_time.proofs.MomentLemmas.{last_by, none_later}
@@ -37,3 +43,22 @@ choice_bounds_are_exact answers d time choice next settled until fate first w ts
     (subst (λ es. last_change es < settled) (sym same) (omega (arith, last, late)))
     (subst (λ es. last_set es + largest_interval (pace_of d.network) ≤ settled) (sym same) old)
     steps number error offset ahead come leaves near way is_ahead
+
+-- and time is carried right from then on
+pub choice_bounds_carry : {F : Type 0} (answers : Bounds → ℕ → F → Option ℕ → F → Type 0) (d : DocumentState)
+    (time choice next settled until : ℕ) (fate : F) (first w : WorldState) (ts : List ActTrace) (t : ActTrace)
+    → IsPlayable d → Unfolds answers d until fate first ts w → In t ts → t.told.timed.at ≤ 10 ^ 18
+    → IsChoiceBound d time choice → NoneBetween d.events time next
+    → time + choice < settled
+    → last_set (events_by time d.events) + largest_interval (pace_of d.network) ≤ settled
+    → settled ≤ t.told.timed.at → t.told.timed.at < next
+    → IsCarried answers (pace_of d.network) settled t
+choice_bounds_carry answers d time choice next settled until fate first w ts t playable k member shown bound none late
+    old on early =
+    let at = t.told.timed.at in
+    let same = none_later d.events time at next (omega (arith, late, on)) early none in
+    let last = last_by time d.events in
+    acts_are_carried_in_turn answers d until settled fate first w ts t playable k member shown
+    (bound_settles d playable.network playable.events.in_order time choice at settled same late bound)
+    (subst (λ es. last_change es < settled) (sym same) (omega (arith, last, late)))
+    (subst (λ es. last_set es + largest_interval (pace_of d.network) ≤ settled) (sym same) old) on

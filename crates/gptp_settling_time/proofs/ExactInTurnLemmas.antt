@@ -170,6 +170,16 @@ module _ (d : DocumentState) (playable : IsPlayable d) (all : List Timed) (calm 
   carries_right w is on shown =
       record { is = settled_from w is.so on shown; right = right w is.so on shown; carries = is.carries on shown }
 
+-- An act was done in a world in which time is carried right from when it has settled on, where that is seen as if its
+-- last change had been at another time.
+pub record IsCarried {F : Type 0} (answers : Bounds → ℕ → F → Option ℕ → F → Type 0) (p : SettlingParams)
+    (settled : ℕ) (t : ActTrace) : Type 0 where
+  pub since : ℕ
+  pub fate : F
+  pub drawn : F
+  pub was : WasDone answers t.told.timed fate drawn (changed_at since t.before) (changed_at since t.after) t.told.done
+  pub right : settled ≤ t.told.timed.at → CarriesRight p settled (changed_at since (at t.told.timed.at t.before))
+
 -- ---- the law
 
 module _ {F : Type 0} (answers : Bounds → ℕ → F → Option ℕ → F → Type 0) (d : DocumentState) (settled : ℕ) (fate : F)
@@ -200,20 +210,29 @@ module _ {F : Type 0} (answers : Bounds → ℕ → F → Option ℕ → F → T
       [] is.first events ts k.started k.drawn first w refl (events_made d now playable.network playable.events)
       (events_fit d now playable) is.lead k.courses begun (begun_last answers d playable fate k.started first k.begun)
 
-  exact_then : AreExactFrom (pace_of d.network) settled t.before now t.after t.told.done
-  exact_then number_of_steps number error offset ahead late leaves near way is_ahead =
+  carried : settled ≤ now → IsCarried answers (pace_of d.network) settled t
+  carried late =
       let step = steps.each t member (omega (arith, behind, late)) in
       let since = last_set events in
-      exact_so since (pace_of d.network) settled t.before now t.after t.told.done
-      (carried_exact answers t.told.timed step.fate step.drawn (changed_at since t.before) (changed_at since t.after)
-      (pace_of d.network) settled
-      (λ on.
-      carries_right d playable events is.calm is.last settled is.settles behind old (at now t.before)
-      (exact_later d playable events is.calm is.last settled is.settles behind old t.before now
-      step.was.ready.timely.now step.was.ready.timely.first step.before)
-      on shown)
-      t.told.done
-      (was_done_so since answers t.told.timed step.fate step.drawn t.before t.after t.told.done step.none step.was))
+      record {
+        since = since;
+        fate = step.fate;
+        drawn = step.drawn;
+        was = was_done_so since answers t.told.timed step.fate step.drawn t.before t.after t.told.done step.none
+            step.was;
+        right = λ on.
+            carries_right d playable events is.calm is.last settled is.settles behind old (at now t.before)
+            (exact_later d playable events is.calm is.last settled is.settles behind old t.before now
+            step.was.ready.timely.now step.was.ready.timely.first step.before)
+            on shown;
+      }
+
+  exact_then : AreExactFrom (pace_of d.network) settled t.before now t.after t.told.done
+  exact_then number_of_steps number error offset ahead late leaves near way is_ahead =
+      let is = carried (omega (arith, late)) in
+      exact_so is.since (pace_of d.network) settled t.before now t.after t.told.done
+      (carried_exact answers t.told.timed is.fate is.drawn (changed_at is.since t.before)
+      (changed_at is.since t.after) (pace_of d.network) settled is.right t.told.done is.was)
       number_of_steps number error offset ahead late leaves near way is_ahead
 
 pub acts_are_exact_in_turn : {F : Type 0} (answers : Bounds → ℕ → F → Option ℕ → F → Type 0)
@@ -221,3 +240,16 @@ pub acts_are_exact_in_turn : {F : Type 0} (answers : Bounds → ℕ → F → Op
 acts_are_exact_in_turn answers d until settled fate first w ts t playable k member shown is behind old =
     let run = run_to answers d until fate first w ts t playable k member in
     exact_then answers d settled fate first run.w run.ts t playable run.unfolds run.member shown is behind old
+
+-- so it is of each act of a run from then on
+pub acts_are_carried_in_turn : {F : Type 0} (answers : Bounds → ℕ → F → Option ℕ → F → Type 0) (d : DocumentState)
+    (until settled : ℕ) (fate : F) (first w : WorldState) (ts : List ActTrace) (t : ActTrace) → IsPlayable d
+    → Unfolds answers d until fate first ts w → In t ts → t.told.timed.at ≤ 10 ^ 18
+    → SettlesByEvents d t.told.timed.at settled
+    → last_change (events_by t.told.timed.at d.events) < settled
+    → last_set (events_by t.told.timed.at d.events) + largest_interval (pace_of d.network) ≤ settled
+    → settled ≤ t.told.timed.at
+    → IsCarried answers (pace_of d.network) settled t
+acts_are_carried_in_turn answers d until settled fate first w ts t playable k member shown is behind old =
+    let run = run_to answers d until fate first w ts t playable k member in
+    carried answers d settled fate first run.w run.ts t playable run.unfolds run.member shown is behind old

@@ -13,7 +13,7 @@ use Rattle.gptp_lists.specs.Members.{In}
 use Rattle.gptp_lists.proofs.SystemSpecLemmas.{from_map}
 use Rattle.gptp_network.specs.Document.{DocumentState}
 use Rattle.gptp_network.specs.Snapshot.{events_by, IsSnapshot, StandsAfter}
-use Rattle.gptp_network.specs.Span.{IsBound, IsSpan}
+use Rattle.gptp_network.specs.Span.{IsBound}
 use Rattle.gptp_scenario.specs.Calm.{IsCalm}
 use Rattle.gptp_scenario.specs.declared.change.Timed.{Timed}
 use Rattle.gptp_theorem.specs.AlikeLaws.{AreAlike}
@@ -167,9 +167,9 @@ module _ {F : Type 0} (answers : Bounds → ℕ → F → Option ℕ → F → T
   pub follow_there : (exact : Bool) (until : ℕ) (passages : List StretchTrace) (fate fate_after : F)
       (start after : WorldState) (p : StretchTrace) (bound : ℕ) (g : Snapshot) → Keeps answers d playable names [] start
       → AllPass answers exact d until 0 (events_by until d.events) fate fate_after start after passages → In p passages
-      → p.bound ≡ Some bound → (IsSpan d p.from bound → p.from + bound ≤ p.to) → IsSnapshot d p.from g
+      → IsBound d p.from (Some bound) → p.from + bound ≤ p.to → IsSnapshot d p.from g
       → AreRoots g (roots_of (map (λ name. shown name p.after) names))
-  follow_there exact until passages fate fate_after start after p bound g keeps pass member bounded lasts at_begin =
+  follow_there exact until passages fate fate_after start after p bound g keeps pass member bounded late at_begin =
       let b = begins answers d playable names exact until passages 0 [] (events_by until d.events) fate fate_after start
       after p (left_first answers d playable names until) keeps pass member in
       let events = b.before ++ now_of b.from b.left in
@@ -178,9 +178,8 @@ module _ {F : Type 0} (answers : Bounds → ℕ → F → Option ℕ → F → T
       let is = b.passage.from_is in
       let at_end = keeps_one answers d playable names exact until b.from b.before b.left b.fate b.fate_after b.w p
       b.is_left b.keeps b.passage in
-      let bounds : IsBound d b.from (Some bound) = subst (IsBound d b.from) bounded b.passage.bound_is in
+      let bounds : IsBound d b.from (Some bound) = subst (λ time. IsBound d time (Some bound)) is bounded in
       let span = bounds.1 in
-      let late = lasts (subst (λ time. IsSpan d time bound) (sym is) span) in
       let calm = subst (IsCalm d.network) are bounds.0 in
       let stood = subst (λ es. StandsAfter d.network es span.snapshot) are span.stands in
       let stands : StandsAfter d.network events g =
@@ -200,4 +199,4 @@ pub stretches_follow : {F : Type 0} (answers : Bounds → ℕ → F → Option �
 stretches_follow answers d until options fate lines exceeded t playable p bound g member bounded late =
     let names = rising_clocks t.start in
     follow_there answers d playable names true until t.passages t.started t.fate_after t.start t.after p bound g
-    (keeps_first answers d playable names fate t.started t.start refl t.begun) t.pass member bounded (λ span. late)
+    (keeps_first answers d playable names fate t.started t.start refl t.begun) t.pass member bounded late

@@ -44,6 +44,7 @@ pub mod ErrorLemmas
 pub mod EndLemmas
 pub mod BeginLemmas
 pub mod ExactLemmas
+pub mod DefaultEndLemmas
 pub mod RestLemmas
 pub mod BehindLemmas
 pub mod PastLemmas

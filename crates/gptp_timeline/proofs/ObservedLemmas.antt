@@ -89,7 +89,7 @@ pub record IsOfPlan (plan : Plan) (p : StretchTrace) : Type 0 where
   pub from_is : plan.from ≡ p.from
   pub to_is : plan.to ≡ p.to
   pub begins_is : plan.begins_with_event ≡ is_begun p.events
-  pub bound_is : plan.bound ≡ p.bound
+  pub settling_is : plan.settling ≡ p.settling
   pub errors_are : plan.errors ≡ p.errors
 
 -- an account keeps what it has by an act that is no event, and by which no system gets a reading
@@ -413,7 +413,7 @@ module _ (options : TimelineOptions) (names : List ℕ) (carried : Carried) wher
       from = p.from;
       to = p.to;
       begins_with_event = is_begun p.events;
-      bound = p.bound;
+      settling = p.settling;
       measures = record measures { holdover = holdover };
       counts = counts;
       times = times;
@@ -434,14 +434,17 @@ module _ (options : TimelineOptions) (names : List ℕ) (carried : Carried) wher
 
     pub stretch_ended : ended_of plan p.after o ≡ stretch_of names carried p
     stretch_ended =
-        ap (ended_stretch plan.from plan.to plan.begins_with_event plan.bound o.measures o.systems) times_is
-        ∙ ap (λ from. ended_stretch from plan.to plan.begins_with_event plan.bound o.measures o.systems times)
+        ap (ended_stretch plan.from plan.to plan.begins_with_event plan.settling o.measures o.systems) times_is
+        ∙ ap (λ from. ended_stretch from plan.to plan.begins_with_event plan.settling o.measures o.systems times)
         is.from_is
-        ∙ ap (λ to. ended_stretch p.from to plan.begins_with_event plan.bound o.measures o.systems times) is.to_is
-        ∙ ap (λ begins. ended_stretch p.from p.to begins plan.bound o.measures o.systems times) is.begins_is
-        ∙ ap (λ bound. ended_stretch p.from p.to (is_begun p.events) bound o.measures o.systems times) is.bound_is
-        ∙ ap (λ m. ended_stretch p.from p.to (is_begun p.events) p.bound m o.systems times) observes.tracks.measures_are
-        ∙ ap (λ xs. ended_stretch p.from p.to (is_begun p.events) p.bound measures xs times) observes.tracks.stands.are
+        ∙ ap (λ to. ended_stretch p.from to plan.begins_with_event plan.settling o.measures o.systems times) is.to_is
+        ∙ ap (λ begins. ended_stretch p.from p.to begins plan.settling o.measures o.systems times) is.begins_is
+        ∙ ap (λ settling. ended_stretch p.from p.to (is_begun p.events) settling o.measures o.systems times)
+        is.settling_is
+        ∙ ap (λ m. ended_stretch p.from p.to (is_begun p.events) p.settling m o.systems times)
+        observes.tracks.measures_are
+        ∙ ap (λ xs. ended_stretch p.from p.to (is_begun p.events) p.settling measures xs times)
+        observes.tracks.stands.are
         ∙ ap (λ h. became h (counted (shown_of_all (map (kept now errors p.after) names)))) longest
         ∙ ap (λ shown. became (greatest (ended names since p.acts ++ under_way names now p.to)) (counted shown))
         (kept_shown now errors p.after names)

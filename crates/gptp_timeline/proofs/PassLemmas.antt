@@ -58,7 +58,7 @@ appended_text empty after octets text none added same = same ∙ added ∙ ap (�
 
 -- what became of a stretch, and how it ended
 abbrev ended_by_plan : Plan → Measures → List Watched → Option TimeMeasures → Stretch
-ended_by_plan plan = ended_stretch plan.from plan.to plan.begins_with_event plan.bound
+ended_by_plan plan = ended_stretch plan.from plan.to plan.begins_with_event plan.settling
 
 module _ (plan : Plan) (w : WorldState) (o : WatchState) (s : Stretch) (m : Measures) (xs : List Watched)
     (times : Option TimeMeasures) (is : s ≡ ended_by_plan plan m xs times) (measures : m ≡ o.measures)
@@ -259,7 +259,7 @@ passage_of plan now acts after = record {
   events = now;
   acts = acts;
   after = after;
-  bound = plan.bound;
+  settling = plan.settling;
   errors = plan.errors;
 }
 
@@ -274,7 +274,7 @@ module _ {F : Type 0} (answers : Bounds → ℕ → F → Option ℕ → F → T
     to_is = known.to_is ∙ to_is;
     events_are = refl;
     courses = courses;
-    bound_is = known.bound_is;
+    settling_is = known.settling_is;
     errors_are = subst (λ t. AreErrorsIf exact d from t plan.errors) (sym known.to_is) known.errors_are;
   }
 
@@ -326,7 +326,7 @@ module _ {F : Type 0} (answers : Bounds → ℕ → F → Option ℕ → F → T
     seen_passage = passage_of plan now seen.acts w'
 
     of_plan : IsOfPlan plan seen_passage
-    of_plan = record { from_is = refl; to_is = refl; begins_is = is_begun_is; bound_is = refl; errors_are = refl }
+    of_plan = record { from_is = refl; to_is = refl; begins_is = is_begun_is; settling_is = refl; errors_are = refl }
 
     observes : Observes options names carried (exact_time plan.errors) (length now) seen.acts w' o_after
     observes =

@@ -473,11 +473,12 @@ module _ {F : Type 0} (answers : Bounds → ℕ → F → Option ℕ → F → T
     settles_one : (from : ℕ) (before left : List Timed) (fate fate_after : F) (w : WorldState) (p : StretchTrace)
         (bound : ℕ)
         → IsLeft until from before left → Keeps before w
-        → IsPassage answers exact d until from left fate fate_after w p → p.bound ≡ Some bound
+        → IsPassage answers exact d until from left fate fate_after w p → IsBound d p.from (Some bound)
         → AllNear (snapshot_of p.after)
         → StillBehind (p.from + bound) p.acts
     settles_one from before left fate fate_after w p bound is keeps passage bounded_by near =
-        let bounds : IsBound d from (Some bound) = subst (IsBound d from) bounded_by passage.bound_is in
+        let bounds : IsBound d from (Some bound) =
+        subst (λ time. IsBound d time (Some bound)) passage.from_is bounded_by in
         let span = bounds.1 in let now = now_of from left in
         let are = events_then until from before left is in
         let test : Timed → Bool = λ (e : Timed). nat_le e.at from in
@@ -558,7 +559,7 @@ within_bound from bound (Some last) within = omega arith
 
 pub stretches_settle : {F : Type 0} (answers : Bounds → ℕ → F → Option ℕ → F → Type 0) (d : DocumentState) (until : ℕ)
     (options : TimelineOptions) (fate : F) (lines : List (List ℕ)) (exceeded : Bool)
-    (t : TimelineOf answers d until options fate lines exceeded) → IsPlayable d → Settle t.passages
+    (t : TimelineOf answers d until options fate lines exceeded) → IsPlayable d → Settle d t.passages
 stretches_settle answers d until options fate lines exceeded t playable p bound names carried member bounded_by near =
     let clocks = rising_clocks t.start in
     let b = begins answers d playable clocks true until t.passages 0 [] (events_by until d.events) t.started

@@ -29,6 +29,7 @@ use Rattle.gptp_lists.specs.Members.{In}
 use Rattle.gptp_lists.proofs.SystemSpecLemmas.{slice_get-In}
 use Rattle.gptp_network.specs.Document.{DocumentState}
 use Rattle.gptp_network.specs.Snapshot.{events_by, StandsAfter}
+use Rattle.gptp_network.proofs.LawLemmas.{one_snapshot}
 use Rattle.gptp_pdelay.specs.Clock.{local_clock}
 use Rattle.gptp_scenario.specs.Calm.{IsCalm, last_change}
 use Rattle.gptp_scenario.specs.Network.{NetworkState, pace_of}
@@ -47,11 +48,11 @@ use Rattle.gptp_setup.specs.Intervals.{IsLog}
 use Rattle.gptp_setup.specs.SettlingParams.{largest_interval, SettlingParams}
 use Rattle.gptp_setup.proofs.IntervalLemmas.{interval_positive}
 use Rattle.gptp_system.specs.State.{local_time, SystemState}
-use Rattle.gptp_accuracy.specs.TimeErrors.{AreTimeErrors, exact_from, IsFrom}
+use Rattle.gptp_accuracy.specs.TimeErrors.{AreTimeErrors}
 use Rattle.gptp_accuracy.specs.TimeErrors as errors_of
 use Rattle.gptp_accuracy.specs.Ways.{IsWay}
 use Rattle.gptp_accuracy.specs.declared.errors.TimeErrors.{TimeErrors}
-use Rattle.gptp_timeline.specs.Laws.{AreErrorsWithin, ErrorIsWithin, SayBound}
+use Rattle.gptp_timeline.specs.Laws.{AreErrorsWithin, ErrorIsWithin, exact_by_span, IsExactBySpan, SayBound}
 use Rattle.gptp_timeline.specs.Receipts.{offset_error}
 use Rattle.gptp_timeline.specs.Shown.{live_system}
 use Rattle.gptp_timeline.specs.Stretch.{at_of, error_at, receives}
@@ -74,16 +75,16 @@ pub size_within : (bound : ℕ) (offset ahead : ℤ) → AreWithin bound offset 
 size_within bound offset ahead within = omega (arith, ints, within.low, within.high)
 
 -- It is that of the offset of a live system, by its clock and that of the live system whose clock its root names.
-record HasError (name : ℕ) (t : ActTrace) (error : ℤ) : Type 0 where
-  own : SystemState
-  lives : live_system name t.after ≡ Some own
-  offset : ℤ
-  left : own.offset ≡ Some offset
-  leader : SystemState
-  leads : live_system (clock_of own.root) t.after ≡ Some leader
-  is : error ≡ offset -ℤ (local_time own (at_of t) -ℤ local_time leader (at_of t))
+pub record HasError (name : ℕ) (t : ActTrace) (error : ℤ) : Type 0 where
+  pub own : SystemState
+  pub lives : live_system name t.after ≡ Some own
+  pub offset : ℤ
+  pub left : own.offset ≡ Some offset
+  pub leader : SystemState
+  pub leads : live_system (clock_of own.root) t.after ≡ Some leader
+  pub is : error ≡ offset -ℤ (local_time own (at_of t) -ℤ local_time leader (at_of t))
 
-has_error : (name : ℕ) (t : ActTrace) (error : ℤ) → error_at name t ≡ Some error → HasError name t error
+pub has_error : (name : ℕ) (t : ActTrace) (error : ℤ) → error_at name t ≡ Some error → HasError name t error
 has_error name t error is = by_own (live_system name t.after) refl is
   where
     off_by : SystemState → ℤ → SystemState → ℤ
@@ -118,7 +119,7 @@ has_error name t error is = by_own (live_system name t.after) refl is
 -- ---- clocks
 
 -- what the clock of a live system shows
-shown_by : (p : SettlingParams) (w : WorldState) → KeepsAll p w → (name : ℕ) (s : SystemState)
+pub shown_by : (p : SettlingParams) (w : WorldState) → KeepsAll p w → (name : ℕ) (s : SystemState)
     → live_system name w ≡ Some s
     → (time : ℕ) → local_time s time
     ≡ local_clock ((follower_parts p.params w).phase name) ((follower_parts p.params w).drift name) time
@@ -169,7 +170,7 @@ module _ {F : Type 0} (answers : Bounds → ℕ → F → Option ℕ → F → T
     pub way : Way
     pub leads : IsWay n events g (suc steps) name way
     pub bound_is : bound ≡ time_error way
-    pub from_is : from ≡ exact_from n events g
+    pub from_is : from ≡ exact_by_span n events g
 
   module _ (events : List Timed) (g : Snapshot) (name from bound : ℕ) (has : HasBound events g name from bound) where
     abbrev pub span : ℕ
@@ -357,8 +358,9 @@ module _ {F : Type 0} (answers : Bounds → ℕ → F → Option ℕ → F → T
 
   -- what time errors say
   pub has_bound : (time : ℕ) (errors : TimeErrors) (name from bound : ℕ) (are : AreTimeErrors d time errors)
-      → SayBound errors name from bound → HasBound (events_by time d.events) are.snapshot name from bound
-  has_bound time errors name from bound are says =
+      → IsExactBySpan d time from → SayBound errors name bound
+      → HasBound (events_by time d.events) are.snapshot name from bound
+  has_bound time errors name from bound are by_span says =
       by_steps says.system.steps refl
     where
       events : List Timed
@@ -373,11 +375,9 @@ module _ {F : Type 0} (answers : Bounds → ℕ → F → Option ℕ → F → T
       error : errors_of.IsErrorOf n events g says.system (Some bound)
       error = subst (errors_of.IsErrorOf n events g says.system) says.bound_is exact.error
 
-      exact_is : from ≡ exact_from n events g
-      exact_is = elim (subst (IsFrom n events g) says.from_is are.from) [
-        | inl calm ↦ same_Some from (exact_from n events g) calm.1
-        | inr none ↦ absurd (none-some from (sym none.1))
-      ]
+      exact_is : from ≡ exact_by_span n events g
+      exact_is =
+          by_span.is ∙ ap (exact_by_span n events) (one_snapshot d time by_span.snapshot g by_span.stands are.is)
 
       by_steps : (steps : ℕ) → says.system.steps ≡ steps → HasBound events g name from bound
       by_steps zero none =
@@ -406,12 +406,12 @@ module _ {F : Type 0} (answers : Bounds → ℕ → F → Option ℕ → F → T
   pub run_within : (until time : ℕ) (before now : List Timed) (errors : TimeErrors) (name from bound : ℕ)
       (ts : List ActTrace) (fate fate_after : F) (w w' : WorldState) → until ≤ 10 ^ 18
       → events_by time d.events ≡ before ++ now → Each (IsFitEvent answers d playable names) now
-      → AreTimeErrors d time errors → SayBound errors name from bound
+      → AreTimeErrors d time errors → IsExactBySpan d time from → SayBound errors name bound
       → Courses answers until now ts fate fate_after w w' → StretchesSoFar before w
       → (t : ActTrace) → In t ts → ErrorIsWithin name from bound t
-  run_within until time before now errors name from bound ts fate fate_after w w' early are fit hold says k keeps t
-      member =
-      let has = has_bound time errors name from bound hold says in
+  run_within until time before now errors name from bound ts fate fate_after w w' early are fit hold by_span says k
+      keeps t member =
+      let has = has_bound time errors name from bound hold by_span says in
       let last = last_change (events_by time d.events) in
       let past = all_past last (events_by time d.events)
       (filter_in_order (λ (e : Timed). nat_le e.at time) d.events playable.events.in_order) (omega arith) in
@@ -427,9 +427,9 @@ module _ {F : Type 0} (answers : Bounds → ℕ → F → Option ℕ → F → T
 pub errors_are_within : {F : Type 0} (answers : Bounds → ℕ → F → Option ℕ → F → Type 0) (d : DocumentState)
     (until : ℕ) (options : TimelineOptions) (fate : F) (lines : List (List ℕ)) (exceeded : Bool)
     (t : TimelineOf answers d until options fate lines exceeded) → IsPlayable d → until ≤ 10 ^ 18
-    → AreErrorsWithin t.passages
+    → AreErrorsWithin d t.passages
 errors_are_within answers d until options fate lines exceeded t playable early p errors name from bound member are
-    says =
+    by_span says =
     let clocks = rising_clocks t.start in
     let b = begins answers d playable clocks true until t.passages 0 [] (events_by until d.events) t.started
     t.fate_after t.start t.after p (left_first answers d playable clocks until)
@@ -443,7 +443,7 @@ errors_are_within answers d until options fate lines exceeded t playable early p
     p.acts b.fate b.fate_after b.w p.after (omega (arith, ends, early))
     (events_then answers d playable clocks until b.from b.before b.left b.is_left)
     (filter_each (IsFitEvent answers d playable clocks) (λ (e : Timed). nat_le e.at b.from) b.left b.is_left.fits)
-    hold.0 says
+    hold.0 (subst (λ time. IsExactBySpan d time from) b.passage.from_is by_span) says
     (subst (λ es. Courses answers p.to es p.acts b.fate b.fate_after b.w p.after) b.passage.events_are
     b.passage.courses) b.keeps in
     (each, errors_within name from bound p.acts each)
@@ -451,12 +451,12 @@ errors_are_within answers d until options fate lines exceeded t playable early p
 pub runs_are_within : {F : Type 0} (answers : Bounds → ℕ → F → Option ℕ → F → Type 0) (d : DocumentState) (until : ℕ)
     (fate : F) (start : WorldState) (ts : List ActTrace) (w : WorldState) (errors : TimeErrors)
     (name from bound : ℕ) → IsPlayable d → until ≤ 10 ^ 18 → Unfolds answers d until fate start ts w
-    → AreTimeErrors d until errors → SayBound errors name from bound
+    → AreTimeErrors d until errors → IsExactBySpan d until from → SayBound errors name bound
     → (act : ActTrace) → In act ts → ErrorIsWithin name from bound act
-runs_are_within answers d until fate start ts w errors name from bound playable early unfolds are says =
+runs_are_within answers d until fate start ts w errors name from bound playable early unfolds are by_span says =
     let clocks = rising_clocks start in
     run_within answers d playable clocks until until [] (events_by until d.events) errors name from bound ts
     unfolds.started unfolds.drawn start w early refl
     (filter_each (IsFitEvent answers d playable clocks) (λ (e : Timed). nat_le e.at until) d.events
-    (events_fit answers d playable clocks)) are says unfolds.courses
+    (events_fit answers d playable clocks)) are by_span says unfolds.courses
     (keeps_first answers d playable clocks fate unfolds.started start refl unfolds.begun)

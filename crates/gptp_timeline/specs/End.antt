@@ -1,24 +1,14 @@
 -- When the run of a document ends by default (profile).
-use Rattle.std.specs.Prelude.{◌≡◌, ℕ, ◌+◌, ◌*◌, List}
-use Rattle.gptp_graph.specs.PathBound.{path_bound}
-use Rattle.gptp_graph.specs.Snapshot.{Snapshot}
+use Rattle.std.specs.Prelude.{ℕ, ◌+◌, List, [], ◌∷◌}
 use Rattle.gptp_network.specs.Document.{DocumentState}
-use Rattle.gptp_network.specs.Snapshot.{IsSnapshot}
-use Rattle.gptp_scenario.specs.Calm.{last_change}
-use Rattle.gptp_scenario.specs.Network.{NetworkState, pace_of}
-use Rattle.gptp_scenario.specs.SettlingTime.{settling_span_with}
-use Rattle.gptp_scenario.specs.SyncWait.{sync_paths}
-use Rattle.gptp_scenario.specs.declared.change.Timed.{Timed}
-use Rattle.gptp_setup.specs.Intervals.{interval_of}
+use Rattle.gptp_how_soon.specs.Times.{settling_times}
+use Rattle.gptp_how_soon.specs.declared.bounds.SettlingTime.{SettlingTime}
 
--- After its last event the network has settled, what each system uses has come down the settled tree, at most a
--- threshold and a residence for each system of a path, and eight Syncs more have been sent.
-abbrev pub end_behind : NetworkState → List Timed → Snapshot → ℕ
-end_behind n events g =
-    last_change events + settling_span_with (pace_of n) (sync_paths n events) (path_bound g)
-    + path_bound g * (n.params.threshold + n.params.residence) + 8 * interval_of n.params.sync
+-- As much later than the last of these times as is watched then; a document has one at least.
+abbrev pub end_behind : List SettlingTime → ℕ
+end_behind [] = 0
+end_behind (t ∷ []) = t.at + t.watch
+end_behind (t ∷ (u ∷ us)) = end_behind (u ∷ us)
 
-pub record IsDefaultEnd (d : DocumentState) (until : ℕ) : Type 0 where
-  pub snapshot : Snapshot
-  pub stands : IsSnapshot d (last_change d.events) snapshot
-  pub is : until ≡ end_behind d.network d.events snapshot
+abbrev pub default_end : DocumentState → ℕ
+default_end d = end_behind (settling_times d)

@@ -1,8 +1,9 @@
 -- What is asked of stretches, and which of it isn't so (profile).
-use Rattle.std.specs.Prelude.{ℕ, ◌-◌, ◌*◌, ◌==◌, ◌&&◌, ◌||◌, nat_lt, Bool, false, if◌then◌else◌, List, [], ◌∷◌, ◌++◌, codes, Option, Some, None, is_some, slice_index_or}
+use Rattle.std.specs.Prelude.{ℕ, ◌-◌, ◌*◌, ◌==◌, ◌&&◌, ◌||◌, nat_lt, Bool, true, false, if◌then◌else◌, List, [], ◌∷◌, ◌++◌, codes, Option, Some, None, is_some, slice_index_or}
 use Rattle.std.specs.Option.{option_and_then, option_map}
+use Rattle.gptp_how_soon.specs.declared.bounds.Settling.{Settling}
 use Rattle.gptp_timeline.specs.declared.limits.Limit.{Limit}
-use Rattle.gptp_timeline.specs.declared.limits.Limit.TheVariants.{Alone, Apart, Choice, Error, First, Holdover, Roots, Step, Time, Without}
+use Rattle.gptp_timeline.specs.declared.limits.Limit.TheVariants.{Alone, Apart, Bound, Choice, Error, First, Holdover, Roots, Step, Time, Without}
 use Rattle.gptp_timeline.specs.declared.limits.Limits.{Limits}
 use Rattle.gptp_timeline.specs.Looks.{apart, changed_after}
 use Rattle.gptp_timeline.specs.declared.looks.TimeMeasures.{TimeMeasures}
@@ -13,7 +14,7 @@ use Rattle.gptp_timeline.specs.declared.stretch.Stretch.{Stretch}
 
 -- in the order in which a verdict names the first that is exceeded
 abbrev pub all_limits : List Limit
-all_limits = Choice ∷ Holdover ∷ Error ∷ Without ∷ Roots ∷ Alone ∷ Time ∷ Apart ∷ Step ∷ First ∷ []
+all_limits = Choice ∷ Holdover ∷ Error ∷ Without ∷ Roots ∷ Alone ∷ Bound ∷ Time ∷ Apart ∷ Step ∷ First ∷ []
 
 -- the place of each among them
 abbrev pub limit_number : Limit → ℕ
@@ -23,10 +24,11 @@ limit_number Error = 2
 limit_number Without = 3
 limit_number Roots = 4
 limit_number Alone = 5
-limit_number Time = 6
-limit_number Apart = 7
-limit_number Step = 8
-limit_number First = 9
+limit_number Bound = 6
+limit_number Time = 7
+limit_number Apart = 8
+limit_number Step = 9
+limit_number First = 10
 
 abbrev pub limit_text : Limit → List ℕ
 limit_text Choice = codes "choice"
@@ -35,6 +37,7 @@ limit_text Error = codes "error"
 limit_text Without = codes "without"
 limit_text Roots = codes "roots"
 limit_text Alone = codes "alone"
+limit_text Bound = codes "bound"
 limit_text Time = codes "time"
 limit_text Apart = codes "apart"
 limit_text Step = codes "step"
@@ -66,6 +69,10 @@ asks_times limits = is_some (most_of limits Time)
 abbrev pub choice_after : Stretch → Option ℕ
 choice_after s = option_map (λ time. time - s.from) s.measures.choice
 
+-- how soon it stands at most
+abbrev pub choice_bound : Stretch → Option ℕ
+choice_bound s = option_map (λ (bounds : Settling). bounds.choice) s.settling
+
 abbrev pub amount_of : Option Greatest → Option ℕ
 amount_of = option_map (λ (g : Greatest). g.amount)
 
@@ -74,33 +81,49 @@ abbrev pub first_amount : Stretch → Option ℕ
 first_amount s =
     if s.counts.without == 0 then option_and_then (λ m. changed_after m s.from) s.times else Some (s.to - s.from)
 
--- what a limit asks for in a stretch: choice and holdover where it begins with an event, the others in all
+-- choice, holdover and bound are asked of the stretches that begin with an event, the others of all
+abbrev pub is_asked_of : Stretch → Limit → Bool
+is_asked_of s Choice = s.begins_with_event
+is_asked_of s Holdover = s.begins_with_event
+is_asked_of s Bound = s.begins_with_event
+is_asked_of s limit = true
+
+-- what a limit asks for in a stretch
 abbrev pub amount_in : Stretch → Limit → Option ℕ
-amount_in s Choice = if s.begins_with_event then choice_after s else None
-amount_in s Holdover = if s.begins_with_event then amount_of s.measures.holdover else None
+amount_in s Choice = choice_after s
+amount_in s Holdover = amount_of s.measures.holdover
 amount_in s Error = amount_of s.measures.error
 amount_in s Without = Some s.counts.without
 amount_in s Roots = Some s.counts.roots
 amount_in s Alone = Some s.counts.alone
+amount_in s Bound = choice_bound s
 amount_in s Time = option_and_then (λ (m : TimeMeasures). amount_of m.time) s.times
 amount_in s Apart = option_map apart s.times
 amount_in s Step = option_and_then (λ (m : TimeMeasures). amount_of m.step) s.times
 amount_in s First = first_amount s
 
--- a limit of so many units is given, there is an amount, and it is above that limit
-abbrev pub is_above : Option ℕ → ℕ → Option ℕ → Bool
-is_above None unit amount = false
-is_above (Some most) unit None = false
-is_above (Some most) unit (Some amount) = nat_lt (most * unit) amount
+-- that there is no amount is above no limit; but no bound is above each
+abbrev pub none_is_above : Limit → Bool
+none_is_above Bound = true
+none_is_above limit = false
+
+-- a limit of so many units is given, and an amount is above it; where there is none, as is said
+abbrev pub is_above : Option ℕ → ℕ → Bool → Option ℕ → Bool
+is_above None unit none amount = false
+is_above (Some most) unit none None = none
+is_above (Some most) unit none (Some amount) = nat_lt (most * unit) amount
 
 abbrev pub exceeds : Limits → Limit → Option ℕ → Bool
-exceeds limits limit amount = is_above (most_of limits limit) (unit_of limit) amount
+exceeds limits limit amount = is_above (most_of limits limit) (unit_of limit) (none_is_above limit) amount
 
--- the first of several limits that is exceeded, by what each asks for
-abbrev pub first_exceeded : Limits → (Limit → Option ℕ) → List Limit → Option Limit
-first_exceeded limits amounts [] = None
-first_exceeded limits amounts (limit ∷ others) =
-    if exceeds limits limit (amounts limit) then Some limit else first_exceeded limits amounts others
+-- a stretch exceeds a limit that is asked of it
+abbrev pub exceeds_in : Limits → Stretch → Limit → Bool
+exceeds_in limits s limit = is_asked_of s limit && exceeds limits limit (amount_in s limit)
+
+-- the first of several limits that is exceeded
+abbrev pub first_exceeded : (Limit → Bool) → List Limit → Option Limit
+first_exceeded exceeded [] = None
+first_exceeded exceeded (limit ∷ others) = if exceeded limit then Some limit else first_exceeded exceeded others
 
 -- the one of two that comes first
 abbrev pub earlier : Option Limit → Option Limit → Option Limit
@@ -110,7 +133,7 @@ earlier (Some a) (Some b) = if nat_lt (limit_number b) (limit_number a) then Som
 
 -- the first limit that some stretches exceed, with one more
 abbrev pub exceeded_after : Limits → Stretch → Option Limit → Option Limit
-exceeded_after limits s before = earlier before (first_exceeded limits (amount_in s) all_limits)
+exceeded_after limits s before = earlier before (first_exceeded (exceeds_in limits s) all_limits)
 
 -- ---- the verdict
 

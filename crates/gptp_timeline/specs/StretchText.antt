@@ -7,6 +7,7 @@ use Rattle.gptp_roles.specs.Selection.{clock_of}
 use Rattle.gptp_words.specs.Digits.{clock_text, or_none}
 use Rattle.gptp_accuracy.specs.AccuracyText.{error_text}
 use Rattle.gptp_accuracy.specs.declared.errors.SystemError.{SystemError}
+use Rattle.gptp_how_soon.specs.declared.bounds.Settling.{Settling}
 use Rattle.gptp_timeline.specs.Amounts.{near_text}
 use Rattle.gptp_timeline.specs.Measures.{greatest_from, one_at}
 use Rattle.gptp_timeline.specs.Stretch.{counted, shown_of_all}
@@ -42,15 +43,19 @@ changed_words s =
 abbrev pub greatest_words : Measures → List ℕ
 greatest_words m = codes " holdover " ++ longest_text m.holdover ++ codes " error " ++ worst_text m.error
 
-abbrev pub counted_words : Counts → Option ℕ → List ℕ
-counted_words c bound =
+abbrev pub counted_words : Counts → List ℕ
+counted_words c =
     codes " without " ++ decimal c.without
     ++ codes " roots " ++ decimal c.roots
     ++ codes " alone " ++ decimal c.alone
-    ++ codes " bound " ++ or_none decimal bound
+
+-- how soon the choice and the roles stand at most
+abbrev pub settling_words : Option Settling → List ℕ
+settling_words None = codes " bound none none"
+settling_words (Some s) = codes " bound " ++ decimal s.choice ++ codes " " ++ decimal s.roles
 
 abbrev pub after_line : Stretch → List ℕ
-after_line s = changed_words s ++ greatest_words s.measures ++ counted_words s.counts s.bound
+after_line s = changed_words s ++ greatest_words s.measures ++ counted_words s.counts ++ settling_words s.settling
 
 -- ---- how exact systems were
 
@@ -85,12 +90,12 @@ error_among [] clock = None
 error_among (x ∷ xs) clock = if x.clock == clock then x.error else error_among xs clock
 
 -- what became of a stretch, by what was measured of its acts and what is kept of all systems
-abbrev pub ended_stretch : ℕ → ℕ → Bool → Option ℕ → Measures → List Watched → Option TimeMeasures → Stretch
-ended_stretch from to begins_with_event bound m systems times = record {
+abbrev pub ended_stretch : ℕ → ℕ → Bool → Option Settling → Measures → List Watched → Option TimeMeasures → Stretch
+ended_stretch from to begins_with_event settling m systems times = record {
   from = from;
   to = to;
   begins_with_event = begins_with_event;
-  bound = bound;
+  settling = settling;
   measures = record m { holdover = greatest_from m.holdover (filter_map (wait_of to) systems) };
   counts = counted (shown_of_all systems);
   times = times;

@@ -7,7 +7,7 @@ use Rattle.gptp_model.specs.World.{WorldState}
 use Rattle.gptp_links.specs.declared.bounds.Bounds.{Bounds}
 use Rattle.gptp_network.specs.Document.{DocumentState}
 use Rattle.gptp_network.specs.Snapshot.{events_by}
-use Rattle.gptp_network.specs.Span.{IsBound}
+use Rattle.gptp_how_soon.specs.declared.bounds.Settling.{Settling}
 use Rattle.gptp_scenario.specs.declared.change.Act.{Act}
 use Rattle.gptp_scenario.specs.declared.change.Act.TheVariants.{Change as Changing, Deliver, Expire}
 use Rattle.gptp_scenario.specs.declared.change.Timed.{Timed}
@@ -15,6 +15,7 @@ use Rattle.gptp_world.specs.Transitions.{ActTrace}
 use Rattle.gptp_report.specs.Transitions.{Courses, CoursesSoFar}
 use Rattle.gptp_model.specs.Course.{Begun}
 use Rattle.gptp_system.specs.State.{SystemState}
+use Rattle.gptp_accuracy.specs.Settlings.{settling_of}
 use Rattle.gptp_accuracy.specs.TimeErrors.{AreTimeErrors}
 use Rattle.gptp_accuracy.specs.declared.errors.SystemError.{SystemError}
 use Rattle.gptp_accuracy.specs.declared.errors.TimeErrors.{TimeErrors}
@@ -131,7 +132,7 @@ asks_lines times = option_map_or (λ (o : TimeState). o.lines) times false
 
 -- what became of a stretch, by what an observer keeps where it ends, and its lines there
 abbrev pub ended_of : Plan → WorldState → WatchState → Stretch
-ended_of plan w o = ended_stretch plan.from plan.to plan.begins_with_event plan.bound o.measures o.systems
+ended_of plan w o = ended_stretch plan.from plan.to plan.begins_with_event plan.settling o.measures o.systems
     (times_ended plan.to w o.times)
 
 abbrev pub end_lines : Plan → WorldState → WatchState → List (List ℕ)
@@ -162,7 +163,7 @@ pub record StretchTrace : Type 0 where
   pub events : List Timed
   pub acts : List ActTrace
   pub after : WorldState
-  pub bound : Option ℕ
+  pub settling : Option Settling
   pub errors : Option TimeErrors
 
 -- it begins with an event
@@ -177,7 +178,7 @@ pub record IsTimelinePlan (exact : Bool) (d : DocumentState) (from to : ℕ) (be
     pub from_is : plan.from ≡ from
     pub to_is : plan.to ≡ to
     pub begins_is : plan.begins_with_event ≡ begins_with_event
-    pub bound_is : IsBound d from plan.bound
+    pub settling_is : plan.settling ≡ settling_of d from
     pub errors_are : AreErrorsIf exact d from to plan.errors
 
 -- what stretches carry over to the next: since when each system has been waiting, and what each reads by, where that is
@@ -196,7 +197,7 @@ stretch_of names carried p = record {
   from = p.from;
   to = p.to;
   begins_with_event = is_begun p.events;
-  bound = p.bound;
+  settling = p.settling;
   measures = measured names carried.since p.to p.acts;
   counts = counted (map (λ name. shown name p.after) names);
   times = option_map (λ rs. measured_times rs (length p.events) p.acts p.to p.after) carried.readings;
@@ -253,7 +254,7 @@ pub record IsPassage {F : Type 0} (answers : Bounds → ℕ → F → Option ℕ
   pub to_is : p.to ≡ end_before until (later_than from events)
   pub events_are : p.events ≡ now_of from events
   pub courses : Courses answers p.to p.events p.acts fate fate_after w p.after
-  pub bound_is : IsBound d from p.bound
+  pub settling_is : p.settling ≡ settling_of d from
   pub errors_are : AreErrorsIf exact d from p.to p.errors
 
 -- Stretches pass, one after another: the first from a time on, the last to the end.

@@ -50,6 +50,6 @@ pub use looks::TimeMeasures;
 pub use measures::{Greatest, Measures, better_if};
 pub use readings::{KeptReading, NewReading, SystemReading};
 pub use sources::{Difference, Ends, SourceTime};
-pub use stretch::{Longest, Stretch, TimeOrNone, Worst, amount_of};
+pub use stretch::{Longest, Stretch, Worst, amount_of};
 pub use time_lines::Sources;
 pub use timeline::{TimelineOptions, last_stretches, write_timeline};

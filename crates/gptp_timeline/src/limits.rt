@@ -2,7 +2,7 @@
 
 ghost use Rattle.std.specs.Prelude.{◌≡◌, ◌<◌, ◌++◌, ◌∷◌, [], IfOk, OnOk, is_some, string_bytes};
 ghost use Rattle.gptp_words.specs.Lines.{text_of};
-ghost use Rattle.gptp_timeline.specs.Limits.{amount_in, asks_times, earlier, exceeded_after, exceeds, first_exceeded, is_above, is_asked, is_exceeded, is_some_given, most_of, option_name, limit_number, unit_of, verdict_line, verdict_lines};
+ghost use Rattle.gptp_timeline.specs.Limits.{asks_times, earlier, exceeded_after, exceeds, exceeds_in, first_exceeded, is_above, is_asked, is_exceeded, is_some_given, most_of, none_is_above, option_name, limit_number, unit_of, verdict_line, verdict_lines};
 
 use crate::stretch::Stretch;
 use std::alloc::AllocError;
@@ -23,6 +23,8 @@ pub enum Limit {
     Roots,
     /// How many systems follow a root that no other does there.
     Alone,
+    /// How long the choice takes at most to stand after an event, in ns.
+    Bound,
     /// How far what a system reads is off, in ns.
     Time,
     /// How far apart two systems read, in ns.
@@ -35,13 +37,14 @@ pub enum Limit {
 
 impl Limit {
     /// All of them, in the order in which a verdict names the first that is exceeded.
-    pub const ALL: [Limit; 10] = [
+    pub const ALL: [Limit; 11] = [
         Limit::Choice,
         Limit::Holdover,
         Limit::Error,
         Limit::Without,
         Limit::Roots,
         Limit::Alone,
+        Limit::Bound,
         Limit::Time,
         Limit::Apart,
         Limit::Step,
@@ -51,7 +54,7 @@ impl Limit {
     /// Its place among all of them.
     fn place(self) -> usize
         ensures place { result ≡ limit_number self }
-        ensures below { result < 10 }
+        ensures below { result < 11 }
     {
         self as usize
     }
@@ -67,6 +70,7 @@ impl Limit {
             Limit::Without => "max-without",
             Limit::Roots => "max-roots",
             Limit::Alone => "max-alone",
+            Limit::Bound => "max-bound",
             Limit::Time => "max-time",
             Limit::Apart => "max-apart",
             Limit::Step => "max-step",
@@ -81,6 +85,16 @@ impl Limit {
         match self {
             Limit::Error | Limit::Time | Limit::Apart | Limit::Step => 65_536,
             _ => 1,
+        }
+    }
+
+    /// Whether there being no amount is above what is given: where no bound is known, that is above every number.
+    fn none_is_above(self) -> bool
+        ensures { result ≡ none_is_above self }
+    {
+        match self {
+            Limit::Bound => true,
+            _ => false,
         }
     }
 }
@@ -99,6 +113,7 @@ impl fmt::Display for Limit {
             Limit::Without => "without",
             Limit::Roots => "roots",
             Limit::Alone => "alone",
+            Limit::Bound => "bound",
             Limit::Time => "time",
             Limit::Apart => "apart",
             Limit::Step => "step",
@@ -111,11 +126,11 @@ impl fmt::Display for Limit {
 #[derive(Clone, Copy, Debug, PartialEq, Eq)]
 pub struct Limits {
     /// By limit, in the order of [`Limit::ALL`]; times and errors in ns.
-    pub most: [Option<u64>; 10],
+    pub most: [Option<u64>; 11],
 }
 
 /// None is given.
-pub(crate) const NO_LIMITS: Limits = Limits { most: [None; 10] };
+pub(crate) const NO_LIMITS: Limits = Limits { most: [None; 11] };
 
 impl Limits {
     /// What is given for a limit.
@@ -135,30 +150,43 @@ impl Limits {
             || self.most_of(Limit::First).is_some()
     }
 
-    /// Whether there is an amount, and it is above what is given for a limit.
+    /// Whether an amount is above what is given for a limit: none is above no limit, but no bound above each.
     pub fn exceeds(&self, limit: Limit, amount: Option<u128>) -> bool
         ensures { result ≡ exceeds self.now limit amount }
     {
-        is_above(self.most_of(limit), limit.unit(), amount)
+        is_above(
+            self.most_of(limit),
+            limit.unit(),
+            limit.none_is_above(),
+            amount,
+        )
+    }
+
+    /// Whether a stretch exceeds a limit that is asked of it.
+    fn exceeds_in(&self, stretch: &Stretch, limit: Limit) -> bool
+        ensures { result ≡ exceeds_in self.now stretch.now limit }
+    {
+        stretch.is_asked(limit) && self.exceeds(limit, stretch.amount(limit))
     }
 }
 
-/// Whether there is an amount, and it is above so many units.
-fn is_above(most: Option<u64>, unit: u32, amount: Option<u128>) -> bool
-    ensures { result ≡ is_above most unit amount }
+/// Whether an amount is above so many units; where there is none, as `none` says.
+fn is_above(most: Option<u64>, unit: u32, none: bool, amount: Option<u128>) -> bool
+    ensures { result ≡ is_above most unit none amount }
 {
     match (most, amount) {
         (Some(most), Some(amount)) => u128::from(most) * u128::from(unit) < amount,
-        _ => false,
+        (Some(_), None) => none,
+        (None, _) => false,
     }
 }
 
 /// The first of several limits that a stretch exceeds.
 fn first_exceeded(limits: &Limits, stretch: &Stretch, among: &[Limit]) -> Option<Limit>
-    ensures { result ≡ first_exceeded limits.now (amount_in stretch.now) among.now }
+    ensures { result ≡ first_exceeded (exceeds_in limits.now stretch.now) among.now }
 {
     for limit in among {
-        if limits.exceeds(*limit, stretch.amount(*limit)) {
+        if limits.exceeds_in(stretch, *limit) {
             return Some(*limit);
         }
     }

@@ -7,7 +7,7 @@ ghost use Rattle.gptp_timeline.specs.Limits.{amount_of};
 ghost use Rattle.gptp_timeline.specs.Measures.{greatest_from};
 ghost use Rattle.gptp_timeline.specs.Timeline.{reads_kept};
 ghost use Rattle.gptp_timeline.specs.Watch.{WatchedRise};
-ghost use Rattle.gptp_timeline.specs.StretchText.{accuracy_line, after_line, behind, bound_words, changed_words, counted_words, ended_stretch, error_among, exact_words, greatest_words, system_accuracy, wait_of};
+ghost use Rattle.gptp_timeline.specs.StretchText.{accuracy_line, after_line, behind, bound_words, changed_words, counted_words, ended_stretch, settling_words, error_among, exact_words, greatest_words, system_accuracy, wait_of};
 
 use crate::amounts::{Near, NearOrNone, Up};
 use crate::counts::{Counts, counts_of};
@@ -18,6 +18,7 @@ use crate::time_lines::write_reads;
 use crate::time_watch::TimeWatch;
 use crate::watched::Watched;
 use gptp_accuracy::SystemError;
+use gptp_how_soon::Settling;
 use gptp_links::Fate;
 use gptp_vector::ClockId;
 use gptp_words::ClockDigits;
@@ -34,8 +35,9 @@ pub struct Stretch {
     pub to: u64,
     /// Whether it began with an event.
     pub begins_with_event: bool,
-    /// How long the network takes at most to settle from its begin on, where it is calm then, in ns.
-    pub bound: Option<u64>,
+    /// How soon the choice and the roles stand at most after its begin, and from when on offsets are exact; none where
+    /// the network isn't calm then.
+    pub settling: Option<Settling>,
     /// What was measured of its acts; the longest wait also of those that were under way where it ended.
     pub measures: Measures,
     /// What was counted where it ended.
@@ -66,7 +68,7 @@ pub fn amount_of(greatest: Option<Greatest>) -> Option<u128>
 
 impl Stretch {
     ghost use Rattle.std.specs.Prelude.{◌≡◌};
-    ghost use Rattle.gptp_timeline.specs.Limits.{amount_in, amount_of, choice_after, first_amount};
+    ghost use Rattle.gptp_timeline.specs.Limits.{amount_in, amount_of, choice_after, choice_bound, first_amount, is_asked_of};
 
     /// How long the choice took to stand, in ns.
     pub fn choice_after(&self) -> Option<u128>
@@ -78,19 +80,38 @@ impl Stretch {
         }
     }
 
-    /// The amount that a limit asks for: times in ns, errors in units of 2^-16 ns; none where it isn't asked of the
-    /// stretch.
+    /// How soon the choice stands at most, in ns; none where the network isn't calm where it begins.
+    pub fn choice_bound(&self) -> Option<u128>
+        ensures { result ≡ choice_bound self.now }
+    {
+        match self.settling {
+            Some(settling) => Some(u128::from(settling.choice)),
+            None => None,
+        }
+    }
+
+    /// Whether a limit is asked of it.
+    pub(crate) fn is_asked(&self, limit: Limit) -> bool
+        ensures { result ≡ is_asked_of self.now limit }
+    {
+        match limit {
+            Limit::Choice | Limit::Holdover | Limit::Bound => self.begins_with_event,
+            _ => true,
+        }
+    }
+
+    /// The amount that a limit asks for: times in ns, errors in units of 2^-16 ns.
     pub(crate) fn amount(&self, limit: Limit) -> Option<u128>
         ensures { result ≡ amount_in self.now limit }
     {
         match limit {
-            Limit::Choice if self.begins_with_event => self.choice_after(),
-            Limit::Holdover if self.begins_with_event => amount_of(self.measures.holdover),
-            Limit::Choice | Limit::Holdover => None,
+            Limit::Choice => self.choice_after(),
+            Limit::Holdover => amount_of(self.measures.holdover),
             Limit::Error => amount_of(self.measures.error),
             Limit::Without => Some(u128::from(self.counts.without)),
             Limit::Roots => Some(u128::from(self.counts.roots)),
             Limit::Alone => Some(u128::from(self.counts.alone)),
+            Limit::Bound => self.choice_bound(),
             Limit::Time => self.time(),
             Limit::Apart => self.apart(),
             Limit::Step => self.step(),
@@ -173,12 +194,12 @@ pub(crate) fn ended(
     from: u64,
     to: u64,
     begins_with_event: bool,
-    bound: Option<u64>,
+    settling: Option<Settling>,
     measures: Measures,
     systems: &[Watched],
     times: Option<TimeMeasures>,
 ) -> Result<Stretch, AllocError>
-    ensures { IfOk result (λ s. s ≡ ended_stretch from to begins_with_event bound measures systems.now times) }
+    ensures { IfOk result (λ s. s ≡ ended_stretch from to begins_with_event settling measures systems.now times) }
 {
     let counts = counts_of(alloc, systems)?;
     let holdover = with_waits(measures.holdover, to, systems);
@@ -186,7 +207,7 @@ pub(crate) fn ended(
         from,
         to,
         begins_with_event,
-        bound,
+        settling,
         measures: Measures {
             choice: measures.choice,
             roles: measures.roles,
@@ -201,7 +222,7 @@ pub(crate) fn ended(
 
 /// A time that may be absent, in ns.
 #[derive(Clone, Copy)]
-pub struct TimeOrNone(pub Option<u64>);
+struct TimeOrNone(Option<u64>);
 
 impl fmt::Display for TimeOrNone {
     ghost use Rattle.std.specs.Prelude.{Some};
@@ -282,19 +303,26 @@ fn write_greatest(text: &mut String, measures: Measures) -> Result<(), AllocErro
     )
 }
 
-/// Appends what was counted, and the bound.
-fn write_counts(text: &mut String, counts: Counts, bound: Option<u64>) -> Result<(), AllocError>
-    ensures { OnOk result (string_bytes text.new
-        ≡ string_bytes text.old ++ (counted_words counts bound ++ 10 ∷ [])) }
+/// Appends what was counted.
+fn write_counts(text: &mut String, counts: Counts) -> Result<(), AllocError>
+    ensures { OnOk result (string_bytes text.new ≡ string_bytes text.old ++ counted_words counts) }
 {
-    writeln!(
+    write!(
         text,
-        " without {} roots {} alone {} bound {}",
-        counts.without,
-        counts.roots,
-        counts.alone,
-        TimeOrNone(bound)
+        " without {} roots {} alone {}",
+        counts.without, counts.roots, counts.alone
     )
+}
+
+/// Appends how soon the choice and the roles stand at most.
+fn write_settling(text: &mut String, settling: Option<Settling>) -> Result<(), AllocError>
+    ensures { OnOk result (string_bytes text.new
+        ≡ string_bytes text.old ++ (settling_words settling ++ 10 ∷ [])) }
+{
+    match settling {
+        Some(settling) => writeln!(text, " bound {} {}", settling.choice, settling.roles),
+        None => writeln!(text, " bound none none"),
+    }
 }
 
 /// Appends the line of a stretch that ended.
@@ -304,7 +332,8 @@ pub(crate) fn write_after(text: &mut String, stretch: &Stretch) -> Result<(), Al
 {
     write_changed(text, stretch)?;
     write_greatest(text, stretch.measures)?;
-    write_counts(text, stretch.counts, stretch.bound)
+    write_counts(text, stretch.counts)?;
+    write_settling(text, stretch.settling)
 }
 
 /// The greatest error of the receipts of a system that count by themselves.

@@ -7,13 +7,11 @@ ghost use Rattle.gptp_model.specs.Prompt.{AllDelaysFitIntervals};
 ghost use Rattle.gptp_model.specs.Views.{rising_clocks};
 ghost use Rattle.gptp_network.specs.Events.{AreInOrder};
 ghost use Rattle.gptp_network.specs.Snapshot.{events_by};
-ghost use Rattle.gptp_network.specs.Span.{IsBound};
 ghost use Rattle.gptp_scenario.specs.Allowed.{AreAllowed};
-ghost use Rattle.gptp_scenario.specs.Calm.{last_change};
 ghost use Rattle.gptp_sink.specs.Sink.{AppendsSome};
 ghost use Rattle.gptp_world.specs.Transitions.{ActTrace};
 ghost use Rattle.gptp_words.specs.Lines.{text_of};
-ghost use Rattle.gptp_topology.specs.Times.{AreCalmTimes};
+ghost use Rattle.gptp_accuracy.specs.Settlings.{AreTimesOf};
 ghost use Rattle.gptp_timeline.specs.LastTwo.{EndsOf, all_kept, end_of, kept_after, none_kept};
 ghost use Rattle.gptp_timeline.specs.Limits.{is_exceeded, verdict_lines};
 ghost use Rattle.gptp_timeline.specs.Passing.{StretchBreaksOff, StretchIsSeen, StopsSeen, first_time, times_before, watch_at_start, watch_before};
@@ -29,12 +27,12 @@ use crate::stretch::{Stretch, ended, write_accuracies, write_after};
 use crate::time_lines::write_times;
 use crate::time_watch::TimeWatch;
 use crate::watch::Watch;
-use gptp_accuracy::{TimeErrors, time_errors};
+use gptp_accuracy::{TimeErrors, exact_from, settling_of, time_errors_among};
+use gptp_how_soon::{Settling, SettlingTime, settling_times};
 use gptp_links::Fate;
 use gptp_network::Document;
 use gptp_report::sink::Sink;
 use gptp_report::{Cut, begin, play, write_whole};
-use gptp_topology::{CalmTime, bound_among, calm_times};
 use gptp_world::{Timed, World};
 use std::alloc::{AllocError, Global};
 
@@ -57,7 +55,7 @@ struct Plan {
     from: u64,
     to: u64,
     begins_with_event: bool,
-    bound: Option<u64>,
+    settling: Option<Settling>,
     errors: Option<TimeErrors>,
 }
 
@@ -100,52 +98,20 @@ fn next_time(events: &[Timed], time: u64) -> Option<u64>
     }
 }
 
-/// Where a network that is calm after the events up to a time is as exact as is said by another: from when on, and how
-/// exact each system is.
+/// The time errors of a document, whose times these are, after its events up to a time, where they hold by another.
 fn errors_by(
     alloc: Global,
     document: &Document,
+    times: &[SettlingTime],
     from: u64,
     to: u64,
 ) -> Result<Option<TimeErrors>, Cut>
+    requires { AreTimesOf document.now times.now }
     ensures errors { IfOk result (AreErrorsBy document.now from to) }
     ensures memory { IfErr result (λ e. e ≡ Cut.Memory) }
 {
-    let errors = time_errors(alloc, document, from)?;
-    match errors.from {
-        Some(exact) if exact <= to => Ok(Some(errors)),
-        _ => Ok(None),
-    }
-}
-
-/// The time of the last of these events up to a time, or 0.
-#[tactic(auto, using(gptp_network::proofs::EventLemmas::last_from))]
-fn last_by(events: &[Timed], time: u64) -> u64
-    requires { AreInOrder events.now }
-    ensures { result ≡ last_change (events_by time events.now) }
-{
-    match events_by(events, time).last() {
-        Some(event) => event.at,
-        None => 0,
-    }
-}
-
-/// The time errors of a document at a time, where a bound says that it may have them.
-fn errors_if(
-    alloc: Global,
-    document: &Document,
-    from: u64,
-    to: u64,
-    bound: Option<u64>,
-) -> Result<Option<TimeErrors>, Cut>
-    requires { IsBound document.now from bound }
-    ensures errors { IfOk result (AreErrorsBy document.now from to) }
-    ensures memory { IfErr result (λ e. e ≡ Cut.Memory) }
-{
-    document.well_formed();
-    let last = last_by(document.events(), from);
-    match bound {
-        Some(bound) if last.saturating_add(bound) <= to => errors_by(alloc, document, from, to),
+    match exact_from(document, times, from) {
+        Some(exact) if exact <= to => Ok(Some(time_errors_among(alloc, document, times, from)?)),
         _ => Ok(None),
     }
 }
@@ -154,17 +120,17 @@ fn errors_if(
 fn errors_asked(
     alloc: Global,
     document: &Document,
+    times: &[SettlingTime],
     exact: bool,
     from: u64,
     to: u64,
-    bound: Option<u64>,
 ) -> Result<Option<TimeErrors>, Cut>
-    requires { IsBound document.now from bound }
+    requires { AreTimesOf document.now times.now }
     ensures errors { IfOk result (AreErrorsIf exact document.now from to) }
     ensures memory { IfErr result (λ e. e ≡ Cut.Memory) }
 {
     match exact {
-        true => errors_if(alloc, document, from, to, bound),
+        true => errors_by(alloc, document, times, from, to),
         false => Ok(None),
     }
 }
@@ -173,29 +139,28 @@ fn errors_asked(
 fn plan_of(
     alloc: Global,
     document: &Document,
-    times: &[CalmTime],
+    times: &[SettlingTime],
     exact: bool,
     from: u64,
     to: u64,
     begins_with_event: bool,
 ) -> Result<Plan, Cut>
-    requires { AreCalmTimes document.now times.now }
+    requires { AreTimesOf document.now times.now }
     ensures plan { IfOk result (IsTimelinePlan exact document.now from to begins_with_event) }
     ensures memory { IfErr result (λ e. e ≡ Cut.Memory) }
 {
-    let bound = bound_among(alloc, document, times, from)?;
-    let errors = errors_asked(alloc, document, exact, from, to, bound)?;
+    let errors = errors_asked(alloc, document, times, exact, from, to)?;
     Ok(Plan {
         from,
         to,
         begins_with_event,
-        bound,
+        settling: settling_of(times, from),
         errors,
     })
 }
 
 /// From when on the receipts of each system count by themselves.
-fn exact_from(errors: &Option<TimeErrors>) -> Option<u64>
+fn exact_time(errors: &Option<TimeErrors>) -> Option<u64>
     ensures { result ≡ exact_time errors.now }
 {
     match errors {
@@ -322,7 +287,7 @@ fn end_stretch<F: Fate + Drop, K: Sink>(
         plan.from,
         plan.to,
         plan.begins_with_event,
-        plan.bound,
+        plan.settling,
         watch.measures(),
         watch.systems(),
         times_ended(world, plan.to, watch.times()),
@@ -360,7 +325,7 @@ fn pass_stretch<F: Fate + Drop, K: Sink>(
     ensures works { result ≢ Err Cut.Write → K.failures sink.new ≡ K.failures sink.old }
     ensures fails { result ≡ Err Cut.Write → K.failures sink.new ≢ K.failures sink.old }
 {
-    watch.begin(exact_from(&plan.errors), events.len());
+    watch.begin(exact_time(&plan.errors), events.len());
     play(alloc, world, events, plan.to, watch, sink)?;
     end_stretch(alloc, world, plan, watch, sink)
 }
@@ -369,7 +334,7 @@ fn pass_stretch<F: Fate + Drop, K: Sink>(
 fn next_stretch<F: Fate + Drop, K: Sink>(
     alloc: Global,
     document: &Document,
-    times: &[CalmTime],
+    times: &[SettlingTime],
     exact: bool,
     world: &mut World<F>,
     from: u64,
@@ -384,7 +349,7 @@ fn next_stretch<F: Fate + Drop, K: Sink>(
     requires prompt { AllDelaysFitIntervals world.old.world_core events.now }
     requires due { events_by to events.now ≡ events.now }
     requires moment { to ≤ 1000000000000000 }
-    requires times { AreCalmTimes document.now times.now }
+    requires times { AreTimesOf document.now times.now }
     ensures passed { IfOk result (λ kept. (plan : Plan) × (told : List (List ℕ))
         × IsTimelinePlan exact document.now from to (is_begun events.now) plan
         × StretchIsSeen F.answers plan events.now world.old.fate world.new.fate world.old.world_core world.new.world_core
@@ -407,7 +372,7 @@ fn next_stretch<F: Fate + Drop, K: Sink>(
 fn all_stretches<F: Fate + Drop, K: Sink>(
     alloc: Global,
     document: &Document,
-    times: &[CalmTime],
+    times: &[SettlingTime],
     exact: bool,
     world: &mut World<F>,
     until: u64,
@@ -419,7 +384,7 @@ fn all_stretches<F: Fate + Drop, K: Sink>(
     requires begun { (fate : F) × Begun F.answers document.now.network fate world.old.fate world.old.world_core }
     requires prompt { AllDelaysFitIntervals world.old.world_core document.now.events }
     requires starts { watch.old ≡ watch_at_start options.now world.old.world_core }
-    requires times { AreCalmTimes document.now times.now }
+    requires times { AreTimesOf document.now times.now }
     ensures passed { IfOk result (λ kept. (passages : List StretchTrace)
         × AllPass F.answers exact document.now until 0 (events_by until document.now.events) world.old.fate world.new.fate
         world.old.world_core world.new.world_core passages
@@ -522,12 +487,12 @@ pub fn write_timeline<F: Fate + Drop, K: Sink>(
     ensures works { result ≢ Err Cut.Write → K.failures sink.new ≡ K.failures sink.old }
     ensures fails { result ≡ Err Cut.Write → K.failures sink.new ≢ K.failures sink.old }
 {
-    let calm = calm_times(alloc, document)?;
+    let settling = settling_times(alloc, document)?;
     let mut world = begin(alloc, document, fate)?;
     let mut watch = watch_before(alloc, &world, options)?;
     write_start(alloc, &world, &mut watch, sink)?;
     let kept = all_stretches(
-        alloc, document, &calm, true, &mut world, until, options, &mut watch, sink,
+        alloc, document, &settling, true, &mut world, until, options, &mut watch, sink,
     )?;
     end_verdict(alloc, &options.limits, kept.exceeded, sink)
 }
@@ -560,12 +525,12 @@ pub fn last_stretches<F: Fate + Drop>(
 {
     let mut sink = NullSink;
     let options = summary_with(times);
-    let calm = calm_times(alloc, document)?;
+    let settling = settling_times(alloc, document)?;
     let mut world = begin(alloc, document, fate)?;
     let mut watch = watch_before(alloc, &world, &options)?;
     write_start(alloc, &world, &mut watch, &mut sink)?;
     let kept = all_stretches(
-        alloc, document, &calm, false, &mut world, until, &options, &mut watch, &mut sink,
+        alloc, document, &settling, false, &mut world, until, &options, &mut watch, &mut sink,
     )?;
     Ok(both_of(kept))
 }

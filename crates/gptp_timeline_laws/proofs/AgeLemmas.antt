@@ -208,7 +208,7 @@ timelines_hear_in_time answers d until options fate lines exceeded t playable en
     moment.are (subst (λ es. events_left moment.done (length es) ≡ 0) b.passage.events_are moment.no_event_left) in
     let v = at time (world_after moment.done w) in
     let stands : StandsAsPlanned n events v = time_stands n events (world_after moment.done w) time stood in
-    let bounds : IsBound d b.from (Some bound) = subst (IsBound d b.from) bounded b.passage.bound_is in
+    let bounds : IsBound d b.from (Some bound) = subst (λ at. IsBound d at (Some bound)) is bounded in
     let span = bounds.1 in
     let calm : IsCalm n events = subst (IsCalm n) are bounds.0 in
     let spans : StandsAfter n events span.snapshot =

@@ -9,11 +9,12 @@ use Rattle.gptp_accuracy.specs.Ways.{IsWay}
 use Rattle.gptp_accuracy.specs.declared.errors.TimeErrors.{TimeErrors}
 use Rattle.gptp_accuracy.proofs.ReadingLemmas.{reading_errors_are_of_ways}
 use Rattle.gptp_accuracy.proofs.WayLemmas.{one_way}
-use Rattle.gptp_error_laws.specs.TimeError.{reading_error_after}
+use Rattle.gptp_error_laws.specs.TimeError.{reading_error_after, reading_error_at}
 use Rattle.gptp_error_laws.specs.TimeError.{reading_error as way_error}
-use Rattle.gptp_graph.specs.Snapshot.{Snapshot}
 use Rattle.gptp_invariants.proofs.ChoiceCalmKeptLemmas.{acts_keep}
 use Rattle.gptp_links.specs.declared.bounds.Bounds.{Bounds}
+use Rattle.gptp_lists.specs.Members.{In}
+use Rattle.gptp_lists.proofs.SystemSpecLemmas.{In-right}
 use Rattle.gptp_model.specs.Acts.{at}
 use Rattle.gptp_model.specs.Advancing.{Happens}
 use Rattle.gptp_model.specs.Views.{rising_clocks}
@@ -26,11 +27,11 @@ use Rattle.gptp_scenario.specs.declared.change.Timed.{Timed}
 use Rattle.gptp_theorem.specs.PlayedLaws.{IsPlayable}
 use Rattle.gptp_reading.proofs.LastingLemmas.{error_grows}
 use Rattle.gptp_timeline.specs.ExactReads.{counts_new, ended_reads, greater_of, later_of, reads_among, reads_by, reads_ended, reads_next, reads_over, reads_with, unread}
-use Rattle.gptp_timeline.specs.Laws.{SayBound}
+use Rattle.gptp_timeline.specs.Laws.{IsExactBySpan, SayBound}
 use Rattle.gptp_timeline.specs.Jumps.{error_before}
 use Rattle.gptp_timeline.specs.Readings.{clock_time, new_in, put_reading, read_after, read_by, reading_among, reading_error, readings_after, readings_by}
 use Rattle.gptp_timeline.specs.Stretch.{at_of}
-use Rattle.gptp_timeline.specs.Timeline.{AreErrorsBy, exact_time, now_of}
+use Rattle.gptp_timeline.specs.Timeline.{AreErrorsBy, Carried, now_of, StretchTrace}
 use Rattle.gptp_timeline.specs.declared.exact_reads.ExactReads.{ExactReads}
 use Rattle.gptp_timeline.specs.declared.exact_reads.SystemReads.{SystemReads}
 use Rattle.gptp_timeline.specs.declared.readings.KeptReading.{KeptReading}
@@ -39,27 +40,43 @@ use Rattle.gptp_timeline.specs.declared.readings.SystemReading.{SystemReading}
 use Rattle.gptp_timeline.proofs.EventLemmas.{Each, filter_each, filter_in_order}
 use Rattle.gptp_timeline.proofs.PastLemmas.{all_past, PastBy}
 use Rattle.gptp_timeline.proofs.SettlingLemmas.{act_time, ends_by, events_then, IsFitEvent, Keeps, keeps_act, no_change}
-use Rattle.gptp_timeline.proofs.WithinLemmas.{has_bound, HasBound, holds_later, past_behind}
-use Rattle.gptp_timeline_laws.specs.Exact.{TimelinesReadExactly}
-use Rattle.gptp_timeline_laws.proofs.HeldLemmas.{error_by_then, IsBounded, no_takeover, receipt_bounds}
+use Rattle.gptp_timeline.proofs.WithinLemmas.{has_bound, holds_later, past_behind}
+use Rattle.gptp_timeline_laws.specs.Exact.{reads_from, TimelinesReadExactly}
+use Rattle.gptp_timeline_laws.proofs.HeldLemmas.{AreRight, calm_is_right, IsBounded, IsRight}
 use Rattle.gptp_timeline_laws.proofs.BoundLemmas.{readings_both}
 use Rattle.gptp_timeline_laws.proofs.CourseLemmas.{parts}
-use Rattle.gptp_timeline_laws.proofs.MomentLemmas.{timeline_found}
+use Rattle.gptp_timeline_laws.proofs.MomentLemmas.{Found, timeline_found}
 use Rattle.gptp_timeline_laws.proofs.OriginLemmas.{IsReceived, IsTakenOver, origin}
 use Rattle.gptp_timeline_laws.proofs.ReadLemmas.{is_new, put_other, put_own, quiet_reads}
 use Rattle.gptp_timeline_laws.proofs.ReadsLemmas.{at_most_more, AtMost, counts_not, counts_so, greater_within, idle_reads, later_both, NoReads, reads_both, reads_other, reads_own, unread_none}
 use Rattle.gptp_timeline_laws.proofs.StepLemmas.{clocks_stay, quiet_next, SameClocks}
 use Rattle.gptp_world.specs.Transitions.{ActTrace}
 
+pub less_each : (last from : ℕ) (ts : List ActTrace) → last < from
+    → AllByRecursion (λ (t : ActTrace). at_of t ≤ last) ts → AllByRecursion (λ (t : ActTrace). at_of t < from) ts
+less_each last from [] less each = tt
+less_each last from (t ∷ ts) less each =
+    let first = each.0 in (omega (arith, first, less), less_each last from ts less each.1)
+
 module _ {F : Type 0} (answers : Bounds → ℕ → F → Option ℕ → F → Type 0) (d : DocumentState)
     (playable : IsPlayable d) (names : List ℕ) where
-  module _ (events : List Timed) (g : Snapshot) (name from bound : ℕ)
-      (has : HasBound answers d playable names events g name from bound) where
-    abbrev B : ℕ → ℕ
-    B = error_by_then answers d playable names events g name from bound has
+  -- an act leaves clocks as they were
+  pub same_on : (events : List Timed) (t : ActTrace) (until : ℕ) (fate drawn : F) (base w : WorldState)
+      → Happens answers until t.told fate drawn w t.after → Keeps answers d playable names events w
+      → SameClocks base w → SameClocks base t.after
+  same_on events t until fate drawn base w happens keeps same n time =
+      let timed = t.told.timed in
+      let network = acts_keep timed.act (at timed.at w) happens.was_done.draws t.told.done t.after
+      (no_change happens.next.item timed.act w happens.next.act) happens.was_done.acts in
+      clocks_stay answers d playable names events w t.after keeps
+      (keeps_act answers d playable names events until t fate drawn w happens keeps) network.setups n time
+      ∙ same n time
 
+  module _ (events : List Timed) (name from : ℕ) (B : ℕ → ℕ)
+      (grows : (soon late : ℕ) → soon ≤ late → B soon ≤ B late) (acts : List ActTrace)
+      (right : AreRight answers d playable names events name from B acts) where
     abbrev Bounded : WorldState → KeptReading → ℕ → Type 0
-    Bounded = IsBounded answers d playable names events g name from bound has
+    Bounded = IsBounded name B
 
     -- What is kept of what the system reads: the last receipt that counts bounds it from then on, and it was off by no
     -- more than the error for the longest time between two.
@@ -71,9 +88,6 @@ module _ {F : Type 0} (answers : Bounds → ℕ → F → Option ℕ → F → T
 
     abbrev Track : WorldState → List SystemReading → List SystemReads → ℕ → Type 0
     Track base rs xs now = (r : ExactReads) → reads_among xs name ≡ Some r → Held base rs r now
-
-    grows : (soon late : ℕ) → soon ≤ late → B soon ≤ B late
-    grows soon late less = error_grows has.way has.steps soon late less
 
     -- an error at a time by what bounds it
     within_at : (base : WorldState) (kept : KeptReading) (last time most : ℕ) → Bounded base kept last → last ≤ time
@@ -127,7 +141,8 @@ module _ {F : Type 0} (answers : Bounds → ℕ → F → Option ℕ → F → T
 
     module _ (until : ℕ) (t : ActTrace) (fate drawn : F) (w : WorldState)
         (happens : Happens answers until t.told fate drawn w t.after) (keeps : Keeps answers d playable names events w)
-        (early : until ≤ 10 ^ 18) (base : WorldState) (same : SameClocks base w) (same' : SameClocks base t.after) where
+        (right_then : from ≤ at_of t → IsRight name B t w) (base : WorldState) (same : SameClocks base w)
+        (same' : SameClocks base t.after) where
       step_track : (rs : List SystemReading) (xs : List SystemReads) (now : ℕ) → now ≤ at_of t
           → Track base rs xs now
           → Track base (read_after t rs) (reads_by (Some from) (at_of t) t.after (new_in t rs) xs) (at_of t)
@@ -196,12 +211,9 @@ module _ {F : Type 0} (answers : Bounds → ℕ → F → Option ℕ → F → T
               received : from ≤ at_of t → name ≡ u.clock → IsReceived t.told.done t.after u ⊎ IsTakenOver t.after u
                   → Held base put r (at_of t)
               received late mine (inr taken) =
-                  absurd (no_takeover answers d playable names events g name from bound has until t fate drawn w happens
-                  keeps late early u (sym mine) taken)
+                  absurd ((right_then late).no_takeover u (sym mine) taken)
               received late mine (inl own) =
-                  let bounded = receipt_bounds answers d playable names events g name from bound has until t fate
-                  drawn w
-                  happens keeps late early u (sym mine) own base same same' in
+                  let bounded = (right_then late).bounds u (sym mine) own base same same' in
                   let counts = counts_so from (at_of t) u late own.received in
                   let error : reading_error (at_of t) t.after u.clock u.after
                   ≡ reading_error (at_of t) base name u.after =
@@ -257,17 +269,6 @@ module _ {F : Type 0} (answers : Bounds → ℕ → F → Option ℕ → F → T
 
     -- ---- acts that pass
 
-    pub same_on : (t : ActTrace) (until : ℕ) (fate drawn : F) (base w : WorldState)
-        → Happens answers until t.told fate drawn w t.after → Keeps answers d playable names events w
-        → SameClocks base w → SameClocks base t.after
-    same_on t until fate drawn base w happens keeps same n time =
-        let timed = t.told.timed in
-        let network = acts_keep timed.act (at timed.at w) happens.was_done.draws t.told.done t.after
-        (no_change happens.next.item timed.act w happens.next.act) happens.was_done.acts in
-        clocks_stay answers d playable names events w t.after keeps
-        (keeps_act answers d playable names events until t fate drawn w happens keeps) network.setups n time
-        ∙ same n time
-
     -- what is kept after acts, of which none is later than a time
     record Tracked (rs : List SystemReading) (xs : List SystemReads) (to : ℕ) (w : WorldState) : Type 0 where
       base : WorldState
@@ -277,45 +278,43 @@ module _ {F : Type 0} (answers : Bounds → ℕ → F → Option ℕ → F → T
       track : Track base rs xs now
 
     passes_track : (until : ℕ) (ts : List ActTrace) (fate fate_after : F) (base w w' : WorldState)
-        (rs : List SystemReading) (xs : List SystemReads) → until ≤ 10 ^ 18 → SameClocks base w → w.time ≤ until
+        (rs : List SystemReading) (xs : List SystemReads) → until ≤ 10 ^ 18
+        → ((t : ActTrace) → In t ts → In t acts) → SameClocks base w → w.time ≤ until
         → Passes answers until ts fate fate_after w w' → Keeps answers d playable names events w
         → Track base rs xs w.time → Tracked (readings_after ts rs) (reads_over (Some from) rs xs ts) until w'
-    passes_track until [] fate fate_after base w w' rs xs early same soon (one, is) keeps track = record {
+    passes_track until [] fate fate_after base w w' rs xs early among same soon (one, is) keeps track = record {
       base = base;
       same = λ n time. ap (λ v. clock_time n time v) is ∙ same n time;
       now = w.time;
       soon = soon;
       track = track;
     }
-    passes_track until (t ∷ ts) fate fate_after base w w' rs xs early same soon (drawn, before, happens, rest) keeps
-        track =
+    passes_track until (t ∷ ts) fate fate_after base w w' rs xs early among same soon (drawn, before, happens, rest)
+        keeps track =
         let moment = act_time answers d playable names until t fate drawn w keeps.claimed.world.sound happens in
-        let same' = same_on t until fate drawn base w happens keeps same in
+        let same' = same_on events t until fate drawn base w happens keeps same in
         let in_time = happens.early in
-        let next = step_track until t fate drawn w happens keeps early base same same' rs xs w.time
+        let next = step_track until t fate drawn w happens keeps
+        (right until t fate drawn w happens keeps before early (among t (inl refl))) base same same' rs xs w.time
         happens.was_done.ready.timely.now track in
         passes_track until ts drawn fate_after base t.after w' (read_after t rs)
-        (reads_by (Some from) (at_of t) t.after (new_in t rs) xs) early same' (omega (arith, moment, in_time)) rest
+        (reads_by (Some from) (at_of t) t.after (new_in t rs) xs) early (λ u member. among u (inr member)) same'
+        (omega (arith, moment, in_time)) rest
         (keeps_act answers d playable names events until t fate drawn w happens keeps)
         (subst (Track base (read_after t rs) (reads_by (Some from) (at_of t) t.after (new_in t rs) xs)) (sym moment)
         next)
 
     -- ---- a stretch
 
-    pub less_each : (last : ℕ) (ts : List ActTrace) → last < from → AllByRecursion (λ (t : ActTrace). at_of t ≤ last) ts
-        → AllByRecursion (λ (t : ActTrace). at_of t < from) ts
-    less_each last [] less each = tt
-    less_each last (t ∷ ts) less each =
-        let first = each.0 in (omega (arith, first, less), less_each last ts less each.1)
-
     courses_track : (before es : List Timed) (to last : ℕ) (rs : List SystemReading) (xs : List SystemReads)
-        (acts : List ActTrace) (fate fate_after : F) (w after : WorldState) → events ≡ before ++ es → to ≤ 10 ^ 18
+        (fate fate_after : F) (w after : WorldState) → events ≡ before ++ es → to ≤ 10 ^ 18
         → last < from → PastBy last es → Each (IsFitEvent answers d playable names) es
         → Keeps answers d playable names before w → Courses answers to es acts fate fate_after w after
         → NoReads name xs → Tracked (readings_after acts rs) (reads_over (Some from) rs xs acts) to after
-    courses_track before [] to last rs xs acts fate fate_after w after are early less past fits keeps k none =
+    courses_track before [] to last rs xs fate fate_after w after are early less past fits keeps k none =
         let kept = subst (λ fs. Keeps answers d playable names fs w) (sym (are ∙ append-nil before)) keeps in
-        let on = passes_track to acts fate fate_after w w k.between rs xs early (λ n time. refl) k.ahead k.passes kept
+        let on = passes_track to acts fate fate_after w w k.between rs xs early (λ t member. member)
+        (λ n time. refl) k.ahead k.passes kept
         (λ r there. absurd (none-some r (sym none ∙ there))) in record {
           base = on.base;
           same = λ n time. ap (λ v. clock_time n time v) k.is ∙ on.same n time;
@@ -323,12 +322,13 @@ module _ {F : Type 0} (answers : Bounds → ℕ → F → Option ℕ → F → T
           soon = on.soon;
           track = on.track;
         }
-    courses_track before (e ∷ es) to last rs xs acts fate fate_after w after are early less past fits keeps k none =
+    courses_track before (e ∷ es) to last rs xs fate fate_after w after are early less past fits keeps k none =
         let p = parts answers d playable names before e es rs to acts fate fate_after w after fits keeps k in
         let kept = subst (λ fs. Keeps answers d playable names fs p.middle) (sym are) p.keeps in
-        let idle = idle_reads from name p.head rs xs (less_each last p.head less (p.soon last past)) none in
+        let idle = idle_reads from name p.head rs xs (less_each last from p.head less (p.soon last past)) none in
         let on = passes_track to p.tail p.drawn fate_after p.middle p.middle p.passes.between
-        (readings_after p.head rs) (reads_over (Some from) rs xs p.head) early (λ n time. refl) p.passes.ahead
+        (readings_after p.head rs) (reads_over (Some from) rs xs p.head) early
+        (λ t member. subst (In t) (sym p.are) (In-right t p.head p.tail member)) (λ n time. refl) p.passes.ahead
         p.passes.passes kept (λ r there. absurd (none-some r (sym idle ∙ there))) in
         let reads = ap (λ us. readings_after us rs) p.are ∙ readings_both p.head p.tail rs in
         let over = ap (reads_over (Some from) rs xs) p.are ∙ reads_both (Some from) p.head p.tail rs xs in
@@ -377,12 +377,13 @@ module _ {F : Type 0} (answers : Bounds → ℕ → F → Option ℕ → F → T
   -- ---- what the errors say
 
   pub bound_is : (time later most : ℕ) (errors : TimeErrors) (name from bound : ℕ) (are : AreTimeErrors d time errors)
-      (says : SayBound errors name from bound) → reading_at says.system later ≡ Some most
-      → most ≡ error_by_then answers d playable names (events_by time d.events) are.snapshot name from bound
-      (has_bound answers d playable names time errors name from bound are says) later
-  bound_is time later most errors name from bound are says is =
+      (by_span : IsExactBySpan d time from) (says : SayBound errors name bound)
+      → reading_at says.system later ≡ Some most
+      → most ≡ reading_error_at (has_bound answers d playable names time errors name from bound are by_span says).way
+      (has_bound answers d playable names time errors name from bound are by_span says).steps later
+  bound_is time later most errors name from bound are by_span says is =
       let n = d.network in let events = events_by time d.events in let g = are.snapshot in let s = says.system in
-      let has = has_bound answers d playable names time errors name from bound are says in
+      let has = has_bound answers d playable names time errors name from bound are by_span says in
       let by_way = subst (HasByWay n events g s (λ w. way_error w later)) is
       (reading_errors_are_of_ways n events g s later (are.systems.each s says.among)) in
       let (calm, near, capable, (way, leads, most_is)) = by_way in
@@ -390,37 +391,60 @@ module _ {F : Type 0} (answers : Bounds → ℕ → F → Option ℕ → F → T
       (subst (λ v. IsWay n events g s.steps v way) says.named leads) in
       most_is ∙ ap (λ w. way_error w later) (sym one.0) ∙ ap (λ h. reading_error_after has.way h later) one.1
 
+  -- ---- what became of a stretch
+
+  -- where each act from a time on is right, what is kept of what a system reads from then on is within its bound
+  pub stretch_reads : (until : ℕ) (p : StretchTrace) (w : WorldState) (c : Carried) (rs : List SystemReading)
+      (errors : TimeErrors) (name span_from from bound worst most : ℕ) (r : ExactReads) (early : until ≤ 10 ^ 18)
+      (b : Found answers d playable names until p w c) (are : AreTimeErrors d b.from errors)
+      (by_span : IsExactBySpan d b.from span_from) (says : SayBound errors name bound)
+      → last_change (events_by b.from d.events) < from
+      → AreRight answers d playable names (events_by b.from d.events) name from
+      (reading_error_at (has_bound answers d playable names b.from errors name span_from bound are by_span says).way
+      (has_bound answers d playable names b.from errors name span_from bound are by_span says).steps) p.acts
+      → reads_from from names p rs name ≡ Some r → r.worst ≡ Some worst
+      → reading_at says.system r.longest ≡ Some most → worst ≤ most
+  stretch_reads until p w c rs errors name span_from from bound worst most r early b are by_span says less right reads
+      worst_is most_is =
+      let ends : p.to ≤ until =
+      subst (λ to. to ≤ until) (sym b.passage.to_is) (ends_by answers d playable names until b.from b.before b.left
+      b.is_left) in
+      let events = events_by b.from d.events in
+      let has = has_bound answers d playable names b.from errors name span_from bound are by_span says in
+      let error_then : ℕ → ℕ = reading_error_at has.way has.steps in
+      let grows : (soon late : ℕ) → soon ≤ late → error_then soon ≤ error_then late =
+      λ soon late less. error_grows has.way has.steps soon late less in
+      let made = events_then answers d playable names until b.from b.before b.left b.is_left in
+      let last = last_change events in
+      let past = all_past last events
+      (filter_in_order (λ (e : Timed). nat_le e.at b.from) d.events playable.events.in_order) (omega arith) in
+      let on = courses_track events name from error_then grows p.acts right b.before (now_of b.from b.left) p.to last rs
+      (map unread names) b.fate b.fate_after w p.after made (omega (arith, ends, early)) less
+      (past_behind answers d playable names last b.before (now_of b.from b.left) (subst (PastBy last) made past))
+      (filter_each (IsFitEvent answers d playable names) (λ (e : Timed). nat_le e.at b.from) b.left b.is_left.fits)
+      b.keeps
+      (subst (λ es. Courses answers p.to es p.acts b.fate b.fate_after w p.after) b.passage.events_are
+      b.passage.courses) (unread_none names name) in
+      let ended = ended_within events name from error_then grows p.acts right p.to p.after
+      (readings_after p.acts rs) (reads_over (Some from) rs (map unread names) p.acts) r on reads in
+      let is = bound_is b.from r.longest most errors name span_from bound are by_span says most_is in
+      subst (λ m. worst ≤ m) (sym is) (subst (AtMost (error_then r.longest)) worst_is ended)
+
 pub timelines_read_exactly : {F : Type 0} (answers : Bounds → ℕ → F → Option ℕ → F → Type 0)
     → TimelinesReadExactly answers
 timelines_read_exactly answers d until options fate lines exceeded t playable early p w c rs errors name from bound
-    worst most r says begins has_readings are reads worst_is most_is =
+    worst most r says begins has_readings are exact_is reads worst_is most_is =
     let names = rising_clocks t.start in
     let b = timeline_found answers d until options fate lines exceeded t playable p w c begins in
     let hold : AreErrorsBy d b.from p.to (Some errors) =
     subst (AreErrorsBy d b.from p.to) are b.passage.errors_are in
-    let ends : p.to ≤ until =
-    subst (λ to. to ≤ until) (sym b.passage.to_is) (ends_by answers d playable names until b.from b.before b.left
-    b.is_left) in
     let events = events_by b.from d.events in
-    let g = hold.0.snapshot in
-    let has = has_bound answers d playable names b.from errors name from bound hold.0 says in
-    let made = events_then answers d playable names until b.from b.before b.left b.is_left in
-    let last = last_change events in
-    let past = all_past last events
-    (filter_in_order (λ (e : Timed). nat_le e.at b.from) d.events playable.events.in_order) (omega arith) in
-    let on = courses_track answers d playable names events g name from bound has b.before (now_of b.from b.left) p.to
-    last rs (map unread names) p.acts b.fate b.fate_after w p.after made (omega (arith, ends, early))
-    (holds_later answers d playable names events g name from bound b.keeps.claimed.pace.largest has)
-    (past_behind answers d playable names last b.before (now_of b.from b.left) (subst (PastBy last) made past))
-    (filter_each (IsFitEvent answers d playable names) (λ (e : Timed). nat_le e.at b.from) b.left b.is_left.fits)
-    b.keeps
-    (subst (λ es. Courses answers p.to es p.acts b.fate b.fate_after w p.after) b.passage.events_are
-    b.passage.courses) (unread_none names name) in
-    let exact : exact_time p.errors ≡ Some from = ap exact_time are ∙ says.from_is in
-    let ended = ended_within answers d playable names events g name from bound has p.to p.after
-    (readings_after p.acts rs) (reads_over (Some from) rs (map unread names) p.acts) r on
-    (subst (λ f. ended_reads p.to p.after (readings_after p.acts rs) (reads_over f rs (map unread names) p.acts) name
-    ≡ Some r) exact reads) in
-    let is = bound_is answers d playable names b.from r.longest most errors name from bound hold.0 says most_is in
-    subst (λ m. worst ≤ m) (sym is)
-    (subst (AtMost (error_by_then answers d playable names events g name from bound has r.longest)) worst_is ended)
+    let by_span = subst (λ time. IsExactBySpan d time from) b.passage.from_is exact_is in
+    let has = has_bound answers d playable names b.from errors name from bound hold.0 by_span says in
+    stretch_reads answers d playable names until p w c rs errors name from from bound worst most r early b hold.0
+    by_span says
+    (holds_later answers d playable names events hold.0.snapshot name from bound b.keeps.claimed.pace.largest has)
+    (λ until_then act one drawn v happens keeps before soon member late.
+    calm_is_right answers d playable names events hold.0.snapshot name from bound has until_then act one drawn v happens
+    keeps late soon)
+    reads worst_is most_is

@@ -22,3 +22,5 @@ pub mod BestLemmas
 pub mod ShortenedLemmas
 pub mod StretchRunLemmas
 pub mod SoonLemmas
+pub mod ExactSoonLemmas
+pub mod ReadSoonLemmas

@@ -5,7 +5,9 @@ use Rattle.gptp_timeline_laws.specs.Right.{TimelinesReadRight}
 use Rattle.gptp_timeline_laws.proofs.AgeLemmas.{timelines_hear_in_time}
 use Rattle.gptp_timeline_laws.proofs.BestLemmas.{timelines_read_from_bests}
 use Rattle.gptp_timeline_laws.proofs.ExactLemmas.{timelines_read_exactly}
+use Rattle.gptp_timeline_laws.proofs.ExactSoonLemmas.{timelines_are_exact_soon}
 use Rattle.gptp_timeline_laws.proofs.MomentLemmas.{times_bound_moments}
+use Rattle.gptp_timeline_laws.proofs.ReadSoonLemmas.{timelines_bound_receipts_soon, timelines_read_exactly_soon}
 use Rattle.gptp_timeline_laws.proofs.ReceiptLemmas.{timelines_bound_receipts}
 use Rattle.gptp_timeline_laws.proofs.RootLemmas.{timelines_read_from_roots}
 use Rattle.gptp_timeline_laws.proofs.SourceLemmas.{timelines_keep_sources}
@@ -20,4 +22,7 @@ timelines_read_right answers d until options fate lines exceeded t playable earl
   ages = timelines_hear_in_time answers d until options fate lines exceeded t playable early;
   receipts = timelines_bound_receipts answers d until options fate lines exceeded t playable early;
   accuracy = timelines_read_exactly answers d until options fate lines exceeded t playable early;
+  errors_soon = timelines_are_exact_soon answers d until options fate lines exceeded t playable early;
+  receipts_soon = timelines_bound_receipts_soon answers d until options fate lines exceeded t playable early;
+  accuracy_soon = timelines_read_exactly_soon answers d until options fate lines exceeded t playable early;
 }

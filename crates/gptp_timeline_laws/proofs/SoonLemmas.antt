@@ -1,11 +1,17 @@
 -- The stretches of a timeline settle by the choice that is told of the times at which they begin.
-use Rattle.std.proofs.Common.{◌≡◌, inl, inr, ◌<◌, ◌≤◌, ◌+◌, ◌-◌, ℕ, Bool, true, false, nat_le, zero, suc, List, [], ◌∷◌, length, map, slice_get, Option, Some, None, IfSome, option_map, refl, sym, ap, subst, ◌∙◌, arith}
-use Rattle.std.specs.List.{range_with_len}
-use Rattle.std.specs.Option.{is_some}
+use Rattle.std.proofs.Common.{◌≡◌, inl, inr, ◌<◌, ◌≤◌, ◌+◌, ◌-◌, ℕ, Bool, true, false, cond, nat_le, zero, suc, List, [], ◌∷◌, length, map, slice_get, Option, Some, None, IfSome, option_map, refl, sym, ap, subst, ◌∙◌, arith}
+use Rattle.std.specs.Prelude.{◌==◌}
+use Rattle.std.specs.List.{find, range_with_len}
+use Rattle.std.specs.Option.{is_some, option_and_then}
+use Rattle.std.proofs.lemmas.Bool.{eqb-true}
 use Rattle.std.proofs.lemmas.Bool.Decides.{nat_tests}
 use Rattle.std.proofs.lemmas.Option.{same_Some}
 use Rattle.gptp_graph.specs.Snapshot.{IsWellFormed, Snapshot, System}
 use Rattle.gptp_graph.proofs.SystemLemmas.{same_clock}
+use Rattle.gptp_accuracy.specs.Settlings.{settling_among}
+use Rattle.gptp_how_soon.specs.Times.{is_time_at, settling_times}
+use Rattle.gptp_how_soon.specs.declared.bounds.Settling.{Settling}
+use Rattle.gptp_how_soon.specs.declared.bounds.SettlingTime.{SettlingTime}
 use Rattle.gptp_how_soon_laws.proofs.ChoiceLemmas.{settlings_are_choice_bounds}
 use Rattle.gptp_how_soon_laws.proofs.StepLemmas.{kept}
 use Rattle.gptp_invariants.specs.WorldStanding.{snapshot_of}
@@ -122,67 +128,83 @@ module _ (g : Snapshot) (well : IsWellFormed g) (w w' : WorldState) (is : snapsh
 -- ---- a stretch
 
 module _ {F : Type 0} (answers : Bounds → ℕ → F → Option ℕ → F → Type 0) (d : DocumentState) (playable : IsPlayable d)
-    (until : ℕ) (p : StretchTrace) (choice : ℕ) (fate started : F) (start : WorldState)
+    (until : ℕ) (p : StretchTrace) (fate started : F) (start : WorldState)
     (begun : Begun answers d.network fate started start)
     (run : RunsTo answers p 0 (events_by until d.events) started start) (due : p.from ≤ until) (on : p.from ≤ p.to)
-    (bound : IsChoiceBound d p.from choice) (near : AllNear (snapshot_of p.after)) where
-  abbrev short : DocumentState
-  short = shortened p.from d
+  where
+    abbrev short : DocumentState
+    short = shortened p.from d
 
-  unfolds : Unfolds answers short p.to fate start run.ts p.after
-  unfolds = record {
-    started = started;
-    begun = begun;
-    drawn = run.drawn;
-    courses = subst (λ es. Courses answers p.to es run.ts started run.drawn start p.after)
-        (by_sooner p.from until d.events due ∙ sym (now_by p.from p.to d.events on)) run.courses;
-  }
+    pub unfolds : Unfolds answers short p.to fate start run.ts p.after
+    unfolds = record {
+      started = started;
+      begun = begun;
+      drawn = run.drawn;
+      courses = subst (λ es. Courses answers p.to es run.ts started run.drawn start p.after)
+          (by_sooner p.from until d.events due ∙ sym (now_by p.from p.to d.events on)) run.courses;
+    }
 
-  none : NoneBetween short.events p.from (suc p.to)
-  none event member late =
-      let early : nat_le event.at p.from ≡ true =
-      (from_filter (λ (t : Timed). nat_le t.at p.from) event d.events member).1 in
-      let soon : event.at ≤ p.from = grind (arith, nat_tests) in
-      absurd (omega (arith, soon, late))
+    module _ (choice : ℕ) (bound : IsChoiceBound d p.from choice) (near : AllNear (snapshot_of p.after)) where
+      none : NoneBetween short.events p.from (suc p.to)
+      none event member late =
+          let early : nat_le event.at p.from ≡ true =
+          (from_filter (λ (t : Timed). nat_le t.at p.from) event d.events member).1 in
+          let soon : event.at ≤ p.from = grind (arith, nat_tests) in
+          absurd (omega (arith, soon, late))
 
-  bounded : IsChoiceBound short p.from choice
-  bounded = (bound.0, bound_by d.network d.events p.from bound.0 p.from choice (omega arith) bound.1)
+      bounded : IsChoiceBound short p.from choice
+      bounded = (bound.0, bound_by d.network d.events p.from bound.0 p.from choice (omega arith) bound.1)
 
-  still_act : (a : ActTrace) → In a p.acts → p.from + choice < at_of a → ShowsTheSame a
-  still_act a member late =
-      let among = run.among a member in
-      let soon = acts_by answers short p.to fate start p.after run.ts unfolds a among in
-      let fit = playable_by p.from d playable in
-      let early : at_of a < suc p.to = omega (arith, soon) in
-      let (settled, leaves) =
-      choice_bounds_hold answers short p.from choice (suc p.to) p.to fate start p.after run.ts a fit unfolds among
-      bounded none late early in
-      let keeps = kept answers short p.from choice (suc p.to) p.to fate start p.after run.ts a fit unfolds among bounded
-      none (omega (arith, late)) early in
-      let same = courses_after answers p.from p.to p.events p.acts run.fate_then run.drawn run.begins p.after run.early
-      run.own a member (omega (arith, late)) in
-      let shows = leaves (subst AllNear same near) in
-      let world = keeps.before.claim.world in
-      let well = stands_well a.before world.sound world.between world.encodable in
-      let both = shown_left (snapshot_of a.before) well a.before a.after refl keeps.same world.sound.wired.clocks
-      keeps.after.claim.world.sound.wired.clocks shows in
-      record { choice = λ name. (both name).0; roles = λ name. (both name).1 }
+      still_act : (a : ActTrace) → In a p.acts → p.from + choice < at_of a → ShowsTheSame a
+      still_act a member late =
+          let among = run.among a member in
+          let soon = acts_by answers short p.to fate start p.after run.ts unfolds a among in
+          let fit = playable_by p.from d playable in
+          let early : at_of a < suc p.to = omega (arith, soon) in
+          let (settled, leaves) =
+          choice_bounds_hold answers short p.from choice (suc p.to) p.to fate start p.after run.ts a fit unfolds among
+          bounded none late early in
+          let keeps = kept answers short p.from choice (suc p.to) p.to fate start p.after run.ts a fit unfolds among
+          bounded none (omega (arith, late)) early in
+          let same = courses_after answers p.from p.to p.events p.acts run.fate_then run.drawn run.begins p.after
+          run.early run.own a member (omega (arith, late)) in
+          let shows = leaves (subst AllNear same near) in
+          let world = keeps.before.claim.world in
+          let well = stands_well a.before world.sound world.between world.encodable in
+          let both = shown_left (snapshot_of a.before) well a.before a.after refl keeps.same world.sound.wired.clocks
+          keeps.after.claim.world.sound.wired.clocks shows in
+          record { choice = λ name. (both name).0; roles = λ name. (both name).1 }
 
-  still : StillBehind (p.from + choice) p.acts
-  still = all p.acts (λ a member. member)
-    where
-      by : (a : ActTrace) → In a p.acts → (early : Bool) → nat_le (at_of a) (p.from + choice) ≡ early
-          → IsStill (p.from + choice) a
-      by a member true test = inl (grind (arith, nat_tests))
-      by a member false test =
-          let late : p.from + choice < at_of a = grind (arith, nat_tests) in inr (still_act a member late)
+      still : StillBehind (p.from + choice) p.acts
+      still = all p.acts (λ a member. member)
+        where
+          by : (a : ActTrace) → In a p.acts → (early : Bool) → nat_le (at_of a) (p.from + choice) ≡ early
+              → IsStill (p.from + choice) a
+          by a member true test = inl (grind (arith, nat_tests))
+          by a member false test =
+              let late : p.from + choice < at_of a = grind (arith, nat_tests) in inr (still_act a member late)
 
-      all : (ts : List ActTrace) → ((a : ActTrace) → In a ts → In a p.acts) → StillBehind (p.from + choice) ts
-      all [] among = tt
-      all (t ∷ ts) among = (
-        by t (among t (inl refl)) (nat_le (at_of t) (p.from + choice)) refl,
-        all ts (λ a member. among a (inr member)),
-      )
+          all : (ts : List ActTrace) → ((a : ActTrace) → In a ts → In a p.acts) → StillBehind (p.from + choice) ts
+          all [] among = tt
+          all (t ∷ ts) among = (
+            by t (among t (inl refl)) (nat_le (at_of t) (p.from + choice)) refl,
+            all ts (λ a member. among a (inr member)),
+          )
+
+-- ---- what is told of a time
+
+pub told_time : (times : List SettlingTime) (at : ℕ) (s : Settling) → settling_among times at ≡ Some s
+    → (time : SettlingTime) × In time times × (time.at ≡ at) × (time.settling ≡ Some s)
+told_time [] at s is = absurd cc
+told_time (t ∷ ts) at s is = by (t.at == at) refl is (told_time ts at s)
+  where
+    by : (test : Bool) → (t.at == at) ≡ test
+        → option_and_then (λ (u : SettlingTime). u.settling) (cond test (Some t) (find (is_time_at at) ts)) ≡ Some s
+        → (settling_among ts at ≡ Some s
+        → (time : SettlingTime) × In time ts × (time.at ≡ at) × (time.settling ≡ Some s))
+        → (time : SettlingTime) × In time (t ∷ ts) × (time.at ≡ at) × (time.settling ≡ Some s)
+    by true here is rest = (t, inl refl, eqb-true t.at at here, is)
+    by false there is rest = let (time, member, at_is, told) = rest is in (time, inr member, at_is, told)
 
 -- ---- the law
 
@@ -193,23 +215,24 @@ within from bound (Some last) is = omega (arith, is)
 
 pub stretches_settle_soon : {F : Type 0} (answers : Bounds → ℕ → F → Option ℕ → F → Type 0)
     → StretchesSettleSoon answers
-stretches_settle_soon answers d until options fate lines exceeded t playable p time s names carried member told at_is is
-    near =
+stretches_settle_soon answers d until options fate lines exceeded t playable p s names carried member told near =
     let order = filter_in_order (λ (e : Timed). nat_le e.at until) d.events playable.events.in_order in
     let run = runs_to answers d until t.passages 0 (events_by until d.events) t.started t.fate_after t.start t.after p
     order t.pass member in
-    let (bound, roles) = settlings_are_choice_bounds d time s playable told is in
-    let here : IsChoiceBound d p.from s.choice = subst (λ at. IsChoiceBound d at s.choice) at_is bound in
     let clocks = rising_clocks t.start in
     let b = begins answers d playable clocks true until t.passages 0 [] (events_by until d.events) t.started
     t.fate_after t.start t.after p (left_first answers d playable clocks until)
     (keeps_first answers d playable clocks fate t.started t.start refl t.begun) t.pass member in
     let from_is = b.passage.from_is in
+    let (time, among, at_is, is) = told_time (settling_times d) b.from s (sym b.passage.settling_is ∙ told) in
+    let (bound, roles) = settlings_are_choice_bounds d time s playable among is in
+    let here : IsChoiceBound d p.from s.choice =
+    subst (λ at. IsChoiceBound d at s.choice) (at_is ∙ sym from_is) bound in
     let to_is = b.passage.to_is in
     let due = b.is_left.within in
     let ends = ends_on until b.from b.left (later_than b.from b.left) refl due in
-    let calm = still answers d playable until p s.choice fate t.started t.start t.begun run
-    (omega (arith, from_is, due)) (omega (arith, from_is, to_is, ends)) here near in
+    let calm = still answers d playable until p fate t.started t.start t.begun run
+    (omega (arith, from_is, due)) (omega (arith, from_is, to_is, ends)) s.choice here near in
     let chosen : Option ℕ = last_at (leaves_another same_choice names) p.acts in
     let played : Option ℕ = last_at (leaves_another same_roles names) p.acts in (
       within p.from s.choice chosen (last_choice names (p.from + s.choice) p.acts calm),

@@ -8,6 +8,7 @@ use Rattle.gptp_model.specs.Views.{rising_clocks}
 use Rattle.gptp_model.specs.World.{WorldState}
 use Rattle.gptp_network.specs.Document.{DocumentState}
 use Rattle.gptp_network.specs.Snapshot.{events_by, IsSnapshot}
+use Rattle.gptp_network.specs.Span.{IsBound}
 use Rattle.gptp_scenario.specs.SyncWait.{sync_paths, sync_wait}
 use Rattle.gptp_system.specs.State.{can_lead, SystemState}
 use Rattle.gptp_theorem.specs.PlayedLaws.{IsPlayable}
@@ -29,14 +30,14 @@ pub record ReceivedWithin (name span time : ℕ) (ts : List ActTrace) : Type 0 w
   pub receives : receives name act ≡ true
   pub lately : time ≤ at_of act + span
 
--- Once a stretch that has a bound lasts longer than the bound and the wait for a Sync, each near live system that has a
--- Slave port, and whose root can be grandmaster, received time in it no longer ago than that wait. So what it reads is
--- no older, and from one receipt to the next it is no longer.
+-- Once a stretch that begins in a calm network lasts longer than the span and the wait for a Sync, each near live
+-- system that has a Slave port, and whose root can be grandmaster, received time in it no longer ago than that wait. So
+-- what it reads is no older, and from one receipt to the next it is no longer.
 abbrev pub ReceiptsAreRecent : DocumentState → WorldState → Carried → List StretchTrace → Type 0
 ReceiptsAreRecent d start first passages = (p : StretchTrace) (w : WorldState) (c : Carried) (g : Snapshot)
-    (time bound name : ℕ) (moment : Moment p time) (s : SystemState)
-    → BeginsWith passages start first p w c → p.bound ≡ Some bound → 0 < d.network.params.sync_timeout
-    → p.from + bound + wait_at d p.from < time
+    (time span name : ℕ) (moment : Moment p time) (s : SystemState)
+    → BeginsWith passages start first p w c → IsBound d p.from (Some span) → 0 < d.network.params.sync_timeout
+    → p.from + span + wait_at d p.from < time
     → IsSnapshot d p.from g → IsNear g name → live_system name (world_after moment.done w) ≡ Some s
     → IsSome s.slave → can_lead s.root ≡ true
     → ReceivedWithin name (wait_at d p.from) time moment.done

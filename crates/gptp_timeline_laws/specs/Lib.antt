@@ -1,6 +1,7 @@
 pub mod Looks
 pub mod Moments
 pub mod Exact
+pub mod ExactSoon
 pub mod Sources
 pub mod Age
 pub mod Right

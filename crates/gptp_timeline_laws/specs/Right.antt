@@ -8,6 +8,7 @@ use Rattle.gptp_timeline.specs.Timeline.{Carried, none_carried, TimelineOf, trac
 use Rattle.gptp_timeline.specs.declared.timeline.TimelineOptions.{TimelineOptions}
 use Rattle.gptp_timeline_laws.specs.Age.{ReceiptsAreRecent}
 use Rattle.gptp_timeline_laws.specs.Exact.{ReadsAreWithin, ReceiptsBoundMoments}
+use Rattle.gptp_timeline_laws.specs.ExactSoon.{AreExactSoon, ReadsAreWithinSoon, ReceiptsBoundSoon}
 use Rattle.gptp_timeline_laws.specs.Moments.{BoundAll}
 use Rattle.gptp_timeline_laws.specs.Sources.{BestsAreSources, RootsAreSources, SourcesStand}
 
@@ -19,8 +20,8 @@ first_carried answers d until options fate lines exceeded t = none_carried (trac
 
 -- What a timeline says of the time that systems read is right: its `times` lines bound what is read at every moment,
 -- and say when sources stand, which are the roots that systems follow. Its `accuracy` lines bound it from the receipts
--- of each system on; and what these lines say was read off is within their bounds. Receipts are no older than the wait
--- for Sync.
+-- of each system on; and what these lines say was read off is within their bounds. So it is from the time on that they
+-- say, and so are errors of receipts. Receipts are no older than the wait for Sync.
 pub record TimelineReadsRight {F : Type 0} (answers : Bounds → ℕ → F → Option ℕ → F → Type 0) (d : DocumentState)
     (until : ℕ)
     (options : TimelineOptions) (fate : F) (lines : List (List ℕ)) (exceeded : Bool)
@@ -30,8 +31,12 @@ pub record TimelineReadsRight {F : Type 0} (answers : Bounds → ℕ → F → O
   pub roots : RootsAreSources t.start (first_carried answers d until options fate lines exceeded t) t.passages
   pub bests : BestsAreSources d t.start (first_carried answers d until options fate lines exceeded t) t.passages
   pub ages : ReceiptsAreRecent d t.start (first_carried answers d until options fate lines exceeded t) t.passages
-  pub receipts : ReceiptsBoundMoments t.start (first_carried answers d until options fate lines exceeded t) t.passages
-  pub accuracy : ReadsAreWithin (rising_clocks t.start) t.start
+  pub receipts : ReceiptsBoundMoments d t.start (first_carried answers d until options fate lines exceeded t) t.passages
+  pub accuracy : ReadsAreWithin d (rising_clocks t.start) t.start
+      (first_carried answers d until options fate lines exceeded t) t.passages
+  pub errors_soon : AreExactSoon t.passages
+  pub receipts_soon : ReceiptsBoundSoon t.start (first_carried answers d until options fate lines exceeded t) t.passages
+  pub accuracy_soon : ReadsAreWithinSoon (rising_clocks t.start) t.start
       (first_carried answers d until options fate lines exceeded t) t.passages
 
 -- So it is of every timeline of a document that is playable, as long as clocks can show the time.

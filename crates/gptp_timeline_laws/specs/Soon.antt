@@ -1,8 +1,6 @@
 -- How soon the choice and the roles stand in the stretches of a timeline, as it is computed for its document.
 use Rattle.std.specs.Prelude.{◌≡◌, ◌≤◌, ℕ, Bool, List, Option, Some, IfSome}
-use Rattle.gptp_how_soon.specs.Times.{settling_times}
 use Rattle.gptp_how_soon.specs.declared.bounds.Settling.{Settling}
-use Rattle.gptp_how_soon.specs.declared.bounds.SettlingTime.{SettlingTime}
 use Rattle.gptp_invariants.specs.WorldStanding.{snapshot_of}
 use Rattle.gptp_links.specs.declared.bounds.Bounds.{Bounds}
 use Rattle.gptp_lists.specs.Members.{In}
@@ -14,17 +12,16 @@ use Rattle.gptp_timeline.specs.StretchText.{behind}
 use Rattle.gptp_timeline.specs.Timeline.{Carried, StretchTrace, TimelineOf, stretch_of}
 use Rattle.gptp_timeline.specs.declared.timeline.TimelineOptions.{TimelineOptions}
 
--- Where bounds are told of the time at which a stretch begins, and every live system is near where it ends, no act that
--- is later than the choice after its begin leaves a system another as to whether it lives, root, steps or Slave port,
--- and none that is later than the roles as to role or capable of a port.
-abbrev pub SettleSoon : DocumentState → List StretchTrace → Type 0
-SettleSoon d passages = (p : StretchTrace) (time : SettlingTime) (s : Settling) (names : List ℕ) (carried : Carried)
-    → In p passages → In time (settling_times d) → time.at ≡ p.from → time.settling ≡ Some s
-    → AllNear (snapshot_of p.after)
+-- Where bounds are told of a stretch, and every live system is near where it ends, no act that is later than the choice
+-- after its begin leaves a system another as to whether it lives, root, steps or Slave port, and none that is later than
+-- the roles as to role or capable of a port.
+abbrev pub SettleSoon : List StretchTrace → Type 0
+SettleSoon passages = (p : StretchTrace) (s : Settling) (names : List ℕ) (carried : Carried)
+    → In p passages → p.settling ≡ Some s → AllNear (snapshot_of p.after)
     → IfSome (choice_after (stretch_of names carried p)) (λ last. last ≤ s.choice)
     × IfSome (behind p.from (stretch_of names carried p).measures.roles) (λ last. last ≤ s.roles)
 
 abbrev pub StretchesSettleSoon : {F : Type 0} → (Bounds → ℕ → F → Option ℕ → F → Type 0) → Type 0
 StretchesSettleSoon {F} answers = (d : DocumentState) (until : ℕ) (options : TimelineOptions) (fate : F)
     (lines : List (List ℕ)) (exceeded : Bool) (t : TimelineOf answers d until options fate lines exceeded)
-    → IsPlayable d → SettleSoon d t.passages
+    → IsPlayable d → SettleSoon t.passages

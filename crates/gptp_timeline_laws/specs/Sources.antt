@@ -9,6 +9,7 @@ use Rattle.gptp_model.specs.Views.{rising_clocks}
 use Rattle.gptp_model.specs.World.{WorldState}
 use Rattle.gptp_network.specs.Document.{DocumentState}
 use Rattle.gptp_network.specs.Snapshot.{IsSnapshot}
+use Rattle.gptp_network.specs.Span.{IsBound}
 use Rattle.gptp_roles.specs.Selection.{clock_of}
 use Rattle.gptp_system.specs.State.{SystemState}
 use Rattle.gptp_theorem.specs.PlayedLaws.{IsPlayable}
@@ -61,11 +62,13 @@ RootsAreSources start first passages = (p : StretchTrace) (w : WorldState) (c : 
     → live_system name (world_after moment.done w) ≡ Some s → IsSome s.slave → IsSome s.offset
     → ReadsFrom (readings_after moment.done rs) name (clock_of s.root)
 
--- Where the stretch has a bound, and that is over, this is the best of the component of each near system.
+-- Where the network is calm where the stretch begins, and the span is over, this is the best of the component of each
+-- near system.
 abbrev pub BestsAreSources : DocumentState → WorldState → Carried → List StretchTrace → Type 0
 BestsAreSources d start first passages = (p : StretchTrace) (w : WorldState) (c : Carried) (rs : List SystemReading)
-    (g : Snapshot) (time bound name root : ℕ) (moment : Moment p time) (s : SystemState)
-    → BeginsWith passages start first p w c → c.readings ≡ Some rs → p.bound ≡ Some bound → p.from + bound ≤ time
+    (g : Snapshot) (time span name root : ℕ) (moment : Moment p time) (s : SystemState)
+    → BeginsWith passages start first p w c → c.readings ≡ Some rs → IsBound d p.from (Some span)
+    → p.from + span ≤ time
     → IsSnapshot d p.from g → IsNear g name → IsBestIdentity g name root
     → live_system name (world_after moment.done w) ≡ Some s → IsSome s.slave → IsSome s.offset
     → ReadsFrom (readings_after moment.done rs) name (clock_of root)

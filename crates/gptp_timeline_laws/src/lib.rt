@@ -6,13 +6,15 @@
 //! `accuracy` lines say of what is read from a receipt on. `specs/Sources.antt` says from when on sources stand, and
 //! that they are roots. `specs/Age.antt` says how old what is read may be. `specs/Right.antt` has all of it at once.
 //!
-//! `specs/Soon.antt` says by when a stretch has settled, as it is computed for the document.
+//! `specs/Soon.antt` says by when a stretch has settled, as it is computed for the document, and `specs/ExactSoon.antt`
+//! from when on what is received and read is exact.
 //!
 //! Each function of this crate is a law: it does nothing, and its contract is a theorem about the definitions.
 #![tactic(auto)]
 
 mod age;
 mod exact;
+mod exact_soon;
 mod looks;
 mod moments;
 mod right;
@@ -21,6 +23,9 @@ mod sources;
 
 pub use age::timelines_hear_in_time;
 pub use exact::{timelines_bound_receipts, timelines_read_exactly};
+pub use exact_soon::{
+    timelines_are_exact_soon, timelines_bound_receipts_soon, timelines_read_exactly_soon,
+};
 pub use looks::looks_suffice;
 pub use moments::times_bound_moments;
 pub use right::timelines_read_right;

@@ -4,9 +4,8 @@ ghost use Rattle.gptp_timeline_laws.specs.Soon.{StretchesSettleSoon};
 
 use gptp_links::Fate;
 
-/// In a stretch of the timeline of a document the last change of the choice, and of the roles, comes no later than it is
-/// computed for the time at which the stretch begins. So it is where bounds are told of that time, and every live system
-/// is near where the stretch ends.
+/// In a stretch of the timeline of a document the last change of the choice, and of the roles, comes no later than is told
+/// of the stretch, where anything is, and every live system is near where the stretch ends.
 pub fn stretches_settle_soon<F: Fate>()
     ensures { StretchesSettleSoon F.answers }
 {}

@@ -17,7 +17,8 @@ pub fn timelines_read_from_roots<F: Fate>()
     ensures { TimelinesReadFromRoots F.answers }
 {}
 
-/// Where a stretch has a bound, and that is over, that is the clock of the best of the component of each near system.
+/// Where the network is calm where a stretch begins, and the span is over, that is the clock of the best of the
+/// component of each near system.
 pub fn timelines_read_from_bests<F: Fate>()
     ensures { TimelinesReadFromBests F.answers }
 {}

@@ -17,8 +17,8 @@ loop-run-init c =
     subst (λ roots. AreFollows roots c.in_ok-follow.follow.items) c.roots.ensures c.in_ok-follow.ensures in
     let count = c.runs_of-run-end.ensures.is in let some = c.runs_of-run-end.ensures.some in
     record {
-      tried = one_tried c.args.asked c.args.document.now c.args.times.now c.args.planned.now first c.of_one-down.result
-          c.of_one-back.result c.in_ok-follow.follow.items c.in_ok-first_down.ensures.run down_is back_is follow_is;
+      tried = one_tried c.args.options.now c.args.document.now c.args.times.now c.args.failing.now first
+          c.of_one-down.result c.of_one-back.result c.in_ok-follow.follow.items c.in_ok-first_down.ensures.run down_is back_is follow_is;
       most = omega (arith, count, some);
       same = c.in_ok-first_down.ensures.same;
     }
@@ -31,10 +31,10 @@ loop-run-preserved c =
     let back_is : c.joined-back.result ≡ greatest_of_two c.loop-run.back (of_one back.stretch) = search rules in
     let count = c.runs_of-run-end.ensures.is in let below = c.loop-run-test.true in
     record {
-      tried = more_tried c.args.asked c.args.document.now c.args.times.now c.args.planned.now run c.loop-run.down
+      tried = more_tried c.args.options.now c.args.document.now c.args.times.now c.args.failing.now run c.loop-run.down
           c.loop-run.back c.joined-down.result c.joined-back.result c.in_ok-follow.follow.items
           c.loop-run.invariant.tried ends
-          (subst (λ (d : DocumentState). CaseRunEnds c.args.asked d c.args.times.now c.args.planned.now run ends)
+          (subst (λ (d : DocumentState). CaseRunEnds c.args.options.now d c.args.times.now c.args.failing.now run ends)
           c.loop-run.invariant.same c.in_ok-next_down.ensures.run) down_is back_is;
       most = omega (arith, count, below);
       same = c.in_ok-next_down.ensures.same ∙ c.loop-run.invariant.same;
@@ -44,5 +44,6 @@ pub returns-clause-outcome : goal.returns-clause-outcome
 returns-clause-outcome c =
     let run = c.loop-run.run in let count = c.runs_of-run-end.ensures.is in let past = c.loop-run-test.false in
     let most = c.loop-run.invariant.most in
-    all_tried c.args.asked c.args.document.now c.args.times.now c.args.planned.now c.args.number run c.loop-run.down
-    c.loop-run.back c.in_ok-follow.follow.items c.new.result c.loop-run.invariant.tried (omega (arith, count, past, most)) c.new.ensures
+    all_tried c.args.options.now c.args.document.now c.args.times.now c.args.failing.now c.args.number run
+    c.loop-run.down c.loop-run.back c.in_ok-follow.follow.items c.new.result c.loop-run.invariant.tried
+    (omega (arith, count, past, most)) c.new.ensures

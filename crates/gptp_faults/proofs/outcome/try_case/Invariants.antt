@@ -6,7 +6,7 @@ use Rattle.gptp_faults.proofs.outcome.try_case.Given as goal
 
 abbrev pub invariant-loop-run : goal.invariant-loop-run
 invariant-loop-run l = record {
-  tried : AreTried l.asked l.fn.document l.times l.planned l.run l.down l.back l.follow.items;
+  tried : AreTried l.options l.fn.document l.times l.failing l.run l.down l.back l.follow.items;
   most : l.run ≤ runs_of l.times;
   same : l.document ≡ l.fn.document;
 }

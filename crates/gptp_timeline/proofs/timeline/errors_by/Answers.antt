@@ -6,7 +6,7 @@ use Rattle.gptp_timeline.proofs.timeline.errors_by.Goals.{in_default-via-in-Some
 
 pub returns-in_default-clause-errors : goal.returns-in_default-clause-errors
 returns-in_default-clause-errors c =
-    none_by c.args.document.now c.args.from c.args.to c.in_ok-errors.errors c.in_ok-errors.ensures (λ exact is by.
+    none_by c.args.document.now c.args.from c.args.to c.exact_from.result c.exact_from.ensures (λ exact is by.
     elim c.in_default.branch [
       | in_default-via-in-Some+else-exact-to w ↦ (let same : exact ≡ w.in-Some.exact =
           same_Some exact w.in-Some.exact (sym is ∙ w.in-Some.is) in

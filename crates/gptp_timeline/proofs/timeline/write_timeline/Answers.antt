@@ -23,8 +23,8 @@ all_stretches-requires-clause-starts g c =
 
 -- ---- it breaks off
 
-pub returns-in_err-calm-clause-some : goal.returns-in_err-calm-clause-some
-returns-in_err-calm-clause-some g c =
+pub returns-in_err-settling-clause-some : goal.returns-in_err-settling-clause-some
+returns-in_err-settling-clause-some g c =
     after_error c.from_residual.result
     (nothing_begun g.F.Fate.answers c.args.document.now c.args.until c.args.options.now c.args.fate
     (g.K.Sink.written c.args.sink.now))

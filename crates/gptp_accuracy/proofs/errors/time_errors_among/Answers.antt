@@ -2,19 +2,10 @@ use Rattle.std.proofs.Common.{◌≡◌, ◌∙◌, is_some, length, sym, ap, su
 use Rattle.gptp_scenario.specs.Allowed.{AreAllowed}
 use Rattle.gptp_scenario.specs.Calm.{last_change}
 use Rattle.gptp_network.specs.Snapshot.{events_by}
-use Rattle.gptp_accuracy.specs.TimeErrors.{AreEntries, AreExact, IsFrom, greatest_age}
+use Rattle.gptp_accuracy.specs.TimeErrors.{AreEntries, AreExact, greatest_age}
 use Rattle.gptp_accuracy.proofs.EventLemmas.{allowed_by}
 use Rattle.gptp_accuracy.proofs.ExactLemmas.{are_exact, near_within}
-use Rattle.gptp_accuracy.proofs.errors.time_errors.Goals as goal
-
-pub holds_from_if_calm-from-requires-clause-allowed : goal.holds_from_if_calm-from-requires-clause-allowed
-holds_from_if_calm-from-requires-clause-allowed c =
-    subst AreAllowed (sym (c.events_by-events.ensures ∙ ap (events_by c.args.until) c.events.ensures))
-    (allowed_by c.args.until c.args.document.now.events c.well_formed-2.ensures.allowed)
-
-pub holds_from_if_calm-from-requires-clause-stands : goal.holds_from_if_calm-from-requires-clause-stands
-holds_from_if_calm-from-requires-clause-stands c =
-    rw (c.network-network.ensures, c.events_by-events.ensures, c.events.ensures) c.in_ok-snapshot.ensures
+use Rattle.gptp_accuracy.proofs.errors.time_errors_among.Goals as goal
 
 pub sums_of_all-requires-clause-allowed : goal.sums_of_all-requires-clause-allowed
 sums_of_all-requires-clause-allowed c =
@@ -43,28 +34,27 @@ returns c =
     let g = c.in_ok-snapshot.snapshot in
     let lines = c.in_ok-certificate.certificate.lines in
     let sums = c.in_ok-sums.sums.items in
-    let from = c.holds_from_if_calm-from.result in
+    let calm = c.is_calm-calm.result in
     let systems = c.in_ok-systems.systems.items in
     let n = c.network-network.result.now in
     let events = c.events_by-events.result.now in
     let network_is : n ≡ d.network = c.network-network.ensures in
     let events_are : events ≡ events_by c.args.until d.events =
     c.events_by-events.ensures ∙ ap (events_by c.args.until) c.events.ensures in
-    let entries : AreEntries (is_some from) lines sums (length lines) systems =
-    rw (c.is_some.ensures, c.deref.ensures.value) at c.in_ok-systems.ensures in
+    let entries : AreEntries calm lines sums (length lines) systems =
+    rw c.deref.ensures.value at c.in_ok-systems.ensures in
     let exact : AreExact n events g systems =
-    are_exact n events g lines sums from systems c.well_formed-3.ensures.rising
+    are_exact n events g lines sums calm systems c.well_formed-3.ensures.rising
     c.well_formed-4.ensures.order.clocks c.in_ok-certificate.ensures.choice c.in_ok-sums.ensures.done
-    c.holds_from_if_calm-from.ensures entries in
+    c.is_calm-calm.ensures entries in
     record {
       snapshot = g;
       is = c.in_ok-snapshot.ensures;
       network = c.well_formed-3.ensures.network;
       time = c.last_change.ensures.time ∙ ap last_change events_are;
-      from = subst (λ es. IsFrom d.network es g from) events_are
-          (subst (λ m. IsFrom m events g from) network_is c.holds_from_if_calm-from.ensures);
-      age = c.greatest_age.ensures ∙ ap (greatest_age n events) c.is_some-2.ensures
-          ∙ (λ i. greatest_age (network_is i) (events_are i) (is_some from));
+      from = c.exact_from-from.ensures;
+      age = c.greatest_age.ensures ∙ ap (greatest_age n events) c.is_some.ensures
+          ∙ (λ i. greatest_age (network_is i) (events_are i) (is_some c.exact_from-from.result));
       systems = subst (λ es. AreExact d.network es g systems) events_are
           (subst (λ m. AreExact m events g systems) network_is exact);
     }
