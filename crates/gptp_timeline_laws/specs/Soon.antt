@@ -12,9 +12,9 @@ use Rattle.gptp_timeline.specs.StretchText.{behind}
 use Rattle.gptp_timeline.specs.Timeline.{Carried, StretchTrace, TimelineOf, stretch_of}
 use Rattle.gptp_timeline.specs.declared.timeline.TimelineOptions.{TimelineOptions}
 
--- Where bounds are told of a stretch, and every live system is near where it ends, no act that is later than the choice
--- after its begin leaves a system another as to whether it lives, root, steps or Slave port, and none that is later than
--- the roles as to role or capable of a port.
+-- Where bounds are told of a stretch, and every live system is near where it ends, its acts leave no system another.
+-- None that is later than the choice after its begin does as to whether it lives, root, steps or Slave port, and none
+-- that is later than the roles as to role or capable of a port.
 abbrev pub SettleSoon : List StretchTrace → Type 0
 SettleSoon passages = (p : StretchTrace) (s : Settling) (names : List ℕ) (carried : Carried)
     → In p passages → p.settling ≡ Some s → AllNear (snapshot_of p.after)
