@@ -239,7 +239,8 @@ module _ {F : Type 0} (answers : Bounds → ℕ → F → Option ℕ → F → T
         (run.among a member) bounded none told_short behind late early has.steps name bound
         (way answers d playable names events events g name from bound has a kept) in (
           carried_then answers short time choice exact (suc p.to) p.to fate start p.after run.ts a fit runs
-              (run.among a member) bounded none told_short behind late early (omega (arith, by, ends)) (omega (arith, down)),
+              (run.among a member) bounded none told_short behind late early (omega (arith, by, ends))
+              (omega (arith, down)),
           down,
         )
 
