@@ -195,7 +195,9 @@ module _ (d : DocumentState) (network : IsNetwork d.network) (events : AreEvents
   there_before None at t is member = absurd member
   there_before (Some b) at t is member =
       let (there, test) = from_filter (λ (e : Timed). nat_le e.at b.at) t d.events member in
-      let early : t.at ≤ b.at = grind (arith, nat_tests) in (there, let last : b.at ≤ at = is in omega (arith, early, last))
+      let early : t.at ≤ b.at = grind (arith, nat_tests) in
+      let last : b.at ≤ at = is in
+      (there, omega (arith, early, last))
 
   there_then : (before : Option SettlingTime) (at : ℕ) (t : Timed) → IsBefore at before → In t (all_then before at)
       → In t d.events × (t.at ≤ at)
