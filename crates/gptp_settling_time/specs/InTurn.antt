@@ -8,8 +8,9 @@
 -- it leads where the network has settled and it changes nothing, brings up a link between live systems, or sets a
 -- better priority1. Where the delay of that link varies little the first Announce over it comes to a port that is
 -- capable already, and a system that gets better tells so at once. What makes nothing of what stands leaves a network
--- settled that had settled, whatever it came from, and so does what widens the delays of a link in use. Where all was heard before, links may also come up one after another
--- at any time, as several at once; and what changes nothing asks for no time at all.
+-- settled that had settled, whatever it came from, and so does what widens the delays of a link in use. Where all was
+-- heard before, links may also come up one after another at any time, as several at once; and what changes nothing asks
+-- for no time at all.
 use Rattle.std.specs.Prelude.{◌≡◌, ◌<◌, ◌≤◌, ◌⊎◌, ◌+◌, ◌*◌, ℕ, ⊤, pred, true, List, [], ◌∷◌, ◌++◌, Option, Some, slice_get}
 use Rattle.gptp_lists.specs.Members.{In}
 use Rattle.gptp_vector.specs.declared.port.PortId.{PortId}
