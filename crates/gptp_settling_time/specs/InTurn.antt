@@ -138,8 +138,8 @@ pub record LeavesSettled (n : NetworkState) (before : List Timed) (event : Timed
   pub off : NothingLapses n.params
   pub since : next + pred (sync_paths n before).systems * (sync_paths n before).delay ≡ event.at
 
--- the link is in use after these events, and its delays are between these, of which the greatest is larger by so much at
--- most
+-- the link is in use after these events, and its delays are between these, the greatest of which is larger by so much
+-- at most
 pub record IsWithin (n : NetworkState) (events : List Timed) (min max by : ℕ) (v : LinkSpec) : Type 0 where
   pub used : IsUsed n.systems events v
   pub least : min ≤ v.bounds.min
