@@ -1,15 +1,15 @@
 -- What each event of a time does, by what stands just before it (profile).
-use Rattle.std.specs.Prelude.{ℕ, ◌==◌, ◌&&◌, ◌||◌, nat_lt, not, Bool, true, false, if◌then◌else◌, List, [], ◌∷◌, Option, Some, None}
-use Rattle.std.specs.List.{list_any}
+use Rattle.std.specs.Prelude.{ℕ, ◌-◌, ◌==◌, ◌&&◌, ◌||◌, nat_le, nat_lt, not, Bool, true, false, if◌then◌else◌, List, [], ◌∷◌, Option, Some, None}
+use Rattle.std.specs.List.{list_all, list_any}
 use Rattle.gptp_scenario.specs.Change.{with_priority1}
 use Rattle.gptp_scenario.specs.declared.change.Act.{Act}
 use Rattle.gptp_scenario.specs.declared.change.Act.TheVariants as acts
 use Rattle.gptp_scenario.specs.declared.change.Change.{Change}
 use Rattle.gptp_scenario.specs.declared.change.Change.TheVariants as changes
-use Rattle.gptp_topology.specs.Course.{named}
+use Rattle.gptp_topology.specs.Course.{cable_is_used, named}
 use Rattle.gptp_topology.specs.declared.course.Standing.{Standing}
 use Rattle.gptp_how_soon.specs.declared.kinds.Kind.{Kind}
-use Rattle.gptp_how_soon.specs.declared.kinds.Kind.TheVariants.{Idle, Unused, Loss, Gain, Other}
+use Rattle.gptp_how_soon.specs.declared.kinds.Kind.TheVariants.{Idle, Unused, Loss, Gain, Wider, Other}
 use Rattle.gptp_how_soon.specs.declared.kinds.Told.{Told}
 use Rattle.gptp_how_soon.specs.declared.kinds.What.{What}
 use Rattle.gptp_how_soon.specs.declared.kinds.What.TheVariants as whats
@@ -47,12 +47,19 @@ kind_of_priority1 value (Some o) =
     if not o.lives || (identity_with value o == o.identity) then Idle
     else if nat_lt (identity_with value o) o.identity then Gain else Loss
 
--- What a change does to the link and the system that it names. Bounds that are set aren't followed yet, nor are octets
--- that are put onto a link.
+-- Delays that are set widen a link in use where the former lie between them, and it loses nothing. Others aren't
+-- followed yet.
+abbrev pub kind_of_link_set : ℕ → ℕ → ℕ → Option Standing → Kind
+kind_of_link_set least greatest loss None = Other
+kind_of_link_set least greatest loss (Some s) =
+    if cable_is_used s && (loss == 0) && nat_le least s.cable.bounds.min && nat_le s.cable.bounds.max greatest
+    then Wider (greatest - s.cable.bounds.max) else Other
+
+-- What a change does to the link and the system that it names. Octets that are put onto a link aren't followed yet.
 abbrev pub kind_of_change : Change → Option Standing → Option System → Kind
 kind_of_change (changes.LinkDown clock port) s o = kind_of_link_down s
 kind_of_change (changes.LinkUp clock port) s o = kind_of_link_up s
-kind_of_change (changes.LinkSet clock port least greatest loss) s o = Other
+kind_of_change (changes.LinkSet clock port least greatest loss) s o = kind_of_link_set least greatest loss s
 kind_of_change (changes.Fail clock) s o = kind_of_failure o
 kind_of_change (changes.Recover clock) s o = kind_of_recovery o
 kind_of_change (changes.Priority1 clock value) s o = kind_of_priority1 value o
@@ -96,6 +103,13 @@ is_gain e = elim e.kind [ Gain ↦ true | _ ↦ false ]
 
 abbrev pub is_other : Told → Bool
 is_other e = elim e.kind [ Other ↦ true | _ ↦ false ]
+
+-- a link gets wider, the greatest delay by so much
+abbrev pub is_wider : Told → Bool
+is_wider e = elim e.kind [ Wider by ↦ true | _ ↦ false ]
+
+abbrev pub wider_by : Told → ℕ
+wider_by e = elim e.kind [ Wider by ↦ by | _ ↦ 0 ]
 
 abbrev pub is_link_down : Told → Bool
 is_link_down e = elim e.what [ whats.LinkDown ↦ true | _ ↦ false ]
@@ -150,6 +164,15 @@ sets_bounds act = elim (what_of act) [ whats.LinkSet ↦ true | _ ↦ false ]
 -- bounds are set, idly or not
 abbrev pub sets_link : List Told → Bool
 sets_link = list_any is_link_set
+
+-- a link gets wider by the first, by so much, and the others change nothing
+abbrev pub begins_wider : List Told → Bool
+begins_wider [] = false
+begins_wider (e ∷ es) = is_wider e && list_all is_idle es
+
+abbrev pub first_wider_by : List Told → ℕ
+first_wider_by [] = 0
+first_wider_by (e ∷ es) = wider_by e
 
 -- the system with this clock recovers
 abbrev pub recovers : List Told → ℕ → Bool

@@ -2,7 +2,7 @@
 --
 -- Each word that ends in `followed` says where this is proved, and no more: elsewhere the network may come from any
 -- past.
-use Rattle.std.specs.Prelude.{ℕ, ◌+◌, ◌&&◌, ◌||◌, nat_le, nat_lt, not, Bool, false, if◌then◌else◌, List, Option, Some, None}
+use Rattle.std.specs.Prelude.{ℕ, ◌+◌, ◌*◌, ◌&&◌, ◌||◌, nat_le, nat_lt, not, Bool, false, if◌then◌else◌, List, Option, Some, None}
 use Rattle.std.specs.List.{list_all, list_any}
 use Rattle.gptp_setup.specs.SettlingParams.{largest_interval}
 use Rattle.gptp_scenario.specs.Network.{NetworkState, pace_of}
@@ -10,7 +10,7 @@ use Rattle.gptp_scenario.specs.SettlingTime.{capability_span}
 use Rattle.gptp_scenario.specs.declared.sync_wait.SyncPaths.{SyncPaths}
 use Rattle.gptp_topology.specs.declared.course.Standing.{Standing}
 use Rattle.gptp_how_soon.specs.Bounds.{way_span}
-use Rattle.gptp_how_soon.specs.Kinds.{are_heard, fails_and_recovers, is_better, is_gain, is_loss, is_other, is_recovery, is_unused, lowers_unused, makes_nothing, raises_unused, tells_nothing}
+use Rattle.gptp_how_soon.specs.Kinds.{are_heard, begins_wider, fails_and_recovers, first_wider_by, is_better, is_gain, is_loss, is_other, is_recovery, is_wider, lowers_unused, makes_nothing, raises_unused, tells_nothing}
 use Rattle.gptp_how_soon.specs.Links.{is_unanswered}
 use Rattle.gptp_how_soon.specs.declared.bounds.Row.{Row}
 use Rattle.gptp_how_soon.specs.declared.bounds.Row.TheVariants.{AnyPast, Unchanged, Gained}
@@ -48,30 +48,44 @@ are_turns_followed n at paths_before told =
     && not (list_any lowers_unused told && list_any is_gain told)
 
 -- Systems that recover are followed where an announce interval has passed since the time before, all ports that can't
--- be capable have shown it, and no link that isn't used turns besides.
+-- be capable have shown it, and no link that isn't used goes down besides.
 abbrev pub are_recoveries_followed : NetworkState → ℕ → ℕ → List Told → ℕ → Bool
 are_recoveries_followed n last at told ready =
     nat_lt (last + largest_interval (pace_of n)) at
     && nat_le (capability_span (pace_of n)) (at + ready)
-    && not (list_any is_unused told)
+    && not (list_any lowers_unused told)
 
-abbrev pub is_from_rest : NetworkState → ℕ → SyncPaths → List Standing → List Told → ℕ → Option SettlingTime → Bool
-is_from_rest n at paths_before standings told ready None = is_start_from_rest standings told
-is_from_rest n at paths_before standings told ready (Some b) =
+-- A link that gets wider is followed as the first event of a time whose others change nothing, where what was before
+-- settles by its wider delays too: two messages of the link take so much longer, and a way does.
+abbrev pub settles_wider_by : SettlingTime → ℕ → SyncPaths → SyncPaths → ℕ → Option Settling → Bool
+settles_wider_by b at paths_before paths by None = false
+settles_wider_by b at paths_before paths by (Some s) =
+    nat_lt (b.at + s.choice + 2 * by + way_span paths) (at + way_span paths_before)
+
+abbrev pub is_wider_followed : SettlingTime → ℕ → SyncPaths → SyncPaths → List Told → Bool
+is_wider_followed b at paths_before paths told =
+    begins_wider told && settles_wider_by b at paths_before paths (first_wider_by told) b.settling
+
+abbrev pub is_from_rest : NetworkState → ℕ → SyncPaths → SyncPaths → List Standing → List Told → ℕ
+    → Option SettlingTime
+    → Bool
+is_from_rest n at paths_before paths standings told ready None = is_start_from_rest standings told
+is_from_rest n at paths_before paths standings told ready (Some b) =
     rested b at
     && are_events_followed told
     && are_turns_followed n at paths_before told
     && (not (list_any is_recovery told) || are_recoveries_followed n b.at at told ready)
+    && (not (list_any is_wider told) || is_wider_followed b at paths_before paths told)
 
 -- ---- rows
 
 -- Not from rest, or after a loss, the network may come from any past. Events that make nothing of what stands leave it
--- as it was. At the start nothing was, and so nothing is lost.
+-- as it was, and so does a link that gets wider. At the start nothing was, and so nothing is lost.
 abbrev pub row_of : Bool → Bool → List Told → Row
 row_of from_rest first told =
     if not from_rest then AnyPast
     else if first then Gained
-    else if list_all makes_nothing told then Unchanged
+    else if list_all makes_nothing told || begins_wider told then Unchanged
     else if list_any is_loss told then AnyPast else Gained
 
 -- It is followed that all is heard at once at the start, and later where it is so of each event. Who gets better is

@@ -60,7 +60,7 @@ gained_at n v = ready_at n v + heard_at n v + way_span v.paths
 
 abbrev pub row_at : NetworkState → View → Row
 row_at n v =
-    row_of (is_from_rest n v.at v.paths_before v.standings v.told (ready_at n v) v.before) (is_first v) v.told
+    row_of (is_from_rest n v.at v.paths_before v.paths v.standings v.told (ready_at n v) v.before) (is_first v) v.told
 
 abbrev pub settling_time : NetworkState → View → SettlingTime
 settling_time n v = times_by n v.at v.last_set v.paths v.calm (sets_link v.told) (row_at n v) (gained_at n v)

@@ -2,11 +2,11 @@
 
 ghost use Rattle.std.specs.Prelude.{◌≡◌, ◌++◌, ◌∷◌, [], false, OnOk};
 ghost use Rattle.std.specs.List.{list_all, list_any};
-ghost use Rattle.gptp_how_soon.specs.Kinds.{are_heard, fails_and_recovers, is_fail, is_recover, is_better, is_failure_of_same, is_gain, is_link_down, is_unused, lowers_unused, makes_nothing, raises_unused, tells_nothing, is_heard_too, is_idle, is_loss, is_other, is_priority1, is_link_up, is_recovery, is_recovery_of, kind_of, kind_of_change, kind_of_failure, kind_of_link_down, kind_of_link_up, kind_of_priority1, kind_of_recovery, recovers, sets_bounds, sets_link, is_link_set, told_by, what_of, what_of_change};
+ghost use Rattle.gptp_how_soon.specs.Kinds.{are_heard, begins_wider, first_wider_by, is_wider, kind_of_link_set, wider_by, fails_and_recovers, is_fail, is_recover, is_better, is_failure_of_same, is_gain, is_link_down, is_unused, lowers_unused, makes_nothing, raises_unused, tells_nothing, is_heard_too, is_idle, is_loss, is_other, is_priority1, is_link_up, is_recovery, is_recovery_of, kind_of, kind_of_change, kind_of_failure, kind_of_link_down, kind_of_link_up, kind_of_priority1, kind_of_recovery, recovers, sets_bounds, sets_link, is_link_set, told_by, what_of, what_of_change};
 
 use crate::systems::System;
 use gptp_scenario::{Act, Change};
-use gptp_topology::{Standing, named};
+use gptp_topology::{Standing, is_used, named};
 use gptp_vector::ClockId;
 use std::alloc::AllocError;
 
@@ -21,6 +21,8 @@ pub enum Kind {
     Loss,
     /// It brings something, or makes a system better.
     Gain,
+    /// It widens the delays of a link in use, the greatest by so much in ns.
+    Wider { by: u64 },
     /// What it does isn't followed.
     Other,
 }
@@ -83,6 +85,25 @@ fn kind_of_link_up(link: Option<Standing>) -> Kind
     }
 }
 
+/// What a `link_set` of these delays and this loss does to the link as it stands.
+fn kind_of_link_set(min: u64, max: u64, loss: u16, link: Option<Standing>) -> Kind
+    ensures { result ≡ kind_of_link_set min max loss link }
+{
+    match link {
+        Some(link) => {
+            let bounds = link.cable.bounds;
+            if is_used(&link) && loss == 0 && min <= bounds.min && bounds.max <= max {
+                Kind::Wider {
+                    by: max.saturating_sub(bounds.max),
+                }
+            } else {
+                Kind::Other
+            }
+        }
+        None => Kind::Other,
+    }
+}
+
 /// What a `fail` does to the system as it stands.
 fn kind_of_failure(system: Option<System>) -> Kind
     ensures { result ≡ kind_of_failure system }
@@ -132,10 +153,10 @@ fn kind_of_change(change: &Change, link: Option<Standing>, system: Option<System
         Change::LinkSet {
             clock: _,
             port: _,
-            min: _,
-            max: _,
-            loss: _,
-        } => Kind::Other,
+            min,
+            max,
+            loss,
+        } => kind_of_link_set(min, max, loss, link),
         Change::Fail { clock: _ } => kind_of_failure(system),
         Change::Recover { clock: _ } => kind_of_recovery(system),
         Change::Priority1 { clock: _, value } => kind_of_priority1(value, system),
@@ -259,6 +280,22 @@ fn is_other(told: &Told) -> bool
     ensures { result ≡ is_other told.now }
 {
     matches!(told.kind, Kind::Other)
+}
+
+fn is_wider(told: &Told) -> bool
+    ensures { result ≡ is_wider told.now }
+{
+    matches!(told.kind, Kind::Wider { by: _ })
+}
+
+/// By how much a link gets wider by it, in ns.
+fn wider_by(told: &Told) -> u64
+    ensures { result ≡ wider_by told.now }
+{
+    match told.kind {
+        Kind::Wider { by } => by,
+        _ => 0,
+    }
 }
 
 fn is_link_down(told: &Told) -> bool
@@ -388,18 +425,45 @@ pub(crate) fn all_make_nothing(told: &[Told]) -> bool
     told.iter().all(|one| makes_nothing(one))
 }
 
+/// Whether each of these events changes nothing.
+fn all_idle(told: &[Told]) -> bool
+    ensures { result ≡ list_all is_idle told.now }
+{
+    told.iter().all(|one| is_idle(one))
+}
+
+/// Whether a link gets wider by the first of these events, and the others change nothing.
+pub(crate) fn begins_wider(told: &[Told]) -> bool
+    ensures { result ≡ begins_wider told.now }
+{
+    match told.split_first() {
+        Some((first, others)) => is_wider(first) && all_idle(others),
+        None => false,
+    }
+}
+
+/// By how much a link gets wider by the first of these events, in ns.
+pub(crate) fn first_wider_by(told: &[Told]) -> u64
+    ensures { result ≡ first_wider_by told.now }
+{
+    match told.first() {
+        Some(first) => wider_by(first),
+        None => 0,
+    }
+}
+
+/// Whether a link gets wider by one of these events.
+pub(crate) fn any_wider(told: &[Told]) -> bool
+    ensures { result ≡ list_any is_wider told.now }
+{
+    told.iter().any(|one| is_wider(one))
+}
+
 /// Whether one of these events is a gain.
 pub(crate) fn any_gain(told: &[Told]) -> bool
     ensures { result ≡ list_any is_gain told.now }
 {
     told.iter().any(|one| is_gain(one))
-}
-
-/// Whether a link that isn't used goes down or comes up by one of these events.
-pub(crate) fn any_unused(told: &[Told]) -> bool
-    ensures { result ≡ list_any is_unused told.now }
-{
-    told.iter().any(|one| is_unused(one))
 }
 
 /// Whether a link that isn't used goes down by one of these events.

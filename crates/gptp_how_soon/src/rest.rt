@@ -1,12 +1,14 @@
 //! Whether a time is from rest, so that what its events do says how soon the choice stands.
 
-ghost use Rattle.std.specs.Prelude.{◌≡◌, ◌+◌, nat_lt};
-ghost use Rattle.gptp_how_soon.specs.Rest.{are_events_followed, are_recoveries_followed, are_turns_followed, have_shown, heard_at_once, is_from_rest, is_start_from_rest, rested, row_of};
+ghost use Rattle.std.specs.Prelude.{◌≡◌, ◌≤◌, ◌+◌, ◌*◌, nat_lt};
+ghost use Rattle.gptp_how_soon.specs.Bounds.{way_span};
+ghost use Rattle.gptp_how_soon.specs.Rest.{are_events_followed, are_recoveries_followed, are_turns_followed, have_shown, heard_at_once, is_from_rest, is_start_from_rest, is_wider_followed, rested, row_of, settles_wider_by};
 
-use crate::bounds::{Row, SettlingTime};
+use crate::bounds::{Row, SettlingTime, way_span};
 use crate::kinds::{
     Told, all_make_nothing, all_tell_nothing, any_better, any_gain, any_loss, any_lowers_unused,
-    any_other, any_raises_unused, any_recovery, any_unused, are_heard, fails_and_recovers,
+    any_other, any_raises_unused, any_recovery, any_wider, are_heard, begins_wider,
+    fails_and_recovers, first_wider_by,
 };
 use crate::links::any_unanswered;
 use gptp_scenario::{Network, SyncPaths};
@@ -72,7 +74,60 @@ fn are_recoveries_followed(network: &Network, last: u64, at: u64, told: &[Told],
     let capable = (u64::from(network.params().lost) + 5) * interval;
     is_later(last, interval, at)
         && u128::from(capable) <= u128::from(at) + u128::from(ready)
-        && !any_unused(told)
+        && !any_lowers_unused(told)
+}
+
+/// Whether a choice that stood so much later than a time, in ns, would have stood by another where a link is wider by so
+/// much, and a way goes over these paths.
+fn stood_by(
+    last: u64,
+    choice: u64,
+    by: u64,
+    paths: SyncPaths,
+    at: u64,
+    paths_before: SyncPaths,
+) -> bool
+    requires few { paths.systems ≤ 512 }
+    requires short { paths.delay ≤ 16000000000 }
+    ensures { result ≡ nat_lt (last + choice + 2 * by + way_span paths) (at + way_span paths_before) }
+{
+    let further = (paths_before.systems as u64).saturating_sub(1);
+    let way_before = u128::from(further) * u128::from(paths_before.delay);
+    let stood = u128::from(last) + u128::from(choice);
+    stood + 2 * u128::from(by) + u128::from(way_span(paths)) < u128::from(at) + way_before
+}
+
+/// Whether what was at a time before settles by delays too by which a link gets wider by so much, in ns.
+fn settles_wider_by(
+    before: &SettlingTime,
+    at: u64,
+    paths_before: SyncPaths,
+    paths: SyncPaths,
+    by: u64,
+) -> bool
+    requires few { paths.systems ≤ 512 }
+    requires short { paths.delay ≤ 16000000000 }
+    ensures { result ≡ settles_wider_by before.now at paths_before paths by before.now.settling }
+{
+    match before.settling {
+        Some(settling) => stood_by(before.at, settling.choice, by, paths, at, paths_before),
+        None => false,
+    }
+}
+
+/// Whether a link that gets wider is followed.
+fn is_wider_followed(
+    before: &SettlingTime,
+    at: u64,
+    paths_before: SyncPaths,
+    paths: SyncPaths,
+    told: &[Told],
+) -> bool
+    requires few { paths.systems ≤ 512 }
+    requires short { paths.delay ≤ 16000000000 }
+    ensures { result ≡ is_wider_followed before.now at paths_before paths told.now }
+{
+    begins_wider(told) && settles_wider_by(before, at, paths_before, paths, first_wider_by(told))
 }
 
 /// Whether a time is from rest.
@@ -80,12 +135,15 @@ pub(crate) fn is_from_rest(
     network: &Network,
     at: u64,
     paths_before: SyncPaths,
+    paths: SyncPaths,
     standings: &[Standing],
     told: &[Told],
     ready: u64,
     before: Option<SettlingTime>,
 ) -> bool
-    ensures { result ≡ is_from_rest network.now at paths_before standings.now told.now ready before }
+    requires few { paths.systems ≤ 512 }
+    requires short { paths.delay ≤ 16000000000 }
+    ensures { result ≡ is_from_rest network.now at paths_before paths standings.now told.now ready before }
 {
     match before {
         Some(before) => {
@@ -94,6 +152,7 @@ pub(crate) fn is_from_rest(
                 && are_turns_followed(network, at, paths_before, told)
                 && (!any_recovery(told)
                     || are_recoveries_followed(network, before.at, at, told, ready))
+                && (!any_wider(told) || is_wider_followed(&before, at, paths_before, paths, told))
         }
         None => is_start_from_rest(standings, told),
     }
@@ -107,7 +166,7 @@ pub(crate) fn row_of(from_rest: bool, first: bool, told: &[Told]) -> Row
         Row::AnyPast
     } else if first {
         Row::Gained
-    } else if all_make_nothing(told) {
+    } else if all_make_nothing(told) || begins_wider(told) {
         Row::Unchanged
     } else if any_loss(told) {
         Row::AnyPast

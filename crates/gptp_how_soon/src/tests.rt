@@ -179,6 +179,34 @@ fn links_that_are_not_used_turn_at_no_cost(rt: HostRuntime) -> Result<(), Fail> 
 }
 
 #[test]
+fn a_link_that_gets_wider_costs_nothing(rt: HostRuntime) -> Result<(), Fail> {
+    // It gets narrower again.
+    let times = ring(
+        rt.alloc(),
+        "[[event]]\nat = 30000000000\nkind = \"link_set\"\nclock = \"000000000000000a\"\nport = 1\nmin = 380\nmax = 500\nloss = 0\n[[event]]\nat = 60000000000\nkind = \"link_set\"\nclock = \"000000000000000a\"\nport = 1\nmin = 390\nmax = 410\nloss = 0\n",
+    )?;
+    assert_eq!(rt; soon(&times, 30_000_000_000), Some((0, 32_000_009_200)));
+    assert_eq!(rt;
+        soon(&times, 60_000_000_000),
+        Some((15_000_002_870, 75_000_010_070))
+    );
+    Ok(())
+}
+
+#[test]
+fn a_system_recovers_behind_its_links(rt: HostRuntime) -> Result<(), Fail> {
+    let times = ring(
+        rt.alloc(),
+        "[[event]]\nat = 30000000000\nkind = \"fail\"\nclock = \"000000000000000d\"\n[[event]]\nat = 30000000000\nkind = \"link_down\"\nclock = \"000000000000000d\"\nport = 1\n[[event]]\nat = 60000000000\nkind = \"link_up\"\nclock = \"000000000000000d\"\nport = 1\n[[event]]\nat = 60000000000\nkind = \"recover\"\nclock = \"000000000000000d\"\n",
+    )?;
+    assert_eq!(rt;
+        soon(&times, 60_000_000_000),
+        Some((3_000_003_050, 63_000_010_250))
+    );
+    Ok(())
+}
+
+#[test]
 fn offsets_are_exact_an_announce_interval_after_the_start(rt: HostRuntime) -> Result<(), Fail> {
     // Eight exchanges each second.
     assert_eq!(rt;

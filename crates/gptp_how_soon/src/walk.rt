@@ -113,6 +113,7 @@ impl Walk {
             network,
             at,
             self.paths_before,
+            paths,
             standings,
             told,
             ready,

@@ -67,6 +67,18 @@ module _ (n : NetworkState) (events : List Timed) where
       (lives_from w.a.clock (subst (λ (p : PortId). IsLive n.systems events p.clock) ends.a used.a))
       (lives_from w.b.clock (subst (λ (p : PortId). IsLive n.systems events p.clock) ends.b used.b))
 
+  pub cable_used : (w : LinkSpec) → cable_is_used (standing_then n events w) ≡ true
+      → IsUsed n.systems events (link_after events w)
+  cable_used w on =
+      let ends = after_keeps events w in
+      let (up, a, b) =
+      three_parts (link_after events w).up (lives n.systems events w.a.clock) (lives n.systems events w.b.clock) on in
+      record {
+        up = up;
+        a = subst (λ (p : PortId). IsLive n.systems events p.clock) (sym ends.a) (lives_to w.a.clock a);
+        b = subst (λ (p : PortId). IsLive n.systems events p.clock) (sym ends.b) (lives_to w.b.clock b);
+      }
+
   quiet_so : (w : LinkSpec) → is_troubled n.params (standing_then n events w) ≡ false
       → Rests n.params n.systems events w
   quiet_so w none = λ used.

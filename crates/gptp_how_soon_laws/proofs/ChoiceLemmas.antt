@@ -92,9 +92,10 @@ module _ (d : DocumentState) (playable : IsPlayable d) where
 
     abbrev Sharp : ℕ → Type 0
     Sharp choice = (choice_then : ℕ) × IsChoiceBoundAfter n all earlier b.at choice_then × (b.at + choice_then < at)
-        × BoundsEvents n made now at choice
+        × BoundsEvents n made now (b.at + choice_then) at choice
 
-    sharp : (choice : ℕ) → HasComeToRest b at → BoundsEvents n made now at choice → Sharp choice
+    sharp : (choice : ℕ) → (rest : HasComeToRest b at)
+        → BoundsEvents n made now (b.at + rest.settling.choice) at choice → Sharp choice
     sharp choice rest bounds =
         let then = so rest.settling rest.is in
         let less = then.rest in
@@ -106,9 +107,10 @@ module _ (d : DocumentState) (playable : IsPlayable d) where
         let it = tells n v s is in
         let bound =
         bounds_choice n Sharp (made ++ now) (row_at n v) (gained_at n v) it.calm
-        (λ row. let (rest, idle) = unchanged n playable.network all b at late row in sharp 0 rest (inl (idle, refl)))
+        (λ row. let (rest, idle) = unchanged n playable.network all b at late row in
+        sharp 0 rest (elim idle [ inl still ↦ inl (still, refl) | inr wider ↦ inr (inl (wider, refl)) ]))
         (λ row off. let (rest, gains) = gained n playable.network all b at late row off in
-        sharp (gained_at n v) rest (inr (ready_at n v, gains))) in
+        sharp (gained_at n v) rest (inr (inr (ready_at n v, gains)))) in
         record {
           choice = (
             late,

@@ -31,16 +31,16 @@ use Rattle.gptp_network.proofs.PassLemmas.{kept, passes_at}
 use Rattle.gptp_topology.specs.Course.{cable_is_used, cable_of, named}
 use Rattle.gptp_topology.specs.declared.course.Cable.{Cable}
 use Rattle.gptp_how_soon.specs.Bounds.{asked_again, is_again, is_hard_to_hear, ready, two_exchanges}
-use Rattle.gptp_how_soon.specs.Kinds.{are_heard, is_better, is_gain, is_heard_too, is_idle, is_link_up, is_loss, is_other, is_priority1, is_recovery, is_recovery_of, is_unused, lowers_unused, makes_nothing, raises_unused, recovers, what_of}
+use Rattle.gptp_how_soon.specs.Kinds.{are_heard, is_better, is_gain, is_heard_too, is_idle, is_link_up, is_loss, is_other, is_priority1, is_recovery, is_recovery_of, is_unused, lowers_unused, makes_nothing, raises_unused, recovers, what_of, begins_wider, first_wider_by, is_wider, wider_by}
 use Rattle.gptp_how_soon.specs.Links.{is_new, new_links, standing_then, varies}
 use Rattle.gptp_how_soon.specs.Times.{told_at, told_of}
 use Rattle.gptp_how_soon.specs.declared.kinds.Told.{Told}
 use Rattle.gptp_settling_time.specs.Gains.{AreSparedBy, ChangesNothing, IsNoWorse, IsSparedBy, JoinsLive, LeavesCapable, SparesFailed, TakesNothing, UsesNoLink, exchanged_again_from}
-use Rattle.gptp_settling_time.specs.HowSoon.{AfterIdleEvents, AreGainEvents, AreHeardEvents, EachEvent, IsGainEvent, IsGainToo, IsHeardEvent, IsHeardToo, IsIdleEvent, TurnsUnused, way_span}
+use Rattle.gptp_settling_time.specs.HowSoon.{AfterIdleEvents, AreGainEvents, AreHeardEvents, EachEvent, IsGainEvent, IsGainToo, IsHeardEvent, IsHeardToo, IsIdleEvent, TurnsUnused, way_span, AreWiderEvents}
 use Rattle.gptp_settling_time.specs.InTurn.{BettersClock, BringsUp, MakesNothing, TurnsInVain}
 use Rattle.gptp_settling_time.proofs.SamePathsLemmas.{idle_paths, turned_paths}
 use Rattle.gptp_how_soon_laws.proofs.CalmLemmas.{lives_to, three_from, three_parts, used_cable}
-use Rattle.gptp_how_soon_laws.proofs.KindLemmas.{Gains, RaisesLink, TurnsBroken, gain_gains, gain_is_not_idle, idle_changes, nothing_or_gain, unused_turns}
+use Rattle.gptp_how_soon_laws.proofs.KindLemmas.{Gains, RaisesLink, TurnsBroken, gain_gains, gain_is_not_idle, idle_changes, nothing_or_gain, unused_turns, wider_widens}
 use Rattle.gptp_how_soon_laws.proofs.MoreLemmas.{IsMore, Leaves, more_delay, more_live, more_lives, more_on, one_more, same_more}
 use Rattle.gptp_how_soon_laws.proofs.NamedLemmas.{end_first}
 
@@ -125,7 +125,7 @@ module _ (n : NetworkState) (network : IsNetwork n) (time : ℕ) (first events :
   pub record AreFollowed : Type 0 where
     pub past : AllByRecursion (λ (t : Timed). t.at + largest_interval (pace_of n) < time) first
     pub capable : capability_span (pace_of n) ≤ time + start
-    pub turns : list_any is_unused tolds ≡ false
+    pub turns : list_any lowers_unused tolds ≡ false
 
   -- where a link turns that isn't used
   pub record AreTurnsFollowed : Type 0 where
@@ -138,11 +138,12 @@ module _ (n : NetworkState) (network : IsNetwork n) (time : ℕ) (first events :
     pub among : In e tolds
     pub kind : (makes_nothing e ≡ true) ⊎ (is_gain e ≡ true)
 
-  pub all_told : list_any is_loss tolds ≡ false → list_any is_other tolds ≡ false → AllByRecursion IsTold tolds
-  all_told no_loss no_other = all_from IsTold tolds (λ e member. record {
+  pub all_told : list_any is_loss tolds ≡ false → list_any is_wider tolds ≡ false → list_any is_other tolds ≡ false
+      → AllByRecursion IsTold tolds
+  all_told no_loss no_wider no_other = all_from IsTold tolds (λ e member. record {
     among = member;
     kind = nothing_or_gain e.clock e.what e.kind (none_any is_loss tolds e no_loss member)
-        (none_any is_other tolds e no_other member);
+        (none_any is_wider tolds e no_wider member) (none_any is_other tolds e no_other member);
   })
 
   -- ---- what is in use stays in use
@@ -485,25 +486,37 @@ module _ (n : NetworkState) (network : IsNetwork n) (time : ℕ) (first events :
 
     -- ---- what failed systems sent
 
+    spares_by : (act : Act) → event.act ≡ act → SparesFailed act → IsSparedBy n made event time
+    spares_by act same spares = inr (inr (subst SparesFailed (sym same) spares))
+
     spares_gain : (act : Act) → event.act ≡ act → Gains n network made act → IsSparedBy n made event time
     spares_gain (acts.Deliver link direction) same gains = absurd gains
     spares_gain (acts.Expire clock timer) same gains = absurd gains
     spares_gain (acts.Change (changes.LinkDown clock port)) same gains = absurd gains
-    spares_gain (acts.Change (changes.LinkUp clock port)) same gains =
-        subst (λ a. (event.at + largest_interval (pace_of n) < time)
-        ⊎ (ChangesNothing n made a ⊎ SparesFailed n made event a)) (sym same)
-        (inr (inr (joins clock port same gains)))
+    spares_gain (acts.Change (changes.LinkUp clock port)) same gains = spares_by _ same tt
     spares_gain (acts.Change (changes.LinkSet clock port least greatest loss)) same gains = absurd gains
     spares_gain (acts.Change (changes.Fail number)) same gains = absurd gains
-    spares_gain (acts.Change (changes.Recover number)) same gains =
-        subst (λ a. (event.at + largest_interval (pace_of n) < time)
-        ⊎ (ChangesNothing n made a ⊎ SparesFailed n made event a)) (sym same)
-        (inr (inr tt))
-    spares_gain (acts.Change (changes.Priority1 number value)) same gains =
-        subst (λ a. (event.at + largest_interval (pace_of n) < time)
-        ⊎ (ChangesNothing n made a ⊎ SparesFailed n made event a)) (sym same)
-        (inr (inr tt))
+    spares_gain (acts.Change (changes.Recover number)) same gains = spares_by _ same tt
+    spares_gain (acts.Change (changes.Priority1 number value)) same gains = spares_by _ same tt
     spares_gain (acts.Change (changes.Inject clock port octets)) same gains = absurd gains
+
+    -- a link that isn't used comes up, and none goes down
+    spares_turn : list_any lowers_unused tolds ≡ false → (act : Act) → event.act ≡ act
+        → is_unused (told_at n made act) ≡ true → TurnsBroken n network made act → IsSparedBy n made event time
+    spares_turn none (acts.Deliver link direction) same turns broken = absurd broken
+    spares_turn none (acts.Expire clock timer) same turns broken = absurd broken
+    spares_turn none (acts.Change (changes.LinkDown clock port)) same turns broken =
+        let lowered : lowers_unused (told_at n made event.act) ≡ true =
+        ap (λ a. lowers_unused (told_at n made a)) same ∙ ap (λ test. test && true) turns in
+        let no : true ≡ false =
+        sym (passes_at lowers_unused tolds (told_at n made event.act) is.among lowered) ∙ none in
+        absurd cc
+    spares_turn none (acts.Change (changes.LinkUp clock port)) same turns broken = spares_by _ same tt
+    spares_turn none (acts.Change (changes.LinkSet clock port least greatest loss)) same turns broken = absurd broken
+    spares_turn none (acts.Change (changes.Fail number)) same turns broken = absurd broken
+    spares_turn none (acts.Change (changes.Recover number)) same turns broken = absurd broken
+    spares_turn none (acts.Change (changes.Priority1 number value)) same turns broken = absurd broken
+    spares_turn none (acts.Change (changes.Inject clock port octets)) same turns broken = absurd broken
 
     spares : list_any is_recovery tolds ≡ true → IsSparedBy n made event time
     spares recovers = elim is.kind [
@@ -511,8 +524,8 @@ module _ (n : NetworkState) (network : IsNetwork n) (time : ℕ) (first events :
           elim (or_cases (is_idle (told_at n made event.act)) (is_unused (told_at n made event.act)) nothing) [
             | inl idle ↦ inr (inl (idle_changes n network made event.act idle))
             | inr unused ↦
-                let some = passes_at is_unused tolds (told_at n made event.act) is.among unused in
-                let no : true ≡ false = sym some ∙ (followed recovers).turns in absurd cc
+                spares_turn (followed recovers).turns event.act refl unused
+                (unused_turns n network made event.act unused)
           ]
       | inr gain ↦ spares_gain event.act refl (gain_gains n network made event.act gain)
     ]
@@ -588,6 +601,37 @@ module _ (n : NetworkState) (network : IsNetwork n) (time : ℕ) (first events :
       (list_all makes_nothing (told_of n (made ++ event ∷ []) left)) nothing in
       let idle = idles turns made event now.0 among.0 same one in
       (idle, each_idle turns (made ++ event ∷ []) left now.1 among.1 (idle_ways made event idle ∙ same) rest)
+
+  -- each changes nothing
+  each_still : (made left : List Timed) → list_all is_idle (told_of n made left) ≡ true
+      → EachEvent (IsIdleEvent n) made left × (sync_paths n (made ++ left) ≡ sync_paths n made)
+  each_still made [] still = (tt, ap (sync_paths n) (append-nil made))
+  each_still made (event ∷ left) still =
+      let (one, rest) =
+      and_parts (is_idle (told_at n made event.act)) (list_all is_idle (told_of n (made ++ event ∷ []) left)) still in
+      let idle : IsIdleEvent n made event = inl (idle_changes n network made event.act one) in
+      let (others, same) = each_still (made ++ event ∷ []) left rest in (
+        (idle, others),
+        ap (sync_paths n) (sym (append_assoc made (event ∷ []) left)) ∙ same ∙ idle_ways made event idle,
+      )
+
+  -- a link gets wider by the first, and the others change nothing
+  pub all_wider : (settled : ℕ) (made left : List Timed) → begins_wider (told_of n made left) ≡ true
+      → settled + 2 * first_wider_by (told_of n made left) + way_span (sync_paths n (made ++ left))
+      < time + way_span (sync_paths n made)
+      → AreWiderEvents n settled time made left
+  all_wider settled made [] begins soon = absurd cc
+  all_wider settled made (event ∷ left) begins soon =
+      let (wider, still) =
+      and_parts (is_wider (told_at n made event.act)) (list_all is_idle (told_of n (made ++ event ∷ []) left)) begins in
+      let (idle, same) = each_still (made ++ event ∷ []) left still in (
+        wider_by (told_at n made event.act),
+        wider_widens n network made event wider,
+        subst (λ (x : SyncPaths). settled + 2 * wider_by (told_at n made event.act) + way_span x
+            < time + way_span (sync_paths n made))
+            (ap (sync_paths n) (sym (append_assoc made (event ∷ []) left)) ∙ same) soon,
+        idle,
+      )
 
   pub all_idle : AreTurnsFollowed → AllByRecursion (λ (t : Timed). t.at ≡ time) events
       → list_all makes_nothing tolds ≡ true → EachEvent (IsIdleEvent n) first events
@@ -711,7 +755,8 @@ module _ (n : NetworkState) (network : IsNetwork n) (time : ℕ) (first events :
 
   module _ (now : AllByRecursion (λ (t : Timed). t.at ≡ time) events) (off : NothingLapses n.params)
       (turns : AreTurnsFollowed) (followed : list_any is_recovery tolds ≡ true → AreFollowed) (positive : 0 < time)
-      (no_loss : list_any is_loss tolds ≡ false) (no_other : list_any is_other tolds ≡ false) where
+      (no_loss : list_any is_loss tolds ≡ false) (no_wider : list_any is_wider tolds ≡ false)
+      (no_other : list_any is_other tolds ≡ false) where
     begins : IsSoFar first
     begins = record {
       more = same_more n first;
@@ -719,10 +764,12 @@ module _ (n : NetworkState) (network : IsNetwork n) (time : ℕ) (first events :
     }
 
     pub all_gained : list_all makes_nothing tolds ≡ false → AfterIdleEvents n (AreGainEvents n next) first events
-    all_gained some = after_idle off turns followed first events refl now begins (all_told no_loss no_other) refl some
+    all_gained some =
+        after_idle off turns followed first events refl now begins (all_told no_loss no_wider no_other) refl some
 
     pub all_heard : list_any (is_hard_to_hear tolds) news ≡ false
         → (list_any is_better tolds ≡ true → (sync_paths n first).systems ≤ 255) → are_heard false tolds ≡ true
         → AfterIdleEvents n (AreHeardEvents n next) first events
     all_heard soft few heard =
-        events_heard off turns followed soft few first events refl now begins (all_told no_loss no_other) refl heard
+        events_heard off turns followed soft few first events refl now begins (all_told no_loss no_wider no_other) refl
+        heard

@@ -1,6 +1,6 @@
 -- What an event does that is told to be idle, or a gain.
 use Rattle.std.proofs.Common.{◌≡◌, ◌≤◌, ◌⊎◌, inl, inr, ◌+◌, ◌*◌, ◌^◌, ◌%◌, ℕ, Bool, true, false, nat_lt, List, Option, Some, None, slice_get, refl, sym, ap, subst, ◌∙◌, arith}
-use Rattle.std.specs.Prelude.{◌==◌, ◌&&◌, ◌||◌, not, if◌then◌else◌}
+use Rattle.std.specs.Prelude.{◌==◌, ◌&&◌, ◌||◌, not, if◌then◌else◌, nat_le, ◌-◌}
 use Rattle.std.specs.List.{find}
 use Rattle.std.proofs.lemmas.Bool.{eqb-true}
 use Rattle.std.proofs.lemmas.Bool.Decides.{nat_tests}
@@ -18,18 +18,21 @@ use Rattle.gptp_scenario.specs.declared.network.SystemSpec.{SystemSpec}
 use Rattle.gptp_scenario.proofs.AfterLemmas.{after_keeps}
 use Rattle.gptp_model.specs.World.{port_id}
 use Rattle.gptp_topology.specs.declared.course.Standing.{Standing}
-use Rattle.gptp_how_soon.specs.Kinds.{identity_with, is_gain, is_idle, is_loss, is_other, is_unused, makes_nothing, kind_of_failure, kind_of_link_down, kind_of_link_up, kind_of_priority1, kind_of_recovery, what_of}
+use Rattle.gptp_how_soon.specs.Kinds.{identity_with, is_gain, is_idle, is_loss, is_other, is_unused, makes_nothing, kind_of_failure, kind_of_link_down, kind_of_link_up, kind_of_priority1, kind_of_recovery, what_of, is_wider, kind_of_link_set, wider_by}
 use Rattle.gptp_how_soon.specs.Links.{standings_after}
 use Rattle.gptp_how_soon.specs.Systems.{has_clock, systems_after}
 use Rattle.gptp_how_soon.specs.Times.{is_standing_named, told_at}
 use Rattle.gptp_how_soon.specs.declared.kinds.Kind.{Kind}
-use Rattle.gptp_how_soon.specs.declared.kinds.Kind.TheVariants.{Idle, Unused, Loss, Gain, Other}
+use Rattle.gptp_how_soon.specs.declared.kinds.Kind.TheVariants.{Idle, Unused, Loss, Gain, Other, Wider}
 use Rattle.gptp_how_soon.specs.declared.kinds.Told.{Told}
 use Rattle.gptp_how_soon.specs.declared.kinds.What.{What}
 use Rattle.gptp_how_soon.specs.declared.systems.System.{System}
 use Rattle.gptp_settling_time.specs.Gains.{ChangesNothing, EndHasFailed, IsNoWorse}
-use Rattle.gptp_how_soon_laws.proofs.CalmLemmas.{lives_from}
+use Rattle.gptp_how_soon_laws.proofs.CalmLemmas.{lives_from, cable_used}
 use Rattle.gptp_how_soon_laws.proofs.NamedLemmas.{LinkNamed, SystemNamed, end_first, named_link, named_system}
+use Rattle.gptp_links.specs.declared.bounds.Bounds.{Bounds}
+use Rattle.gptp_topology.specs.Course.{cable_is_used}
+use Rattle.gptp_settling_time.specs.InTurn.{IsWithin, WidensLink}
 
 -- ---- kinds
 
@@ -38,13 +41,14 @@ told clock what kind = record { kind = kind; what = what; clock = clock }
 
 -- what is neither a loss nor another makes nothing or is a gain
 pub nothing_or_gain : (clock : ℕ) (what : What) (kind : Kind) → is_loss (told clock what kind) ≡ false
-    → is_other (told clock what kind) ≡ false
+    → is_wider (told clock what kind) ≡ false → is_other (told clock what kind) ≡ false
     → (makes_nothing (told clock what kind) ≡ true) ⊎ (is_gain (told clock what kind) ≡ true)
-nothing_or_gain clock what Idle no_loss no_other = inl refl
-nothing_or_gain clock what Unused no_loss no_other = inl refl
-nothing_or_gain clock what Loss no_loss no_other = absurd cc
-nothing_or_gain clock what Gain no_loss no_other = inr refl
-nothing_or_gain clock what Other no_loss no_other = absurd cc
+nothing_or_gain clock what Idle no_loss no_wider no_other = inl refl
+nothing_or_gain clock what Unused no_loss no_wider no_other = inl refl
+nothing_or_gain clock what Loss no_loss no_wider no_other = absurd cc
+nothing_or_gain clock what Gain no_loss no_wider no_other = inr refl
+nothing_or_gain clock what (Wider by) no_loss no_wider no_other = absurd cc
+nothing_or_gain clock what Other no_loss no_wider no_other = absurd cc
 
 pub gain_makes_some : (clock : ℕ) (what : What) (kind : Kind) → is_gain (told clock what kind) ≡ true
     → makes_nothing (told clock what kind) ≡ false
@@ -52,6 +56,7 @@ gain_makes_some clock what Idle gain = absurd cc
 gain_makes_some clock what Unused gain = absurd cc
 gain_makes_some clock what Loss gain = absurd cc
 gain_makes_some clock what Gain gain = refl
+gain_makes_some clock what (Wider by) gain = absurd cc
 gain_makes_some clock what Other gain = absurd cc
 
 pub gain_is_not_idle : (clock : ℕ) (what : What) (kind : Kind) → is_gain (told clock what kind) ≡ true
@@ -60,6 +65,7 @@ gain_is_not_idle clock what Idle gain = absurd cc
 gain_is_not_idle clock what Unused gain = absurd cc
 gain_is_not_idle clock what Loss gain = absurd cc
 gain_is_not_idle clock what Gain gain = refl
+gain_is_not_idle clock what (Wider by) gain = absurd cc
 gain_is_not_idle clock what Other gain = absurd cc
 
 module _ (clock : ℕ) (what : What) where
@@ -106,6 +112,58 @@ module _ (clock : ℕ) (what : What) where
       by false true is = absurd cc
       by false false is = refl
 
+  -- what delays that are set may be
+  abbrev Sets : (Told → Bool) → (ℕ → ℕ → ℕ → Option Standing → Bool)
+  Sets test least greatest loss o = test (told clock what (kind_of_link_set least greatest loss o))
+
+  wider_or_other : (test : Told → Bool) → ((by : ℕ) → test (told clock what (Wider by)) ≡ false)
+      → test (told clock what Other) ≡ false → (least greatest loss : ℕ) (o : Option Standing)
+      → Sets test least greatest loss o ≡ false
+  wider_or_other test wider other least greatest loss None = other
+  wider_or_other test wider other least greatest loss (Some s) =
+      by (cable_is_used s && (loss == 0) && nat_le least s.cable.bounds.min && nat_le s.cable.bounds.max greatest)
+    where
+      by : (within : Bool)
+          → test (told clock what (if within then Wider (greatest - s.cable.bounds.max) else Other)) ≡ false
+      by true = wider (greatest - s.cable.bounds.max)
+      by false = other
+
+  -- a link gets wider
+  pub record IsSetWider (least greatest loss : ℕ) (o : Option Standing) : Type 0 where
+    pub standing : Standing
+    pub is : o ≡ Some standing
+    pub used : cable_is_used standing ≡ true
+    pub lossless : loss ≡ 0
+    pub least_is : least ≤ standing.cable.bounds.min
+    pub greatest_is : standing.cable.bounds.max ≤ greatest
+    pub by : wider_by (told clock what (kind_of_link_set least greatest loss o))
+        ≡ greatest - standing.cable.bounds.max
+
+  set_wider : (least greatest loss : ℕ) (o : Option Standing) → Sets is_wider least greatest loss o ≡ true
+      → IsSetWider least greatest loss o
+  set_wider least greatest loss None is = absurd cc
+  set_wider least greatest loss (Some s) is = by (cable_is_used s) (loss == 0) (nat_le least s.cable.bounds.min)
+      (nat_le s.cable.bounds.max greatest) refl refl refl refl is
+    where
+      by : (used none below above : Bool) → cable_is_used s ≡ used → (loss == 0) ≡ none
+          → nat_le least s.cable.bounds.min ≡ below → nat_le s.cable.bounds.max greatest ≡ above
+          → is_wider (told clock what (if used && none && below && above then Wider (greatest - s.cable.bounds.max)
+          else Other)) ≡ true
+          → IsSetWider least greatest loss (Some s)
+      by true true true true on none below above is = record {
+        standing = s;
+        is = refl;
+        used = on;
+        lossless = eqb-true loss 0 none;
+        least_is = grind (arith, nat_tests);
+        greatest_is = grind (arith, nat_tests);
+        by = rw (on, none, below, above) refl;
+      }
+      by true true true false on none below above is = absurd cc
+      by true true false most on none below above is = absurd cc
+      by true false least_is most on none below above is = absurd cc
+      by false zero_is least_is most on none below above is = absurd cc
+
   used_failure : (o : Option System) → is_unused (told clock what (kind_of_failure o)) ≡ true → ⊥
   used_failure None is = absurd cc
   used_failure (Some x) is = by x.lives is
@@ -132,6 +190,53 @@ module _ (clock : ℕ) (what : What) where
       by true lower is = absurd cc
       by false true is = absurd cc
       by false false is = absurd cc
+
+  -- no other change widens a link
+  wider_down : (o : Option Standing) → is_wider (told clock what (kind_of_link_down o)) ≡ false
+  wider_down None = refl
+  wider_down (Some s) = by s.cable.up (s.a_lives && s.b_lives)
+    where
+      by : (up live : Bool)
+          → is_wider (told clock what (if not up then Idle else if live then Loss else Unused)) ≡ false
+      by false live = refl
+      by true true = refl
+      by true false = refl
+
+  wider_up : (o : Option Standing) → is_wider (told clock what (kind_of_link_up o)) ≡ false
+  wider_up None = refl
+  wider_up (Some s) = by s.cable.up (s.a_lives && s.b_lives)
+    where
+      by : (up live : Bool) → is_wider (told clock what (if up then Idle else if live then Gain else Unused)) ≡ false
+      by true live = refl
+      by false true = refl
+      by false false = refl
+
+  wider_failure : (o : Option System) → is_wider (told clock what (kind_of_failure o)) ≡ false
+  wider_failure None = refl
+  wider_failure (Some x) = by x.lives
+    where
+      by : (live : Bool) → is_wider (told clock what (if live then Loss else Idle)) ≡ false
+      by true = refl
+      by false = refl
+
+  wider_recovery : (o : Option System) → is_wider (told clock what (kind_of_recovery o)) ≡ false
+  wider_recovery None = refl
+  wider_recovery (Some x) = by x.lives
+    where
+      by : (live : Bool) → is_wider (told clock what (if live then Idle else Gain)) ≡ false
+      by true = refl
+      by false = refl
+
+  wider_priority1 : (value : ℕ) (o : Option System) → is_wider (told clock what (kind_of_priority1 value o)) ≡ false
+  wider_priority1 value None = refl
+  wider_priority1 value (Some x) =
+      by (not x.lives || (identity_with value x == x.identity)) (nat_lt (identity_with value x) x.identity)
+    where
+      by : (same lower : Bool)
+          → is_wider (told clock what (if same then Idle else if lower then Gain else Loss)) ≡ false
+      by true lower = refl
+      by false true = refl
+      by false false = refl
 
   idle_up : (o : Option Standing) → is_idle (told clock what (kind_of_link_up o)) ≡ true
       → (s : Standing) × (o ≡ Some s) × (s.cable.up ≡ true)
@@ -293,7 +398,11 @@ module _ (n : NetworkState) (network : IsNetwork n) (made : List Timed) where
       ap (λ (w : LinkSpec). (link_after made w).up)
       (one.only place v there (end_first made (port_id clock port) v end))
       ∙ ap (λ (x : Standing). x.cable.up) one.is ∙ up
-  idle_changes (acts.Change (changes.LinkSet clock port least greatest loss)) is = absurd cc
+  idle_changes (acts.Change (changes.LinkSet clock port least greatest loss)) is =
+      let act = acts.Change (changes.LinkSet clock port least greatest loss) in
+      let no : true ≡ false =
+      sym is ∙ wider_or_other clock (what_of act) is_idle (λ by. refl) refl least greatest loss (link_at act) in
+      absurd cc
   idle_changes (acts.Change (changes.Fail number)) is =
       let (x, found_is, failed) = idle_failure number (what_of (failing number)) (system_at number) is in
       not_live number x (named_system n network made number x found_is) failed
@@ -336,7 +445,11 @@ module _ (n : NetworkState) (network : IsNetwork n) (made : List Timed) where
         a = ap (λ (x : Standing). x.a_lives) one.is ∙ a;
         b = ap (λ (x : Standing). x.b_lives) one.is ∙ b;
       }
-  gain_gains (acts.Change (changes.LinkSet clock port least greatest loss)) is = absurd cc
+  gain_gains (acts.Change (changes.LinkSet clock port least greatest loss)) is =
+      let act = acts.Change (changes.LinkSet clock port least greatest loss) in
+      let no : true ≡ false =
+      sym is ∙ wider_or_other clock (what_of act) is_gain (λ by. refl) refl least greatest loss (link_at act) in
+      absurd cc
   gain_gains (acts.Change (changes.Fail number)) is =
       absurd (never_failure number (what_of (failing number)) (system_at number) is)
   gain_gains (acts.Change (changes.Recover number)) is =
@@ -387,7 +500,11 @@ module _ (n : NetworkState) (network : IsNetwork n) (made : List Timed) where
       let act = acts.Change (changes.LinkUp clock port) in
       let (s, found_is, failed) = unused_up clock (what_of act) (link_at act) is in
       end_failed clock port s (named_link n network made clock port act (λ x passed. passed) s found_is) failed
-  unused_turns (acts.Change (changes.LinkSet clock port least greatest loss)) is = absurd cc
+  unused_turns (acts.Change (changes.LinkSet clock port least greatest loss)) is =
+      let act = acts.Change (changes.LinkSet clock port least greatest loss) in
+      let no : true ≡ false =
+      sym is ∙ wider_or_other clock (what_of act) is_unused (λ by. refl) refl least greatest loss (link_at act) in
+      absurd cc
   unused_turns (acts.Change (changes.Fail number)) is =
       absurd (used_failure number (what_of (failing number)) (system_at number) is)
   unused_turns (acts.Change (changes.Recover number)) is =
@@ -395,3 +512,69 @@ module _ (n : NetworkState) (network : IsNetwork n) (made : List Timed) where
   unused_turns (acts.Change (changes.Priority1 number value)) is =
       absurd (used_priority1 number (what_of (setting number value)) value (system_at number) is)
   unused_turns (acts.Change (changes.Inject clock port octets)) is = absurd cc
+
+  -- a link gets wider
+
+  module _ (event : Timed) where
+    wider_set : (clock port least greatest loss : ℕ)
+        → event.act ≡ acts.Change (changes.LinkSet clock port least greatest loss)
+        → IsSetWider clock (what_of (acts.Change (changes.LinkSet clock port least greatest loss))) least greatest loss
+        (link_at (acts.Change (changes.LinkSet clock port least greatest loss)))
+        → WidensLink n made event
+        (wider_by (told_at n made (acts.Change (changes.LinkSet clock port least greatest loss))))
+    wider_set clock port least greatest loss same x =
+        let act = acts.Change (changes.LinkSet clock port least greatest loss) in
+        let one = named_link n network made clock port act (λ y passed. passed) x.standing x.is in
+        let bounds : (link_after made one.link).bounds ≡ x.standing.cable.bounds =
+        ap (λ (y : Standing). y.cable.bounds) one.is in
+        let below = x.least_is in
+        let above = x.greatest_is in
+        let by_is = x.by in
+        let min_is : (link_after made one.link).bounds.min ≡ x.standing.cable.bounds.min =
+        ap (λ (b : Bounds). b.min) bounds in
+        let max_is : (link_after made one.link).bounds.max ≡ x.standing.cable.bounds.max =
+        ap (λ (b : Bounds). b.max) bounds in
+        record {
+          clock = clock;
+          port = port;
+          min = least;
+          max = greatest;
+          act = same ∙ ap (λ l. acts.Change (changes.LinkSet clock port least greatest l)) x.lossless;
+          within = λ place v there end. subst (λ (w : LinkSpec). IsWithin n made least greatest
+              (wider_by (told_at n made act)) (link_after made w))
+              (sym (one.only place v there (end_first made (port_id clock port) v end)))
+              (record {
+                used = cable_used n made one.link (ap cable_is_used one.is ∙ x.used);
+                least = omega (arith, below, min_is);
+                most = omega (arith, above, max_is);
+                more = omega (arith, above, by_is, max_is);
+              });
+        }
+
+    wider_so : (act : Act) → event.act ≡ act → is_wider (told_at n made act) ≡ true
+        → WidensLink n made event (wider_by (told_at n made act))
+    wider_so (acts.Deliver link direction) same is = absurd cc
+    wider_so (acts.Expire clock timer) same is = absurd cc
+    wider_so (acts.Change (changes.LinkDown clock port)) same is =
+        let act = acts.Change (changes.LinkDown clock port) in
+        let no : true ≡ false = sym is ∙ wider_down clock (what_of act) (link_at act) in absurd cc
+    wider_so (acts.Change (changes.LinkUp clock port)) same is =
+        let act = acts.Change (changes.LinkUp clock port) in
+        let no : true ≡ false = sym is ∙ wider_up clock (what_of act) (link_at act) in absurd cc
+    wider_so (acts.Change (changes.LinkSet clock port least greatest loss)) same is =
+        let act = acts.Change (changes.LinkSet clock port least greatest loss) in
+        wider_set clock port least greatest loss same
+        (set_wider clock (what_of act) least greatest loss (link_at act) is)
+    wider_so (acts.Change (changes.Fail number)) same is =
+        let no : true ≡ false = sym is ∙ wider_failure number (what_of (failing number)) (system_at number) in absurd cc
+    wider_so (acts.Change (changes.Recover number)) same is =
+        let no : true ≡ false =
+        sym is ∙ wider_recovery number (what_of (recovering number)) (system_at number) in absurd cc
+    wider_so (acts.Change (changes.Priority1 number value)) same is =
+        let no : true ≡ false =
+        sym is ∙ wider_priority1 number (what_of (setting number value)) value (system_at number) in absurd cc
+    wider_so (acts.Change (changes.Inject clock port octets)) same is = absurd cc
+
+    pub wider_widens : is_wider (told_at n made event.act) ≡ true
+        → WidensLink n made event (wider_by (told_at n made event.act))
+    wider_widens is = wider_so event.act refl is

@@ -27,9 +27,9 @@ use Rattle.gptp_network.proofs.PassLemmas.{kept}
 use Rattle.gptp_topology.specs.Course.{cable_of}
 use Rattle.gptp_topology.specs.declared.course.Cable.{Cable}
 use Rattle.gptp_how_soon.specs.Bounds.{asked_again, choice_by, choice_of_row, is_again, is_hard_to_hear, ready, settled, two_exchanges}
-use Rattle.gptp_how_soon.specs.Kinds.{are_heard, fails_and_recovers, is_better, is_gain, is_idle, is_loss, is_other, is_recover, is_recovery, is_recovery_of, is_unused, lowers_unused, makes_nothing, raises_unused, recovers, sets_link, tells_nothing}
+use Rattle.gptp_how_soon.specs.Kinds.{are_heard, fails_and_recovers, is_better, is_gain, is_idle, is_loss, is_other, is_recover, is_recovery, is_recovery_of, lowers_unused, makes_nothing, raises_unused, recovers, sets_link, tells_nothing, begins_wider, first_wider_by, is_wider}
 use Rattle.gptp_how_soon.specs.Links.{is_new, is_unanswered, new_links, standing_then, standings_after, varies}
-use Rattle.gptp_how_soon.specs.Rest.{are_events_followed, are_recoveries_followed, are_turns_followed, have_shown, heard_at_once, is_from_rest, rested, rested_by}
+use Rattle.gptp_how_soon.specs.Rest.{are_events_followed, are_recoveries_followed, are_turns_followed, have_shown, heard_at_once, is_from_rest, rested, rested_by, is_wider_followed, settles_wider_by}
 use Rattle.gptp_how_soon.specs.Times.{View, events_at, gained_at, is_calm, ready_at, row_at, settling_time, told_at, told_of, view_at}
 use Rattle.gptp_how_soon.specs.declared.bounds.Row.{Row}
 use Rattle.gptp_how_soon.specs.declared.bounds.Row.TheVariants.{AnyPast, Unchanged, Gained}
@@ -39,12 +39,12 @@ use Rattle.gptp_how_soon.specs.declared.kinds.Kind.{Kind}
 use Rattle.gptp_how_soon.specs.declared.kinds.Told.{Told}
 use Rattle.gptp_how_soon.specs.declared.kinds.What.{What}
 use Rattle.gptp_how_soon.specs.declared.kinds.What.TheVariants as whats
-use Rattle.gptp_settling_time.specs.HowSoon.{AreReadyAtStart, AreStartEvents, BoundsChoice, BoundsGains, BoundsStart, EachEvent, IsIdleEvent, StartsQuietly, way_span}
+use Rattle.gptp_settling_time.specs.HowSoon.{AreReadyAtStart, AreStartEvents, BoundsChoice, BoundsGains, BoundsStart, EachEvent, IsIdleEvent, StartsQuietly, way_span, AreWiderEvents}
 use Rattle.gptp_settling_time.specs.InTurn.{NoneUnanswered, NoneUsed, TellsNothing, UsedVaryLittle}
 use Rattle.gptp_settling_time.proofs.CutLemmas.{IsBy, all_by}
 use Rattle.gptp_settling_time.proofs.MomentLemmas.{all_at}
 use Rattle.gptp_how_soon_laws.proofs.CalmLemmas.{calm_so, lives_from, lives_to, used_cable}
-use Rattle.gptp_how_soon_laws.proofs.GainedLemmas.{AreFollowed, AreTurnsFollowed, all_gained, all_heard, all_idle, none_any, not_none}
+use Rattle.gptp_how_soon_laws.proofs.GainedLemmas.{AreFollowed, AreTurnsFollowed, all_gained, all_heard, all_idle, all_wider, none_any, not_none}
 use Rattle.gptp_how_soon_laws.proofs.KindLemmas.{told}
 
 -- ---- what is told
@@ -284,7 +284,7 @@ pub started : (n : NetworkState) (now : List Timed) → row_at n (view_at n [] n
     → BoundsStart n now (gained_at n (view_at n [] now None 0))
 started n now row =
     let v = view_at n [] now None 0 in
-    let from = begun_from (is_from_rest n v.at v.paths_before v.standings v.told (ready_at n v) v.before) row in
+    let from = begun_from (is_from_rest n v.at v.paths_before v.paths v.standings v.told (ready_at n v) v.before) row in
     let (quiet, none) =
     and_parts (list_all tells_nothing v.told) (not (list_any is_unanswered v.standings)) from in
     starts n now quiet (not-true (list_any is_unanswered v.standings) none)
@@ -292,7 +292,7 @@ started n now row =
 pub never_unchanged : (n : NetworkState) (now : List Timed) → row_at n (view_at n [] now None 0) ≡ Unchanged → ⊥
 never_unchanged n now row =
     let v = view_at n [] now None 0 in
-    never_begun (is_from_rest n v.at v.paths_before v.standings v.told (ready_at n v) v.before) row
+    never_begun (is_from_rest n v.at v.paths_before v.paths v.standings v.told (ready_at n v) v.before) row
 
 -- ---- later
 
@@ -338,6 +338,7 @@ module _ (n : NetworkState) (network : IsNetwork n) (events : List Timed) (b : S
     pub turns : AreTurnsFollowed n network at made now
     pub followed : list_any is_recovery v.told ≡ true
         → are_recoveries_followed n b.at at v.told (ready_at n v) ≡ true
+    pub wider : list_any is_wider v.told ≡ true → is_wider_followed b at v.paths_before v.paths v.told ≡ true
 
   turns_so : are_turns_followed n at v.paths_before v.told ≡ true → AreTurnsFollowed n network at made now
   turns_so is =
@@ -354,11 +355,16 @@ module _ (n : NetworkState) (network : IsNetwork n) (events : List Timed) (b : S
             (not-true (list_any lowers_unused v.told && list_any is_gain v.told) fall);
       }
 
-  from_rest : is_from_rest n at v.paths_before v.standings v.told (ready_at n v) (Some b) ≡ true → IsFromRest
+  from_rest : is_from_rest n at v.paths_before v.paths v.standings v.told (ready_at n v) (Some b) ≡ true → IsFromRest
   from_rest is =
+      let (four, fourth) =
+      and_parts
+      (rested b at && are_events_followed v.told && are_turns_followed n at v.paths_before v.told
+      && (not (list_any is_recovery v.told) || are_recoveries_followed n b.at at v.told (ready_at n v)))
+      (not (list_any is_wider v.told) || is_wider_followed b at v.paths_before v.paths v.told) is in
       let (three, third) =
       and_parts (rested b at && are_events_followed v.told && are_turns_followed n at v.paths_before v.told)
-      (not (list_any is_recovery v.told) || are_recoveries_followed n b.at at v.told (ready_at n v)) is in
+      (not (list_any is_recovery v.told) || are_recoveries_followed n b.at at v.told (ready_at n v)) four in
       let (two, turns_are) =
       and_parts (rested b at && are_events_followed v.told) (are_turns_followed n at v.paths_before v.told) three in
       let (rest, events_are) = and_parts (rested b at) (are_events_followed v.told) two in
@@ -374,38 +380,91 @@ module _ (n : NetworkState) (network : IsNetwork n) (events : List Timed) (b : S
                   let no : true ≡ false = sym recovers ∙ not-true (list_any is_recovery v.told) none in absurd cc
               | inr are ↦ are
             ];
+        wider = λ some. elim (or_cases (not (list_any is_wider v.told))
+            (is_wider_followed b at v.paths_before v.paths v.told) fourth) [
+              | inl none ↦ let no : true ≡ false = sym some ∙ not-true (list_any is_wider v.told) none in absurd cc
+              | inr is_followed ↦ is_followed
+            ];
       }
 
   recoveries : are_recoveries_followed n b.at at v.told (ready_at n v) ≡ true → AreFollowed n network at made now
   recoveries is =
       let past_test : Bool = nat_lt (b.at + largest_interval (pace_of n)) at in
       let capable_test : Bool = nat_le (capability_span (pace_of n)) (at + ready_at n v) in
-      let (two, turns) = and_parts (past_test && capable_test) (not (list_any is_unused v.told)) is in
+      let (two, turns) = and_parts (past_test && capable_test) (not (list_any lowers_unused v.told)) is in
       let (past, capable) = and_parts past_test capable_test two in
       let over : b.at + largest_interval (pace_of n) < at = grind (arith, nat_tests) in
       let late_enough : capability_span (pace_of n) ≤ at + ready_at n v = grind (arith, nat_tests) in
       record {
         past = over_before b.at (largest_interval (pace_of n)) at made over (all_by b.at events);
         capable = late_enough;
-        turns = not-true (list_any is_unused v.told) turns;
+        turns = not-true (list_any lowers_unused v.told) turns;
       }
 
-  pub unchanged : row_at n v ≡ Unchanged → HasComeToRest b at × EachEvent (IsIdleEvent n) made now
+  -- where a link gets wider by the first event one gets wider
+  begins_some : (es : List Told) → begins_wider es ≡ true → list_any is_wider es ≡ true
+  begins_some [] is = absurd cc
+  begins_some (e ∷ es) is =
+      let (wider, still) = and_parts (is_wider e) (list_all is_idle es) is in
+      ap (λ test. test || list_any is_wider es) wider
+
+  settles_so : (s : Settling) (o : Option Settling) → o ≡ Some s
+      → settles_wider_by b at v.paths_before v.paths (first_wider_by v.told) o ≡ true
+      → b.at + s.choice + 2 * first_wider_by v.told + way_span v.paths < at + way_span v.paths_before
+  settles_so s None same is = absurd cc
+  settles_so s (Some t) same is =
+      let one : t ≡ s = some_same t s same in
+      subst (λ (x : Settling). b.at + x.choice + 2 * first_wider_by v.told + way_span v.paths
+      < at + way_span v.paths_before) one
+      (below (b.at + t.choice + 2 * first_wider_by v.told + way_span v.paths) (at + way_span v.paths_before) is)
+    where
+      below : (x y : ℕ) → nat_lt x y ≡ true → x < y
+      below x y test = grind (arith, nat_tests)
+
+  pub unchanged : row_at n v ≡ Unchanged
+      → (rest : HasComeToRest b at)
+      × (EachEvent (IsIdleEvent n) made now ⊎ AreWiderEvents n (b.at + rest.settling.choice) at made now)
   unchanged row =
-      let (from, idle) =
-      unchanged_from (is_from_rest n at v.paths_before v.standings v.told (ready_at n v) (Some b))
-      (list_all makes_nothing v.told) (list_any is_loss v.told) row in
-      let facts = from_rest from in (facts.rested, all_idle n network at made now facts.turns (all_at at events) idle)
+      let (from, which) =
+      unchanged_from (is_from_rest n at v.paths_before v.paths v.standings v.told (ready_at n v) (Some b))
+      (list_all makes_nothing v.told || begins_wider v.told) (list_any is_loss v.told) row in
+      let facts = from_rest from in (
+        facts.rested,
+        elim (or_cases (list_all makes_nothing v.told) (begins_wider v.told) which) [
+          | inl idle ↦ inl (all_idle n network at made now facts.turns (all_at at events) idle)
+          | inr begins ↦
+              let settles =
+              (and_parts (begins_wider v.told)
+              (settles_wider_by b at v.paths_before v.paths (first_wider_by v.told) b.settling)
+              (facts.wider (begins_some v.told begins))).1 in
+              inr (all_wider n network at made now (b.at + facts.rested.settling.choice) made now begins
+              (settles_so facts.rested.settling b.settling facts.rested.is settles))
+        ],
+      )
+
+  -- where that isn't so none gets wider
+  none_wider : IsFromRest → begins_wider v.told ≡ false → list_any is_wider v.told ≡ false
+  none_wider facts none = by (list_any is_wider v.told) refl
+    where
+      by : (some : Bool) → list_any is_wider v.told ≡ some → list_any is_wider v.told ≡ false
+      by false is = is
+      by true is =
+          let begins =
+          (and_parts (begins_wider v.told)
+          (settles_wider_by b at v.paths_before v.paths (first_wider_by v.told) b.settling) (facts.wider is)).0 in
+          let no : true ≡ false = sym begins ∙ none in
+          absurd cc
 
   pub gained : row_at n v ≡ Gained → NothingLapses n.params
       → HasComeToRest b at × BoundsGains n made now at (ready_at n v) (gained_at n v)
   gained row off =
-      let (from, none, some) =
-      gained_from (is_from_rest n at v.paths_before v.standings v.told (ready_at n v) (Some b))
-      (list_all makes_nothing v.told) (list_any is_loss v.told) row in
-      let facts = from_rest from in (
+      let (from, none, which) =
+      gained_from (is_from_rest n at v.paths_before v.paths v.standings v.told (ready_at n v) (Some b))
+      (list_all makes_nothing v.told || begins_wider v.told) (list_any is_loss v.told) row in
+      let facts = from_rest from in
+      let (some, narrow) = or_parts (list_all makes_nothing v.told) (begins_wider v.told) which in (
         facts.rested,
-        by facts none some (heard_at_once false v.paths_before v.told)
+        by facts none (none_wider facts narrow) some (heard_at_once false v.paths_before v.told)
             (list_any (is_hard_to_hear v.told) v.new) refl refl,
       )
     where
@@ -419,27 +478,28 @@ module _ (n : NetworkState) (network : IsNetwork n) (events : List Timed) (b : S
         | inr none ↦ let no : true ≡ false = sym better ∙ not-true (list_any is_better v.told) none in absurd cc
       ]
 
-      by : IsFromRest → list_any is_loss v.told ≡ false → list_all makes_nothing v.told ≡ false → (heard hard : Bool)
+      by : IsFromRest → list_any is_loss v.told ≡ false → list_any is_wider v.told ≡ false
+          → list_all makes_nothing v.told ≡ false → (heard hard : Bool)
           → heard_at_once false v.paths_before v.told ≡ heard
           → list_any (is_hard_to_hear v.told) v.new ≡ hard
           → BoundsGains n made now at (ready_at n v)
           (ready_at n v + cond (heard && not hard) 0 (largest_interval (pace_of n)) + way_span v.paths)
-      by facts none some true false is soft =
+      by facts none narrow some true false is soft =
           let (heard, few) =
           and_parts (are_heard false v.told)
           (nat_le v.paths_before.systems 255 || not (list_any is_better v.told)) is in
           inl (
             all_heard n network at made now (all_at at events) off facts.turns (followed facts) (omega (arith, late))
-                none facts.others soft (few_before few) heard,
+                none narrow facts.others soft (few_before few) heard,
             omega arith,
           )
-      by facts none some true true is hard = inr (
+      by facts none narrow some true true is hard = inr (
         all_gained n network at made now (all_at at events) off facts.turns (followed facts) (omega (arith, late)) none
-            facts.others some,
+            narrow facts.others some,
         refl,
       )
-      by facts none some false hard is soft = inr (
+      by facts none narrow some false hard is soft = inr (
         all_gained n network at made now (all_at at events) off facts.turns (followed facts) (omega (arith, late)) none
-            facts.others some,
+            narrow facts.others some,
         refl,
       )

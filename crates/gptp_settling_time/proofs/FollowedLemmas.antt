@@ -17,8 +17,8 @@ use Rattle.gptp_scenario.specs.declared.sync_wait.SyncPaths.{SyncPaths}
 use Rattle.gptp_network.specs.Document.{DocumentState}
 use Rattle.gptp_network.specs.Events.{AreInOrder}
 use Rattle.gptp_network.specs.Snapshot.{events_by}
-use Rattle.gptp_settling_time.specs.HowSoon.{AfterIdleEvents, AreGainEvents, AreHeardEvents, AreReadyAtStart, AreStartEvents, BoundsEvents, BoundsStart, EachEvent, IsChoiceBound, IsChoiceBoundAfter, IsGainEvent, IsGainToo, IsHeardEvent, IsHeardToo, IsIdleEvent, TurnsUnused, events_at, way_span}
-use Rattle.gptp_settling_time.specs.InTurn.{AnyPast, AreCapableSoon, BeginsBy, EventLeads, Gained, HasSettledAnyhow, HasSettledHeard, HasSettledSince, Heard, LeadOn, LeavesSettled, MakesNothing, NoneUnanswered, Past, SettlesAfter, SettlesByEvents, Starting, StartsWith, TellsNothing, TurnsInVain, UsedVaryLittle}
+use Rattle.gptp_settling_time.specs.HowSoon.{AfterIdleEvents, AreGainEvents, AreHeardEvents, AreReadyAtStart, AreStartEvents, BoundsEvents, BoundsStart, EachEvent, IsChoiceBound, IsChoiceBoundAfter, IsGainEvent, IsGainToo, IsHeardEvent, IsHeardToo, IsIdleEvent, TurnsUnused, events_at, way_span, AreWiderEvents}
+use Rattle.gptp_settling_time.specs.InTurn.{AnyPast, AreCapableSoon, BeginsBy, EventLeads, Gained, HasSettledAnyhow, HasSettledHeard, HasSettledSince, Heard, LeadOn, LeavesSettled, MakesNothing, NoneUnanswered, Past, SettlesAfter, SettlesByEvents, Starting, StartsWith, TellsNothing, TurnsInVain, UsedVaryLittle, WidensLink}
 use Rattle.gptp_settling_time.proofs.CutLemmas.{IsBy, all_by}
 use Rattle.gptp_settling_time.proofs.MomentLemmas.{all_at, last_by, parted}
 use Rattle.gptp_settling_time.proofs.SamePathsLemmas.{idle_paths, turned_paths}
@@ -151,10 +151,10 @@ module _ (n : NetworkState) (made : List Timed) (event : Timed) where
       leaves_so over = record { nothing = makes_nothing idle; off = off; since = omega (arith, over) }
 
       pub idle_leads : (past : Past) → HasSettled n made past event.at → EventLeads n made past event (Heard since)
-      idle_leads AnyPast settled = (settled, inr (inr (leaves_so (way_over AnyPast settled))))
+      idle_leads AnyPast settled = (settled, inr (inr (inl (leaves_so (way_over AnyPast settled)))))
       idle_leads Starting settled = absurd settled
-      idle_leads (Gained start) settled = (settled, inr (inr (leaves_so (way_over (Gained start) settled))))
-      idle_leads (Heard start) settled = inr (inl (settled, inr (leaves_so (way_over (Heard start) settled))))
+      idle_leads (Gained start) settled = (settled, inr (inr (inl (leaves_so (way_over (Gained start) settled)))))
+      idle_leads (Heard start) settled = inr (inl (settled, inr (inl (leaves_so (way_over (Heard start) settled)))))
 
       pub idle_settled : (past : Past) → HasSettled n made past event.at → HasSettled n more (Heard since) event.at
       idle_settled past settled =
@@ -222,6 +222,73 @@ module _ (n : NetworkState) (network : IsNetwork n) where
         (subst (HasSettled n (made ++ event ∷ []) (Heard (since n made event network off))) here
         (idle_settled n made event network off one past then))
         idle)
+
+    -- a link gets wider by the first, and the others make nothing of what stands
+    widens_leads : (made : List Timed) (event : Timed) (past : Past) (settled by : ℕ) → event.at ≡ time
+        → IsCalm n made → HasSettled n made past settled → settled ≤ time → WidensLink n made event by
+        → settled + 2 * by + way_span (sync_paths n (made ++ event ∷ [])) ≤ time + way_span (sync_paths n made)
+        → (next : ℕ) × EventLeads n made past event (Heard next)
+        × HasSettled n (made ++ event ∷ []) (Heard next) time
+    widens_leads made event AnyPast settled by here calm is late widens soon =
+        let passed = is.passed in
+        let capable : ℕ = last_change made + capability_span (pace_of n) in
+        let over = le-max_left (capability_span (pace_of n)) (2 * largest_interval (pace_of n)
+        + (sync_paths n made).systems * (longest_span (pace_of n) + (sync_paths n made).delay)) in (
+          capable + 2 * by,
+          (
+            record { calm = is.calm; passed = omega (arith, passed, late, here) },
+            inr (inr (inr (record {
+              by = by;
+              widens = widens;
+              calm = calm;
+              off = off;
+              later = omega arith;
+              past = omega (arith, passed, soon, here, over);
+            }))),
+          ),
+          omega (arith, passed, soon, over),
+        )
+    widens_leads made event Starting settled by here calm is late widens soon = absurd is
+    widens_leads made event (Gained start) settled by here calm is late widens soon = (
+      start + 2 * by,
+      (
+        omega (arith, is, late, here),
+        inr (inr (inr (record {
+          by = by;
+          widens = widens;
+          calm = calm;
+          off = off;
+          later = omega arith;
+          past = omega (arith, is, soon, here);
+        }))),
+      ),
+      omega (arith, is, soon),
+    )
+    widens_leads made event (Heard start) settled by here calm is late widens soon = (
+      start + 2 * by,
+      inr (inl (
+        omega (arith, is, late, here),
+        inr (inr (record {
+          by = by;
+          widens = widens;
+          calm = calm;
+          off = off;
+          later = omega arith;
+          past = omega (arith, is, soon, here);
+        })),
+      )),
+      omega (arith, is, soon),
+    )
+
+    wider_led : (made now : List Timed) (past : Past) (settled : ℕ) → AllNow now → IsCalm n made
+        → HasSettled n made past (suc settled) → settled < time → AreWiderEvents n settled time made now
+        → IsLed n made now past (suc (time + 0))
+    wider_led made [] past settled at calm is late none = absurd none
+    wider_led made (event ∷ now) past settled (here, at) calm is late (by, widens, soon, idle) =
+        let (next, leads, then) =
+        widens_leads made event past (suc settled) by here calm is (omega (arith, late)) widens (omega (arith, soon)) in
+        led_more n made now event past (Heard next) (suc (time + 0)) leads
+        (idle_led (made ++ event ∷ []) now (Heard next) at then idle)
 
     -- such come first, and then others that lead to this
     after_idle : (Are : List Timed → List Timed → Type 0) (all : List Timed) (later : ℕ)
@@ -396,6 +463,11 @@ module _ (n : NetworkState) (network : IsNetwork n) (off : NothingLapses n.param
   started_so (event ∷ events) choice at ((each, answered), (ready, soon, is)) =
       started_with event events at ready each answered soon choice is
 
+  bound_calm : (earlier : List ℕ) (time choice : ℕ) → IsChoiceBoundAfter n all earlier time choice
+      → IsCalm n (events_by time all)
+  bound_calm [] time choice (start, (calm, is)) = calm
+  bound_calm (last ∷ earlier) time choice (later, between, (calm, is)) = calm
+
   followed : (earlier : List ℕ) (time choice : ℕ) → IsChoiceBoundAfter n all earlier time choice
       → IsFollowedTo n (events_by time all) time choice
   followed [] time choice (start, (calm, inl (lapses, is))) = absurd (lapses off)
@@ -410,8 +482,7 @@ module _ (n : NetworkState) (network : IsNetwork n) (off : NothingLapses n.param
       let made = events_by last all in
       let now = events_at time all in
       let before = followed earlier last then bound in
-      let settled = settled_later n made before.last (suc (last + then)) time soon before.settles in
-      let led = by before.last settled sharp in
+      let led = by before.last before.settles sharp in
       subst (λ es. IsFollowedTo n es time choice) (sym (parted all last time order later between)) (record {
         first = before.first;
         begins = before.begins;
@@ -420,22 +491,31 @@ module _ (n : NetworkState) (network : IsNetwork n) (off : NothingLapses n.param
         settles = led.settles;
       })
     where
-      by : (past : Past) → HasSettled n (events_by last all) past time
-          → BoundsEvents n (events_by last all) (events_at time all) time choice
+      by_now : (past : Past) → HasSettled n (events_by last all) past (suc (last + then))
+          → HasSettled n (events_by last all) past time
+      by_now past = settled_later n (events_by last all) past (suc (last + then)) time soon
+
+      by : (past : Past) → HasSettled n (events_by last all) past (suc (last + then))
+          → BoundsEvents n (events_by last all) (events_at time all) (last + then) time choice
           → IsLed n (events_by last all) (events_at time all) past (suc (time + choice))
       by past settled (inl (idle, is)) =
           subst (λ c. IsLed n (events_by last all) (events_at time all) past (suc (time + c))) (sym is)
-          (idle_led n network off time (events_by last all) (events_at time all) past (all_at time all) settled idle)
-      by past settled (inr (ready, inl (heard, is))) =
+          (idle_led n network off time (events_by last all) (events_at time all) past (all_at time all)
+          (by_now past settled) idle)
+      by past settled (inr (inl (wider, is))) =
+          subst (λ c. IsLed n (events_by last all) (events_at time all) past (suc (time + c))) (sym is)
+          (wider_led n network off time (events_by last all) (events_at time all) past (last + then) (all_at time all)
+          (bound_calm earlier last then bound) settled soon wider)
+      by past settled (inr (inr (ready, inl (heard, is)))) =
           after_idle n network off time (AreHeardEvents n (suc (time + ready)))
           (events_by last all ++ events_at time all) (suc (time + choice))
           (heard_led n network off time ready (events_by last all ++ events_at time all) choice is)
-          (events_by last all) (events_at time all) past refl (all_at time all) settled heard
-      by past settled (inr (ready, inr (each, is))) =
+          (events_by last all) (events_at time all) past refl (all_at time all) (by_now past settled) heard
+      by past settled (inr (inr (ready, inr (each, is)))) =
           after_idle n network off time (AreGainEvents n (suc (time + ready)))
           (events_by last all ++ events_at time all) (suc (time + choice))
           (gains_led n network off time ready (events_by last all ++ events_at time all) choice is)
-          (events_by last all) (events_at time all) past refl (all_at time all) settled each
+          (events_by last all) (events_at time all) past refl (all_at time all) (by_now past settled) each
 
 -- A choice bound of a document at a time: by then it settles after all events up to any time before the next.
 module _ (d : DocumentState) (network : IsNetwork d.network) (order : AreInOrder d.events)

@@ -28,8 +28,9 @@ use Rattle.gptp_invariants.proofs.WorldStandsLemmas.{sender_lives, used_up}
 use Rattle.gptp_invariants.proofs.WorldSystemLemmas.{clock_lives, live_from}
 use Rattle.gptp_theorem.specs.Reached.{Shape, StandsAsPlanned, shape, shape_after, channel_wire}
 use Rattle.gptp_settling_time.specs.Gains.{AllLiveAfter, EndHasFailed, IsDownAfter, IsGainAfter, IsIdleAfter, IsNoWorse, IsUpAfter, KeepsIdentity}
-use Rattle.gptp_settling_time.specs.InTurn.{VariesLittleAfter}
+use Rattle.gptp_settling_time.specs.InTurn.{VariesLittleAfter, IsWithin}
 use Rattle.gptp_settling_time.specs.Idle.{IsIdle, IsUpAt, KeepsPriority, Lives}
+use Rattle.gptp_invariants.proofs.DelayClaimedCapableLemmas.{clock_has}
 
 none_and : (b : Bool) → (b && false) ≡ false
 none_and true = refl
@@ -217,6 +218,41 @@ module _ (n : NetworkState) (events : List Timed) (w : WorldState) (so : StandsA
               (subst (λ (x : LinkSpec). IsLive n.systems events x.b.clock → ⊥) same b) in
               rw none (none_and (stations_have_clock (live_stations w.stations) channel.a.clock))
         ]
+
+    -- a system that lives in the network is one of the world's
+    found_so : (number : ℕ) → IsLive n.systems events number
+        → stations_have_clock (live_stations w.stations) number ≡ true
+    found_so number lives =
+        let (other, here, same) = alike shape (shape_after (pace_of n) events) w.stations n.systems so.systems
+        lives.place lives.system lives.there in
+        let named : clock other.system ≡ number =
+        sym (clock_shape other (sound.wired.setups lives.place other here))
+        ∙ ap (λ (x : Shape). clock_of x.identity) same
+        ∙ clock_after events lives.system
+        ∙ lives.clock in
+        clock_has w.stations lives.place other number here
+        (lives_so number lives lives.place other (record { here = here; named = named })) named
+
+    -- and a link in use in the network is so in the world
+    pub used_so : (channel : Channel) → IsUsed n.systems events (channel_wire channel)
+        → channel_is_used (live_stations w.stations) channel ≡ true
+    used_so channel used =
+        let up = used.up in
+        let a = found_so channel.a.clock used.a in
+        let b = found_so channel.b.clock used.b in
+        rw (up, a, b) refl
+
+    -- a link whose delays get wider in the network is such a one in the world
+    pub within_so : (port : PortId) (min max by : ℕ)
+        → ((place : ℕ) (v : LinkSpec) → slice_get n.links place ≡ Some v → IsEnd port (link_after events v)
+        → IsWithin n events min max by (link_after events v))
+        → (place : ℕ) (channel : Channel) → IsChannel port place w.net channel
+        → IsWithin n events min max by (channel_wire channel)
+    within_so port min max by within place channel is =
+        let (v, there, same) = alike (link_after events) channel_wire n.links w.net.channels (sym so.links) place
+        channel is.here in
+        let end : IsEnd port (channel_wire channel) = is.joined in
+        subst (IsWithin n events min max by) same (within place v there (subst (IsEnd port) (sym same) end))
 
     -- and so is a priority1 that of a failed system, or the one that the system has
     keeps_so : (number value : ℕ) → KeepsIdentity n events number value → KeepsPriority number value w

@@ -87,7 +87,7 @@ heard_link p start at w (inr stays) = stays_link p at w stays
 abbrev pub IsOn : (at : LinkPlace) (w : WorldState) → IsLinkOf at w → Type 0
 IsOn at w l = is_capable l.asking.state.peer ≡ true
 
-period_is : (p : SettlingParams) (at : LinkPlace) (w : WorldState) → IsWorld p w → (l : IsLinkOf at w)
+pub period_is : (p : SettlingParams) (at : LinkPlace) (w : WorldState) → IsWorld p w → (l : IsLinkOf at w)
     → (link_setting at w l).period ≡ interval_of p.params.pdelay
 period_is p at w is l =
     ap (λ (x : Params). interval_of x.pdelay) (is.known.set at.asking l.asking.station l.asking.here).starts.params

@@ -12,7 +12,7 @@ use Rattle.gptp_setup.specs.SettlingParams.{SettlingParams, largest_interval}
 use Rattle.gptp_scenario.specs.Calm.{IsCalm, NothingLapses, last_change}
 use Rattle.gptp_scenario.specs.Network.{NetworkState, pace_of}
 use Rattle.gptp_scenario.specs.SettlingAtOnce.{settling_span_at_once}
-use Rattle.gptp_scenario.specs.SettlingTime.{settling_span_with}
+use Rattle.gptp_scenario.specs.SettlingTime.{capability_span, settling_span_with}
 use Rattle.gptp_scenario.specs.SyncWait.{sync_paths}
 use Rattle.gptp_scenario.specs.declared.change.Act.TheVariants.{Change as Changing}
 use Rattle.gptp_scenario.specs.declared.change.Change.{Change}
@@ -49,12 +49,12 @@ use Rattle.gptp_theorem.proofs.SnapshotLemmas.{snapshots_stand}
 use Rattle.gptp_theorem.proofs.SyncPathLemmas.{paths_stand}
 use Rattle.gptp_settling_time.specs.Exactly.{SettlesBy}
 use Rattle.gptp_settling_time.specs.Gains.{ChangesNothing, IsIdleAfter, LeavesCapable, TakesNothing}
-use Rattle.gptp_settling_time.specs.InTurn.{ActsFindSettledInTurn, AnyPast, BeginsBy, BettersClock, BringsUp, EventLeads, Gained, Heard, LeadOn, LeavesSettled, MakesNothing, Past, SettlesAfter, SettlesByEvents, Starting, TurnsInVain}
+use Rattle.gptp_settling_time.specs.InTurn.{ActsFindSettledInTurn, AnyPast, BeginsBy, BettersClock, BringsUp, EventLeads, Gained, Heard, LeadOn, LeavesSettled, MakesNothing, Past, SettlesAfter, SettlesByEvents, Starting, TurnsInVain, WidensFrom}
 use Rattle.gptp_settling_time.proofs.AlwaysClaimedLemmas.{IsClaimedAlways, since_later}
 use Rattle.gptp_settling_time.proofs.BegunLemmas.{begun_keeps, begun_last, rested_sound}
 use Rattle.gptp_settling_time.proofs.ClaimedToLemmas.{IsClaimedTo, claimed_act, claimed_later, claimed_settled}
 use Rattle.gptp_settling_time.proofs.DocumentLemmas.{run_to}
-use Rattle.gptp_settling_time.proofs.GainLemmas.{better_lives, down_so, few_so, gain_so, idle_so, unused_so}
+use Rattle.gptp_settling_time.proofs.GainLemmas.{better_lives, down_so, few_so, gain_so, idle_so, unused_so, used_so, within_so}
 use Rattle.gptp_settling_time.proofs.FailedDownLemmas.{lowered_claimed, lowered_news}
 use Rattle.gptp_settling_time.proofs.FailedUpLemmas.{raised_claimed, raised_from}
 use Rattle.gptp_settling_time.proofs.HeardLemmas.{heard_on}
@@ -70,6 +70,7 @@ use Rattle.gptp_settling_time.proofs.RestClaimedLemmas.{AreOn, rest_claimed, res
 use Rattle.gptp_settling_time.proofs.SettledClaimedLemmas.{settled_claimed}
 use Rattle.gptp_settling_time.proofs.SettledSeenLemmas.{HasSettledSeen, always_settled}
 use Rattle.gptp_settling_time.proofs.BetterClockLemmas.{better_claimed}
+use Rattle.gptp_settling_time.proofs.WidenedLemmas.{widened_claimed}
 use Rattle.gptp_settling_time.proofs.StandsStillLemmas.{StandsStill, claims_stand, from_stands}
 use Rattle.gptp_settling_time.proofs.StartEventLemmas.{IsStarting, IsStartingTo, begun_soon_claimed, begun_soon_news, starting_act, starting_begins, starting_later, starting_made, starts_claimed, starts_news}
 use Rattle.gptp_settling_time.proofs.TimedNewsLemmas.{CanSettle, has_settled}
@@ -284,6 +285,31 @@ module _ {F : Type 0} (answers : Bounds → ℕ → F → Option ℕ → F → T
   left_settled start next claim on settled leaves ready silent =
       left_so next (settled_claimed p start next then claim on settled leaves.off ready silent) leaves.nothing
 
+  -- it widens a link of a network that has settled
+  widened_to : (start next : ℕ) → IsSoundWorld w → AreReadyBy p start then → AreSilentBy p start then
+      → HasSettledSeen p then → WidensFrom n made event start next → IsClaimedTo d more next w'
+  widened_to start next sound ready silent settled wide =
+      let x = wide.widens in
+      let came : Acts (Changing (LinkSet x.clock x.port x.min x.max 0)) then k.draws done w' =
+      subst (λ act. Acts act then k.draws done w') x.act k.acts in
+      let quiet =
+      (quiet_stands n made then playable.network keeps_then.stands keeps_then.claim.world.sound wide.calm).links in
+      let within = within_so n made then keeps_then.stands keeps_then.claim.world.sound (port_id x.clock x.port) x.min
+      x.max wide.by x.within came.1.place came.1.channel came.1.is in
+      let used = used_so n made then keeps_then.stands keeps_then.claim.world.sound came.1.channel within.used in
+      record {
+        keeps = after;
+        since = widened_claimed p start next wide.by x.clock x.port x.min x.max then k.draws done w' keeps.claim.pace
+            keeps_then.claim.world after.claim.world after.claim.measured wide.off quiet came used
+            (record {
+              least = within.least;
+              most = within.most;
+              more = within.more;
+              lossless_before = (quiet came.1.place came.1.channel came.1.is.here used).lossless;
+              lossless = refl;
+            }) wide.later wide.past (sound_later w event.at sound) ready silent settled;
+      }
+
   -- as the network starts
   starting_now : IsStartingTo d made w → event.at ≡ 0 → IsStarting then
   starting_now so now =
@@ -308,11 +334,15 @@ module _ {F : Type 0} (answers : Bounds → ℕ → F → Option ℕ → F → T
               brought_up (suc event.at) next claim (omega (arith, capable)) sound up
           | inr (inl better) ↦ bettered (suc event.at) next claim on (omega arith) sound
               (rest_settled p then keeps_then.claim sound_then late) better
-          | inr (inr leaves) ↦
+          | inr (inr (inl leaves)) ↦
               let since = leaves.since in
               let (ready, silent) = anyway_ready d made next then keeps_then (inr (omega (arith, passed, since))) in
               left_settled (suc event.at) next claim on (rest_settled p then keeps_then.claim sound_then late) leaves
               ready silent
+          | inr (inr (inr wide)) ↦
+              let capable : ℕ = last_change made + capability_span p in
+              let (ready, silent) = anyway_ready d made capable then keeps_then (inr (omega arith)) in
+              widened_to capable next sound ready silent (rest_settled p then keeps_then.claim sound_then late) wide
         ]
     leads_to_heard Starting next (starts, vary) so =
         record {
@@ -334,11 +364,14 @@ module _ {F : Type 0} (answers : Bounds → ℕ → F → Option ℕ → F → T
               brought_up (suc event.at) next claim (omega (arith, capable)) (from_sound p start w so.news) up
           | inr (inl better) ↦ bettered (suc event.at) next claim on (omega arith) (from_sound p start w so.news)
               (news_settled p start then news late) better
-          | inr (inr leaves) ↦
+          | inr (inr (inl leaves)) ↦
               let since = leaves.since in
               let (ready, silent) = ready_later p start next then (omega (arith, settled, since)) news.ready news.silent
               in
               left_settled (suc event.at) next claim on (news_settled p start then news late) leaves ready silent
+          | inr (inr (inr wide)) ↦
+              widened_to start next (from_sound p start w so.news) news.ready news.silent
+              (news_settled p start then news late) wide
         ]
     leads_to_heard (Heard start) next (inl (ahead, brings)) so =
         brought_up start next (since_later p start event.at w k.ready.timely.now k.ready.timely.first so.since) ahead
@@ -352,11 +385,14 @@ module _ {F : Type 0} (answers : Bounds → ℕ → F → Option ℕ → F → T
         elim makes [
           | inl better ↦ bettered start next claim on (omega (arith, late)) so.since.news.sound
               (always_settled p start then claim late) better
-          | inr leaves ↦
+          | inr (inl leaves) ↦
               let since = leaves.since in
               let (ready, silent) = ready_later p start next then (omega (arith, settled, since)) claim.news.ready
               claim.news.silent in
               left_settled start next claim on (always_settled p start then claim late) leaves ready silent
+          | inr (inr wide) ↦
+              widened_to start next so.since.news.sound claim.news.ready claim.news.silent
+              (always_settled p start then claim late) wide
         ]
     leads_to_heard (Heard start) next (inr (inr (nothing, same))) so =
         subst (λ time. IsClaimedTo d more time w') (sym same)

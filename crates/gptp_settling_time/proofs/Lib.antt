@@ -48,6 +48,8 @@ pub mod LinkUpLemmas
 pub mod FailedUpLemmas
 pub mod FailedDownLemmas
 pub mod RestClaimedLemmas
+pub mod WiderLinkLemmas
+pub mod WidenedLemmas
 pub mod SameLinkLemmas
 pub mod StandsLikeLemmas
 pub mod StandsStillLemmas

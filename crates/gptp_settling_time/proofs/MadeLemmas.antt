@@ -32,7 +32,7 @@ use Rattle.gptp_invariants.specs.WorldEncodableLaws.{SetsAnOctet}
 use Rattle.gptp_invariants.specs.DelayLinkView.{LinkPlace}
 use Rattle.gptp_invariants.specs.WorldNews.{AreReadyBy, AreSilentBy, IsNews}
 use Rattle.gptp_invariants.specs.WorldSound.{IsGain, IsSoundWorld}
-use Rattle.gptp_invariants.specs.FailedUnanswered.{IsFailedAmong, StandsUnanswered}
+use Rattle.gptp_invariants.specs.FailedUnanswered.{StandsUnanswered}
 use Rattle.gptp_invariants.proofs.WorldClaimLemmas.{claim_kept, claim_later}
 use Rattle.gptp_invariants.proofs.WorldLinkUpNewsLemmas.{link_up_news}
 use Rattle.gptp_invariants.proofs.WorldNewsActLemmas.{gain_news, ready_later, unanswered_silent, watched_ready}
@@ -215,37 +215,31 @@ module _ {F : Type 0} (answers : Bounds → ℕ → F → Option ℕ → F → T
         ]))
 
     -- a link between live systems isn't one that leads to a failed one
-    apart_from : (number port : ℕ) → JoinsLive n more (port_id number port) → (place : LinkPlace) (now : Channel)
-        → slice_get w'.net.channels place.link ≡ Some now
-        → IsFailedAmong place.answering (receiver place.direction now).clock w'.stations
-        → (link : ℕ) (channel : Channel) → IsChannel (port_id number port) link then.net channel → link ≢ place.link
-    apart_from number port live place now here failed link channel at_port = λ same.
+    apart : (number port : ℕ) → JoinsLive n more (port_id number port) → (place : LinkPlace)
+        → StandsUnanswered place w' → (link : ℕ) (channel : Channel)
+        → IsChannel (port_id number port) link then.net channel → link ≢ place.link
+    apart number port live place s link channel at_port = λ same.
         let stays = acts_stay event.act then k.draws done w' claim_now.world.sound.wired.setups k.acts in
-        let near = stays.links place.link now here in
+        let near = stays.links place.link s.channel s.here in
         let one : channel ≡ near.old =
         same_there then.net.channels place.link channel near.old
         (subst (λ i. slice_get then.net.channels i ≡ Some channel) same at_port.here) near.here in
-        let joined : IsEnd (port_id number port) (channel_wire now) = elim at_port.joined [
+        let joined : IsEnd (port_id number port) (channel_wire s.channel) = elim at_port.joined [
           | inl a ↦ inl (near.a ∙ sym (ap (λ (c : Channel). c.a) one) ∙ a)
           | inr b ↦ inr (near.b ∙ sym (ap (λ (c : Channel). c.b) one) ∙ b)
         ] in
         let (v, there, wire) = alike (link_after more) channel_wire n.links w'.net.channels (sym stands_after.links)
-        place.link now here in
+        place.link s.channel s.here in
         let ends = live place.link v there (subst (IsEnd (port_id number port)) (sym wire) joined) in
-        let lives : IsLive n.systems more (receiver place.direction now).clock =
-        end_so (IsLive n.systems more) place.direction now
+        let lives : IsLive n.systems more (receiver place.direction s.channel).clock =
+        end_so (IsLive n.systems more) place.direction s.channel
         (subst (λ (x : LinkSpec). IsLive n.systems more x.a.clock) wire ends.0)
         (subst (λ (x : LinkSpec). IsLive n.systems more x.b.clock) wire ends.1) in
-        let on = lives_so n more w' stands_after claim_after.world.sound (receiver place.direction now).clock
-        lives place.answering failed.station
-        (record { here = failed.here; named = failed.named }) in
-        let both = sym on ∙ failed.failed in
+        let on = lives_so n more w' stands_after claim_after.world.sound (receiver place.direction s.channel).clock
+        lives place.answering s.answering.station
+        (record { here = s.answering.here; named = s.answering.named }) in
+        let both = sym on ∙ s.answering.failed in
         cc
-
-    apart : (number port : ℕ) → JoinsLive n more (port_id number port) → (place : LinkPlace)
-        → StandsUnanswered place w' → (link : ℕ) (channel : Channel)
-        → IsChannel (port_id number port) link then.net channel → link ≢ place.link
-    apart number port live place s = apart_from number port live place s.channel s.here s.answering
 
     acts_as : (change : Change) → is.change ≡ change → Acts (Changing change) then k.draws done w'
     acts_as change same = subst (λ c. Acts (Changing c) then k.draws done w') same acts
@@ -258,14 +252,12 @@ module _ {F : Type 0} (answers : Bounds → ℕ → F → Option ℕ → F → T
 
     -- what is in flight beside failed systems and between them is in time
     spared : (gone : ℕ) → AreAskedInTime gone then → AreGoneBetween gone then → (change : Change)
-        → is.change ≡ change → SparesFailed n made event (Changing change)
-        → AreAskedInTime gone w' × AreGoneBetween gone w'
-    spared gone asked all (LinkUp number port) same live = (
-      up_in_time_still gone number port then k.draws done w' claim_now.world.sound (acts_as (LinkUp number port) same)
-          asked (λ place s link channel at_port. apart number port live place s link channel at_port),
-      up_gone_still gone number port then k.draws done w' claim_now.world.sound (acts_as (LinkUp number port) same) all
-          (λ place s link channel at_port.
-          apart_from number port live place s.channel s.here s.answering link channel at_port),
+        → is.change ≡ change → SparesFailed (Changing change) → AreAskedInTime gone w' × AreGoneBetween gone w'
+    spared gone asked all (LinkUp number port) same spares = (
+      up_in_time_still p gone number port then k.draws done w' claim_now.world.sound claim_now.measured
+          claim_now.world.known (acts_as (LinkUp number port) same) asked,
+      up_gone_still p gone number port then k.draws done w' claim_now.world.sound claim_now.measured
+          claim_now.world.known (acts_as (LinkUp number port) same) all,
     )
     spared gone asked all (Recover number) same recovers =
         recover_in_time p 0 0 number then k.draws done w' claim_now.pace claim_now.world claim_after.world
@@ -306,7 +298,7 @@ module _ {F : Type 0} (answers : Bounds → ℕ → F → Option ℕ → F → T
               )
           | inr (inr spares) ↦
               let both = spared gone (asked_now gone asked) (gone_later gone event.at w all) is.change refl
-              (subst (SparesFailed n made event) is.act spares) in
+              (subst SparesFailed is.act spares) in
               (gone, past, both.0, both.1)
         ]
 

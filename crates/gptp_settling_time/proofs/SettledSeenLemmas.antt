@@ -82,7 +82,7 @@ always_settled p start w is late quiet off =
 -- each link is at its last stage, in every network of the world
 module _ (p : SettlingParams) (w : WorldState) (seen : IsSettledSeen p w) (n : Network) (graph : seen.n.graph ≡ n.graph)
     (same : SameWiring seen.n n) where
-  stage_settled : (d : ℕ) (best : System) (v pp u q : ℕ) → d < 255 → LeadsFarther n.graph d best v pp u q
+  pub stage_settled : (d : ℕ) (best : System) (v pp u q : ℕ) → d < 255 → LeadsFarther n.graph d best v pp u q
       → LinkSettles says_announce (wiring n d best v pp u q) (view w)
   stage_settled d best v pp u q near leads from pv pu l stand ready =
       inr (inr (stays_so says_announce seen.n n same d best best v pp u q refl pv.announce pu.held l.frames

@@ -21,7 +21,7 @@ use Rattle.gptp_pdelay_machine.specs.Setting.{Setting}
 use Rattle.gptp_pdelay_machine.proofs.FactLemmas.{facts_kept, facts_later}
 use Rattle.gptp_pdelay_machine.proofs.MeasuredLemmas.{meter_kept, meter_later}
 use Rattle.gptp_invariants.specs.DelayElsewhereLaws.{LeavesAlone}
-use Rattle.gptp_invariants.specs.DelayFirstAt.{IsFirstBy}
+use Rattle.gptp_invariants.specs.DelayFirstAt.{IsFirstAt, IsFirstBy}
 use Rattle.gptp_invariants.specs.DelayLinkActs.{IsOneAct}
 use Rattle.gptp_invariants.specs.DelayLinkView.{IsLinkOf, LinkPlace, least_delay, link_setting, meter, pair, reads_as_reply, reads_as_request}
 use Rattle.gptp_invariants.specs.DelayMeasured.{LinkIsMeasured}
@@ -40,6 +40,41 @@ pub record WillAsk (gone calm start : ℕ) (at : LinkPlace) (w : WorldState) : T
   pub watched : IsWatched gone calm at w
   pub asks : IsBeforeOrAsked (link_setting at w watched.link) calm (pair at w watched.link).asker.asked
   pub by : calm + (link_setting at w watched.link).period + exchange_span (link_setting at w watched.link) < start
+
+pub due_since : (k : Setting) (gone calm : ℕ) (p : Pair) (f : LaneFrame) → gone + k.turnaround + k.most < calm
+    → IsDueInTime k gone p.time f → IsDueInTime k calm p.time f
+due_since k gone calm p f late due =
+    let latest = due.latest in
+    record { earliest = due.earliest; latest = omega (arith, latest, late) }
+
+-- Where the last request of a watched link is one of those that count, the exchanges that count began with the first.
+abbrev pub first_since : (gone calm : ℕ) (at : LinkPlace) (w : WorldState) (x : IsWatched gone calm at w)
+    → HasAsked (link_setting at w x.link) calm (pair at w x.link).asker.asked → IsFirstAt calm at w
+first_since gone calm at w x asked =
+    let late = x.good.late in
+    let since : calm ≤ (pair at w x.link).asker.asked = elim asked [
+      | inl one ↦ omega (arith, one)
+      | inr (inl two) ↦ omega (arith, two)
+      | inr (inr more) ↦ omega (arith, more)
+    ] in
+    record {
+      link = x.link;
+      short = x.good.short;
+      facts = record {
+        asked = x.facts.asked;
+        request_timer = x.facts.request_timer;
+        answer_timer = x.facts.answer_timer;
+        out = λ f member.
+            due_since (link_setting at w x.link) gone calm (pair at w x.link) f late (x.facts.out f member);
+        back = λ f member.
+            due_since (link_setting at w x.link) gone calm (pair at w x.link) f late (x.facts.back f member);
+      };
+      inv = record {
+        since = asked;
+        clean = x.inv.phases.clean since;
+        measured = x.inv.measured since;
+      };
+    }
 
 -- ---- each act keeps it
 
@@ -150,43 +185,10 @@ module _ (gone calm start : ℕ) (at : LinkPlace) where
 
   -- ---- it has asked
 
-  -- the exchanges that count began with their first request
   has_asked : (w : WorldState) (is : WillAsk gone calm start at w)
       → HasAsked (link_setting at w is.watched.link) calm (pair at w is.watched.link).asker.asked
       → IsFirstBy calm start at w
-  has_asked w is asked =
-      let k = link_setting at w is.watched.link in
-      let p = pair at w is.watched.link in
-      let late = is.watched.good.late in
-      let since : calm ≤ p.asker.asked = elim asked [
-        | inl one ↦ omega (arith, one)
-        | inr (inl two) ↦ omega (arith, two)
-        | inr (inr more) ↦ omega (arith, more)
-      ] in (
-        record {
-          link = is.watched.link;
-          short = is.watched.good.short;
-          facts = record {
-            asked = is.watched.facts.asked;
-            request_timer = is.watched.facts.request_timer;
-            answer_timer = is.watched.facts.answer_timer;
-            out = λ f member. later k p f late (is.watched.facts.out f member);
-            back = λ f member. later k p f late (is.watched.facts.back f member);
-          };
-          inv = record {
-            since = asked;
-            clean = is.watched.inv.phases.clean since;
-            measured = is.watched.inv.measured since;
-          };
-        },
-        is.by,
-      )
-    where
-      later : (k : Setting) (p : Pair) (f : LaneFrame) → gone + k.turnaround + k.most < calm
-          → IsDueInTime k gone p.time f → IsDueInTime k calm p.time f
-      later k p f late due =
-          let latest = due.latest in
-          record { earliest = due.earliest; latest = omega (arith, latest, late) }
+  has_asked w is asked = (first_since gone calm at w is.watched asked, is.by)
 
   -- beyond that time it has
   pub asked_by : (time : ℕ) (w : WorldState) → IsSound w → NothingBefore time w.net.pending → calm < time

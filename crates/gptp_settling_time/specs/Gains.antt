@@ -145,20 +145,19 @@ LeadsToLive n events number = (place : ℕ) (v : LinkSpec) → slice_get n.links
     → ((link_after events v).a.clock ≡ number) ⊎ ((link_after events v).b.clock ≡ number)
     → IsLive n.systems events (link_after events v).a.clock × IsLive n.systems events (link_after events v).b.clock
 
--- These events leave all as it was beside failed systems: a link between live ones that comes up, a system that
--- recovers, and a priority1.
-abbrev pub SparesFailed : NetworkState → List Timed → Timed → Act → Type 0
-SparesFailed n before event (Changing (LinkUp number port)) =
-    JoinsLive n (before ++ event ∷ []) (port_id number port)
-SparesFailed n before event (Changing (Recover number)) = ⊤
-SparesFailed n before event (Changing (Priority1 number value)) = ⊤
-SparesFailed n before event act = ⊥
+-- Such an event leaves all as it was beside failed systems: a link comes up, over which nothing is in flight yet, a
+-- system recovers, or a priority1 is set.
+abbrev pub SparesFailed : Act → Type 0
+SparesFailed (Changing (LinkUp number port)) = ⊤
+SparesFailed (Changing (Recover number)) = ⊤
+SparesFailed (Changing (Priority1 number value)) = ⊤
+SparesFailed act = ⊥
 
 -- So does one that changes nothing. After any other the largest announce interval is over by this time.
 abbrev pub IsSparedBy : NetworkState → List Timed → Timed → ℕ → Type 0
 IsSparedBy n before event time =
     (event.at + largest_interval (pace_of n) < time)
-    ⊎ (ChangesNothing n before event.act ⊎ SparesFailed n before event event.act)
+    ⊎ (ChangesNothing n before event.act ⊎ SparesFailed event.act)
 
 -- by this time what failed systems sent is gone, after each of these events
 abbrev pub AreSparedBy : NetworkState → List Timed → List Timed → ℕ → Type 0

@@ -9,11 +9,12 @@
 -- whose delay varies little. Nor has one at the start where all delays vary little.
 --
 -- Events that make nothing of what stands ask for no time: such that change nothing, and a link with a failed end that
--- comes up or goes down. These gains are followed, at a time behind such events: a link that comes up between live
--- systems, a system that recovers, and a priority1 of a live system that gets better. The first is heard at once where
--- its delay varies little, the last where no path has more than 255 systems. At time 0 links may go down and come up,
--- systems fail and a priority1 be set, where no live system is then linked to one that has failed. Not followed yet are
--- bounds that are set, and events that take something away at a later time. There the span stands.
+-- comes up or goes down. Nor does a link in use whose delays are set so that they get wider, if that comes first.
+-- These gains are followed, at a time behind events that make nothing: a link that comes up between live systems, a
+-- system that recovers, and a priority1 of a live system that gets better. The first is heard at once where its delay
+-- varies little, the last where no path has more than 255 systems. At time 0 links may go down and come up, systems
+-- fail and a priority1 be set, where no live system is then linked to one that has failed. Not followed yet are other
+-- delays that are set, and events that take something away at a later time. There the span stands.
 use Rattle.std.specs.Prelude.{◌≡◌, ◌<◌, ◌≤◌, ◌⊎◌, ◌+◌, ◌*◌, ◌==◌, ℕ, ⊤, pred, suc, List, [], ◌∷◌, ◌++◌, filter}
 use Rattle.gptp_lists.specs.Members.{In}
 use Rattle.gptp_setup.specs.Intervals.{interval_of}
@@ -32,7 +33,7 @@ use Rattle.gptp_model.specs.World.{port_id}
 use Rattle.gptp_network.specs.Document.{DocumentState}
 use Rattle.gptp_network.specs.Snapshot.{events_by}
 use Rattle.gptp_settling_time.specs.Gains.{ChangesNothing, EndHasFailed, LeavesCapable, TakesNothing}
-use Rattle.gptp_settling_time.specs.InTurn.{BettersClock, BringsUp, MakesNothing, NoneUnanswered, NoneUsed, TellsNothing, UsedVaryLittle}
+use Rattle.gptp_settling_time.specs.InTurn.{BettersClock, BringsUp, MakesNothing, NoneUnanswered, NoneUsed, TellsNothing, UsedVaryLittle, WidensLink}
 
 -- ---- times
 
@@ -140,10 +141,22 @@ BoundsGains n made now time ready choice =
     ⊎ (AfterIdleEvents n (AreGainEvents n (suc (time + ready))) made now
     × (choice ≡ ready + largest_interval (pace_of n) + way_span (sync_paths n (made ++ now))))
 
--- At a time by which the choice stands: its events make nothing of what stands, or are gains.
-abbrev pub BoundsEvents : NetworkState → List Timed → List Timed → ℕ → ℕ → Type 0
-BoundsEvents n made now time choice =
-    (EachEvent (IsIdleEvent n) made now × (choice ≡ 0)) ⊎ ((ready : ℕ) × BoundsGains n made now time ready choice)
+-- A link in use gets wider delays by the first of the events, and the others make nothing of what stands. It would have
+-- settled in time by these delays too: two more messages of the link, and a way.
+abbrev pub AreWiderEvents : NetworkState → ℕ → ℕ → List Timed → List Timed → Type 0
+AreWiderEvents n settled time made [] = ⊥
+AreWiderEvents n settled time made (event ∷ events) =
+    (by : ℕ) × WidensLink n made event by
+    × (settled + 2 * by + way_span (sync_paths n (made ++ event ∷ [])) < time + way_span (sync_paths n made))
+    × EachEvent (IsIdleEvent n) (made ++ event ∷ []) events
+
+-- At a time by which the choice stands, as it does from this earlier time on: its events make nothing of what stands,
+-- widen a link, or are gains.
+abbrev pub BoundsEvents : NetworkState → List Timed → List Timed → ℕ → ℕ → ℕ → Type 0
+BoundsEvents n made now settled time choice =
+    (EachEvent (IsIdleEvent n) made now × (choice ≡ 0))
+    ⊎ ((AreWiderEvents n settled time made now × (choice ≡ 0))
+    ⊎ ((ready : ℕ) × BoundsGains n made now time ready choice))
 
 -- ---- choice bounds
 
@@ -167,7 +180,7 @@ IsChoiceBoundAfter n events (last ∷ earlier) time choice =
     × BoundsChoice n
     ((choice_then : ℕ) × IsChoiceBoundAfter n events earlier last choice_then
     × (last + choice_then < time)
-    × BoundsEvents n (events_by last events) (events_at time events) time choice)
+    × BoundsEvents n (events_by last events) (events_at time events) (last + choice_then) time choice)
     (events_by time events) choice
 
 abbrev pub IsChoiceBound : DocumentState → ℕ → ℕ → Type 0

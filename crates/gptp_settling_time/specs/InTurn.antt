@@ -8,8 +8,9 @@
 -- it leads where the network has settled and it changes nothing, brings up a link between live systems, or sets a
 -- better priority1. Where the delay of that link varies little the first Announce over it comes to a port that is
 -- capable already, and a system that gets better tells so at once. What makes nothing of what stands leaves a network
--- settled that had settled, whatever it came from. Where all was heard before, links may also come up one after another
--- at any time, as several at once; and what changes nothing asks for no time at all.
+-- settled that had settled, whatever it came from, and so does what widens the delays of a link in use. Where all was
+-- heard before, links may also come up one after another at any time, as several at once; and what changes nothing asks
+-- for no time at all.
 use Rattle.std.specs.Prelude.{◌≡◌, ◌<◌, ◌≤◌, ◌⊎◌, ◌+◌, ◌*◌, ℕ, ⊤, pred, true, List, [], ◌∷◌, ◌++◌, Option, Some, slice_get}
 use Rattle.gptp_lists.specs.Members.{In}
 use Rattle.gptp_vector.specs.declared.port.PortId.{PortId}
@@ -23,7 +24,7 @@ use Rattle.gptp_scenario.specs.SettlingTime.{capability_span, settling_span_with
 use Rattle.gptp_scenario.specs.SyncWait.{sync_paths}
 use Rattle.gptp_scenario.specs.declared.change.Act.{Act}
 use Rattle.gptp_scenario.specs.declared.change.Act.TheVariants.{Change as Changing}
-use Rattle.gptp_scenario.specs.declared.change.Change.TheVariants.{Fail, LinkDown, LinkUp, Priority1}
+use Rattle.gptp_scenario.specs.declared.change.Change.TheVariants.{Fail, LinkDown, LinkSet, LinkUp, Priority1}
 use Rattle.gptp_scenario.specs.declared.change.Timed.{Timed}
 use Rattle.gptp_scenario.specs.declared.network.LinkSpec.{LinkSpec}
 use Rattle.gptp_model.specs.World.{WorldState, port_id}
@@ -137,6 +138,36 @@ pub record LeavesSettled (n : NetworkState) (before : List Timed) (event : Timed
   pub off : NothingLapses n.params
   pub since : next + pred (sync_paths n before).systems * (sync_paths n before).delay ≡ event.at
 
+-- the link is in use after these events, and its delays are between these, the greatest of which is larger by so much
+-- at most
+pub record IsWithin (n : NetworkState) (events : List Timed) (min max by : ℕ) (v : LinkSpec) : Type 0 where
+  pub used : IsUsed n.systems events v
+  pub least : min ≤ v.bounds.min
+  pub most : v.bounds.max ≤ max
+  pub more : max ≤ v.bounds.max + by
+
+-- After these events this one sets the delays of a link in use. They get wider, the greatest by so much at most, and it
+-- loses nothing.
+pub record WidensLink (n : NetworkState) (before : List Timed) (event : Timed) (by : ℕ) : Type 0 where
+  pub clock : ℕ
+  pub port : ℕ
+  pub min : ℕ
+  pub max : ℕ
+  pub act : event.act ≡ Changing (LinkSet clock port min max 0)
+  pub within : (place : ℕ) (v : LinkSpec) → slice_get n.links place ≡ Some v
+      → IsEnd (port_id clock port) (link_after before v)
+      → IsWithin n before min max by (link_after before v)
+
+-- It does so in a calm network where nothing lapses for want of Sync. Ports were capable from a start on, and are so
+-- from the next, which is later by what two more messages may take, and no later than the event.
+pub record WidensFrom (n : NetworkState) (before : List Timed) (event : Timed) (start next : ℕ) : Type 0 where
+  pub by : ℕ
+  pub widens : WidensLink n before event by
+  pub calm : IsCalm n before
+  pub off : NothingLapses n.params
+  pub later : start + 2 * by ≤ next
+  pub past : next ≤ event.at
+
 -- the network has settled from any past by this time, or from such a start, where something may not be heard or all is
 pub record HasSettledAnyhow (n : NetworkState) (events : List Timed) (time : ℕ) : Type 0 where
   pub calm : IsCalm n events
@@ -162,16 +193,20 @@ LeadsToGain n before (Heard start) event next = AreCapableStill n before start e
 abbrev pub LeadsToHeard : NetworkState → List Timed → Past → Timed → ℕ → Type 0
 LeadsToHeard n before AnyPast event next =
     HasSettledAnyhow n before event.at
-    × (BringsUp n before event next ⊎ (BettersClock n before event next ⊎ LeavesSettled n before event next))
+    × (BringsUp n before event next
+    ⊎ (BettersClock n before event next
+    ⊎ (LeavesSettled n before event next
+    ⊎ WidensFrom n before event (last_change before + capability_span (pace_of n)) next)))
 LeadsToHeard n before Starting event next =
     StartsWith n before event next × UsedVaryLittle n (before ++ event ∷ [])
 LeadsToHeard n before (Gained start) event next =
     HasSettledSince n before start event.at
-    × (BringsUp n before event next ⊎ (BettersClock n before event next ⊎ LeavesSettled n before event next))
+    × (BringsUp n before event next
+    ⊎ (BettersClock n before event next ⊎ (LeavesSettled n before event next ⊎ WidensFrom n before event start next)))
 LeadsToHeard n before (Heard start) event next =
     ((start ≤ next) × BringsUp n before event next)
     ⊎ ((HasSettledHeard n before start event.at
-    × (BettersClock n before event next ⊎ LeavesSettled n before event next))
+    × (BettersClock n before event next ⊎ (LeavesSettled n before event next ⊎ WidensFrom n before event start next)))
     ⊎ (MakesNothing n before event start × (next ≡ start)))
 
 -- a gain, and what is heard, stays so from the start that it had

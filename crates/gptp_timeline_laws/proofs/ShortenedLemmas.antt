@@ -67,22 +67,25 @@ module _ (n : NetworkState) (all : List Timed) (until : ℕ) where
     subst (λ es. BoundsChoice n
         ((choice_then : ℕ) × IsChoiceBoundAfter n (events_by until all) earlier last choice_then
         × (last + choice_then < time)
-        × BoundsEvents n (events_by last (events_by until all)) (events_at time (events_by until all)) time choice)
+        × BoundsEvents n (events_by last (events_by until all)) (events_at time (events_by until all))
+        (last + choice_then) time choice)
         es choice) (sym (by_sooner time until all le))
         (bounds_by n
         ((choice_then : ℕ) × IsChoiceBoundAfter n all earlier last choice_then × (last + choice_then < time)
-        × BoundsEvents n (events_by last all) (events_at time all) time choice)
+        × BoundsEvents n (events_by last all) (events_at time all) (last + choice_then) time choice)
         ((choice_then : ℕ) × IsChoiceBoundAfter n (events_by until all) earlier last choice_then
         × (last + choice_then < time)
-        × BoundsEvents n (events_by last (events_by until all)) (events_at time (events_by until all)) time choice)
+        × BoundsEvents n (events_by last (events_by until all)) (events_at time (events_by until all))
+        (last + choice_then) time choice)
         (events_by time all) choice
         (λ sharp. (
           sharp.0,
           bound_by earlier last sharp.0 (omega (arith, late, le)) sharp.1,
           sharp.2,
-          subst (λ made. BoundsEvents n made (events_at time (events_by until all)) time choice)
+          subst (λ made. BoundsEvents n made (events_at time (events_by until all)) (last + sharp.0) time choice)
               (sym (by_sooner last until all (omega (arith, late, le))))
-              (subst (λ now. BoundsEvents n (events_by last all) now time choice) (sym (at_sooner time until all le))
+              (subst (λ now. BoundsEvents n (events_by last all) now (last + sharp.0) time choice)
+              (sym (at_sooner time until all le))
               sharp.3),
         ))
         bounds),
