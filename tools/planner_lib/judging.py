@@ -14,7 +14,8 @@ from .texts import Line
 
 _AT = 60 * 10**9  # ns: by then timers that start in step have drifted apart
 # the keys that limit a word of the program's lines
-_LIMITED = {"settle": "choice", "after_fault": "holdover", "time": "time", "apart": "apart", "step": "step"}
+_LIMITED = {"settle": "choice", "after_fault": "holdover", "bound": "bound", "time": "time", "apart": "apart",
+            "step": "step"}
 _AT_ANY_MOMENT = ("time", "apart", "step")
 _DOWN = "down"  # what is got of `first` where somebody has failed
 
@@ -105,8 +106,11 @@ class _Judge:
         """From which time on, in ns, a stretch has to begin for a key to be asked of it.
 
         All have to have time by `first`, 0 where it isn't there: what is read counts from the stretch of that time on,
-        and so does who has time. A wait for time or for the choice counts from the next event on.
+        and so does who has time. A wait for time or for the choice counts from the next event on. A proved bound counts
+        from the first event on.
         """
+        if key == "bound":
+            return min((event.at for event in self._document.events), default=1)
         first = int(self._asked.get("first", 0))
         if key in ("settle", "after_fault"):
             return first + 1
@@ -133,7 +137,8 @@ class _Judge:
         passed_over = [faults.size(line, word) for line in stretches if line["from"] < self._since(key)]
         exceeded = self._exceeded(word, limit, value, passed_over)
         if line is None or value is None:
-            return Verdict(key, not exceeded, "none", in_units(limit), "always")
+            unbounded = line is not None and faults.size(line, word) > limit
+            return Verdict(key, not exceeded and not unbounded, "none", in_units(limit), where if unbounded else "always")
         clocks = [line.fields.get(f"{word}_clock"), line.fields.get("behind_clock") if word == "apart" else None]
         return Verdict(key, not exceeded and value <= limit, in_units(value), in_units(limit), where,
                        ",".join(self._name(clock) for clock in clocks if isinstance(clock, str)))
