@@ -21,6 +21,7 @@ _DOWN = "style=dotted, color=red, fontcolor=red"
 _POINTS = 72  # an inch
 _LETTER, _LINE = 7.0, 13.5  # points at the size of 11
 _MOST_WORDS = 4  # the lines of a box
+_LEAST_LETTERS = 17  # of its longest line, `never grandmaster`
 _MOST_LETTERS = 6  # of the name of a port that stands close to its edge
 _MOST_NAMED = 8  # ends of edges at a box of a folded picture that are named
 
@@ -106,7 +107,7 @@ class Drawing:
 
     def _size(self, box: Box) -> str:
         """The size of a box."""
-        width = max(15, len(self._called(box)) + 2) * _LETTER / _POINTS
+        width = max(_LEAST_LETTERS, len(self._called(box)) + 2) * _LETTER / _POINTS
         return f"width={width:.2f}, height={(_MOST_WORDS + 0.4) * _LINE / _POINTS:.2f}, fixedsize=true"
 
     def _at(self, box: Box) -> str:

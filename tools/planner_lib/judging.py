@@ -14,7 +14,8 @@ from .texts import Line
 
 _AT = 60 * 10**9  # ns: by then timers that start in step have drifted apart
 # the keys that limit a word of the program's lines
-_LIMITED = {"settle": "choice", "after_fault": "holdover", "time": "time", "apart": "apart", "step": "step"}
+_LIMITED = {"settle": "choice", "after_fault": "holdover", "bound": "bound", "time": "time", "apart": "apart",
+            "step": "step"}
 _AT_ANY_MOMENT = ("time", "apart", "step")
 _DOWN = "down"  # what is got of `first` where somebody has failed
 
@@ -105,8 +106,11 @@ class _Judge:
         """From which time on, in ns, a stretch has to begin for a key to be asked of it.
 
         All have to have time by `first`, 0 where it isn't there: what is read counts from the stretch of that time on,
-        and so does who has time. A wait for time or for the choice counts from the next event on.
+        and so does who has time. A wait for time or for the choice counts from the next event on. A proved bound counts
+        from the first event on.
         """
+        if key == "bound":
+            return min((event.at for event in self._document.events), default=1)
         first = int(self._asked.get("first", 0))
         if key in ("settle", "after_fault"):
             return first + 1
@@ -131,20 +135,21 @@ class _Judge:
         line, where = max(lines, key=lambda it: faults.size(it[0], word), default=(None, "always"))
         value = None if line is None else faults.measure(line, word)
         passed_over = [faults.size(line, word) for line in stretches if line["from"] < self._since(key)]
-        exceeded = self._exceeded(word, limit, value, passed_over)
+        above = line is not None and faults.size(line, word) > limit
+        met = not above and not self._exceeded(word, limit, value, passed_over)
         if line is None or value is None:
-            return Verdict(key, not exceeded, "none", in_units(limit), "always")
+            return Verdict(key, met, "none", in_units(limit), where if above else "always")
         clocks = [line.fields.get(f"{word}_clock"), line.fields.get("behind_clock") if word == "apart" else None]
-        return Verdict(key, not exceeded and value <= limit, in_units(value), in_units(limit), where,
+        return Verdict(key, met, in_units(value), in_units(limit), where,
                        ",".join(self._name(clock) for clock in clocks if isinstance(clock, str)))
 
-    def _exceeded(self, word: str, limit: int, value: Value, passed_over: Sequence[Value]) -> bool:
+    def _exceeded(self, word: str, limit: int, value: Value, passed_over: Sequence[int | Decimal]) -> bool:
         """Whether the program itself says that a limit in ns is exceeded, or may have left that unsaid.
 
         It asks a limit also of stretches that are passed over here. Where one of those may be above it the verdict says
         nothing of the others, and their lines decide. Of a value with decimals that is the limit they don't tell.
         """
-        told = [_says(self._timeline[-1], word)]
+        told: list[bool | None] = [_says(self._timeline[-1], word)]
         if told[0] and any(limit < size or limit == size and isinstance(size, Decimal) for size in passed_over):
             told[0] = None
         if self._faults:
@@ -222,8 +227,8 @@ class _Judge:
         within = self._exact[-1].kind == "within"
         systems = [line for line in self._exact if line.kind in ("system bound", "system bound far")]
         unknown = next((line for line in systems if line["always"] is None), None)
-        worst = unknown or max(systems, key=lambda line: line["always"], default=None)
-        got = "none" if worst is None or unknown else in_units(worst["always"])
+        worst = unknown or (max(systems, key=lambda line: line["always"]) if systems else None)
+        got = "none" if worst is None or worst["always"] is None else in_units(worst["always"])
         return Verdict("accuracy", within, got, in_units(self._asked["accuracy"]), "always",
                        self._name(worst["clock"]) if worst else "")
 

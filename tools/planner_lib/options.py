@@ -14,6 +14,7 @@ def time(least: int, most: int) -> Callable[[str], int]:
     """A time of a range in ns: `20 s`, `62.5ms`, `40`."""
 
     def read(text: str) -> int:
+        """The time in ns that an argument spells."""
         at = _nanoseconds(text)
         if not least <= at <= most:
             raise argparse.ArgumentTypeError(f"'{text}' isn't {in_units(least)} to {in_units(most)}")
@@ -34,6 +35,7 @@ def whole(least: int, most: int) -> Callable[[str], int]:
     """A whole number of a range."""
 
     def read(text: str) -> int:
+        """The number that an argument spells."""
         if not re.fullmatch(r"[0-9]+", text) or not least <= int(text) <= most:
             raise argparse.ArgumentTypeError(f"'{text}' isn't a whole number of {least} to {most}")
         return int(text)

@@ -301,7 +301,8 @@ class _Page:
         """The table of bounds of errors."""
         return Table(("after", "system", "greatest error", "bound", "of what is read", "bound", "from"),
                      [[Cell(self._events(stretch), "text"), Cell(self._document.name(line["clock"]), "text"),
-                       *(Cell(_units(line.fields.get(name))) for name in ("error", "bound", "reads", "reads_bound")),
+                       *(Cell(_units(line[name] if name in line.fields else None))
+                         for name in ("error", "bound", "reads", "reads_bound")),
                        Cell(f"{in_seconds(line['from'])}s")]
                       for stretch, line in lines])
 

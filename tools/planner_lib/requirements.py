@@ -10,16 +10,17 @@ from .quantities import in_units, nanoseconds
 from .refusal import Refused
 
 # the keys in the order in which they are answered
-ANSWERED = ("first", "time", "apart", "step", "after_fault", "settle", "shared", "cut", "grandmaster", "accuracy")
+ANSWERED = ("first", "time", "apart", "step", "after_fault", "settle", "shared", "cut", "grandmaster", "accuracy",
+            "bound")
 _HOW = ("kept_by", "moments", "seeds", "hold", "at")
 # the keys that are decided by what the program doesn't print yet; each is decided where the others are once it does
 _LATER = {
-    "bound": "timeline --max-bound",
     "detect": "faults --detect",
 }
 _KINDS = ("links", "systems")
 _TIMES = {  # with the least of each, in ns
-    "first": 0, "time": 0, "apart": 0, "step": 0, "after_fault": 0, "settle": 0, "accuracy": 0, "hold": 1, "at": 0,
+    "first": 0, "time": 0, "apart": 0, "step": 0, "after_fault": 0, "settle": 0, "accuracy": 0, "bound": 0, "hold": 1,
+    "at": 0,
 }
 _LONGEST = 10**15  # ns
 _COUNTS = {"cut": (0, 10**15), "moments": (1, 1000), "seeds": (1, 1000)}
