@@ -110,7 +110,7 @@ module _ {F : Type 0} (answers : Bounds → ℕ → F → Option ℕ → F → T
 -- ---- a stretch
 
 -- a stretch that begins with something is one of them
-begins_in : (passages : List StretchTrace) (start : WorldState) (first : Carried) (p : StretchTrace) (w : WorldState)
+pub begins_in : (passages : List StretchTrace) (start : WorldState) (first : Carried) (p : StretchTrace) (w : WorldState)
     (c : Carried) → BeginsWith passages start first p w c → In p passages
 begins_in [] start first p w c none = absurd none
 begins_in (q ∷ qs) start first p w c (inl is) = inl is.stretch
@@ -206,6 +206,10 @@ module _ {F : Type 0} (answers : Bounds → ℕ → F → Option ℕ → F → T
           (settled answers d playable until p fate t.started t.start t.begun run begun goes_on last told.choice from
           past (last_by p.from d.events) told.bounds told.told a member late names say.snapshot name span_from bound h)
           (last + max told.choice (largest_interval (pace_of d.network)) + 1) is_carried down
+
+  pub acts_right : (error_then : ℕ → ℕ)
+      × ((a : ActTrace) → In a p.acts → from ≤ at_of a → IsRight name error_then a a.before)
+  acts_right = (reading_error_at has.way has.steps, act_is_right)
 
   acts_are_right : AreRight answers d playable names (events_by b.from d.events) name from
       (reading_error_at has.way has.steps) p.acts
