@@ -19,12 +19,10 @@ use Rattle.gptp_scenario.specs.Calm.{AllRest, IsCalm}
 use Rattle.gptp_scenario.specs.InUse.{path_systems}
 use Rattle.gptp_scenario.specs.Network.{largest_of, pace_of}
 use Rattle.gptp_scenario.specs.SyncWait.{sync_paths, sync_wait}
-use Rattle.gptp_scenario.specs.declared.sync_wait.SyncPaths.{SyncPaths}
 use Rattle.gptp_setup.specs.SettlingParams.{lapse_span}
 use Rattle.gptp_system.specs.State.{SystemState}
 use Rattle.gptp_theorem.specs.Headline.{HasPassed, WorldIsCalm}
 use Rattle.gptp_theorem.specs.PlayedLaws.{IsReached}
-use Rattle.gptp_theorem.specs.Reached.{StandsAsPlanned}
 use Rattle.gptp_theorem.proofs.CalmLemmas.{quiet_stands, set_stands}
 use Rattle.gptp_theorem.proofs.PlayedLemmas.{played_stands}
 use Rattle.gptp_theorem.proofs.SnapshotLemmas.{snapshots_stand, systems_stand}

@@ -1,12 +1,12 @@
 -- From one receipt that counts to the next it is no longer than a system waits for Sync, and so what it reads is always
 -- exact.
-use Rattle.std.proofs.Common.{◌≡◌, ◌==◌, ◌⊎◌, ◌≤◌, ◌<◌, ◌+◌, ◌-◌, ◌*◌, ◌%◌, ◌^◌, ◌&&◌, not, ℕ, suc, Bool, true, false, nat_le, nat_lt, List, [], ◌∷◌, ◌++◌, length, map, Option, Some, None, option_map, option_and_then, if◌then◌else◌, unsigned_abs, refl, sym, ap, subst, ◌∙◌, inl, inr, append_assoc, append-nil, arith}
+use Rattle.std.proofs.Common.{◌≡◌, ◌==◌, ◌⊎◌, ◌≤◌, ◌<◌, ◌+◌, ◌-◌, ◌*◌, ◌^◌, ◌&&◌, not, ℕ, Bool, true, false, nat_le, nat_lt, List, [], ◌∷◌, ◌++◌, length, map, Option, Some, None, option_map, option_and_then, if◌then◌else◌, unsigned_abs, refl, sym, ap, subst, ◌∙◌, inl, inr, append_assoc, append-nil, arith}
 use Rattle.std.specs.List.{AllByRecursion}
 use Rattle.std.specs.Prelude.{is_some}
 use Rattle.std.proofs.Math.Nat.{mul-le-mul_right}
 use Rattle.std.proofs.lemmas.Bool.Decides.{nat_tests}
 use Rattle.std.proofs.lemmas.Option.{none-some, same_Some}
-use Rattle.gptp_accuracy.specs.AccuracyText.{reading_always, reading_at}
+use Rattle.gptp_accuracy.specs.AccuracyText.{reading_at}
 use Rattle.gptp_accuracy.specs.Readings.{error_after, ReadingTerms}
 use Rattle.gptp_accuracy.specs.TimeErrors.{AreTimeErrors, greatest_age}
 use Rattle.gptp_accuracy.specs.TimeErrors as errors_of
@@ -28,13 +28,13 @@ use Rattle.gptp_network.proofs.SnapshotLemmas.{from_filter}
 use Rattle.gptp_report.specs.Transitions.{Courses}
 use Rattle.gptp_pdelay.specs.GoodLink.{ceil_div}
 use Rattle.gptp_roles.specs.Selection.{clock_of}
-use Rattle.gptp_scenario.specs.Calm.{last_change, NothingLapses}
+use Rattle.gptp_scenario.specs.Calm.{last_change}
 use Rattle.gptp_scenario.specs.Network.{NetworkState, pace_of}
 use Rattle.gptp_scenario.specs.SettlingTime.{settling_span_with}
 use Rattle.gptp_scenario.specs.SyncWait.{sync_paths, sync_wait}
 use Rattle.gptp_scenario.specs.declared.change.Timed.{Timed}
 use Rattle.gptp_scenario.proofs.LogLemmas.{largest_log}
-use Rattle.gptp_settling_time.specs.HowSoon.{IsChoiceBound}
+use Rattle.gptp_settling_time.specs.HowSoon.{BoundsChoice, IsChoiceBound}
 use Rattle.gptp_settling_time.proofs.MomentLemmas.{last_by}
 use Rattle.gptp_setup.proofs.IntervalLemmas.{interval_positive}
 use Rattle.gptp_system.specs.State.{can_lead}
@@ -58,7 +58,7 @@ use Rattle.gptp_timeline.proofs.SettlingLemmas.{events_then, IsFitEvent, Keeps}
 use Rattle.gptp_timeline.proofs.WithinLemmas.{past_behind}
 use Rattle.gptp_timeline_laws.specs.Age.{GetsTime, ReceivedWithin, TimelinesAreAlwaysExact, TimelinesHearAgainInTime, wait_at}
 use Rattle.gptp_timeline_laws.specs.Exact.{last_receipt, reads_from}
-use Rattle.gptp_timeline_laws.specs.Moments.{BeginsWith, last_time, Moment, next_time, world_after}
+use Rattle.gptp_timeline_laws.specs.Moments.{BeginsWith, last_time, Moment}
 use Rattle.gptp_timeline_laws.proofs.AgeLemmas.{timelines_hear_in_time}
 use Rattle.gptp_timeline_laws.proofs.CourseLemmas.{EndsEvents, last_on, left_both, parts}
 use Rattle.gptp_timeline_laws.proofs.ExactLemmas.{less_each}
@@ -170,10 +170,10 @@ module _ (name from wait : ℕ) (B : ℕ → ℕ) (acts : List ActTrace)
             next : List SystemReads
             next = map (reads_with (Some from) (at_of t) t.after u) xs
 
-            abbrev before : Option ℕ
+            before : Option ℕ
             before = option_map unsigned_abs (error_before (at_of t) t.after u)
 
-            abbrev after : Option ℕ
+            after : Option ℕ
             after = option_map unsigned_abs (reading_error (at_of t) t.after u.clock u.after)
 
             was_next : name ≡ u.clock
@@ -257,7 +257,7 @@ module _ (name from wait : ℕ) (B : ℕ → ℕ) (acts : List ActTrace)
       → ended_reads to w rs xs name ≡ Some r → r.longest ≤ wait
   ended_short to w rs xs done now r short on recent is = by (reads_among xs name) refl is
     where
-      abbrev error : Option ℕ
+      error : Option ℕ
       error = option_map unsigned_abs (option_and_then (reading_error to w name) (reading_among rs name))
 
       by : (old : Option ExactReads) → reads_among xs name ≡ old → option_map (reads_ended to error) old ≡ Some r
@@ -336,8 +336,11 @@ module _ {F : Type 0} (answers : Bounds → ℕ → F → Option ℕ → F → T
       elim (begins_at (r ∷ rs) q.to (later_than from left) drawn fate_after q.after w' p rest member) [
         | inl is ↦
             let (e, there, at_is) = first_of until (later_than from left) some in
-            inr (e, (from_filter (λ (x : Timed). nat_lt from x.at) e left there).0,
-            at_is ∙ sym passage.to_is ∙ sym is)
+            inr (
+              e,
+              (from_filter (λ (x : Timed). nat_lt from x.at) e left there).0,
+              at_is ∙ sym passage.to_is ∙ sym is,
+            )
         | inr (e, there, at_is) ↦
             inr (e, (from_filter (λ (x : Timed). nat_lt from x.at) e left there).0, at_is)
       ]
@@ -385,20 +388,18 @@ span_at d at =
     settling_span_with (pace_of d.network) (sync_paths d.network (events_by at d.events))
     (sync_paths d.network (events_by at d.events)).systems
 
+choice_of : (n : NetworkState) (Sharp : Type 0) (events : List Timed) (choice : ℕ) → 0 < n.params.sync_timeout
+    → BoundsChoice n Sharp events choice
+    → choice ≡ settling_span_with (pace_of n) (sync_paths n events) (sync_paths n events).systems
+choice_of n Sharp events choice above (calm, inl (some, is)) = is
+choice_of n Sharp events choice above (calm, inr (off, sharp)) = absurd (omega (arith, off, above))
+
 choice_is : (d : DocumentState) (at choice : ℕ) → 0 < d.network.params.sync_timeout → IsChoiceBound d at choice
     → choice ≡ span_at d at
-choice_is d at choice above ([], (first, (calm, row))) = by row
-  where
-    by : ((NothingLapses d.network.params → ⊥) × (choice ≡ span_at d at)) ⊎ (NothingLapses d.network.params × _)
-        → choice ≡ span_at d at
-    by (inl so) = so.1
-    by (inr (off, sharp)) = absurd (omega (arith, off, above))
-choice_is d at choice above ((last ∷ earlier), (late, between, (calm, row))) = by row
-  where
-    by : ((NothingLapses d.network.params → ⊥) × (choice ≡ span_at d at)) ⊎ (NothingLapses d.network.params × _)
-        → choice ≡ span_at d at
-    by (inl so) = so.1
-    by (inr (off, sharp)) = absurd (omega (arith, off, above))
+choice_is d at choice above ([], (first, bounds)) =
+    choice_of d.network _ (events_by at d.events) choice above bounds
+choice_is d at choice above ((last ∷ earlier), (late, between, bounds)) =
+    choice_of d.network _ (events_by at d.events) choice above bounds
 
 over_by : (d : DocumentState) (at from : ℕ) → IsTold d at from → 0 < d.network.params.sync_timeout
     → at ≤ last_change (events_by at d.events) → at + span_at d at ≤ from

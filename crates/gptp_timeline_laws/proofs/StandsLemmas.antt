@@ -1,5 +1,5 @@
 -- How a calm network is at a moment of a stretch once it has settled: each near system follows the best of its component.
-use Rattle.std.proofs.Common.{◌≡◌, ◌≤◌, ◌<◌, ◌+◌, ◌^◌, ℕ, zero, suc, nat_le, Bool, List, [], ◌∷◌, ◌++◌, length, Option, Some, None, refl, sym, ap, subst, ◌∙◌, append-nil, arith}
+use Rattle.std.proofs.Common.{◌≡◌, ◌≤◌, ◌+◌, ◌^◌, ℕ, zero, suc, nat_le, Bool, List, [], ◌∷◌, ◌++◌, length, Option, Some, None, refl, sym, ap, subst, ◌∙◌, append-nil, arith}
 use Rattle.std.specs.List.{AllByRecursion}
 use Rattle.gptp_graph.specs.Best.{IsBest}
 use Rattle.gptp_graph.specs.Distance.{IsDistance, IsNear}
@@ -100,16 +100,13 @@ module _ {F : Type 0} (answers : Bounds → ℕ → F → Option ℕ → F → T
     abbrev pace : SettlingParams
     pace = pace_of d.network
 
-    abbrev wait : SyncPaths → ℕ
-    wait paths = sync_wait d.network.params paths
-
-    same_paths : sync_paths d.network events ≡ sync_paths_of v
+    pub same_paths : sync_paths d.network events ≡ sync_paths_of v
     same_paths = paths_stand d.network events v playable.network stands timed.claimed.world.sound
 
     pub quiet : IsQuietWorld d.network.params v
     quiet = quiet_stands d.network events v playable.network stands timed.claimed.world.sound calm
 
-    world_calm : WorldIsCalm pace v
+    pub world_calm : WorldIsCalm pace v
     world_calm = record {
       of = λ place station here. (timed.claimed.world.known.set place station here).starts;
       links = λ link member used.

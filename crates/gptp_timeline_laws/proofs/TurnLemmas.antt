@@ -1,5 +1,5 @@
 -- The acts of a stretch are done one after another.
-use Rattle.std.proofs.Common.{◌≡◌, ◌≤◌, ℕ, List, [], ◌∷◌, ◌++◌, Option, Some, if◌then◌else◌, true, false, Bool, sym, ap, subst, inl, inr, arith}
+use Rattle.std.proofs.Common.{◌≡◌, ◌≤◌, ℕ, List, [], ◌∷◌, ◌++◌, Option, Some, if◌then◌else◌, true, false, Bool, sym, subst, inl, inr, arith}
 use Rattle.gptp_invariants.proofs.SyncFollowClaimLemmas.{acts_time}
 use Rattle.gptp_invariants.proofs.WorldOutlineLemmas.{change_time}
 use Rattle.gptp_links.specs.declared.bounds.Bounds.{Bounds}
