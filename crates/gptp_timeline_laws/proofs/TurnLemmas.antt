@@ -1,5 +1,6 @@
 -- The acts of a stretch are done one after another.
-use Rattle.std.proofs.Common.{◌≡◌, ◌≤◌, ℕ, List, [], ◌∷◌, ◌++◌, Option, Some, if◌then◌else◌, true, false, Bool, sym, subst, inl, inr, arith}
+use Rattle.std.proofs.Common.{◌≡◌, ◌≤◌, ℕ, List, [], ◌∷◌, ◌++◌, Option, Some, if◌then◌else◌, true, false, Bool, refl, sym, subst, inl, inr, arith}
+use Rattle.std.specs.Prelude.{⊤}
 use Rattle.gptp_invariants.proofs.SyncFollowClaimLemmas.{acts_time}
 use Rattle.gptp_invariants.proofs.WorldOutlineLemmas.{change_time}
 use Rattle.gptp_links.specs.declared.bounds.Bounds.{Bounds}
@@ -28,10 +29,10 @@ pub turn_later : (soon late : ℕ) (ts : List ActTrace) → soon ≤ late → Ar
 turn_later soon late [] less turn = tt
 turn_later soon late (t ∷ ts) less turn = (let first = turn.0 in omega (arith, first, less), turn.1)
 
-turn_both : (now then : ℕ) (us vs : List ActTrace) → AreInTurn now us → last_time now us ≤ then → AreInTurn then vs
+turn_both : (now late : ℕ) (us vs : List ActTrace) → AreInTurn now us → last_time now us ≤ late → AreInTurn late vs
     → AreInTurn now (us ++ vs)
-turn_both now then [] vs first less rest = turn_later now then vs less rest
-turn_both now then (t ∷ us) vs first less rest = (first.0, turn_both (at_of t) then us vs first.1 less rest)
+turn_both now late [] vs first less rest = turn_later now late vs less rest
+turn_both now late (t ∷ us) vs first less rest = (first.0, turn_both (at_of t) late us vs first.1 less rest)
 
 -- some of them, and those after them
 pub turn_parts : (now : ℕ) (us vs : List ActTrace) → AreInTurn now (us ++ vs)
@@ -60,14 +61,17 @@ turn_each now (t ∷ ts) turn a (inr later) =
 last_some : (name now last : ℕ) (ts : List ActTrace) → AreInTurn now ts → last ≤ now
     → (late : ℕ) × (last_receipt name (Some last) ts ≡ Some late) × (last ≤ late)
 last_some name now last [] turn soon = (last, refl, omega arith)
-last_some name now last (t ∷ ts) turn soon = by (receives name t)
+last_some name now last (t ∷ ts) turn soon =
+    let first = turn.0 in
+    by (receives name t) (last_some name (at_of t) (at_of t) ts turn.1 (omega arith))
+    (last_some name (at_of t) last ts turn.1 (omega (arith, first, soon)))
   where
-    by : (own : Bool) → (late : ℕ)
-        × (last_receipt name (if own then Some (at_of t) else Some last) ts ≡ Some late) × (last ≤ late)
-    by true =
-        let (late, is, since) = last_some name (at_of t) (at_of t) ts turn.1 (omega arith) in
-        let first = turn.0 in (late, is, omega (arith, first, since, soon))
-    by false = let first = turn.0 in last_some name (at_of t) last ts turn.1 (omega (arith, first, soon))
+    by : (own : Bool)
+        → (late : ℕ) × (last_receipt name (Some (at_of t)) ts ≡ Some late) × (at_of t ≤ late)
+        → (late : ℕ) × (last_receipt name (Some last) ts ≡ Some late) × (last ≤ late)
+        → (late : ℕ) × (last_receipt name (if own then Some (at_of t) else Some last) ts ≡ Some late) × (last ≤ late)
+    by true (late, is, since) other = let first = turn.0 in (late, is, omega (arith, first, since, soon))
+    by false one other = other
 
 pub last_of : (name now : ℕ) (l : Option ℕ) (ts : List ActTrace) → AreInTurn now ts → (a : ActTrace) → In a ts
     → receives name a ≡ true → (late : ℕ) × (last_receipt name l ts ≡ Some late) × (at_of a ≤ late)
