@@ -1,5 +1,5 @@
 -- How old what the second of two systems knows is, where its network has a syncReceiptTimeout, by the law on ages.
-use Rattle.std.proofs.Common.{◌≡◌, ◌<◌, ◌≤◌, ◌+◌, ◌-◌, ℕ, zero, suc, [], List, Option, Some, refl, sym, ap₂, subst, ◌∙◌, inr, arith}
+use Rattle.std.proofs.Common.{◌≡◌, ◌<◌, ◌≤◌, ◌+◌, ◌-◌, ◌*◌, ℕ, zero, suc, [], List, Option, Some, refl, sym, ap, ap₂, subst, ◌∙◌, inr, arith}
 use Rattle.gptp_graph.specs.Distance.{IsNear}
 use Rattle.gptp_graph.specs.PathBound.{path_bound}
 use Rattle.gptp_graph.specs.Snapshot.{Link, System}
@@ -18,7 +18,7 @@ use Rattle.gptp_reading.specs.Age.{WorldsAreRecent}
 use Rattle.gptp_scenario.specs.Calm.{AllRest, IsCalm}
 use Rattle.gptp_scenario.specs.InUse.{path_systems}
 use Rattle.gptp_scenario.specs.Network.{largest_of, pace_of}
-use Rattle.gptp_scenario.specs.SyncWait.{sync_paths, sync_wait}
+use Rattle.gptp_scenario.specs.SyncWait.{step_more, sync_paths, sync_wait}
 use Rattle.gptp_setup.specs.SettlingParams.{lapse_span}
 use Rattle.gptp_system.specs.State.{SystemState}
 use Rattle.gptp_theorem.specs.Headline.{HasPassed, WorldIsCalm}
@@ -100,8 +100,11 @@ module _ (w : WorldState) (k : IsLapsingPair w) (sound : IsSound w) (claimed : S
   passed : HasPassed lapsing_pace (path_bound (snapshot_of w)) w
   passed =
       let now = k.now in
-      subst (λ g. HasPassed lapsing_pace (path_bound g) w) (sym snapshot)
-      (rw (k.stands.last, same_paths) (omega (arith, now)))
+      let quick : step_more lapsing_pace pair_paths ≡ 0 = refl in
+      subst (λ m. HasPassed lapsing_pace m w) (sym (ap path_bound snapshot))
+      (subst (λ paths. w.last_change + (26000000000 + 2 * step_more lapsing_pace paths) ≤ w.time) (sym same_paths)
+      (subst (λ change. change + (26000000000 + 2 * step_more lapsing_pace pair_paths) ≤ w.time) (sym k.stands.last)
+      (omega (arith, now, quick))))
 
   lately : WorldsAreRecent → (s : SystemState) (port due : ℕ) → ShowsLive 2 w s → s.slave ≡ Some port
       → s.lapse ≡ Some due → w.time + 375000000 ≤ due + 125001500

@@ -92,7 +92,7 @@ fn port(clock: u64) -> PortId
 
 /// The network of two systems, of clocks 1 and 2, that a link joins.
 pub(crate) fn pair_with(alloc: Global, params: Params) -> Result<Network, NetworkFault>
-    ensures { IfOk result (λ network. network ≡ record pair_network { params = params.now }) }
+    ensures { IfOk result (λ network. network ≡ record pair_network { params = params }) }
 {
     let mut network = Network::new(alloc, params)?;
     network.add_system(identity(1), 1, 0, 0, intervals())?;
