@@ -385,8 +385,8 @@ module _ {F : Type 0} (answers' : Bounds → ℕ → F → Option ℕ → F → 
                 (λ due u moment. record {
                   act = one;
                   member = In-right one acts (one ∷ []) (inl refl);
-                  uses = delivery_uses link direction then k.was.draws done w' it answer told c u.port u.octets u.message
-                      u.heard u.reads u.used;
+                  uses = delivery_uses link direction then k.was.draws done w' it answer told c u.port u.octets
+                      u.message u.heard u.reads u.used;
                   moment = moment;
                 }) place station there
         by (Expire number timer) (told, e) none place station there =

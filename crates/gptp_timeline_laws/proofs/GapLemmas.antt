@@ -521,9 +521,12 @@ module _ {F : Type 0} (answers : Bounds → ℕ → F → Option ℕ → F → T
       let past = all_past last (events_by b.from d.events)
       (filter_in_order (λ (e : Timed). nat_le e.at b.from) d.events playable.events.in_order) (omega arith) in
       subst (λ es. EventsFirst (length es) last p.acts) (sym b.passage.events_are)
-      (events_first answers d playable names b.before (now_of b.from b.left) p.to last p.acts b.fate b.fate_after w p.after
-      (filter_each (IsFitEvent answers d playable names) (λ (e : Timed). nat_le e.at b.from) b.left b.is_left.fits) b.keeps
-      (subst (λ es. Courses answers p.to es p.acts b.fate b.fate_after w p.after) b.passage.events_are b.passage.courses)
+      (events_first answers d playable names b.before (now_of b.from b.left) p.to last p.acts b.fate b.fate_after w
+      p.after
+      (filter_each (IsFitEvent answers d playable names) (λ (e : Timed). nat_le e.at b.from) b.left b.is_left.fits)
+      b.keeps
+      (subst (λ es. Courses answers p.to es p.acts b.fate b.fate_after w p.after) b.passage.events_are
+      b.passage.courses)
       (past_behind answers d playable names last b.before (now_of b.from b.left) (subst (PastBy last) made past)))
 
   -- are before that time
@@ -621,8 +624,8 @@ pub timelines_hear_again_in_time : {F : Type 0} (answers : Bounds → ℕ → F 
     → TimelinesHearAgainInTime answers
 timelines_hear_again_in_time answers d until options fate lines exceeded t playable shown p w c rs errors name from
     bound age r says begins has are from_is age_so reads =
-    let (B, right) = acts_right answers d until options fate lines exceeded t playable shown p w c errors name from bound
-    says begins are from_is in
+    let (B, right) = acts_right answers d until options fate lines exceeded t playable shown p w c errors name from
+    bound says begins are from_is in
     short_gaps answers d until options fate lines exceeded t playable shown p w c errors name from bound age says begins
     are from_is age_so B right rs r reads
 
@@ -630,8 +633,8 @@ pub timelines_are_always_exact : {F : Type 0} (answers : Bounds → ℕ → F �
     → TimelinesAreAlwaysExact answers
 timelines_are_always_exact answers d until options fate lines exceeded t playable shown p w c rs errors name from bound
     age time read source most moment says begins has are from_is age_so late r most_is =
-    let (last, is, since, soon) = last_then answers d until options fate lines exceeded t playable shown p w c errors name
-    from bound age says begins are from_is age_so time moment late in
+    let (last, is, since, soon) = last_then answers d until options fate lines exceeded t playable shown p w c errors
+    name from bound age says begins are from_is age_so time moment late in
     let most_then : reading_at says.system age ≡ Some most =
     ap (option_and_then (reading_at says.system)) (sym age_so) ∙ most_is in
     let (one, one_is, less) = older says.system (time - last) age most (omega (arith, soon)) most_then in

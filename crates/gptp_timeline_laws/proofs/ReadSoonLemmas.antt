@@ -110,8 +110,8 @@ module _ {F : Type 0} (answers : Bounds → ℕ → F → Option ℕ → F → T
 -- ---- a stretch
 
 -- a stretch that begins with something is one of them
-pub begins_in : (passages : List StretchTrace) (start : WorldState) (first : Carried) (p : StretchTrace) (w : WorldState)
-    (c : Carried) → BeginsWith passages start first p w c → In p passages
+pub begins_in : (passages : List StretchTrace) (start : WorldState) (first : Carried) (p : StretchTrace)
+    (w : WorldState) (c : Carried) → BeginsWith passages start first p w c → In p passages
 begins_in [] start first p w c none = absurd none
 begins_in (q ∷ qs) start first p w c (inl is) = inl is.stretch
 begins_in (q ∷ qs) start first p w c (inr later) = inr (begins_in qs q.after _ p w c later)

@@ -1,4 +1,5 @@
--- How a calm network is at a moment of a stretch once it has settled: each near system follows the best of its component.
+-- How a calm network is at a moment of a stretch once it has settled: each near system follows the best of its
+-- component.
 use Rattle.std.proofs.Common.{◌≡◌, ◌≤◌, ◌+◌, ◌^◌, ℕ, zero, suc, nat_le, Bool, List, [], ◌∷◌, ◌++◌, length, Option, Some, None, refl, sym, ap, subst, ◌∙◌, append-nil, arith}
 use Rattle.std.specs.List.{AllByRecursion}
 use Rattle.gptp_graph.specs.Best.{IsBest}
