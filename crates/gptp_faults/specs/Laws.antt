@@ -1,12 +1,13 @@
 -- Laws of faults.
-use Rattle.std.specs.Prelude.{◌≡◌, ◌≤◌, ℕ, Bool, List, Option, Some}
+use Rattle.std.specs.Prelude.{◌≡◌, ◌<◌, ◌⊎◌, ℕ, Bool, List, Option, Some, None}
+use Rattle.gptp_accuracy.specs.Settlings.{settling_of}
 use Rattle.gptp_graph.specs.Snapshot.{Snapshot}
+use Rattle.gptp_how_soon.specs.declared.bounds.Settling.{Settling}
 use Rattle.gptp_lists.specs.Members.{In}
 use Rattle.rand_pcg.specs.Lcg.{Lcg}
 use Rattle.gptp_network.specs.Adding.{with_event}
 use Rattle.gptp_network.specs.Document.{DocumentState}
 use Rattle.gptp_network.specs.Snapshot.{IsSnapshot}
-use Rattle.gptp_network.specs.Span.{IsBound}
 use Rattle.gptp_network.specs.declared.fault.DocumentFault.{DocumentFault}
 use Rattle.gptp_timeline.specs.Ends.{EndState}
 use Rattle.gptp_timeline.specs.LastTwo.{EndsOf}
@@ -29,11 +30,13 @@ StandsWithout d at o = IsSnapshot (with_event at (fault_of o.failing) d) at
 abbrev pub TellsSettled : Snapshot → OutcomeState → Type 0
 TellsSettled g o = (roots : List ℕ) × AreRoots g roots × AreFollows roots o.follow
 
--- Where the network without what fails in a case at this time is calm, and the case stays down as long as it takes at
--- most to settle, its `follow` lines are those of the settled choice of the network without it.
+-- Where bounds are told of the network without what fails in a case, at the time at which it fails, and the case stays
+-- down for longer than the choice, as it does by default, its `follow` lines are those of the settled choice of that
+-- network.
 abbrev pub FollowSettled : DocumentState → FaultsOptions → ℕ → List OutcomeState → Type 0
-FollowSettled d options at outcomes = (o : OutcomeState) (g : Snapshot) (span : ℕ) → In o outcomes
-    → IsBound (with_event at (fault_of o.failing) d) at (Some span) → span ≤ hold_of d options.hold o.failing at
+FollowSettled d options at outcomes = (o : OutcomeState) (g : Snapshot) (s : Settling) → In o outcomes
+    → settling_of (with_event at (fault_of o.failing) d) at ≡ Some s
+    → (options.hold ≡ None) ⊎ (s.choice < hold_of d options.hold o.failing at)
     → StandsWithout d at o g → TellsSettled g o
 
 -- The lines on followers are settled in every document that is playable.

@@ -18,6 +18,7 @@ pub mod SoFarLemmas
 pub mod PartLemmas
 pub mod RootLemmas
 pub mod StandsLemmas
+pub mod RootsSoonLemmas
 pub mod AgeLemmas
 pub mod BestLemmas
 pub mod ShortenedLemmas
