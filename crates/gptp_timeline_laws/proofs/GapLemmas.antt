@@ -281,11 +281,11 @@ ends_none left (t ∷ us) ends = ends_none (events_left (t ∷ []) left) us ends
 
 none_left : (us : List ActTrace) → events_left us 0 ≡ 0
 none_left [] = refl
-none_left (t ∷ us) = by (is_change t.told.timed.act) refl
+none_left (t ∷ us) = by (is_change t.told.timed.act) (none_left us)
   where
-    by : (test : Bool) → is_change t.told.timed.act ≡ test → events_left us (left_after t.told.timed.act 0) ≡ 0
-    by true is = rw is (none_left us)
-    by false is = rw is (none_left us)
+    by : (test : Bool) → events_left us 0 ≡ 0 → events_left us (if test then 0 - 1 else 0) ≡ 0
+    by true rest = rest
+    by false rest = rest
 
 -- Acts of a stretch up to its last event, none of them later than a time; and those after it.
 record EventsFirst (left last : ℕ) (acts : List ActTrace) : Type 0 where
