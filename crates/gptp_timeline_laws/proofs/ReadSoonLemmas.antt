@@ -1,5 +1,5 @@
 -- What systems read is exact from the time on that the time errors of a stretch say.
-use Rattle.std.proofs.Common.{◌≡◌, ◌≤◌, ◌<◌, ◌+◌, ◌*◌, ◌^◌, ℕ, suc, max, Bool, List, [], ◌∷◌, nat_le, Option, Some, inl, inr, refl, sym, subst, ◌∙◌, arith}
+use Rattle.std.proofs.Common.{◌≡◌, ◌≤◌, ◌<◌, ◌+◌, ◌*◌, ◌^◌, ℕ, suc, max, Bool, true, List, [], ◌∷◌, nat_le, Option, Some, inl, inr, refl, sym, subst, ◌∙◌, arith}
 use Rattle.gptp_accuracy.specs.TimeErrors.{AreTimeErrors}
 use Rattle.gptp_accuracy.specs.declared.errors.TimeErrors.{TimeErrors}
 use Rattle.gptp_error_laws.specs.TimeError.{reading_error_at}
@@ -182,7 +182,7 @@ module _ {F : Type 0} (answers : Bounds → ℕ → F → Option ℕ → F → T
           → IsRight name (reading_error_at h.way h.steps) a a.before
       by told later h =
           let order = filter_in_order (λ (e : Timed). nat_le e.at until) d.events playable.events.in_order in
-          let run = runs_to answers d until t.passages 0 (events_by until d.events) t.started t.fate_after t.start
+          let run = runs_to answers true d until t.passages 0 (events_by until d.events) t.started t.fate_after t.start
           t.after p order t.pass
           (begins_in t.passages t.start (none_carried (tracks options) names) p w c begins) in
           let last = last_change (events_by p.from d.events) in
