@@ -43,7 +43,7 @@ use Rattle.gptp_theorem.proofs.SettlingInvariantLemmas.{each_there}
 use Rattle.gptp_timeline.specs.ExactReads.{counts_new, ended_reads, greater_of, later_of, reads_among, reads_by, reads_ended, reads_next, reads_over, reads_with, unread}
 use Rattle.gptp_timeline.specs.Jumps.{error_before}
 use Rattle.gptp_timeline.specs.Laws.{SayBound}
-use Rattle.gptp_timeline.specs.Looks.{events_left, left_after}
+use Rattle.gptp_timeline.specs.Looks.{events_left}
 use Rattle.gptp_timeline.specs.Readings.{new_in, read_after, reading_among, reading_error, readings_after}
 use Rattle.gptp_timeline.specs.Stretch.{at_of, is_change, receives}
 use Rattle.gptp_timeline.specs.Timeline.{AllPass, AreErrorsBy, Carried, end_before, later_than, none_carried, now_of, StretchTrace, TimelineOf, tracks}

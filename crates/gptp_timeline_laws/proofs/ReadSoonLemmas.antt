@@ -1,5 +1,5 @@
 -- What systems read is exact from the time on that the time errors of a stretch say.
-use Rattle.std.proofs.Common.{◌≡◌, ◌≤◌, ◌<◌, ◌+◌, ◌*◌, ◌^◌, ℕ, suc, max, Bool, true, List, [], ◌∷◌, nat_le, Option, Some, inl, inr, refl, sym, subst, ◌∙◌, arith}
+use Rattle.std.proofs.Common.{◌≡◌, ◌≤◌, ◌<◌, ◌+◌, ◌*◌, ◌^◌, ℕ, suc, Bool, true, List, [], ◌∷◌, nat_le, Option, Some, inl, inr, refl, sym, subst, ◌∙◌, arith}
 use Rattle.gptp_accuracy.specs.TimeErrors.{AreTimeErrors}
 use Rattle.gptp_accuracy.specs.declared.errors.TimeErrors.{TimeErrors}
 use Rattle.gptp_error_laws.specs.TimeError.{reading_error_at}
@@ -14,7 +14,6 @@ use Rattle.gptp_network.specs.Snapshot.{events_by}
 use Rattle.gptp_scenario.specs.Calm.{last_change}
 use Rattle.gptp_scenario.specs.Network.{pace_of}
 use Rattle.gptp_scenario.specs.declared.change.Timed.{Timed}
-use Rattle.gptp_setup.specs.SettlingParams.{largest_interval}
 use Rattle.gptp_how_soon_laws.proofs.StepLemmas.{IsKept}
 use Rattle.gptp_settling_time.proofs.AsIfChangedLemmas.{changed_at, shows_so}
 use Rattle.gptp_settling_time.proofs.ExactInTurnLemmas.{IsCarried}
