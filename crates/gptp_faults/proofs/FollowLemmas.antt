@@ -223,8 +223,8 @@ module _ (options : FaultsOptions) (d : DocumentState) (t : Times) (c : Case) (p
       subst (λ es. StandsAfter d.network es g)
       (sym (ap (λ time. events_by time whole.events) from ∙ by_fault ∙ sym by_then)) stands in
       subst (AreRoots g) (ap (λ (x : EndState). x.roots) (sym k.ended))
-      (bound_follows draws whole false until e.passages fate e.started e.fate_after e.start e.after k.passage s.choice g can
-      e.begun e.pass k.member bound (omega (arith, from, to, stays)) there)
+      (bound_follows draws whole false until e.passages fate e.started e.fate_after e.start e.after k.passage s.choice g
+      can e.begun e.pass k.member bound (omega (arith, from, to, stays)) there)
 
 -- ---- the law
 

@@ -94,6 +94,6 @@ stretches_follow_soon answers d until options fate lines exceeded t playable p s
     (keeps_first answers d playable names fate t.started t.start refl t.begun) t.pass member in
     let bound = subst (λ at. IsChoiceBound d at s.choice) (sym b.passage.from_is)
     (told_bound d b.from s playable (sym b.passage.settling_is ∙ told)) in
-    bound_follows answers d true until t.passages fate t.started t.fate_after t.start t.after p s.choice g playable t.begun
-    t.pass member (bound.0, bound_by d.network d.events p.from bound.0 p.from s.choice (omega arith) bound.1) late
+    bound_follows answers d true until t.passages fate t.started t.fate_after t.start t.after p s.choice g playable
+    t.begun t.pass member (bound.0, bound_by d.network d.events p.from bound.0 p.from s.choice (omega arith) bound.1) late
     stands
