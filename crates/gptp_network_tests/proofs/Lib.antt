@@ -7,3 +7,4 @@ mod BetterLemmas
 mod BackLemmas
 mod EarlyLemmas
 mod RingLemmas
+mod AgeLemmas

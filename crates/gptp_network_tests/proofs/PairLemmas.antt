@@ -82,7 +82,7 @@ links_rest (suc i) x early = absurd (omega (arith, early))
 pub calm : IsCalm pair_network []
 calm = record { links = links_rest; lapses = inl refl }
 
-stands_after : StandsAfter pair_network [] pair_snapshot
+pub stands_after : StandsAfter pair_network [] pair_snapshot
 stands_after = record {
   systems = IsPermutation-refl pair_snapshot.systems;
   rising = ((λ y among. later y among), ((λ y among. absurd among), tt));

@@ -1,5 +1,6 @@
 //! What is proved of two systems at rest, seen.
 
+use crate::ages::age_in_time;
 use crate::drawn::{
     announce_at_rest, capable_in_time, certify_at_rest, enabled_in_time, exact_in_time,
     follow_at_rest, follow_by_distance, follow_by_paths, hear_in_time, play_at_rest, second_then,
@@ -59,6 +60,8 @@ fn two_systems_at_rest_are_as_proved(rt: HostRuntime) -> Result<(), Fail> {
         read.is_some_and(|(read, at)| read.abs_diff(i128::from(at) << 16) <= 31),
         true,
     );
+    let age = age_in_time(rt.alloc(), PcgFate::new(1))?;
+    same(&rt, age.is_some_and(|age| age <= 125_001_500), true);
     Ok(())
 }
 

@@ -29,7 +29,7 @@ use gptp_world::{Done, Network, NetworkFault, Params, World};
 use std::alloc::Global;
 
 /// What both systems have: intervals of 1 s, and of 125 ms for time.
-const PARAMS: Params = Params {
+pub(crate) const PARAMS: Params = Params {
     announce: 0,
     sync: -3,
     pdelay: 0,
@@ -91,10 +91,10 @@ fn port(clock: u64) -> PortId
 }
 
 /// The network of two systems, of clocks 1 and 2, that a link joins.
-fn pair(alloc: Global) -> Result<Network, NetworkFault>
-    ensures { IfOk result (λ network. network ≡ pair_network) }
+pub(crate) fn pair_with(alloc: Global, params: Params) -> Result<Network, NetworkFault>
+    ensures { IfOk result (λ network. network ≡ record pair_network { params = params }) }
 {
-    let mut network = Network::new(alloc, PARAMS)?;
+    let mut network = Network::new(alloc, params)?;
     network.add_system(identity(1), 1, 0, 0, intervals())?;
     network.add_system(identity(2), 1, 0, 0, intervals())?;
     network.add_link(port(1), port(2), 500, 500, 0, true)?;
@@ -105,7 +105,7 @@ fn pair(alloc: Global) -> Result<Network, NetworkFault>
 pub(crate) fn begun<F: Fate + Drop>(alloc: Global, fate: F) -> Result<World<F>, NetworkFault>
     ensures { IfOk result (λ world. HasBegun F.answers world.fate world.world_core) }
 {
-    let network = pair(alloc)?;
+    let network = pair_with(alloc, PARAMS)?;
     network.well_formed();
     match World::new(alloc, &network, fate) {
         Ok(world) => Ok(world),

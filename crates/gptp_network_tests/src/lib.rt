@@ -1,10 +1,11 @@
 //! Worked rows of networks and documents, as an outside caller sees them: also that whatever the order of acts and the
 //! fate of frames, a calm network settles in time.
 //!
-//! What they expect was written down before the code. What is in `drawn`, `readings` and `soon` is no test: their
-//! contracts follow from those of the crates below.
+//! What they expect was written down before the code. What is in `ages`, `drawn`, `readings` and `soon` is no test:
+//! their contracts follow from those of the crates below.
 #![tactic(auto)]
 
+pub mod ages;
 #[cfg(test)]
 mod at_rest;
 #[cfg(test)]

@@ -1,16 +1,18 @@
 -- In a settled world a Lapse timer that was started since was started by a Follow_Up, and so one came lately.
-use Rattle.std.proofs.Common.{◌≡◌, ◌⊎◌, ◌<◌, ◌≤◌, ◌+◌, ◌*◌, ℕ, true, List, [], ◌∷◌, ◌++◌, Option, Some, None, slice_get, refl, sym, ap, subst, ◌∙◌, inl, inr, arith}
+use Rattle.std.proofs.Common.{◌≡◌, ◌⊎◌, ◌<◌, ◌≤◌, ◌+◌, ◌*◌, ℕ, suc, true, List, [], ◌∷◌, ◌++◌, Option, Some, None, slice_get, refl, sym, ap, subst, ◌∙◌, inl, inr, arith}
 use Rattle.std.specs.List.{range_with_len}
 use Rattle.std.specs.Prelude.{IsSome, length}
+use Rattle.std.proofs.Math.Nat.{mul-le-mul_right}
 use Rattle.std.proofs.lemmas.Bool.{cases_lt}
 use Rattle.std.proofs.lemmas.Option.{none-some}
 use Rattle.gptp_graph.specs.Best.{IsBest}
-use Rattle.gptp_graph.specs.Distance.{IsNear}
+use Rattle.gptp_graph.specs.Distance.{IsDistance, IsNear}
 use Rattle.gptp_graph.specs.Parent.{ParentLink}
 use Rattle.gptp_graph.specs.PathBound.{BoundsPaths, path_bound}
 use Rattle.gptp_graph.specs.Snapshot.{IsWellFormed, Snapshot, System}
 use Rattle.gptp_graph.proofs.BestLemmas.{IsBest-unique}
 use Rattle.gptp_graph.proofs.ParentLemmas.{IsParent-unique}
+use Rattle.gptp_graph.proofs.PathBoundLemmas.{IsDistance-within}
 use Rattle.gptp_lists.specs.Members.{In}
 use Rattle.gptp_lists.proofs.MappedLemmas.{same_there}
 use Rattle.gptp_lists.proofs.SystemSpecLemmas.{In-left, In-right}
@@ -23,14 +25,16 @@ use Rattle.gptp_links.specs.declared.bounds.Bounds.{Bounds}
 use Rattle.gptp_links.specs.declared.link.Direction.{Direction}
 use Rattle.gptp_links.specs.Fate.{Draw}
 use Rattle.gptp_setup.specs.declared.setup.Params.{Params}
-use Rattle.gptp_setup.specs.SettlingParams.{SettlingParams, lapse_span}
+use Rattle.gptp_setup.specs.SettlingParams.{SettlingParams, lapse_span, largest_interval}
 use Rattle.gptp_setup.proofs.IntervalLemmas.{interval_positive}
 use Rattle.gptp_scenario.specs.declared.change.Act.{Act}
 use Rattle.gptp_scenario.specs.declared.change.Act.TheVariants.{Deliver, Expire, Change as Changing}
 use Rattle.gptp_scenario.specs.declared.change.Timed.{Timed}
 use Rattle.gptp_scenario.specs.Network.{IsNetwork, NetworkState, pace_of}
+use Rattle.gptp_scenario.specs.Calm.{SyncsComeInTime}
 use Rattle.gptp_scenario.specs.SettlingTime.{settling_span_with}
 use Rattle.gptp_scenario.specs.SyncWait.{step_more, sync_wait}
+use Rattle.gptp_scenario.specs.declared.sync_wait.SyncPaths.{SyncPaths}
 use Rattle.gptp_system.specs.declared.answer.Answer.{Answer}
 use Rattle.gptp_system.specs.declared.answer.Answer.TheVariants as answers
 use Rattle.gptp_system.specs.Input.{Input, Frame as FrameHeard, Expires as TimerExpires}
@@ -51,18 +55,19 @@ use Rattle.gptp_model.specs.World.{WorldState, receiver}
 use Rattle.gptp_world.proofs.InitialLemmas.{initial_sound}
 use Rattle.gptp_report.specs.Transitions.{ActTrace, transition}
 use Rattle.gptp_bmca_machine.specs.Settled.{IsSlaveOf}
-use Rattle.gptp_invariants.specs.ChoiceCalm.{sync_paths_of}
-use Rattle.gptp_invariants.specs.WorldCalmFor.{IsCalmFor, span_over}
+use Rattle.gptp_invariants.specs.ChoiceCalm.{IsQuietWorld, step_with, sync_paths_of}
+use Rattle.gptp_invariants.specs.WorldCalmFor.{IsCalmFor}
 use Rattle.gptp_invariants.specs.WorldSettlingInvariant.{KeepsAll}
 use Rattle.gptp_invariants.specs.ChoiceSeenLaws.{IsNoChange}
-use Rattle.gptp_invariants.specs.ChoiceSettled.{IsSettledSystem, Settled}
 use Rattle.gptp_invariants.specs.WorldStanding.{snapshot_of}
-use Rattle.gptp_invariants.specs.SyncTimedClaim.{IsCalmBy}
+use Rattle.gptp_invariants.specs.WorldShown.{IsSettledFor, distance_span}
 use Rattle.gptp_invariants.proofs.ChoiceCalmKeptLemmas.{KeepsNetwork, acts_keep, earlier_quiet, same_paths, same_snapshot, stays_quiet}
-use Rattle.gptp_invariants.proofs.WorldSettlingInvariantLemmas.{settled_by_paths}
+use Rattle.gptp_invariants.proofs.WorldSettlingInvariantLemmas.{distance_follows}
 use Rattle.gptp_invariants.proofs.WorldClaimLemmas.{claim_begins, claim_kept, claim_later}
 use Rattle.gptp_invariants.proofs.SyncFollowClaimLemmas.{acts_time}
 use Rattle.gptp_invariants.proofs.ChoiceSettlesAsMachineLemmas.{paths_bound}
+use Rattle.gptp_invariants.proofs.SyncWaitLemmas.{step_long, wait_is}
+use Rattle.gptp_invariants.proofs.WorldGreatestDelayLemmas.{delay_short}
 use Rattle.gptp_invariants.proofs.WorldOutlineLemmas.{change_is_last, starts_are_last}
 use Rattle.gptp_invariants.proofs.WorldStandsLemmas.{stands_well}
 use Rattle.gptp_theorem.specs.Headline.{HasPassed, WorldIsCalm, UsesFollowUp}
@@ -75,7 +80,11 @@ use Rattle.gptp_reading.proofs.RunLemmas.{IsKeptAct, runs_keep}
 
 -- ---- two settled states
 
--- a settled system has one root and one Slave port
+-- a system follows the best of its component over its parent
+abbrev pub Follows : Snapshot → SystemState → Type 0
+Follows g s = IsSettledFor g (clock s) s.root s.steps s.slave
+
+-- such a system has one root and one Slave port
 same_slaves : (g : Snapshot) (v : ℕ) (a b : Option ℕ) → IsSlaveOf g v a → IsSlaveOf g v b → b ≡ a
 same_slaves g v None None is also = refl
 same_slaves g v None (Some n) none (l, follows, own) = absurd (none l follows)
@@ -84,11 +93,11 @@ same_slaves g v (Some m) (Some n) (l, follows, own) (k, also, other) =
     ap (λ (x : ℕ). Some x)
     (sym other ∙ ap (λ (x : ParentLink). x.own_port) (IsParent-unique g v k l also follows) ∙ own)
 
-same_roots : (g : Snapshot) (s s' : SystemState) → IsWellFormed g → clock s' ≡ clock s → IsSettledSystem g s
-    → IsSettledSystem g s' → s'.root ≡ s.root
+same_roots : (g : Snapshot) (s s' : SystemState) → IsWellFormed g → clock s' ≡ clock s → Follows g s → Follows g s'
+    → s'.root ≡ s.root
 same_roots g s s' wf clocks choice choice' =
-    let (a, is_a, is) = choice.root in
-    let (b, is_b, is') = choice'.root in
+    let (a, is_a, is) = choice.best in
+    let (b, is_b, is') = choice'.best in
     let same = IsBest-unique g (clock s) b a wf (subst (λ n. IsBest g n b) clocks is_b) is_a in
     is' ∙ ap (λ (x : System). x.identity) same ∙ sym is
 
@@ -101,26 +110,34 @@ pub record HeardAt (acts : List ActTrace) (number due span : ℕ) : Type 0 where
   pub uses : UsesFollowUp number act.told.done
   pub moment : due ≡ act.told.timed.at + span
 
--- A Lapse timer of a near live system was started by the time from which the network is settled, or by a Follow_Up.
+-- the world is quiet, no path of it has more than m systems, and by this time those at distance d follow their best
+pub record AreSettledBy (p : SettlingParams) (m d settled : ℕ) (w : WorldState) : Type 0 where
+  pub near : d < 255
+  pub quiet : IsQuietWorld p.params w
+  pub bounded : BoundsPaths (snapshot_of w) m
+  pub passed : w.last_change + distance_span m d p (sync_paths_of w) 0 ≤ settled
+
+-- A Lapse timer was started by the time from which its system follows its best, or by a Follow_Up.
 abbrev pub IsStarted : List ActTrace → ℕ → ℕ → ℕ → ℕ → Type 0
 IsStarted acts settled span number due = (due ≤ settled + span) ⊎ HeardAt acts number due span
 
-abbrev pub IsTimedBy : Snapshot → List ActTrace → ℕ → ℕ → Station → Type 0
-IsTimedBy g acts settled span station = station.live ≡ true → IsNear g (clock station.system) → (due : ℕ)
+abbrev pub IsTimedBy : Snapshot → List ActTrace → ℕ → ℕ → ℕ → Station → Type 0
+IsTimedBy g acts d settled span station = station.live ≡ true → IsDistance g (clock station.system) d → (due : ℕ)
     → station.system.lapse ≡ Some due → IsStarted acts settled span (clock station.system) due
 
 pub record AreTimed (p : SettlingParams) (acts : List ActTrace) (w : WorldState) : Type 0 where
   pub claimed : KeepsAll p w
   pub each : EachLapses w
-  pub timed : (m settled : ℕ) → IsCalmBy p m settled w → settled ≤ w.time → (place : ℕ) (station : Station)
+  pub timed : (m d settled : ℕ) → AreSettledBy p m d settled w → settled ≤ w.time → (place : ℕ) (station : Station)
       → slice_get w.stations place ≡ Some station
-      → IsTimedBy (snapshot_of w) acts settled (lapse_span p.params) station
+      → IsTimedBy (snapshot_of w) acts d settled (lapse_span p.params) station
 
 -- ---- as time passes
 
-calm_earlier : (p : SettlingParams) (m settled : ℕ) (w : WorldState) (time : ℕ) → IsCalmBy p m settled (at time w)
-    → IsCalmBy p m settled w
-calm_earlier p m settled w time calm = record {
+settled_earlier : (p : SettlingParams) (m d settled : ℕ) (w : WorldState) (time : ℕ)
+    → AreSettledBy p m d settled (at time w) → AreSettledBy p m d settled w
+settled_earlier p m d settled w time calm = record {
+  near = calm.near;
   quiet = earlier_quiet p.params (path_bound (snapshot_of w)) w time calm.quiet;
   bounded = calm.bounded;
   passed = calm.passed;
@@ -131,27 +148,28 @@ pub timed_later : (p : SettlingParams) (acts : List ActTrace) (w : WorldState) (
 timed_later p acts w time later first are = record {
   claimed = claim_later p w time later first are.claimed;
   each = are.each;
-  timed = λ m settled calm late place station here. by m settled calm place station here (cases_lt w.time settled);
+  timed = λ m d settled calm late place station here.
+      by m d settled calm place station here (cases_lt w.time settled);
 }
   where
-    by : (m settled : ℕ) → IsCalmBy p m settled (at time w) → (place : ℕ) (station : Station)
+    by : (m d settled : ℕ) → AreSettledBy p m d settled (at time w) → (place : ℕ) (station : Station)
         → slice_get w.stations place ≡ Some station → (w.time < settled) ⊎ (settled ≤ w.time)
-        → IsTimedBy (snapshot_of w) acts settled (lapse_span p.params) station
-    by m settled calm place station here (inl early) = λ live near due lapse.
+        → IsTimedBy (snapshot_of w) acts d settled (lapse_span p.params) station
+    by m d settled calm place station here (inl early) = λ live far due lapse.
         let soon = (are.claimed.world.known.in_time place station here live).lapse due lapse in
         let within : due ≤ w.time + lapse_span p.params =
         subst (λ (q : Params). due ≤ w.time + lapse_span q) (are.claimed.world.known.set place station here).params
         soon in
         inl (omega (arith, within, early))
-    by m settled calm place station here (inr already) =
-        are.timed m settled (calm_earlier p m settled w time calm) already place station here
+    by m d settled calm place station here (inr already) =
+        are.timed m d settled (settled_earlier p m d settled w time calm) already place station here
 
 -- ---- one act
 
 -- what a call makes of the timer
 module _ (g : Snapshot) (wf : IsWellFormed g) (acts : List ActTrace) (settled span now : ℕ) (input : Input)
     (answer : Answer) (s s' : SystemState) (clocks : clock s' ≡ clock s) (spans : lapse_span s.params ≡ span)
-    (choice : IsSettledSystem g s) (choice' : IsSettledSystem g s')
+    (choice : Follows g s) (choice' : Follows g s')
     (old : (due : ℕ) → s.lapse ≡ Some due → IsStarted acts settled span (clock s) due)
     (uses : (due : ℕ) → UsesOne input answer now s s' → due ≡ now + span → HeardAt acts (clock s) due span) where
   called : LapseStep input answer now s s' → (due : ℕ) → s'.lapse ≡ Some due
@@ -159,8 +177,8 @@ module _ (g : Snapshot) (wf : IsWellFormed g) (acts : List ActTrace) (settled sp
   called (inl r) due lapse = old due (sym r.lapse ∙ lapse)
   called (inr (inl o)) due lapse =
       absurd (o.other (same_roots g s s' wf clocks choice choice')
-      (same_slaves g (clock s) s.slave s'.slave choice.slave
-      (subst (λ n. IsSlaveOf g n s'.slave) clocks choice'.slave)))
+      (same_slaves g (clock s) s.slave s'.slave choice.parent
+      (subst (λ n. IsSlaveOf g n s'.slave) clocks choice'.parent)))
   called (inr (inr (inl u))) due lapse =
       inr (uses due u
       ((lapse_begins s s'.root s'.slave now due (sym u.begins ∙ lapse)).moment ∙ ap (λ x. now + x) spans))
@@ -201,22 +219,26 @@ delivery_uses link direction w draws done w' d answer told c port octets m heard
         ap (λ x. (receiver direction x).clock) channels ∙ sym d.delivers.is_end
         ∙ ap (λ (x : Station). clock x.system) stations
 
--- the network has settled
-settled_choice : (p : SettlingParams) (m settled : ℕ) (w : WorldState) → KeepsAll p w → IsCalmBy p m settled w
-    → settled ≤ w.time → Settled w
-settled_choice p m settled w claimed calm late =
-    let is : IsCalmFor (span_over m) w = record {
+-- a system follows its best over its parent
+follows_there : (p : SettlingParams) (m d settled : ℕ) (w : WorldState) → KeepsAll p w → AreSettledBy p m d settled w
+    → settled ≤ w.time → (place : ℕ) (station : Station) → slice_get w.stations place ≡ Some station
+    → station.live ≡ true → IsDistance (snapshot_of w) (clock station.system) d
+    → Follows (snapshot_of w) station.system
+follows_there p m d settled w claimed calm late place station here live far =
+    let is : IsCalmFor (distance_span m d) w = record {
       pace = p;
-      set = λ place station here. (claimed.world.known.set place station here).starts;
+      set = λ i x there. (claimed.world.known.set i x there).starts;
       quiet = calm.quiet;
       late = let passed = calm.passed in omega (arith, passed, late);
     } in
-    settled_by_paths m w (record { pace = p; is = claimed }) calm.bounded is
+    let follows = distance_follows m d w (record { pace = p; is = claimed }) calm.bounded place station here live far
+    calm.near is in
+    record { best = follows.root; distance = follows.steps; parent = follows.slave }
 
--- no world has settled at its last change
-at_once : (p : SettlingParams) (w : WorldState) → KeepsAll p w → w.last_change ≡ w.time → (m settled : ℕ)
-    → IsCalmBy p m settled w → settled ≤ w.time → ⊥
-at_once p w claimed now m settled calm late =
+-- none has done so at the last change of a world
+at_once : (p : SettlingParams) (w : WorldState) → KeepsAll p w → w.last_change ≡ w.time → (m d settled : ℕ)
+    → AreSettledBy p m d settled w → settled ≤ w.time → ⊥
+at_once p w claimed now m d settled calm late =
     let passed = calm.passed in
     let some = interval_positive p.largest claimed.pace.largest in
     absurd (omega (arith, passed, late, now, some))
@@ -231,14 +253,15 @@ keeps_back w w' k = record {
   change = sym k.change;
 }
 
-calm_before : (p : SettlingParams) (m settled : ℕ) (w w' : WorldState) → KeepsNetwork w w' → IsCalmBy p m settled w'
-    → IsCalmBy p m settled w
-calm_before p m settled w w' k calm = record {
+settled_before : (p : SettlingParams) (m d settled : ℕ) (w w' : WorldState) → KeepsNetwork w w'
+    → AreSettledBy p m d settled w' → AreSettledBy p m d settled w
+settled_before p m d settled w w' k calm = record {
+  near = calm.near;
   quiet = stays_quiet w' w (keeps_back w w' k) p.params calm.quiet;
   bounded = subst (λ g. BoundsPaths g m) (same_snapshot w w' k) calm.bounded;
   passed = let passed = calm.passed in let same = k.change in
-      let more : m * step_more p (sync_paths_of w') ≡ m * step_more p (sync_paths_of w) =
-      ap (λ paths. m * step_more p paths) (same_paths w w' k) in
+      let more : d * step_more p (sync_paths_of w') ≡ d * step_more p (sync_paths_of w) =
+      ap (λ paths. d * step_more p paths) (same_paths w w' k) in
       omega (arith, passed, same, more);
 }
 
@@ -264,9 +287,9 @@ module _ {F : Type 0} (answers' : Bounds → ℕ → F → Option ℕ → F → 
   claimed' = claim_kept answers' p timed k.fate k.fate_after w w' done k.fit k.prompt k.octet k.was are.claimed
 
   -- what was so is so with one act more
-  grows : (g : Snapshot) (settled : ℕ) (station : Station) → IsTimedBy g acts settled span station
-      → IsTimedBy g more settled span station
-  grows g settled station is live near due lapse = by (is live near due lapse)
+  grows : (g : Snapshot) (d settled : ℕ) (station : Station) → IsTimedBy g acts d settled span station
+      → IsTimedBy g more d settled span station
+  grows g d settled station is live far due lapse = by (is live far due lapse)
     where
       by : IsStarted acts settled span (clock station.system) due
           → IsStarted more settled span (clock station.system) due
@@ -279,13 +302,13 @@ module _ {F : Type 0} (answers' : Bounds → ℕ → F → Option ℕ → F → 
             moment = heard.moment;
           })
 
-  module _ (m settled : ℕ) (keeps : KeepsNetwork then w') (calm : IsCalmBy p m settled w') (late : settled ≤ w'.time)
-      (moment : w'.time ≡ timed.at) where
+  module _ (m d settled : ℕ) (keeps : KeepsNetwork then w') (calm : AreSettledBy p m d settled w')
+      (late : settled ≤ w'.time) (moment : w'.time ≡ timed.at) where
     abbrev g : Snapshot
     g = snapshot_of then
 
-    calm_then : IsCalmBy p m settled then
-    calm_then = calm_before p m settled then w' keeps calm
+    calm_then : AreSettledBy p m d settled then
+    calm_then = settled_before p m d settled then w' keeps calm
 
     late_then : settled ≤ timed.at
     late_then = omega (arith, late, moment)
@@ -295,19 +318,13 @@ module _ {F : Type 0} (answers' : Bounds → ℕ → F → Option ℕ → F → 
         let is = before.claimed.world in
         stands_well then is.sound is.between is.encodable
 
-    choice : Settled then
-    choice = settled_choice p m settled then before.claimed calm_then late_then
-
-    choice' : Settled w'
-    choice' = settled_choice p m settled w' claimed' calm late
-
     same : snapshot_of w' ≡ g
     same = same_snapshot then w' keeps
 
     old : (place : ℕ) (station : Station) → slice_get then.stations place ≡ Some station
-        → IsTimedBy g more settled span station
+        → IsTimedBy g more d settled span station
     old place station here =
-        grows g settled station (before.timed m settled calm_then late_then place station here)
+        grows g d settled station (before.timed m d settled calm_then late_then place station here)
 
     -- the system that is called
     calls_timed : (place : ℕ) (input : Input) (v : WorldState) (answer : Answer)
@@ -315,9 +332,9 @@ module _ {F : Type 0} (answers' : Bounds → ℕ → F → Option ℕ → F → 
         → ((due : ℕ) → UsesOne input answer v.time c.station.system c.after → due ≡ v.time + span
         → HeardAt more (clock c.station.system) due span)
         → (other : ℕ) (station : Station) → slice_get w'.stations other ≡ Some station
-        → IsTimedBy g more settled span station
+        → IsTimedBy g more d settled span station
     calls_timed place input v answer stations c uses other station there =
-        get-set_all (IsTimedBy g more settled span) v.stations place c.station (in_state c.after c.station) c.here
+        get-set_all (IsTimedBy g more d settled span) v.stations place c.station (in_state c.after c.station) c.here
         after (λ i x here. old i x (subst (λ (ss : List Station). slice_get ss i ≡ Some x) stations here)) other station
         (subst (λ (x : WorldState). slice_get x.stations other ≡ Some station) c.is there)
       where
@@ -332,66 +349,69 @@ module _ {F : Type 0} (answers' : Bounds → ℕ → F → Option ℕ → F → 
             ap (λ (x : WorldState). slice_get x.stations place) c.is
             ∙ get-set_same v.stations place c.station (in_state c.after c.station) c.here
 
-        after : IsTimedBy g more settled span (in_state c.after c.station)
-        after live near due lapse =
-            let near_then : IsNear g (clock c.station.system) = subst (IsNear g) clocks near in
-            let settles = choice place c.station here_then live near_then in
-            let settles' : IsSettledSystem g c.after =
-            subst (λ x. IsSettledSystem x c.after) same
-            (choice' place (in_state c.after c.station) here_after live
-            (subst (λ x. IsNear x (clock c.after)) (sym same) near)) in
+        after : IsTimedBy g more d settled span (in_state c.after c.station)
+        after live far due lapse =
+            let far_then : IsDistance g (clock c.station.system) d = subst (λ n. IsDistance g n d) clocks far in
+            let follows : Follows g c.station.system =
+            follows_there p m d settled then before.claimed calm_then late_then place c.station here_then live
+            far_then in
+            let follows' : Follows g c.after =
+            subst (λ x. Follows x c.after) same
+            (follows_there p m d settled w' claimed' calm late place (in_state c.after c.station) here_after live
+            (subst (λ x. IsDistance x (clock c.after) d) (sym same) far)) in
             let spans = ap lapse_span (before.claimed.world.known.set place c.station here_then).params in
             subst (λ n. IsStarted more settled span n due) (sym clocks)
-            (called g wf more settled span v.time input answer c.station.system c.after clocks spans settles settles'
-            (λ before_due runs. old place c.station here_then live near_then before_due runs) uses
+            (called g wf more settled span v.time input answer c.station.system c.after clocks spans follows follows'
+            (λ before_due runs. old place c.station here_then live far_then before_due runs) uses
             (lapse_steps input v.time c.station.system c.after c.sends answer c.steps) due lapse)
 
     acts_timed : Acts timed.act then k.was.draws done w' → IsNoChange timed.act → (place : ℕ) (station : Station)
-        → slice_get w'.stations place ≡ Some station → IsTimedBy g more settled span station
+        → slice_get w'.stations place ≡ Some station → IsTimedBy g more d settled span station
     acts_timed = by timed.act
       where
         by : (act : Act) → Acts act then k.was.draws done w' → IsNoChange act → (place : ℕ) (station : Station)
-            → slice_get w'.stations place ≡ Some station → IsTimedBy g more settled span station
-        by (Deliver link direction) d none place station there = hears d.answer d.told d.delivers.hears
+            → slice_get w'.stations place ≡ Some station → IsTimedBy g more d settled span station
+        by (Deliver link direction) it none place station there = hears it.answer it.told it.delivers.hears
           where
-            hears : (o : Option Answer) → TellsHearing (receiver direction d.channel) o d.octets done
-                → Hears d.delivers.place (receiver direction d.delivers.channel).port d.octets
-                (record then { net = d.delivers.net }) k.was.draws o w'
-                → IsTimedBy g more settled span station
+            hears : (o : Option Answer) → TellsHearing (receiver direction it.channel) o it.octets done
+                → Hears it.delivers.place (receiver direction it.delivers.channel).port it.octets
+                (record then { net = it.delivers.net }) k.was.draws o w'
+                → IsTimedBy g more d settled span station
             hears None told (failed, nothing, is) =
                 old place station (subst (λ (x : WorldState). slice_get x.stations place ≡ Some station) is there)
             hears (Some answer) told c =
-                calls_timed d.delivers.place (FrameHeard (receiver direction d.delivers.channel).port d.octets)
-                (record then { net = d.delivers.net }) answer refl c
+                calls_timed it.delivers.place (FrameHeard (receiver direction it.delivers.channel).port it.octets)
+                (record then { net = it.delivers.net }) answer refl c
                 (λ due u moment. record {
                   act = one;
                   member = In-right one acts (one ∷ []) (inl refl);
-                  uses = delivery_uses link direction then k.was.draws done w' d answer told c u.port u.octets u.message
-                      u.heard u.reads u.used;
+                  uses = delivery_uses link direction then k.was.draws done w' it answer told c u.port u.octets
+                      u.message u.heard u.reads u.used;
                   moment = moment;
                 }) place station there
         by (Expire number timer) (told, e) none place station there =
             calls_timed e.place (TimerExpires timer) (stopped e.place timer then) e.so.answer refl e.so.calls
             (λ due u moment. let is = u.heard in absurd cc) place station there
-        by (Changing change) d none place station there = absurd none
+        by (Changing change) it none place station there = absurd none
 
-  timed_after : (m settled : ℕ) → IsCalmBy p m settled w' → settled ≤ w'.time → (place : ℕ) (station : Station)
-      → slice_get w'.stations place ≡ Some station → IsTimedBy (snapshot_of w') more settled span station
-  timed_after m settled calm late place station there = by timed.act refl
+  timed_after : (m d settled : ℕ) → AreSettledBy p m d settled w' → settled ≤ w'.time → (place : ℕ)
+      (station : Station) → slice_get w'.stations place ≡ Some station
+      → IsTimedBy (snapshot_of w') more d settled span station
+  timed_after m d settled calm late place station there = by timed.act refl
     where
-      on : IsNoChange timed.act → IsTimedBy (snapshot_of w') more settled span station
+      on : IsNoChange timed.act → IsTimedBy (snapshot_of w') more d settled span station
       on none =
           let keeps = acts_keep timed.act then k.was.draws done w' none k.was.acts in
           let moment = acts_time timed.act then k.was.draws done w' none k.was.acts in
-          subst (λ x. IsTimedBy x more settled span station) (sym (same_snapshot then w' keeps))
-          (acts_timed m settled keeps calm late moment k.was.acts none place station there)
+          subst (λ x. IsTimedBy x more d settled span station) (sym (same_snapshot then w' keeps))
+          (acts_timed m d settled keeps calm late moment k.was.acts none place station there)
 
-      by : (act : Act) → timed.act ≡ act → IsTimedBy (snapshot_of w') more settled span station
+      by : (act : Act) → timed.act ≡ act → IsTimedBy (snapshot_of w') more d settled span station
       by (Deliver link direction) is = on (subst IsNoChange (sym is) tt)
       by (Expire number timer) is = on (subst IsNoChange (sym is) tt)
       by (Changing change) is =
           absurd (at_once p w' claimed' (change_is_last change then k.was.draws done w'
-          (subst (λ act. Acts act then k.was.draws done w') is k.was.acts)) m settled calm late)
+          (subst (λ act. Acts act then k.was.draws done w') is k.was.acts)) m d settled calm late)
 
   pub timed_act : AreTimed p more w'
   timed_act = record {
@@ -416,42 +436,77 @@ timed_begins answers' n fate fate_after w network k =
     record {
       claimed = claimed;
       each = lapses_start (range_with_len 0 (length n.systems)) (initial n) k.draws w k.starts (none_lapses n);
-      timed = λ m settled calm late place station here.
+      timed = λ m d settled calm late place station here.
           absurd (at_once (pace_of n) w claimed
-          (starts_are_last (range_with_len 0 (length n.systems)) (initial n) k.draws w refl k.starts) m settled calm
+          (starts_are_last (range_with_len 0 (length n.systems)) (initial n) k.draws w refl k.starts) m d settled calm
           late);
     }
 
+-- where something can lapse, Syncs come sooner than it does
+pub prompt_paths : (p : SettlingParams) (paths : SyncPaths) → 0 < p.params.sync_timeout → SyncsComeInTime p.params paths
+    → sync_wait p.params paths < lapse_span p.params
+prompt_paths p paths above (inl off) = absurd (omega (arith, off, above))
+prompt_paths p paths above (inr short) = short
+
+-- A system at a distance that paths have follows its best, and the wait for a Sync is over too, before all has settled.
+pub wait_ends : (p : SettlingParams) (paths : SyncPaths) (m d : ℕ) → 1 ≤ largest_interval p
+    → paths.delay ≤ largest_interval p → sync_wait p.params paths < lapse_span p.params → d < m
+    → distance_span m d p paths 0 + sync_wait p.params paths < settling_span_with p paths m
+wait_ends p paths m d some near short within =
+    let waits = wait_is p.params paths short in
+    let long = step_long p paths near in
+    let steps : suc d * step_with p paths ≤ m * step_with p paths =
+    mul-le-mul_right (step_with p paths) (omega (arith, within)) in
+    omega (arith, waits, long, some, steps)
+
 module _ (p : SettlingParams) (acts : List ActTrace) (w : WorldState) (are : AreTimed p acts w)
-    (calm : WorldIsCalm p w)
-    (earlier number port : ℕ) (s : SystemState) (above : 0 < p.params.sync_timeout)
-    (passed : HasPassed p (path_bound (snapshot_of w)) (at earlier w))
-    (waited : earlier + sync_wait p.params (sync_paths_of w) < w.time) (near : IsNear (snapshot_of w) number)
+    (calm : WorldIsCalm p w) (number port : ℕ) (s : SystemState) (above : 0 < p.params.sync_timeout)
+    (passed : HasPassed p (path_bound (snapshot_of w)) w) (near : IsNear (snapshot_of w) number)
     (shows : ShowsLive number w s) (slave : s.slave ≡ Some port) (can : can_lead s.root ≡ true) where
   abbrev m : ℕ
   m = path_bound (snapshot_of w)
 
-  abbrev settled : ℕ
-  settled = w.last_change + settling_span_with p (sync_paths_of w) m
+  abbrev paths : SyncPaths
+  paths = sync_paths_of w
 
   abbrev x : SystemState
   x = shows.station.system
 
-  by_earlier : settled ≤ earlier
-  by_earlier = passed
+  quiet : IsQuietWorld p.params w
+  quiet = quiet_as p w calm
 
-  already : settled ≤ w.time
-  already = let early = by_earlier in omega (arith, early, waited)
-
-  calm_by : IsCalmBy p m settled w
-  calm_by = record {
-    quiet = quiet_as p w calm;
-    bounded = paths_bound p w are.claimed.world;
-    passed = let same : settled ≤ settled = omega arith in same;
-  }
+  bounded : BoundsPaths (snapshot_of w) m
+  bounded = paths_bound p w are.claimed.world
 
   near_so : IsNear (snapshot_of w) (clock x)
   near_so = subst (IsNear (snapshot_of w)) (sym shows.is.named) near
+
+  abbrev d : ℕ
+  d = near_so.0
+
+  -- when the system follows its best
+  abbrev settled : ℕ
+  settled = w.last_change + distance_span m d p paths 0
+
+  settled_by : AreSettledBy p m d settled w
+  settled_by = record {
+    near = near_so.2;
+    quiet = quiet;
+    bounded = bounded;
+    passed = let same : settled ≤ settled = omega arith in same;
+  }
+
+  -- and the wait for a Sync is over
+  waited : settled + sync_wait p.params paths < w.time
+  waited =
+      let ends = wait_ends p paths m d (interval_positive p.largest are.claimed.pace.largest)
+      (delay_short p w are.claimed.world.known) (prompt_paths p paths above quiet.lapses)
+      (IsDistance-within (snapshot_of w) m (clock x) d bounded near_so.1) in
+      let over = passed in
+      omega (arith, ends, over)
+
+  already : settled ≤ w.time
+  already = let over = waited in omega (arith, over)
 
   slave_so : x.slave ≡ Some port
   slave_so = ap (λ (y : SystemState). y.slave) (sym shows.state) ∙ slave
@@ -466,10 +521,10 @@ module _ (p : SettlingParams) (acts : List ActTrace) (w : WorldState) (are : Are
   pub heard_lately : HeardWithin acts number (sync_wait p.params (sync_paths_of w)) w.time
   heard_lately = from_due (due_of x.lapse runs)
     where
-      by : (due : ℕ) → w.time + lapse_span p.params ≤ due + sync_wait p.params (sync_paths_of w)
+      by : (due : ℕ) → w.time + lapse_span p.params ≤ due + sync_wait p.params paths
           → IsStarted acts settled (lapse_span p.params) (clock x) due
-          → HeardWithin acts number (sync_wait p.params (sync_paths_of w)) w.time
-      by due lately (inl early) = let before = by_earlier in absurd (omega (arith, lately, early, before, waited))
+          → HeardWithin acts number (sync_wait p.params paths) w.time
+      by due lately (inl early) = let over = waited in absurd (omega (arith, lately, early, over))
       by due lately (inr heard) = record {
         act = heard.act;
         member = heard.member;
@@ -477,17 +532,17 @@ module _ (p : SettlingParams) (acts : List ActTrace) (w : WorldState) (are : Are
         lately = let moment = heard.moment in omega (arith, lately, moment);
       }
 
-      from_due : (due : ℕ) × (x.lapse ≡ Some due)
-          → HeardWithin acts number (sync_wait p.params (sync_paths_of w)) w.time
+      from_due : (due : ℕ) × (x.lapse ≡ Some due) → HeardWithin acts number (sync_wait p.params paths) w.time
       from_due (due, lapse) =
           by due
-          (lapse_lately p w are.claimed (quiet_as p w calm) already shows.place port due shows.station shows.is.here
-          shows.live near_so slave_so lapse)
-          (are.timed m settled calm_by already shows.place shows.station shows.is.here shows.live near_so due lapse)
+          (lapse_lately p w are.claimed quiet passed shows.place port due shows.station shows.is.here shows.live
+          near_so slave_so lapse)
+          (are.timed m d settled settled_by already shows.place shows.station shows.is.here shows.live near_so.1 due
+          lapse)
 
 pub runs_hear_in_time : {F : Type 0} (answers' : Bounds → ℕ → F → Option ℕ → F → Type 0) → RunsHearInTime answers'
-runs_hear_in_time answers' d until fate start w ts p earlier number port s playable moment k calm above passed waited
-    near shows slave can =
+runs_hear_in_time answers' d until fate start w ts p number port s playable moment k calm above passed near shows slave
+    can =
     let n = d.network in
     let (all, are) = runs_keep answers' (AreTimed (pace_of n))
     (λ acts timed done v v' act so. timed_act answers' (pace_of n) acts timed done v v' act so)
@@ -498,6 +553,5 @@ runs_hear_in_time answers' d until fate start w ts p earlier number port s playa
     let params = sym known.params ∙ starts.params in
     let largest = sym known.largest ∙ starts.largest in
     let pace : pace_of n ≡ p = λ i. record { params = params i; largest = largest i } in
-    heard_lately p ts w (subst (λ (q : SettlingParams). AreTimed q ts w) pace are) calm earlier number port s above
-    passed waited
-    near shows slave can
+    heard_lately p ts w (subst (λ (q : SettlingParams). AreTimed q ts w) pace are) calm number port s above passed near
+    shows slave can

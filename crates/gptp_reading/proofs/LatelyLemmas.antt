@@ -30,8 +30,8 @@ runs_read_lately answers d until fate start w acts p earlier steps number port e
     let all = ends_claimed answers d until fate start w acts playable moment unfolds in
     let claimed = claimed_alike w (claimed_of w all) p calm shows.place shows.station shows.is.here in
     let bounded : BoundsPaths (snapshot_of w) m = paths_bound p w claimed.world in
-    let heard = runs_hear_in_time answers d until fate start w acts p earlier number port s playable moment unfolds calm
-    above (omega (arith, come)) waited near shows slave can in
+    let heard = runs_hear_in_time answers d until fate start w acts p number port s playable moment unfolds calm above
+    (omega (arith, come, waited)) near shows slave can in
     let lately = heard.lately in
     let since : earlier ≤ heard.act.told.timed.at = omega (arith, lately, waited) in
     let some = interval_positive p.largest claimed.pace.largest in

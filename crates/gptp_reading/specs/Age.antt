@@ -12,7 +12,6 @@ use Rattle.gptp_scaled.specs.Counts.{AreWithin}
 use Rattle.gptp_setup.specs.SettlingParams.{SettlingParams, lapse_span}
 use Rattle.gptp_scenario.specs.SyncWait.{sync_wait}
 use Rattle.gptp_system.specs.State.{SystemState, can_lead}
-use Rattle.gptp_model.specs.Acts.{at}
 use Rattle.gptp_model.specs.Views.{ShowsLive}
 use Rattle.gptp_model.specs.World.{WorldState}
 use Rattle.gptp_network.specs.Document.{DocumentState}
@@ -46,15 +45,14 @@ pub record HeardWithin (acts : List ActTrace) (number span time : ℕ) : Type 0 
   pub lately : time ≤ act.told.timed.at + span
 
 -- Follow_Ups come in time. Let a run of a document, in a network that has a syncReceiptTimeout, end in a calm world
--- that had settled earlier and has waited for a Sync since. Then each near system that has a Slave port, and follows a
--- root that may be grandmaster, used a Follow_Up no longer ago than such a system waits for the next Sync. What it
--- reads is no older.
+-- once so long has passed since its last change. Then each near system that has a Slave port, and follows a root that
+-- may be grandmaster, used a Follow_Up no longer ago than such a system waits for the next Sync. What it reads is no
+-- older.
 abbrev pub RunsHearInTime : {F : Type 0} → (Bounds → ℕ → F → Option ℕ → F → Type 0) → Type 0
 RunsHearInTime {F} answers = (d : DocumentState) (until : ℕ) (fate : F) (start w : WorldState) (acts : List ActTrace)
-    (p : SettlingParams) (earlier number port : ℕ) (s : SystemState)
+    (p : SettlingParams) (number port : ℕ) (s : SystemState)
     → IsPlayable d → until ≤ 10 ^ 18 → Unfolds answers d until fate start acts w
-    → WorldIsCalm p w → 0 < p.params.sync_timeout → HasPassed p (path_bound (snapshot_of w)) (at earlier w)
-    → earlier + sync_wait p.params (sync_paths_of w) < w.time
+    → WorldIsCalm p w → 0 < p.params.sync_timeout → HasPassed p (path_bound (snapshot_of w)) w
     → IsNear (snapshot_of w) number → ShowsLive number w s → s.slave ≡ Some port → can_lead s.root ≡ true
     → HeardWithin acts number (sync_wait p.params (sync_paths_of w)) w.time
 
@@ -78,7 +76,7 @@ RunsReadLately {F} answers = (d : DocumentState) (until : ℕ) (fate : F) (start
     (p : SettlingParams) (earlier steps number port error : ℕ) (s : SystemState) (shown : ℤ)
     → IsPlayable d → until ≤ 10 ^ 18 → Unfolds answers d until fate start acts w
     → WorldIsCalm p w → 0 < p.params.sync_timeout → HasComeDown p (path_bound (snapshot_of w)) (suc steps) earlier w
-    → earlier + sync_wait p.params (sync_paths_of w) < w.time
+    → earlier + sync_wait p.params (sync_paths_of w) ≤ w.time
     → IsNear (snapshot_of w) number → ShowsLive number w s → s.slave ≡ Some port → can_lead s.root ≡ true
     → IsReadingErrorOf p.params w number steps (sync_wait p.params (sync_paths_of w)) error
     → IsBestsTime w number w.time shown

@@ -74,7 +74,7 @@ quiet_leave left [] quiet = refl
 quiet_leave left (t ∷ us) quiet =
     ap (events_left us) (quiet_leaves left t quiet.0) ∙ quiet_leave left us quiet.1
 
-left_both : (left : ℕ) (us vs : List ActTrace) → events_left (us ++ vs) left ≡ events_left vs (events_left us left)
+pub left_both : (left : ℕ) (us vs : List ActTrace) → events_left (us ++ vs) left ≡ events_left vs (events_left us left)
 left_both left [] vs = refl
 left_both left (t ∷ us) vs = left_both (events_left (t ∷ []) left) us vs
 

@@ -17,6 +17,7 @@ pub mod SourceLemmas
 pub mod SoFarLemmas
 pub mod PartLemmas
 pub mod RootLemmas
+pub mod StandsLemmas
 pub mod RootsSoonLemmas
 pub mod AgeLemmas
 pub mod BestLemmas
@@ -25,3 +26,5 @@ pub mod StretchRunLemmas
 pub mod SoonLemmas
 pub mod ExactSoonLemmas
 pub mod ReadSoonLemmas
+pub mod TurnLemmas
+pub mod GapLemmas

@@ -235,7 +235,7 @@ module _ {F : Type 0} (answers : Bounds → ℕ → F → Option ℕ → F → T
 
 -- ---- a moment of a stretch
 
-last_less : (soon late : ℕ) (ts : List ActTrace) → soon ≤ late → last_time soon ts ≤ last_time late ts
+pub last_less : (soon late : ℕ) (ts : List ActTrace) → soon ≤ late → last_time soon ts ≤ last_time late ts
 last_less soon late [] less = less
 last_less soon late (t ∷ ts) less = let same : last_time (at_of t) ts ≤ last_time (at_of t) ts = omega arith in same
 

@@ -1,5 +1,5 @@
 -- What systems read is exact from the time on that the time errors of a stretch say.
-use Rattle.std.proofs.Common.{◌≡◌, ◌≤◌, ◌<◌, ◌+◌, ◌*◌, ◌^◌, ℕ, suc, max, Bool, true, List, [], ◌∷◌, nat_le, Option, Some, inl, inr, refl, sym, subst, ◌∙◌, arith}
+use Rattle.std.proofs.Common.{◌≡◌, ◌≤◌, ◌<◌, ◌+◌, ◌*◌, ◌^◌, ℕ, suc, Bool, true, List, [], ◌∷◌, nat_le, Option, Some, inl, inr, refl, sym, subst, ◌∙◌, arith}
 use Rattle.gptp_accuracy.specs.TimeErrors.{AreTimeErrors}
 use Rattle.gptp_accuracy.specs.declared.errors.TimeErrors.{TimeErrors}
 use Rattle.gptp_error_laws.specs.TimeError.{reading_error_at}
@@ -14,7 +14,6 @@ use Rattle.gptp_network.specs.Snapshot.{events_by}
 use Rattle.gptp_scenario.specs.Calm.{last_change}
 use Rattle.gptp_scenario.specs.Network.{pace_of}
 use Rattle.gptp_scenario.specs.declared.change.Timed.{Timed}
-use Rattle.gptp_setup.specs.SettlingParams.{largest_interval}
 use Rattle.gptp_how_soon_laws.proofs.StepLemmas.{IsKept}
 use Rattle.gptp_settling_time.proofs.AsIfChangedLemmas.{changed_at, shows_so}
 use Rattle.gptp_settling_time.proofs.ExactInTurnLemmas.{IsCarried}
@@ -110,8 +109,8 @@ module _ {F : Type 0} (answers : Bounds → ℕ → F → Option ℕ → F → T
 -- ---- a stretch
 
 -- a stretch that begins with something is one of them
-begins_in : (passages : List StretchTrace) (start : WorldState) (first : Carried) (p : StretchTrace) (w : WorldState)
-    (c : Carried) → BeginsWith passages start first p w c → In p passages
+pub begins_in : (passages : List StretchTrace) (start : WorldState) (first : Carried) (p : StretchTrace)
+    (w : WorldState) (c : Carried) → BeginsWith passages start first p w c → In p passages
 begins_in [] start first p w c none = absurd none
 begins_in (q ∷ qs) start first p w c (inl is) = inl is.stretch
 begins_in (q ∷ qs) start first p w c (inr later) = inr (begins_in qs q.after _ p w c later)
@@ -208,6 +207,10 @@ module _ {F : Type 0} (answers : Bounds → ℕ → F → Option ℕ → F → T
           past (last_by p.from d.events) told.bounds told.told later a member late names say.snapshot name span_from
           bound h)
           (carried_from (shortened p.from d) last told.choice + 1) is_carried down
+
+  pub acts_right : (error_then : ℕ → ℕ)
+      × ((a : ActTrace) → In a p.acts → from ≤ at_of a → IsRight name error_then a a.before)
+  acts_right = (reading_error_at has.way has.steps, act_is_right)
 
   acts_are_right : AreRight answers d playable names (events_by b.from d.events) name from
       (reading_error_at has.way has.steps) p.acts

@@ -6,7 +6,7 @@ use Rattle.gptp_network.specs.Document.{DocumentState}
 use Rattle.gptp_theorem.specs.PlayedLaws.{IsPlayable}
 use Rattle.gptp_timeline.specs.Timeline.{Carried, none_carried, TimelineOf, tracks}
 use Rattle.gptp_timeline.specs.declared.timeline.TimelineOptions.{TimelineOptions}
-use Rattle.gptp_timeline_laws.specs.Age.{ReceiptsAreRecent}
+use Rattle.gptp_timeline_laws.specs.Age.{AreAlwaysExact, GapsAreShort, ReceiptsAreRecent}
 use Rattle.gptp_timeline_laws.specs.Exact.{ReadsAreWithin, ReceiptsBoundMoments}
 use Rattle.gptp_timeline_laws.specs.ExactSoon.{AreExactSoon, ReadsAreWithinSoon, ReceiptsBoundSoon}
 use Rattle.gptp_timeline_laws.specs.Moments.{BoundAll}
@@ -21,7 +21,7 @@ first_carried answers d until options fate lines exceeded t = none_carried (trac
 -- What a timeline says of the time that systems read is right: its `times` lines bound what is read at every moment,
 -- and say when sources stand, which are the roots that systems follow. Its `accuracy` lines bound it from the receipts
 -- of each system on; and what these lines say was read off is within their bounds. So it is from the time on that they
--- say, and so are errors of receipts. Receipts are no older than the wait for Sync.
+-- say, and so are errors of receipts. Receipts are no older than the wait for Sync, and so what is read is always exact.
 pub record TimelineReadsRight {F : Type 0} (answers : Bounds → ℕ → F → Option ℕ → F → Type 0) (d : DocumentState)
     (until : ℕ)
     (options : TimelineOptions) (fate : F) (lines : List (List ℕ)) (exceeded : Bool)
@@ -31,6 +31,9 @@ pub record TimelineReadsRight {F : Type 0} (answers : Bounds → ℕ → F → O
   pub roots : RootsAreSources t.start (first_carried answers d until options fate lines exceeded t) t.passages
   pub bests : BestsAreSources d t.start (first_carried answers d until options fate lines exceeded t) t.passages
   pub ages : ReceiptsAreRecent d t.start (first_carried answers d until options fate lines exceeded t) t.passages
+  pub gaps : GapsAreShort (rising_clocks t.start) t.start
+      (first_carried answers d until options fate lines exceeded t) t.passages
+  pub always : AreAlwaysExact t.start (first_carried answers d until options fate lines exceeded t) t.passages
   pub receipts : ReceiptsBoundMoments d t.start (first_carried answers d until options fate lines exceeded t) t.passages
   pub accuracy : ReadsAreWithin d (rising_clocks t.start) t.start
       (first_carried answers d until options fate lines exceeded t) t.passages
