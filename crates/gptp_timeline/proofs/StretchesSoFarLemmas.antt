@@ -9,7 +9,7 @@ use Rattle.gptp_timeline.specs.declared.limits.Limits.{Limits}
 
 -- nothing is asked of stretches
 abbrev pub no_limits : Limits
-no_limits = record { most = replicate 10 None }
+no_limits = record { most = replicate 13 None }
 
 module _ (limits : Limits) (names : List ℕ) where
   -- the first limit that was exceeded

@@ -5,6 +5,7 @@ use Rattle.gptp_graph.specs.Order.{IsRising}
 use Rattle.gptp_model.specs.World.{WorldState}
 use Rattle.gptp_model.specs.declared.done.Done.{Done}
 use Rattle.gptp_scenario.specs.declared.change.Act.{Act}
+use Rattle.gptp_timeline.specs.Aside.{without_readings}
 use Rattle.gptp_timeline.specs.ExactReads.{reads_by, without_reads}
 use Rattle.gptp_timeline.specs.Looks.{left_after, looked_by, measured_with, nothing_read}
 use Rattle.gptp_timeline.specs.Readings.{new_reading, readings_by}
@@ -30,6 +31,10 @@ times_begun from events o = record o {
   reads = map without_reads o.reads;
   measures = nothing_read;
 }
+
+-- these systems have no time from now on
+abbrev pub times_without : List ℕ → TimeState → TimeState
+times_without names o = record o { systems = without_readings names o.systems }
 
 -- after an act by which a system got this reading, or none did
 abbrev pub times_with : ℕ → WorldState → Act → Option NewReading → TimeState → TimeState

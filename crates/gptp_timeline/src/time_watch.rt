@@ -128,7 +128,7 @@ impl TimeWatch {
     ghost use Rattle.gptp_timeline.specs.Looks.{left_after, looked_all, measured_with, nothing_read};
     ghost use Rattle.gptp_timeline.specs.Jumps.{IsSmallJump, jump_of};
     ghost use Rattle.gptp_timeline.specs.Readings.{new_reading, no_reading, reading_among, reading_error, without_failed};
-    ghost use Rattle.gptp_timeline.specs.TimeWatch.{reading_lines, times_after, times_begun, times_lines, times_with};
+    ghost use Rattle.gptp_timeline.specs.TimeWatch.{reading_lines, times_after, times_begun, times_lines, times_with, times_without};
 
     /// An account of a world whose systems start, whose lines are asked for, and whose readings are told, or aren't.
     pub(crate) fn new<F: Fate + Drop>(
@@ -176,6 +176,15 @@ impl TimeWatch {
         self.events_left = events;
         self.measures = NOTHING_READ;
         clear_reads(&mut self.reads);
+    }
+
+    /// These systems have no time from now on.
+    pub(crate) fn lose(&mut self, clocks: &[ClockId])
+        ensures { self.new ≡ times_without clocks.now self.old }
+    {
+        for clock in clocks {
+            self.systems.lose(*clock);
+        }
     }
 
     /// A system gets a reading at a time, with this jump.
