@@ -1,5 +1,5 @@
 -- The last stretches of a run (profile).
-use Rattle.std.specs.Prelude.{◌≡◌, ◌==◌, ℕ, Bool, length, List, [], ◌∷◌, map, Option, Some, None, false}
+use Rattle.std.specs.Prelude.{◌≡◌, ℕ, Bool, if◌then◌else◌, length, List, [], ◌∷◌, map, Option, Some, None, false}
 use Rattle.std.specs.Option.{option_map}
 use Rattle.gptp_model.specs.Course.{Begun}
 use Rattle.gptp_model.specs.Views.{rising_clocks}
@@ -8,7 +8,7 @@ use Rattle.gptp_links.specs.declared.bounds.Bounds.{Bounds}
 use Rattle.gptp_network.specs.Document.{DocumentState}
 use Rattle.gptp_network.specs.Snapshot.{events_by}
 use Rattle.gptp_world.specs.Transitions.{ActTrace}
-use Rattle.gptp_timeline.specs.Aside.{aside_begun, aside_over, AsideState, looked_acts, readings_begun}
+use Rattle.gptp_timeline.specs.Aside.{aside_begun, aside_over, AsideState, looked_acts, nobody_aside, readings_begun}
 use Rattle.gptp_timeline.specs.Ends.{EndState}
 use Rattle.gptp_timeline.specs.Keepers.{keepers_among, keepers_in}
 use Rattle.gptp_timeline.specs.Limits.{exceeded_after}
@@ -72,8 +72,12 @@ abbrev pub carry_over : StretchTrace → CarriedAside → CarriedAside
 carry_over p c = carry_ended p.acts (carry_begun p.from c)
 
 -- as the systems with these names start, of which some are set aside
-abbrev pub none_aside : Bool → AsideState → List ℕ → CarriedAside
-none_aside asked aside names = record { carried = none_carried asked names; aside = aside }
+abbrev pub first_aside : Bool → AsideState → List ℕ → CarriedAside
+first_aside asked aside names = record { carried = none_carried asked names; aside = aside }
+
+-- nobody is, where it isn't asked what systems read
+abbrev pub aside_if : Bool → AsideState → AsideState
+aside_if asked aside = if asked then aside else nobody_aside
 
 -- ---- the last three
 
@@ -101,7 +105,8 @@ pub record EndsOf {F : Type 0} (answers : Bounds → ℕ → F → Option ℕ �
   pub fate_after : F
   pub after : WorldState
   pub pass : AllPass answers false d until 0 (events_by until d.events) started fate_after start after passages
-  pub are : last ≡ last_behind (rising_clocks start) (none_aside asked aside (rising_clocks start)) passages none_last
+  pub are : last ≡ last_behind (rising_clocks start) (first_aside asked (aside_if asked aside) (rising_clocks start))
+      passages none_last
 
 -- ---- by what an observer keeps, and what is kept of each stretch
 

@@ -1,5 +1,6 @@
 -- What the code keeps of a stretch that passes before an observer: contracts of private functions alone cite this.
 use Rattle.std.specs.Prelude.{◌≡◌, ◌⊎◌, ℕ, List, [], ◌∷◌, ◌++◌, Option, Some, None, map, Bool, ◌&&◌, if◌then◌else◌, length}
+use Rattle.std.specs.Option.{option_map_or}
 use Rattle.gptp_model.specs.Views.{rising_clocks}
 use Rattle.gptp_model.specs.World.{WorldState}
 use Rattle.gptp_links.specs.declared.bounds.Bounds.{Bounds}
@@ -8,7 +9,7 @@ use Rattle.gptp_scenario.specs.declared.change.Timed.{Timed}
 use Rattle.gptp_world.specs.Observing.{Tells}
 use Rattle.gptp_world.specs.Transitions.{ActTrace}
 use Rattle.gptp_report.specs.Transitions.{Courses, CoursesSoFar}
-use Rattle.gptp_timeline.specs.Aside.{AsideState}
+use Rattle.gptp_timeline.specs.Aside.{AsideState, nobody_aside}
 use Rattle.gptp_timeline.specs.ExactReads.{unread}
 use Rattle.gptp_timeline.specs.Looks.{nothing_read}
 use Rattle.gptp_timeline.specs.Readings.{no_reading}
@@ -23,9 +24,9 @@ abbrev pub first_time : List Timed → Option ℕ
 first_time [] = None
 first_time (e ∷ es) = Some e.at
 
--- what is kept of what systems read before a world starts, where that is asked
-abbrev pub times_before : TimelineOptions → WorldState → Option TimeState
-times_before options w = if tracks options then Some (record {
+-- what is kept of what systems read before a world starts, where that is asked, of which some are set aside
+abbrev pub times_before : TimelineOptions → AsideState → WorldState → Option TimeState
+times_before options aside w = if tracks options then Some (record {
   lines = options.times;
   told = options.times && options.offsets;
   exact_from = None;
@@ -33,6 +34,7 @@ times_before options w = if tracks options then Some (record {
   systems = map no_reading (rising_clocks w);
   reads = map unread (rising_clocks w);
   measures = nothing_read;
+  aside = aside;
 }) else None
 
 -- an observer before the systems of a world start, of which some are set aside, and after that
@@ -43,9 +45,12 @@ watch_before options aside w = record {
   exact_from = None;
   systems = map unseen (rising_clocks w);
   measures = nothing;
-  times = times_before options w;
-  aside = aside;
+  times = times_before options aside w;
 }
+
+-- who is set aside; nobody, where it isn't asked what systems read
+abbrev pub aside_kept : WatchState → AsideState
+aside_kept o = option_map_or (λ (times : TimeState). times.aside) o.times nobody_aside
 
 abbrev pub watch_at_start : TimelineOptions → AsideState → WorldState → WatchState
 watch_at_start options aside w = see_all (event_look 0) w (watch_before options aside w)

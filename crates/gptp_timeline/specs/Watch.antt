@@ -11,7 +11,6 @@ use Rattle.gptp_graph.specs.Order.{IsRising}
 use Rattle.gptp_scenario.specs.declared.change.Act.{Act}
 use Rattle.gptp_scenario.specs.declared.change.Act.TheVariants.{Change as Changing, Deliver, Expire}
 use Rattle.gptp_system.specs.State.{SystemState}
-use Rattle.gptp_timeline.specs.Aside.{aside_after, aside_begun, AsideState, is_left_out}
 use Rattle.gptp_timeline.specs.Changes.{change_lines}
 use Rattle.gptp_timeline.specs.EventLine.{event_line}
 use Rattle.gptp_timeline.specs.Compared.{compared_by_expiry, compared_by_frame, left_by}
@@ -21,7 +20,7 @@ use Rattle.gptp_timeline.specs.Readings.{new_reading}
 use Rattle.gptp_timeline.specs.Receipts.{offset_error, offset_line, received_by}
 use Rattle.gptp_timeline.specs.Shown.{is_expecting, live_system, same_choice, same_roles}
 use Rattle.gptp_timeline.specs.Stretch.{same_known}
-use Rattle.gptp_timeline.specs.TimeWatch.{TimeState, times_after, times_begun, times_lines, times_without}
+use Rattle.gptp_timeline.specs.TimeWatch.{TimeState, times_after, times_begun, times_lines}
 use Rattle.gptp_timeline.specs.declared.compared.Compared.{Compared}
 use Rattle.gptp_timeline.specs.declared.compared.Compared.TheVariants.{All}
 use Rattle.gptp_timeline.specs.declared.measures.Greatest.{Greatest}
@@ -69,7 +68,6 @@ pub record WatchState : Type 0 where
   pub systems : List Watched
   pub measures : Measures
   pub times : Option TimeState
-  pub aside : AsideState
 
 -- as a document begins
 abbrev pub unseen : ℕ → Watched
@@ -82,17 +80,12 @@ nothing = record { choice = None; roles = None; offsets = None; holdover = None;
 abbrev pub without_error : Watched → Watched
 without_error x = record x { error = None }
 
--- those that begin to be set aside have no time from now on
-abbrev pub times_set_aside : AsideState → TimeState → TimeState
-times_set_aside a o = if a.begun == a.from then times_without a.clocks o else o
-
 abbrev pub watch_begun : ℕ → Option ℕ → ℕ → WatchState → WatchState
 watch_begun at exact_from events o = record o {
   exact_from = exact_from;
   systems = map without_error o.systems;
   measures = nothing;
-  times = option_map (times_set_aside (aside_begun at o.aside)) (option_map (times_begun exact_from events) o.times);
-  aside = aside_begun at o.aside;
+  times = option_map (times_begun at exact_from events) o.times;
 }
 
 -- ---- systems that are looked at
@@ -246,29 +239,21 @@ seen_lines at (Expire clock timer) done w o = watched_lines at w clock false (co
 seen_lines at (Changing change) done w o =
     unless o.summary (event_line at change ∷ []) ++ lines_all (event_look at) w o
 
--- what systems read, where that is asked, unless a system that is set aside does the act
+-- what systems read, where that is asked
 abbrev pub see_times : ℕ → Act → Done → WorldState → WatchState → WatchState
-see_times at act done w o =
-    if is_left_out o.aside act done then o else record o { times = option_map (times_after at act done w) o.times }
+see_times at act done w o = record o { times = option_map (times_after at act done w) o.times }
 
 abbrev pub times_lines_if : ℕ → Act → Done → WorldState → Option TimeState → List (List ℕ)
 times_lines_if at act done w None = []
 times_lines_if at act done w (Some times) = times_lines at act done w times
 
-abbrev pub times_lines_seen : ℕ → Act → Done → WorldState → WatchState → List (List ℕ)
-times_lines_seen at act done w o = if is_left_out o.aside act done then [] else times_lines_if at act done w o.times
-
--- who received time by an act isn't set aside any more, where a receipt ends it
-abbrev pub released : Act → Done → WatchState → WatchState
-released act done o = record o { aside = aside_after act done o.aside }
-
 -- it is looked at what an act left
 abbrev pub TellsSeen : Told → WorldState → WatchState → WatchState → List (List ℕ) → Type 0
 TellsSeen told w o o_after lines =
-    (o_after ≡ released told.timed.act told.done (see_times told.timed.at told.timed.act told.done w
-    (see_act told.timed.at told.timed.act told.done w o)))
+    (o_after ≡ see_times told.timed.at told.timed.act told.done w
+    (see_act told.timed.at told.timed.act told.done w o))
     × (lines ≡ seen_lines told.timed.at told.timed.act told.done w o
-    ++ times_lines_seen told.timed.at told.timed.act told.done w o)
+    ++ times_lines_if told.timed.at told.timed.act told.done w o.times)
 
 -- no system gets a reading by an act, as far as it is kept what systems read
 abbrev pub GetsNone : Act → Done → WorldState → Option TimeState → Type 0

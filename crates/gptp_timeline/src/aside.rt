@@ -1,7 +1,7 @@
 //! Systems that are set aside: what they read isn't looked at.
 
 ghost use Rattle.std.specs.Prelude.{◌≡◌};
-ghost use Rattle.gptp_timeline.specs.Aside.{is_aside, left_out};
+ghost use Rattle.gptp_timeline.specs.Aside.{is_aside, left_out, received_in, without_clock};
 
 use crate::receipts::received_by;
 use gptp_vector::ClockId;
@@ -32,7 +32,7 @@ impl Model for SetAside {
 
 impl SetAside {
     ghost use Rattle.std.specs.Prelude.{◌≡◌, ◌==◌};
-    ghost use Rattle.gptp_timeline.specs.Aside.{aside_after, aside_begun, is_left_out, nobody_aside, released};
+    ghost use Rattle.gptp_timeline.specs.Aside.{aside_after, aside_begun, is_left_out, nobody_aside};
 
     /// These systems are set aside from a time on, until they receive time at the other or later.
     pub fn new(clocks: Vec<ClockId>, from: u64, back: u64) -> Self
@@ -86,7 +86,7 @@ impl SetAside {
         ensures { self.new ≡ aside_after act.now done.now self.old }
     {
         if self.from <= self.begun && self.back <= self.begun {
-            release_by(&mut self.clocks, act, done);
+            drop_clock(&mut self.clocks, received_in(act, done));
         }
     }
 }
@@ -112,11 +112,21 @@ fn is_left_out(clocks: &[ClockId], returned: bool, act: &Act, done: &Done) -> bo
     }
 }
 
-/// The system that received time by an act isn't one of these any more.
-fn release_by(clocks: &mut Vec<ClockId>, act: &Act, done: &Done) {
-    if let Act::Deliver { .. } = act {
-        if let Some(receiver) = received_by(done) {
-            clocks.retain(|clock| *clock != receiver);
-        }
+/// The system that received time by an act, if one did.
+fn received_in(act: &Act, done: &Done) -> Option<ClockId>
+    ensures { result ≡ received_in act.now done.now }
+{
+    match act {
+        Act::Deliver { .. } => received_by(done),
+        _ => None,
+    }
+}
+
+/// A system isn't one of these any more.
+fn drop_clock(clocks: &mut Vec<ClockId>, name: Option<ClockId>)
+    ensures { clocks.new.items ≡ without_clock name clocks.old.items }
+{
+    if let Some(name) = name {
+        clocks.retain(|clock| *clock != name);
     }
 }

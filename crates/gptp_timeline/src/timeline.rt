@@ -12,10 +12,9 @@ ghost use Rattle.gptp_sink.specs.Sink.{AppendsSome};
 ghost use Rattle.gptp_world.specs.Transitions.{ActTrace};
 ghost use Rattle.gptp_words.specs.Lines.{text_of};
 ghost use Rattle.gptp_accuracy.specs.Settlings.{AreTimesOf};
-ghost use Rattle.gptp_timeline.specs.Aside.{AsideState};
-ghost use Rattle.gptp_timeline.specs.LastStretches.{EndsOf, all_kept, end_of, kept_after, none_aside, none_kept};
+ghost use Rattle.gptp_timeline.specs.LastStretches.{EndsOf, all_kept, end_of, first_aside, kept_after, none_kept};
 ghost use Rattle.gptp_timeline.specs.Limits.{is_exceeded, verdict_lines};
-ghost use Rattle.gptp_timeline.specs.Passing.{StretchBreaksOff, StretchIsSeen, StopsSeen, first_time, times_before, watch_at_start, watch_before};
+ghost use Rattle.gptp_timeline.specs.Passing.{StretchBreaksOff, StretchIsSeen, StopsSeen, aside_kept, first_time, times_before, watch_at_start, watch_before};
 ghost use Rattle.gptp_timeline.specs.Timeline.{AllPass, AreErrorsBy, AreErrorsIf, BeginsTimeline, IsTimelinePlan, StretchTrace, SomePass, TimelineOf, all_lines, asks_lines, end_lines, exact_time, is_begun, kept_accuracy, later_than, line_of_times, none_carried, now_of, reads_kept, times_ended, tracks};
 ghost use Rattle.gptp_timeline.specs.Watch.{event_look, lines_all, see_all};
 
@@ -240,18 +239,25 @@ fn write_times_if(text: &mut String, asked: bool, stretch: &Stretch) -> Result<(
     }
 }
 
-/// What is kept of what systems read before they start, where that is asked.
+/// What is kept of what systems read before they start, where that is asked, of which some are set aside.
 fn times_before<F: Fate + Drop>(
     alloc: Global,
     world: &World<F>,
     options: &TimelineOptions,
+    aside: SetAside,
 ) -> Result<Option<TimeWatch>, AllocError>
-    ensures { IfOk result (λ times. times ≡ times_before options.now world.now.world_core) }
+    ensures { IfOk result (λ times. times ≡ times_before options.now aside world.now.world_core) }
 {
     match options.times || options.limits.asks_times() {
         true => {
             let told = options.times && options.offsets;
-            Ok(Some(TimeWatch::new(alloc, world, options.times, told)?))
+            Ok(Some(TimeWatch::new(
+                alloc,
+                world,
+                options.times,
+                told,
+                aside,
+            )?))
         }
         false => Ok(None),
     }
@@ -266,15 +272,8 @@ fn watch_before<F: Fate + Drop>(
 ) -> Result<Watch, AllocError>
     ensures { IfOk result (λ watch. watch ≡ watch_before options.now aside world.now.world_core) }
 {
-    let times = times_before(alloc, world, options)?;
-    Watch::new(
-        alloc,
-        world,
-        options.summary,
-        options.offsets,
-        times,
-        aside,
-    )
+    let times = times_before(alloc, world, options, aside)?;
+    Watch::new(alloc, world, options.summary, options.offsets, times)
 }
 
 /// Writes the lines of a stretch that ended in a world, and answers how it did.
@@ -395,20 +394,20 @@ fn all_stretches<F: Fate + Drop, K: Sink>(
     requires moment { until ≤ 1000000000000000 }
     requires begun { (fate : F) × Begun F.answers document.now.network fate world.old.fate world.old.world_core }
     requires prompt { AllDelaysFitIntervals world.old.world_core document.now.events }
-    requires starts { watch.old ≡ watch_at_start options.now watch.old.aside world.old.world_core }
+    requires starts { watch.old ≡ watch_at_start options.now (aside_kept watch.old) world.old.world_core }
     requires times { AreTimesOf document.now times.now }
     ensures passed { IfOk result (λ kept. (passages : List StretchTrace)
         × AllPass F.answers exact document.now until 0 (events_by until document.now.events) world.old.fate world.new.fate
         world.old.world_core world.new.world_core passages
         × (kept ≡ all_kept options.now.limits (rising_clocks world.old.world_core)
-        (none_aside (tracks options.now) watch.old.aside (rising_clocks world.old.world_core)) passages none_kept)
-        × (watch.old.aside.clocks ≡ [] → Appends (K.written sink.old) (K.written sink.new)
+        (first_aside (tracks options.now) (aside_kept watch.old) (rising_clocks world.old.world_core)) passages none_kept)
+        × ((aside_kept watch.old).clocks ≡ [] → Appends (K.written sink.old) (K.written sink.new)
         (text_of (all_lines options.now (rising_clocks world.old.world_core)
         (none_carried (tracks options.now) (rising_clocks world.old.world_core)) passages [])))) }
     ensures broken { OnErr result ((passages : List StretchTrace) × (acts : List ActTrace)
         × SomePass F.answers exact document.now until 0 (events_by until document.now.events) world.old.fate world.old.world_core
         passages acts
-        × (watch.old.aside.clocks ≡ [] → AppendsSome (K.written sink.old) (K.written sink.new)
+        × ((aside_kept watch.old).clocks ≡ [] → AppendsSome (K.written sink.old) (K.written sink.new)
         (text_of (all_lines options.now (rising_clocks world.old.world_core)
         (none_carried (tracks options.now) (rising_clocks world.old.world_core)) passages acts)))) }
     ensures works { result ≢ Err Cut.Write → K.failures sink.new ≡ K.failures sink.old }

@@ -5,10 +5,9 @@ ghost use Rattle.gptp_model.specs.Views.{rising_clocks};
 ghost use Rattle.gptp_words.specs.Lines.{text_of};
 ghost use Rattle.gptp_timeline.specs.Leaving.{LeavesAll};
 ghost use Rattle.gptp_timeline.specs.Measures.{one_at};
-ghost use Rattle.gptp_timeline.specs.TimeWatch.{times_after, times_begun, times_without};
-ghost use Rattle.gptp_timeline.specs.Watch.{GetsNone, counts_from, times_lines_if, times_set_aside, unseen, without_error};
+ghost use Rattle.gptp_timeline.specs.TimeWatch.{times_after, times_begun};
+ghost use Rattle.gptp_timeline.specs.Watch.{GetsNone, counts_from, times_lines_if, unseen, without_error};
 
-use crate::aside::SetAside;
 use crate::changes::write_changes;
 use crate::compared::{Compared, compared_by_expiry, compared_by_frame};
 use crate::event_line::write_event;
@@ -46,8 +45,6 @@ pub(crate) struct Watch {
     measures: Measures,
     // What systems read, where that is asked.
     times: Option<TimeWatch>,
-    // Who is set aside of that.
-    aside: SetAside,
 }
 
 impl Model for Watch {
@@ -64,7 +61,6 @@ impl Model for Watch {
       systems = w.systems.items;
       measures = w.measures;
       times = w.times;
-      aside = w.aside;
     } };
 
     ghost invariant = { λ w. WatchedRise w.systems.items };
@@ -167,31 +163,12 @@ fn gets_none<F: Fate + Drop>(
 }
 
 /// A stretch begins in the account, where there is one.
-fn begin_times(times: &mut Option<TimeWatch>, exact_from: Option<u64>, events: usize)
-    ensures { times.new ≡ option_map (times_begun exact_from events) times.old }
+fn begin_times(times: &mut Option<TimeWatch>, at: u64, exact_from: Option<u64>, events: usize)
+    ensures { times.new ≡ option_map (times_begun at exact_from events) times.old }
 {
     match times {
-        Some(times) => times.begin(exact_from, events),
+        Some(times) => times.begin(at, exact_from, events),
         None => {}
-    }
-}
-
-/// These systems have no time in the account from now on, where there is one.
-fn lose_times(times: &mut Option<TimeWatch>, clocks: &[ClockId])
-    ensures { times.new ≡ option_map (times_without clocks.now) times.old }
-{
-    match times {
-        Some(times) => times.lose(clocks),
-        None => {}
-    }
-}
-
-/// Those that begin to be set aside have no time in the account from now on, where there is one.
-fn set_aside(times: &mut Option<TimeWatch>, aside: &SetAside)
-    ensures { times.new ≡ option_map (times_set_aside aside.now) times.old }
-{
-    if aside.begins() {
-        lose_times(times, aside.clocks());
     }
 }
 
@@ -224,7 +201,7 @@ impl Watch {
     ghost use Rattle.gptp_timeline.specs.Receipts.{offset_line};
     ghost use Rattle.gptp_timeline.specs.Compared.{left_by};
     ghost use Rattle.gptp_timeline.specs.Shown.{shown_of};
-    ghost use Rattle.gptp_timeline.specs.Watch.{WatchedRise, watch_begun, delivery_lines, event_look, lines_all, lines_at, nothing, PassesOver, place_of, placed_lines, receipt_lines_of, released, see_act, see_all, see_at, see_delivery, see_placed, see_receipt_of, see_system, see_times, seen_lines, times_lines_seen, watched_lines, take_error, taken, unless, unseen};
+    ghost use Rattle.gptp_timeline.specs.Watch.{WatchedRise, watch_begun, delivery_lines, event_look, lines_all, lines_at, nothing, PassesOver, place_of, placed_lines, receipt_lines_of, see_act, see_all, see_at, see_delivery, see_placed, see_receipt_of, see_system, see_times, seen_lines, times_lines_if, watched_lines, take_error, taken, unless, unseen};
     ghost use Rattle.gptp_timeline.specs.declared.watched.Watched.{Watched};
 
     /// An observer of a world whose systems start, before it has seen that.
@@ -234,7 +211,6 @@ impl Watch {
         summary: bool,
         offsets: bool,
         times: Option<TimeWatch>,
-        aside: SetAside,
     ) -> Result<Self, AllocError>
         ensures { IfOk result (λ w. w ≡ record {
           summary = summary;
@@ -243,7 +219,6 @@ impl Watch {
           systems = map unseen (rising_clocks world.now.world_core);
           measures = nothing;
           times = times;
-          aside = aside;
         }) }
     {
         world.well_formed();
@@ -255,7 +230,6 @@ impl Watch {
             systems,
             measures: NOTHING,
             times,
-            aside,
         })
     }
 
@@ -281,9 +255,7 @@ impl Watch {
         self.exact_from = exact_from;
         self.measures = NOTHING;
         clear_errors(&mut self.systems);
-        begin_times(&mut self.times, exact_from, events);
-        self.aside.begin(at);
-        set_aside(&mut self.times, &self.aside);
+        begin_times(&mut self.times, at, exact_from, events);
     }
 
     /// What systems read, where that is asked.
@@ -300,7 +272,7 @@ impl Watch {
         leaves_all(act, done) && gets_none(&self.times, world, act, done)
     }
 
-    /// Sees what an act does to what systems read, unless it isn't looked at.
+    /// Sees what an act does to what systems read.
     fn see_times<F: Fate + Drop>(
         &mut self,
         text: &mut String,
@@ -311,19 +283,9 @@ impl Watch {
         requires { timed.now.at ≤ 1000000000000000 }
         ensures sees { OnOk result (self.new ≡ see_times timed.now.at timed.now.act done.now world.now.world_core self.old) }
         ensures tells { OnOk result (string_bytes text.new
-            ≡ string_bytes text.old ++ text_of (times_lines_seen timed.now.at timed.now.act done.now world.now.world_core self.old)) }
+            ≡ string_bytes text.old ++ text_of (times_lines_if timed.now.at timed.now.act done.now world.now.world_core self.old.times)) }
     {
-        if self.aside.leaves_out(&timed.act, done) {
-            return Ok(());
-        }
         see_times(&mut self.times, text, world, timed, done)
-    }
-
-    /// Who received time by an act isn't set aside any more, where a receipt ends it.
-    fn release(&mut self, act: &Act, done: &Done)
-        ensures { self.new ≡ released act.now done.now self.old }
-    {
-        self.aside.release(act, done);
     }
 
     /// How many systems there are.
@@ -753,7 +715,6 @@ impl Observer for Watch {
         let mut text = String::new(alloc);
         self.see(&mut text, world, timed, done)?;
         self.see_times(&mut text, world, timed, done)?;
-        self.release(&timed.act, done);
         write_whole(sink, text.as_bytes())?;
         Ok(())
     }
