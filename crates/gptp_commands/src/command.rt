@@ -21,8 +21,8 @@ use crate::run::RunOptions;
 use crate::source::{CountedReader, Source};
 use crate::table::rows::{
     ALWAYS, AT, CERTIFICATE, CLOCK, DETECT, FILE, FRAMES, HOLD, MAX_ERROR, MOMENT, MOMENTS,
-    NANOSECONDS, OFFSETS, ONLY, PART, PARTS, POWER, PROGRESS, READS, RUN_UNTIL, SEED, SEEDS, STRICT, SUMMARY,
-    TIMELINE_UNTIL, TIMES, WHERE,
+    NANOSECONDS, OFFSETS, ONLY, PART, PARTS, POWER, PROGRESS, READS, RUN_UNTIL, SEED, SEEDS,
+    STRICT, SUMMARY, TIMELINE_UNTIL, TIMES, WHERE,
 };
 use crate::timeline::TimelineOrder;
 use crate::version::is_version;

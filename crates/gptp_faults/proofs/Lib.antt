@@ -1,4 +1,5 @@
 pub mod EachLemmas
+pub mod KeptLemmas
 pub mod RootLemmas
 pub mod CaseLemmas
 pub mod StayLemmas

@@ -1,5 +1,5 @@
 -- Links as they stand after all events (profile).
-use Rattle.std.specs.Prelude.{◌≤◌, ◌&&◌, ◌||◌, ℕ, Bool, if◌then◌else◌, List, [], ◌∷◌, filter, map, Option, Some, None}
+use Rattle.std.specs.Prelude.{◌≤◌, ◌+◌, ◌&&◌, ◌||◌, ℕ, Bool, if◌then◌else◌, List, [], ◌∷◌, filter, map, Option, Some, None}
 use Rattle.std.specs.List.{list_any, range_with_len}
 use Rattle.gptp_links.specs.declared.bounds.Bounds.{Bounds}
 use Rattle.gptp_network.specs.Document.{DocumentState}
@@ -38,11 +38,11 @@ abbrev pub is_up_at : List Cable → PortId → Bool
 is_up_at cs p = list_any (λ (c : Cable). c.up && is_at_port c p) cs
 
 -- the ports of a system at which one is, by rising number
-abbrev pub port_numbered : ℕ → ℕ → PortId
-port_numbered clock number = record { clock = clock; port = number }
+abbrev pub port_after : ℕ → ℕ → PortId
+port_after clock index = record { clock = clock; port = index + 1 }
 
 abbrev pub up_ports : List Cable → ℕ → List PortId
-up_ports cs clock = filter (is_up_at cs) (map (port_numbered clock) (range_with_len 1 16))
+up_ports cs clock = filter (is_up_at cs) (map (port_after clock) (range_with_len 0 16))
 
 -- ---- by what the code keeps
 

@@ -30,8 +30,11 @@ ArePlaced g g' = Each (IsPlaced g g') (clocks g')
 abbrev pub size_in : List Placed → ℕ → ℕ
 size_in xs part = count_by (λ (x : Placed). x.part == part) xs
 
+abbrev pub weigh_among : List Placed → Placed → Weighed
+weigh_among xs x = record { placed = x; size = size_in xs x.part }
+
 abbrev pub weighed : List Placed → List Weighed
-weighed xs = map (λ (x : Placed). record { placed = x; size = size_in xs x.part }) xs
+weighed xs = map (weigh_among xs) xs
 
 -- The part of y is of the component of x, and has more systems than that of x, or as many and the lower best identity.
 abbrev pub is_heavier : Weighed → Weighed → Bool
@@ -42,12 +45,21 @@ is_heavier y x = (y.placed.component == x.placed.component)
 abbrev pub is_cut : List Weighed → Weighed → Bool
 is_cut ws x = list_any (λ y. is_heavier y x) ws
 
+abbrev pub placed_in : Weighed → Placed
+placed_in x = x.placed
+
+abbrev pub clock_in : Weighed → ℕ
+clock_in x = x.placed.clock
+
 abbrev pub cut_off : List Weighed → List ℕ
-cut_off ws = map (λ (x : Weighed). x.placed.clock) (filter (is_cut ws) ws)
+cut_off ws = map clock_in (filter (is_cut ws) ws)
 
 -- the others: each is in the main part of its component
+abbrev pub is_kept : List Weighed → Weighed → Bool
+is_kept ws x = not (is_cut ws x)
+
 abbrev pub kept : List Weighed → List Placed
-kept ws = map (λ (x : Weighed). x.placed) (filter (λ x. not (is_cut ws x)) ws)
+kept ws = map placed_in (filter (is_kept ws) ws)
 
 -- ---- the parts of several systems, by rising clock of their bests
 
@@ -55,11 +67,20 @@ abbrev pub leads : Placed → Bool
 leads x = clock_of x.part == x.clock
 
 -- the systems of a part
+abbrev pub is_of : ℕ → Placed → Bool
+is_of part x = x.part == part
+
+abbrev pub clock_of_placed : Placed → ℕ
+clock_of_placed x = x.clock
+
 abbrev pub part_among : List Placed → ℕ → List ℕ
-part_among xs part = map (λ (x : Placed). x.clock) (filter (λ (x : Placed). x.part == part) xs)
+part_among xs part = map clock_of_placed (filter (is_of part) xs)
+
+abbrev pub part_of : List Placed → Placed → List ℕ
+part_of xs x = part_among xs x.part
 
 abbrev pub parts_of : List Placed → List (List ℕ)
-parts_of xs = map (λ (x : Placed). part_among xs x.part) (filter leads xs)
+parts_of xs = map (part_of xs) (filter leads xs)
 
 -- ---- before and after a fault
 

@@ -40,23 +40,23 @@ first_some [] = None
 first_some (None ∷ others) = first_some others
 first_some (Some fault ∷ others) = Some fault
 
--- the moments
-abbrev pub moments_of : Times → List ℕ
-moments_of t = map (moment t) (range_with_len 0 t.moments)
-
 -- It would be refused with a case: there would be more than 4,096 events, or it is at one of its moments.
 abbrev pub refusal_of : DocumentState → Option ℕ → Times → EventsState → Option DocumentFault
 refusal_of d asked t e =
     if nat_lt 4096 (length d.events + count_events e) then Some TooMany
-    else first_some (map (refusal_at d asked e) (moments_of t))
+    else first_some (map (λ number. refusal_at d asked e (moment t number)) (range_with_len 0 t.moments))
 
 -- with one of several cases, the least first; without a case nothing is refused
 abbrev pub fault_before : DocumentState → FaultsOptions → Times → List Case → Option DocumentFault
 fault_before d options t cases = first_some (map (λ c. refusal_of d options.hold t (case_events d options c)) cases)
 
--- the run of a case would end later than one may: at one of its moments, or of one of several cases
+-- the run of a case would end later than one may: that in which it fails at a moment, at one of its moments, or of one
+-- of several cases
+abbrev pub is_late_at : DocumentState → Option ℕ → EventsState → ℕ → Bool
+is_late_at d asked e at = nat_lt latest_end (end_at d asked e at)
+
 abbrev pub is_late : DocumentState → Option ℕ → Times → EventsState → Bool
-is_late d asked t e = list_any (λ at. nat_lt latest_end (end_at d asked e at)) (moments_of t)
+is_late d asked t e = list_any (λ number. is_late_at d asked e (moment t number)) (range_with_len 0 t.moments)
 
 abbrev pub any_late : DocumentState → FaultsOptions → Times → List Case → Bool
 any_late d options t cases = list_any (λ c. is_late d options.hold t (case_events d options c)) cases

@@ -1,6 +1,6 @@
 //! Links as they stand after all events.
 
-ghost use Rattle.std.specs.Prelude.{◌≡◌, ◌+◌, IfOk, OnOk, map, take};
+ghost use Rattle.std.specs.Prelude.{◌≡◌, ◌+◌, ◌++◌, ◌∷◌, [], if◌then◌else◌, IfOk, OnOk, map, take};
 ghost use Rattle.std.specs.List.{AllByRecursion};
 ghost use Rattle.gptp_scenario.specs.Change.{link_after};
 ghost use Rattle.gptp_topology.specs.Course.{cable_of};
@@ -76,11 +76,7 @@ fn stood(events: &[Timed], cable: Cable) -> Cable
 }
 
 /// Puts the link at a place after those of the places before.
-fn push_cable(
-    cables: &mut Vec<Cable>,
-    document: &Document,
-    place: usize,
-) -> Result<(), AllocError>
+fn push_cable(cables: &mut Vec<Cable>, document: &Document, place: usize) -> Result<(), AllocError>
     requires { cables.old.items ≡ map (cable_after document.now.events) (take place document.now.network.links) }
     ensures { OnOk result (cables.new.items
         ≡ map (cable_after document.now.events) (take (place + 1) document.now.network.links)) }
@@ -124,6 +120,19 @@ fn is_up_at(cables: &[Cable], port: PortId) -> bool
     cables.iter().any(|cable| cable.up && is_at(cable, port))
 }
 
+/// Puts a port after others, where a link that is up is at it.
+fn push_up(ports: &mut Vec<PortId>, cables: &[Cable], port: PortId) -> Result<(), AllocError>
+    ensures { OnOk result (ports.new.items ≡ ports.old.items ++ (if is_up_at cables.now port then port ∷ [] else [])) }
+{
+    match is_up_at(cables, port) {
+        true => {
+            ports.push(port)?;
+            Ok(())
+        }
+        false => Ok(()),
+    }
+}
+
 /// The ports of a system at which a link is that is up, by rising number.
 pub(crate) fn up_ports(
     alloc: Global,
@@ -133,14 +142,12 @@ pub(crate) fn up_ports(
     ensures { IfOk result (λ ports. ports.items ≡ up_ports cables.now clock) }
 {
     let mut ports = Vec::new(alloc);
-    for number in 1..17u16 {
+    for number in 0..16u16 {
         let port = PortId {
             clock,
-            port: number,
+            port: number + 1,
         };
-        if is_up_at(cables, port) {
-            ports.push(port)?;
-        }
+        push_up(&mut ports, cables, port)?;
     }
     Ok(ports)
 }

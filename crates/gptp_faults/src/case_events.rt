@@ -231,11 +231,7 @@ fn push_ups(changes: &mut Vec<CaseChange>, ports: &[PortId]) -> Result<(), Alloc
 }
 
 /// A system with links at these ports that loses its power, where that is seen at once.
-fn power_at_once(
-    alloc: Global,
-    clock: ClockId,
-    ports: &[PortId],
-) -> Result<CaseEvents, AllocError>
+fn power_at_once(alloc: Global, clock: ClockId, ports: &[PortId]) -> Result<CaseEvents, AllocError>
     ensures { IfOk result (λ e. e ≡ power_events clock ports.now) }
 {
     let mut at = one(alloc, CaseChange::Fail(clock))?;

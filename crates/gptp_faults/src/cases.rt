@@ -111,7 +111,11 @@ fn push_live(clocks: &mut Vec<ClockId>, live: (Identity, u8)) -> Result<(), Allo
 }
 
 /// Puts the system at a place after those of the places before, where it lives after all events.
-fn push_system(clocks: &mut Vec<ClockId>, document: &Document, place: usize) -> Result<(), AllocError>
+fn push_system(
+    clocks: &mut Vec<ClockId>,
+    document: &Document,
+    place: usize,
+) -> Result<(), AllocError>
     requires { clocks.old.items
         ≡ map live_clock (filter_map (live_after document.now.events) (take place document.now.network.systems)) }
     ensures { OnOk result (clocks.new.items
@@ -134,28 +138,48 @@ fn live_systems(alloc: Global, document: &Document) -> Result<Vec<ClockId>, Allo
     Ok(clocks)
 }
 
-/// Puts the cases of systems that hang after others, where they are cases.
-fn push_hangs(cases: &mut Vec<Case>, clocks: &[ClockId], asked: bool) -> Result<(), AllocError>
-    ensures { OnOk result (cases.new.items ≡ cases.old.items ++ (if asked then map cases.System clocks.now else [])) }
+/// Puts the cases of systems that hang after others.
+fn push_hangs(cases: &mut Vec<Case>, clocks: &[ClockId]) -> Result<(), AllocError>
+    ensures { OnOk result (cases.new.items ≡ cases.old.items ++ map cases.System clocks.now) }
 {
-    if asked {
-        for clock in clocks {
-            cases.push(Case::System { clock: *clock })?;
-        }
+    for clock in clocks {
+        cases.push(Case::System { clock: *clock })?;
     }
     Ok(())
 }
 
-/// Puts the cases of systems that lose their power after others, where they are cases.
-fn push_powers(cases: &mut Vec<Case>, clocks: &[ClockId], asked: bool) -> Result<(), AllocError>
-    ensures { OnOk result (cases.new.items ≡ cases.old.items ++ (if asked then map cases.Power clocks.now else [])) }
+/// Puts the cases of systems that lose their power after others.
+fn push_powers(cases: &mut Vec<Case>, clocks: &[ClockId]) -> Result<(), AllocError>
+    ensures { OnOk result (cases.new.items ≡ cases.old.items ++ map cases.Power clocks.now) }
 {
-    if asked {
-        for clock in clocks {
-            cases.push(Case::Power { clock: *clock })?;
-        }
+    for clock in clocks {
+        cases.push(Case::Power { clock: *clock })?;
     }
     Ok(())
+}
+
+/// Puts the cases of systems that hang after others, where they are cases.
+fn push_hangs_if(cases: &mut Vec<Case>, clocks: &[ClockId], asked: bool) -> Result<(), AllocError>
+    ensures { OnOk result (cases.new.items ≡ cases.old.items ++ (if asked then map cases.System clocks.now else [])) }
+{
+    match asked {
+        true => push_hangs(cases, clocks),
+        false => Ok(()),
+    }
+}
+
+/// Puts the cases of systems that lose their power after others, where they are cases.
+fn push_powers_if(
+    cases: &mut Vec<Case>,
+    clocks: &[ClockId],
+    asked: bool,
+) -> Result<(), AllocError>
+    ensures { OnOk result (cases.new.items ≡ cases.old.items ++ (if asked then map cases.Power clocks.now else [])) }
+{
+    match asked {
+        true => push_powers(cases, clocks),
+        false => Ok(()),
+    }
 }
 
 /// The links in use after all events; then the systems that live then, where they hang; and the same where they lose
@@ -171,7 +195,7 @@ pub(crate) fn cases_of(
     let snapshot = document.snapshot(alloc, document.last_change())?;
     let mut cases = link_cases(alloc, &snapshot, only)?;
     let clocks = live_systems(alloc, document)?;
-    push_hangs(&mut cases, &clocks, has_systems(only))?;
-    push_powers(&mut cases, &clocks, has_power(only, power))?;
+    push_hangs_if(&mut cases, &clocks, has_systems(only))?;
+    push_powers_if(&mut cases, &clocks, has_power(only, power))?;
     Ok(cases)
 }

@@ -214,7 +214,10 @@ fn times_taken(first: &Stretch, second: &Stretch) -> TimeExtremes
         time: better_if(a.time, b.time),
         apart: further(a.apart, b.apart),
         step: better_if(a.step, b.step),
-        first: changed_since(first.from, changed_or(changed_in(first), changed_in(second))),
+        first: changed_since(
+            first.from,
+            changed_or(changed_in(first), changed_in(second)),
+        ),
         first_asked: None,
     }
 }
@@ -274,12 +277,7 @@ fn with_parts(extremes: Extremes, cut: u64, astray: u64, length: u64) -> Extreme
 
 /// Those of a stretch in which a case is down, where so many are cut off, and so many of the others astray at its end;
 /// with that before it, where it was seen that the case failed.
-pub(crate) fn of_down(
-    first: Option<&Stretch>,
-    down: &Stretch,
-    cut: u64,
-    astray: u64,
-) -> Extremes
+pub(crate) fn of_down(first: Option<&Stretch>, down: &Stretch, cut: u64, astray: u64) -> Extremes
     ensures { result ≡ of_down (option_map (λ s. s.now) first) down.now cut astray }
 {
     match first {
@@ -289,12 +287,7 @@ pub(crate) fn of_down(
             astray,
             down.to.saturating_sub(first.from),
         ),
-        None => with_parts(
-            of_one(down),
-            cut,
-            astray,
-            down.to.saturating_sub(down.from),
-        ),
+        None => with_parts(of_one(down), cut, astray, down.to.saturating_sub(down.from)),
     }
 }
 

@@ -125,11 +125,7 @@ pub(crate) fn push_outcome(outcomes: &mut Vec<Outcome>, outcome: Outcome) -> Res
 }
 
 /// Who is set aside where a case fails: those that are cut off, and the system that fails.
-fn set_aside(
-    alloc: Global,
-    failing: &Case,
-    cut: &[ClockId],
-) -> Result<Vec<ClockId>, AllocError>
+fn set_aside(alloc: Global, failing: &Case, cut: &[ClockId]) -> Result<Vec<ClockId>, AllocError>
     ensures { IfOk result (λ v. v.items ≡ aside_of failing.now cut.now) }
 {
     let mut aside = Vec::from_slice(alloc, cut)?;
@@ -158,8 +154,7 @@ fn plan_of(
     detect: Option<u64>,
     times: &Times,
     failing: &Case,
-) -> Result<CasePlan, Cut>
-{
+) -> Result<CasePlan, Cut> {
     let events = events_of(alloc, whole.cables(), detect, failing)?;
     let parts = case_parts(alloc, document, whole.components(), &events, times.from)?;
     let aside = set_aside(alloc, failing, &parts.cut)?;

@@ -1,9 +1,9 @@
 //! What a fault leaves of the components of a network: who is cut off, and the main parts.
 
-ghost use Rattle.std.specs.Prelude.{◌≡◌, ◌≤◌, ◌++◌, ◌∷◌, [], IfErr, IfOk, OnOk, length};
+ghost use Rattle.std.specs.Prelude.{◌≡◌, ◌≤◌, ◌++◌, ◌∷◌, [], if◌then◌else◌, IfErr, IfOk, OnOk, length};
 ghost use Rattle.gptp_network.specs.Snapshot.{IsSnapshot};
 ghost use Rattle.gptp_scenario.specs.Calm.{last_change};
-ghost use Rattle.gptp_faults.specs.Parts.{AreCaseParts, AreFew, ArePlaced, AreWhole, IsLeft, IsPlaced, cut_off, is_cut, is_heavier, kept, leads, part_among, parts_of, size_in, weighed};
+ghost use Rattle.gptp_faults.specs.Parts.{AreCaseParts, AreFew, ArePlaced, AreWhole, IsLeft, IsPlaced, clock_in, clock_of_placed, cut_off, is_cut, is_heavier, is_kept, is_of, kept, leads, part_among, part_of, parts_of, placed_in, size_in, weighed};
 ghost use Rattle.gptp_faults.specs.Stays.{failed_document};
 
 use crate::case_events::CaseEvents;
@@ -138,11 +138,7 @@ fn push_placed(all: &mut Vec<Placed>, one: Placed) -> Result<(), AllocError>
 }
 
 /// The live systems, by rising clock.
-fn placed_all(
-    alloc: Global,
-    before: &Components,
-    after: &Components,
-) -> Result<Vec<Placed>, Cut>
+fn placed_all(alloc: Global, before: &Components, after: &Components) -> Result<Vec<Placed>, Cut>
     ensures placed { IfOk result (λ all. ArePlaced before.now after.now all.items) }
     ensures memory { IfErr result (λ e. e ≡ Cut.Memory) }
 {
@@ -202,17 +198,49 @@ fn is_cut(all: &[Weighed], one: &Weighed) -> bool
     all.iter().any(|other| is_heavier(other, one))
 }
 
+/// Puts a system after others, where it is cut off.
+fn push_cut(
+    cut: &mut Vec<ClockId>,
+    all: &[Weighed],
+    one: &Weighed,
+) -> Result<(), AllocError>
+    ensures { OnOk result (cut.new.items ≡ cut.old.items ++ (if is_cut all.now one.now then clock_in one.now ∷ [] else [])) }
+{
+    match is_cut(all, one) {
+        true => {
+            cut.push(one.placed.clock)?;
+            Ok(())
+        }
+        false => Ok(()),
+    }
+}
+
 /// Who is cut off.
 fn cut_off(alloc: Global, all: &[Weighed]) -> Result<Vec<ClockId>, AllocError>
     ensures { IfOk result (λ v. v.items ≡ cut_off all.now) }
 {
     let mut cut = Vec::new(alloc);
     for one in all {
-        if is_cut(all, one) {
-            cut.push(one.placed.clock)?;
-        }
+        push_cut(&mut cut, all, one)?;
     }
     Ok(cut)
+}
+
+/// Puts a system after others, where it isn't cut off.
+fn push_kept(
+    kept: &mut Vec<Placed>,
+    all: &[Weighed],
+    one: &Weighed,
+) -> Result<(), AllocError>
+    ensures { OnOk result (kept.new.items ≡ kept.old.items ++ (if is_kept all.now one.now then placed_in one.now ∷ [] else [])) }
+{
+    match is_cut(all, one) {
+        true => Ok(()),
+        false => {
+            kept.push(one.placed)?;
+            Ok(())
+        }
+    }
 }
 
 /// Who isn't.
@@ -221,9 +249,7 @@ fn kept(alloc: Global, all: &[Weighed]) -> Result<Vec<Placed>, AllocError>
 {
     let mut kept = Vec::new(alloc);
     for one in all {
-        if !is_cut(all, one) {
-            kept.push(one.placed)?;
-        }
+        push_kept(&mut kept, all, one)?;
     }
     Ok(kept)
 }
@@ -235,17 +261,51 @@ fn leads(one: &Placed) -> bool
     one.part.clock() == one.clock
 }
 
+/// Puts a system after others, where it is of a part.
+fn push_member(
+    clocks: &mut Vec<ClockId>,
+    part: Identity,
+    one: &Placed,
+) -> Result<(), AllocError>
+    ensures { OnOk result (clocks.new.items ≡ clocks.old.items ++ (if is_of part one.now then clock_of_placed one.now ∷ [] else [])) }
+{
+    match one.part == part {
+        true => {
+            clocks.push(one.clock)?;
+            Ok(())
+        }
+        false => Ok(()),
+    }
+}
+
 /// The systems of a part among these.
-fn part_among(alloc: Global, all: &[Placed], part: Identity) -> Result<Part, AllocError>
-    ensures { IfOk result (λ p. p ≡ part_among all.now part) }
+fn members(alloc: Global, all: &[Placed], part: Identity) -> Result<Vec<ClockId>, AllocError>
+    ensures { IfOk result (λ v. v.items ≡ part_among all.now part) }
 {
     let mut clocks = Vec::new(alloc);
     for one in all {
-        if one.part == part {
-            clocks.push(one.clock)?;
-        }
+        push_member(&mut clocks, part, one)?;
     }
-    Ok(Part { clocks })
+    Ok(clocks)
+}
+
+/// Puts the part of a system after others, where the system is its best.
+fn push_part(
+    alloc: Global,
+    parts: &mut Vec<Part>,
+    all: &[Placed],
+    one: &Placed,
+) -> Result<(), AllocError>
+    ensures { OnOk result (parts.new.items ≡ parts.old.items ++ (if leads one.now then part_of all.now one.now ∷ [] else [])) }
+{
+    match leads(one) {
+        true => {
+            let clocks = members(alloc, all, one.part)?;
+            parts.push(Part { clocks })?;
+            Ok(())
+        }
+        false => Ok(()),
+    }
 }
 
 /// The parts of these systems.
@@ -254,9 +314,7 @@ fn parts_of(alloc: Global, all: &[Placed]) -> Result<Vec<Part>, AllocError>
 {
     let mut parts = Vec::new(alloc);
     for one in all {
-        if leads(one) {
-            parts.push(part_among(alloc, all, one.part)?)?;
-        }
+        push_part(alloc, &mut parts, all, one)?;
     }
     Ok(parts)
 }
@@ -272,11 +330,7 @@ pub(crate) fn whole_parts(alloc: Global, whole: &Components) -> Result<Vec<Part>
 }
 
 /// What is left of components after a fault.
-fn parts_after(
-    alloc: Global,
-    before: &Components,
-    after: &Components,
-) -> Result<CaseParts, Cut>
+fn parts_after(alloc: Global, before: &Components, after: &Components) -> Result<CaseParts, Cut>
     ensures parts { IfOk result (λ p. IsLeft before.now after.now p.cut.items p.main.items) }
     ensures few { IfOk result (λ p. AreFew p.main.items) }
     ensures memory { IfErr result (λ e. e ≡ Cut.Memory) }

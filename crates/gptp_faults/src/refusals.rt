@@ -1,10 +1,9 @@
 //! Why no case is run.
 
-ghost use Rattle.std.specs.Prelude.{◌≡◌, ◌≤◌, nat_lt, IfErr, IfOk, IfSome, OnOk};
+ghost use Rattle.std.specs.Prelude.{◌≡◌, ◌≤◌, IfErr, IfOk, IfSome, OnOk};
 ghost use Rattle.std.specs.List.{AllByRecursion};
 ghost use Rattle.gptp_faults.specs.Cables.{HasBounds, cables_after};
-ghost use Rattle.gptp_faults.specs.Refusals.{any_late, fault_before, is_late, refusal_at, refusal_of};
-ghost use Rattle.gptp_faults.specs.Stays.{end_at};
+ghost use Rattle.gptp_faults.specs.Refusals.{any_late, fault_before, is_late, is_late_at, refusal_at, refusal_of};
 ghost use Rattle.gptp_faults.specs.Times.{AreOptions, TimesAreBounded};
 
 use crate::case_events::{CaseEvents, events_of};
@@ -116,7 +115,7 @@ fn is_late_at(
 ) -> Result<bool, Cut>
     requires asked { IfSome asked (λ hold. hold ≤ 1000000000000000) }
     requires at { at ≤ 2000000000000000 }
-    ensures late { IfOk result (λ late. late ≡ nat_lt 1000000000000000 (end_at document.old asked events.now at)) }
+    ensures late { IfOk result (λ late. late ≡ is_late_at document.old asked events.now at) }
     ensures same { OnOk result (document.new ≡ document.old) }
     ensures memory { IfErr result (λ e. e ≡ Cut.Memory) }
 {

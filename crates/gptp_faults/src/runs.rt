@@ -104,7 +104,14 @@ pub(crate) fn run_case(
     return_after(document, down, events, hold)?;
     let fate = PcgFate::new(seed_of(times, run));
     let aside = SetAside::new(Vec::from_slice(alloc, aside)?, down, back);
-    let ends = last_stretches(alloc, document, fate, back + behind, options.tracks(), aside)?;
+    let ends = last_stretches(
+        alloc,
+        document,
+        fate,
+        back + behind,
+        options.tracks(),
+        aside,
+    )?;
     document.truncate(count);
     ends_of(!events.seen().is_empty(), ends)
 }

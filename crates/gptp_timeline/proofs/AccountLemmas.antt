@@ -435,13 +435,13 @@ rest_after options from names events a ts (Some rs) times is = (
 -- ---- what is written where a stretch ends
 
 module _ (options : TimelineOptions) (names : List ℕ) (a : AsideState) (p : StretchTrace) (from : Option ℕ) (events : ℕ)
-    where
-  pub line_kept : (readings : Option (List SystemReading)) (s : Stretch) (measured : List SystemReading → TimeMeasures)
-      → line_of_times (asks_lines (account_if options from names events a p.acts readings)) s
-      (option_map measured readings)
-      ≡ line_of_times options.times s (option_map measured readings)
-  line_kept None s measured = refl
-  line_kept (Some rs) s measured = refl
+  where
+    pub line_kept : (readings : Option (List SystemReading)) (s : Stretch) (measured : List SystemReading → TimeMeasures)
+        → line_of_times (asks_lines (account_if options from names events a p.acts readings)) s
+        (option_map measured readings)
+        ≡ line_of_times options.times s (option_map measured readings)
+    line_kept None s measured = refl
+    line_kept (Some rs) s measured = refl
 
 none_asked : (asked : Bool) → ◌≡◌ {A = List ℕ} [] (if asked then [] else [])
 none_asked true = refl

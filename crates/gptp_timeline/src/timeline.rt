@@ -251,13 +251,7 @@ fn times_before<F: Fate + Drop>(
     match options.times || options.limits.asks_times() {
         true => {
             let told = options.times && options.offsets;
-            Ok(Some(TimeWatch::new(
-                alloc,
-                world,
-                options.times,
-                told,
-                aside,
-            )?))
+            Ok(Some(TimeWatch::new(alloc, world, options.times, told, aside)?))
         }
         false => Ok(None),
     }

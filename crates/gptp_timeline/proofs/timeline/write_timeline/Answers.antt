@@ -70,11 +70,14 @@ returns-in_err-kept-clause-some g c =
     c.in_ok-world.ensures.begun old first first new
     (subst (λ lines. Appends old first (text_of lines)) (start_told options c.nobody.result w c.in_ok-watch.watch
     c.in_ok-watch.ensures)
-    c.in_ok-write_start.ensures.whole)
-    (c.in_err-kept.ensures.broken.0, c.in_err-kept.ensures.broken.1, c.in_err-kept.ensures.broken.2,
-    c.in_err-kept.ensures.broken.3 (nobody_kept options nobody_aside w refl c.write_start.new.watch
-    (c.in_ok-write_start.ensures.sees
-    ∙ ap (see_all (event_look 0) w) (c.in_ok-watch.ensures ∙ ap (λ a. watch_before options a w) c.nobody.ensures)))))
+    c.in_ok-write_start.ensures.whole) (
+      c.in_err-kept.ensures.broken.0,
+      c.in_err-kept.ensures.broken.1,
+      c.in_err-kept.ensures.broken.2,
+      c.in_err-kept.ensures.broken.3 (nobody_kept options nobody_aside w refl c.write_start.new.watch
+          (c.in_ok-write_start.ensures.sees
+          ∙ ap (see_all (event_look 0) w) (c.in_ok-watch.ensures ∙ ap (λ a. watch_before options a w) c.nobody.ensures))),
+    ))
 
 -- a device that fails is told as such
 
