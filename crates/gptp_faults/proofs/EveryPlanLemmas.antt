@@ -2,7 +2,6 @@
 use Rattle.std.proofs.Common.{◌≡◌, ◌≤◌, ◌<◌, ◌+◌, ◌*◌, ℕ, Bool, true, false, nat_lt, List, [], ◌∷◌, ◌++◌, length, max, ◌==◌, Option, Some, None, IfSome, unwrap_or, refl, sym, ◌∙◌, inl, inr, arith}
 use Rattle.std.proofs.lemmas.Bool.{eq-eqb, eqb-true}
 use Rattle.std.proofs.lemmas.Bool.Decides.{nat_tests}
-use Rattle.std.proofs.lemmas.Nat.{mul-le}
 use Rattle.gptp_graph.specs.PathBound.{path_bound}
 use Rattle.gptp_how_soon.specs.Times.{settling_times_from, time_at}
 use Rattle.gptp_how_soon.specs.declared.bounds.SettlingTime.{SettlingTime}
@@ -14,13 +13,11 @@ use Rattle.gptp_network.specs.Span.{IsSpan}
 use Rattle.gptp_network.proofs.ExistenceLemmas.{snapshot_exists}
 use Rattle.gptp_scenario.specs.Calm.{last_change}
 use Rattle.gptp_scenario.specs.Network.{IsNetwork, largest_of, pace_of}
-use Rattle.gptp_scenario.specs.SettlingTime.{settling_span, settling_span_with}
+use Rattle.gptp_scenario.specs.SettlingTime.{settling_span_with}
 use Rattle.gptp_scenario.specs.SyncWait.{sync_paths}
-use Rattle.gptp_scenario.specs.declared.sync_wait.SyncPaths.{SyncPaths}
 use Rattle.gptp_scenario.specs.declared.change.Act.TheVariants as acts
 use Rattle.gptp_scenario.specs.declared.change.Timed.{Timed}
 use Rattle.gptp_setup.specs.Intervals.{IsLog, interval_of}
-use Rattle.gptp_setup.specs.SettlingParams.{SettlingParams}
 use Rattle.gptp_setup.proofs.IntervalLemmas.{interval_positive}
 use Rattle.gptp_timeline.specs.Each.{Each}
 use Rattle.gptp_topology.specs.Times.{times_from, times_of}
@@ -80,14 +77,6 @@ times_exist d options network =
     )
 
 -- ---- a fault stays some time
-
--- a network takes some time to settle
-pub span_some : (p : SettlingParams) (paths : SyncPaths) (n : ℕ) → IsLog p.largest → 0 < settling_span_with p paths n
-span_some p paths n log =
-    let interval = interval_positive p.largest log in
-    let some : 1 * 1 ≤ settling_span p n =
-    mul-le 1 1 ((p.params.timeout + 3) * n + p.params.lost + 5) (interval_of p.largest) (omega arith) interval in
-    omega (arith, some)
 
 -- the last event of a document has one of its times
 last_time : (from : ℕ) (es : List Timed) (e : Timed) → In e.at (times_from from (es ++ e ∷ []))

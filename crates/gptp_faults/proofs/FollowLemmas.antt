@@ -1,32 +1,34 @@
 -- The roots that are followed while a case is down are those of the settled choice.
-use Rattle.std.proofs.Common.{◌≡◌, ◌≤◌, ◌<◌, ◌+◌, ◌*◌, ◌/◌, ℕ, zero, suc, Bool, false, nat_le, List, [], ◌∷◌, ◌++◌, Option, Some, refl, sym, ap, subst, ◌∙◌, inl, inr, append-nil, arith}
-use Rattle.std.specs.List.{range_with_len}
+use Rattle.std.proofs.Common.{◌≡◌, ◌⊎◌, ◌≤◌, ◌<◌, ◌+◌, ◌*◌, ◌/◌, ℕ, zero, suc, Bool, true, false, cond, nat_le, List, [], ◌∷◌, ◌++◌, Option, Some, None, refl, sym, ap, subst, ◌∙◌, inl, inr, append-nil, arith}
+use Rattle.std.specs.Prelude.{◌==◌}
+use Rattle.std.specs.List.{find, range_with_len}
+use Rattle.std.specs.Option.{option_and_then, option_map_or}
 use Rattle.std.proofs.lemmas.Bool.Decides.{nat_tests}
+use Rattle.gptp_accuracy.specs.Settlings.{settling_among, settling_of}
+use Rattle.gptp_how_soon.specs.Times.{is_time_at, settling_times}
+use Rattle.gptp_how_soon.specs.declared.bounds.Settling.{Settling}
+use Rattle.gptp_how_soon.specs.declared.bounds.SettlingTime.{SettlingTime}
+use Rattle.gptp_how_soon.proofs.WatchLemmas.{watched_past_choice}
 use Rattle.gptp_model.specs.Views.{rising_clocks}
-use Rattle.gptp_graph.specs.PathBound.{path_bound}
 use Rattle.gptp_graph.specs.Snapshot.{Snapshot}
 use Rattle.gptp_lists.specs.Members.{In}
 use Rattle.gptp_lists.proofs.SystemSpecLemmas.{In-slice_get}
 use Rattle.gptp_network.specs.Adding.{with_event}
 use Rattle.gptp_network.specs.Document.{DocumentState}
 use Rattle.gptp_network.specs.Snapshot.{events_by, IsSnapshot, StandsAfter}
-use Rattle.gptp_network.specs.Span.{IsBound}
-use Rattle.gptp_scenario.specs.Calm.{IsCalm, last_change}
-use Rattle.gptp_scenario.specs.Network.{pace_of}
-use Rattle.gptp_scenario.specs.SettlingTime.{settling_span_with}
-use Rattle.gptp_scenario.specs.SyncWait.{sync_paths}
+use Rattle.gptp_scenario.specs.Calm.{last_change}
 use Rattle.gptp_scenario.specs.declared.change.Act.TheVariants as acts
 use Rattle.gptp_scenario.specs.declared.change.Timed.{Timed}
+use Rattle.gptp_settling_time.specs.HowSoon.{IsChoiceBound}
 use Rattle.gptp_theorem.specs.PlayedLaws.{IsPlayable}
 use Rattle.gptp_timeline.specs.Each.{Each}
 use Rattle.gptp_timeline.specs.Ends.{EndState}
 use Rattle.gptp_timeline.specs.LastTwo.{EndsOf}
 use Rattle.gptp_timeline.specs.Laws.{AreRoots}
 use Rattle.gptp_timeline.specs.Timeline.{none_carried}
-use Rattle.gptp_timeline.proofs.FollowedLemmas.{follow_there}
-use Rattle.gptp_scenario.proofs.LogLemmas.{largest_log}
+use Rattle.gptp_timeline_laws.proofs.RootsSoonLemmas.{bound_follows, told_bound}
+use Rattle.gptp_timeline_laws.proofs.ShortenedLemmas.{playable_by, shortened}
 use Rattle.gptp_timeline.proofs.PastLemmas.{all_past, by_past, past_later, PastBy}
-use Rattle.gptp_timeline.proofs.SettlingLemmas.{keeps_first}
 use Rattle.gptp_faults.specs.Cases.{fault_of, return_of}
 use Rattle.gptp_faults.specs.Faults.{FaultsOf}
 use Rattle.gptp_faults.specs.Laws.{FollowSettled}
@@ -34,7 +36,7 @@ use Rattle.gptp_faults.specs.Options.{tracks}
 use Rattle.gptp_faults.specs.Outcomes.{IsOutcomeAt}
 use Rattle.gptp_faults.specs.Refusals.{is_late, latest_event}
 use Rattle.gptp_faults.specs.Runs.{draws, generator, CaseRunEnds, run_moment, runs_of, seed_of}
-use Rattle.gptp_faults.specs.Stays.{document_of, end_at, hold_of, return_at}
+use Rattle.gptp_faults.specs.Stays.{document_of, end_at, hold_of, return_at, watch_among}
 use Rattle.gptp_faults.specs.Times.{moment}
 use Rattle.gptp_faults.specs.declared.cases.Case.{Case}
 use Rattle.gptp_faults.specs.declared.options.FaultsOptions.{FaultsOptions}
@@ -42,7 +44,7 @@ use Rattle.gptp_faults.specs.declared.times.Times.{Times}
 use Rattle.gptp_faults.proofs.DownLemmas.{AreLast, last_but_one}
 use Rattle.gptp_faults.proofs.PlayableLemmas.{case_playable}
 use Rattle.gptp_faults.proofs.RefusalLemmas.{not_late, not_late_at, returns_early}
-use Rattle.gptp_faults.proofs.EveryPlanLemmas.{from_behind, span_some}
+use Rattle.gptp_faults.proofs.EveryPlanLemmas.{from_behind}
 
 -- ---- two lists, member by member
 
@@ -115,12 +117,38 @@ back_early d asked t c none some =
     subst (λ at. return_at d asked c at ≤ latest_event) (moment_first t)
     (returns_early d asked c (moment t 0) (not_late_at d asked t c 0 none some))
 
+-- ---- how long a case stays down
+
+-- a time is watched for longer than its choice
+watched_longer : (times : List SettlingTime) (at : ℕ) (s : Settling)
+    → ((t : SettlingTime) → In t times → t.settling ≡ Some s → s.choice < t.watch)
+    → settling_among times at ≡ Some s → s.choice < watch_among times at
+watched_longer [] at s each is = absurd cc
+watched_longer (t ∷ ts) at s each is = by (t.at == at) is (watched_longer ts at s (λ u member. each u (inr member)))
+  where
+    by : (test : Bool)
+        → option_and_then (λ (u : SettlingTime). u.settling) (cond test (Some t) (find (is_time_at at) ts)) ≡ Some s
+        → (settling_among ts at ≡ Some s → s.choice < watch_among ts at)
+        → s.choice < option_map_or (λ (u : SettlingTime). u.watch) (cond test (Some t) (find (is_time_at at) ts)) 0
+    by true is rest = each t (inl refl) is
+    by false is rest = rest is
+
+-- so by default a case stays down for longer than that
+stays_longer : (d : DocumentState) (asked : Option ℕ) (c : Case) (at : ℕ) (s : Settling)
+    → settling_of (with_event at (fault_of c) d) at ≡ Some s → (asked ≡ None) ⊎ (s.choice < hold_of d asked c at)
+    → s.choice < hold_of d asked c at
+stays_longer d asked c at s told (inl none) =
+    let failed = with_event at (fault_of c) d in
+    subst (λ o. s.choice < hold_of d o c at) (sym none)
+    (watched_longer (settling_times failed) at s (λ t member is. watched_past_choice failed t s member is) told)
+stays_longer d asked c at s told (inr longer) = longer
+
 -- ---- a run of a case
 
 module _ (options : FaultsOptions) (d : DocumentState) (t : Times) (c : Case) (playable : IsPlayable d)
-    (last : last_change d.events ≤ t.from) (span : ℕ)
-    (bound : IsBound (with_event t.from (fault_of c) d) t.from (Some span))
-    (stays : span ≤ hold_of d options.hold c t.from) where
+    (last : last_change d.events ≤ t.from) (s : Settling)
+    (told : settling_of (with_event t.from (fault_of c) d) t.from ≡ Some s)
+    (stays : s.choice < hold_of d options.hold c t.from) where
   abbrev hold : ℕ
   hold = hold_of d options.hold c t.from
 
@@ -136,13 +164,6 @@ module _ (options : FaultsOptions) (d : DocumentState) (t : Times) (c : Case) (p
   abbrev returns : Timed
   returns = record { at = t.from + hold; act = acts.Change (return_of c) }
 
-  holds : 0 < hold
-  holds =
-      let paths = sync_paths d.network (events_by t.from failed.events) in
-      let log = largest_log d.network playable.network in
-      let some = span_some (pace_of d.network) paths (path_bound bound.1.snapshot) log in
-      let is = bound.1.is in omega (arith, some, is, stays)
-
   past : PastBy t.from d.events
   past = all_past t.from d.events playable.events.in_order last
 
@@ -150,78 +171,74 @@ module _ (options : FaultsOptions) (d : DocumentState) (t : Times) (c : Case) (p
   past_failed = past_with t.from d.events fails past (omega arith)
 
   -- the events up to the fault are those without the return
-  by_fault : events_by t.from whole.events ≡ events_by t.from failed.events
-  by_fault =
-      let some = holds in
-      all_but_last t.from (d.events ++ fails ∷ []) returns past_failed (omega (arith, some))
-      ∙ sym (all_by t.from (d.events ++ fails ∷ []) past_failed)
+  by_fault : events_by t.from whole.events ≡ failed.events
+  by_fault = all_but_last t.from (d.events ++ fails ∷ []) returns past_failed (omega (arith, stays))
+
+  -- all of them have come by then
+  by_then : events_by t.from failed.events ≡ failed.events
+  by_then = all_by t.from (d.events ++ fails ∷ []) past_failed
 
   both_last : (until : ℕ) → t.from + hold ≤ until → AreLast t.from (t.from + hold) 0 (events_by until whole.events)
-  both_last until within =
-      let some = holds in record {
-        others = d.events;
-        first = fails;
-        second = returns;
-        are = all_by until whole.events
-            (past_with until (d.events ++ fails ∷ []) returns
-            (past_later t.from until (d.events ++ fails ∷ []) (omega (arith, within)) past_failed) within)
-            ∙ append_two d.events fails returns;
-        past = past;
-        first_at = refl;
-        second_at = refl;
-        order = omega (arith, some);
-        early = omega arith;
-      }
+  both_last until within = record {
+    others = d.events;
+    first = fails;
+    second = returns;
+    are = all_by until whole.events
+        (past_with until (d.events ++ fails ∷ []) returns
+        (past_later t.from until (d.events ++ fails ∷ []) (omega (arith, within)) past_failed) within)
+        ∙ append_two d.events fails returns;
+    past = past;
+    first_at = refl;
+    second_at = refl;
+    order = omega (arith, stays);
+    early = omega arith;
+  }
 
-  -- so the stretch in which it is down is bounded by the span too
-  spans : (at : ℕ) → at ≡ t.from → IsBound whole at (Some span)
-  spans at is =
-      let n = d.network in
-      let made : events_by t.from failed.events ≡ events_by at whole.events =
-      sym (ap (λ time. events_by time whole.events) is ∙ by_fault) in (
-        subst (IsCalm n) made bound.0,
-        record {
-          snapshot = bound.1.snapshot;
-          stands = subst (λ es. StandsAfter n es bound.1.snapshot) made bound.1.stands;
-          is = subst (λ es. span ≡ settling_span_with (pace_of n) (sync_paths n es) (path_bound bound.1.snapshot)) made
-              bound.1.is;
-        },
-      )
+  -- up to the fault the whole document is the one without the return
+  short_is : shortened t.from whole ≡ failed
+  short_is = ap (λ es. record { network = d.network; events = es }) by_fault
+
+  -- so what is told of the fault there is a choice bound of it
+  bounded : IsPlayable whole → IsChoiceBound (shortened t.from whole) t.from s.choice
+  bounded can = told_bound (shortened t.from whole) t.from s (playable_by t.from whole can)
+      (ap (λ e. settling_of e t.from) short_is ∙ told)
 
   -- the roots where its first run ends to be down are those of the settled choice
   roots_settle : (a b : EndState) (g : Snapshot) → IsPlayable whole → CaseRunEnds options d t c 0 (a, b)
       → IsSnapshot failed t.from g → AreRoots g a.roots
   roots_settle a b g can run stands =
       let until = end_at d options.hold c t.from in
-      let e : EndsOf draws (tracks options) whole until (generator (seed_of t 0)) (Some (a, b)) =
+      let fate = generator (seed_of t 0) in
+      let e : EndsOf draws (tracks options) whole until fate (Some (a, b)) =
       subst (λ at. EndsOf draws (tracks options) (document_of d options.hold c at) (end_at d options.hold c at)
-      (generator (seed_of t 0)) (Some (a, b))) (first_moment t) run in
+      fate (Some (a, b))) (first_moment t) run in
       let names = rising_clocks e.start in
       let k = last_but_one draws whole until names e.passages t.from (t.from + hold) 0 (events_by until whole.events)
       (none_carried (tracks options) names) e.started e.fate_after e.start e.after a b (both_last until (omega arith))
       e.pass (sym e.are) in
       let from = k.from_is in let to = k.to_is in
+      let bound : IsChoiceBound (shortened k.passage.from whole) k.passage.from s.choice =
+      subst (λ at. IsChoiceBound (shortened at whole) at s.choice) (sym from) (bounded can) in
       let there : IsSnapshot whole k.passage.from g =
       subst (λ es. StandsAfter d.network es g)
-      (sym (ap (λ time. events_by time whole.events) k.from_is ∙ by_fault)) stands in
+      (sym (ap (λ time. events_by time whole.events) from ∙ by_fault ∙ sym by_then)) stands in
       subst (AreRoots g) (ap (λ (x : EndState). x.roots) (sym k.ended))
-      (follow_there draws whole can names false until e.passages e.started e.fate_after e.start e.after k.passage
-      span g
-      (keeps_first draws whole can names (generator (seed_of t 0)) e.started e.start refl e.begun) e.pass k.member
-      (spans k.passage.from from) (omega (arith, from, to, stays)) there)
+      (bound_follows draws whole until e.passages fate e.started e.fate_after e.start e.after k.passage s.choice g can
+      e.begun e.pass k.member bound (omega (arith, from, to, stays)) there)
 
 -- ---- the law
 
 pub follow_settles : (d : DocumentState) (options : FaultsOptions) (lines : List (List ℕ)) (exceeded : Bool)
     (f : FaultsOf d options lines exceeded) → IsPlayable d → FollowSettled d options f.times.from f.outcomes
-follow_settles d options lines exceeded f playable o g span member bound stays stands =
+follow_settles d options lines exceeded f playable o g s member told longer stands =
     let t = f.times in
     let (number, of_part, (c, there, outcome)) =
     each_for (IsOutcomeAt options d t f.cases) _ f.outcomes o f.are_outcomes member in
     let a_case = In-slice_get c f.cases number there in
     let failing = outcome.failing in
-    let bounded = subst (λ x. IsBound (with_event t.from (fault_of x) d) t.from (Some span)) failing bound in
-    let held = subst (λ x. span ≤ hold_of d options.hold x t.from) failing stays in
+    let told_here = subst (λ x. settling_of (with_event t.from (fault_of x) d) t.from ≡ Some s) failing told in
+    let held = stays_longer d options.hold c t.from s told_here
+    (subst (λ x. (options.hold ≡ None) ⊎ (s.choice < hold_of d options.hold x t.from)) failing longer) in
     let g_stands = subst (λ x. IsSnapshot (with_event t.from (fault_of x) d) t.from g) failing stands in
     let last = from_behind d t f.cases c a_case f.before in
     let first = outcome.first in
@@ -232,6 +249,6 @@ follow_settles d options lines exceeded f playable o g span member bound stays s
     let can = case_playable d options.only f.cases c t.from (return_at d options.hold c t.from) playable f.are_cases
     a_case last (omega arith) early in (
       first.0.roots,
-      roots_settle options d t c playable last span bounded held first.0 first.1 g can first_of_all g_stands,
+      roots_settle options d t c playable last s told_here held first.0 first.1 g can first_of_all g_stands,
       outcome.follow,
     )

@@ -1,11 +1,12 @@
 -- Laws of faults.
-use Rattle.std.specs.Prelude.{◌≡◌, ◌×◌, ◌≤◌, ◌+◌, ℕ, Bool, List, Some}
+use Rattle.std.specs.Prelude.{◌≡◌, ◌×◌, ◌<◌, ◌⊎◌, ◌+◌, ℕ, Bool, List, Some, None}
+use Rattle.gptp_accuracy.specs.Settlings.{settling_of}
 use Rattle.gptp_graph.specs.Snapshot.{Snapshot}
+use Rattle.gptp_how_soon.specs.declared.bounds.Settling.{Settling}
 use Rattle.gptp_lists.specs.Members.{In}
 use Rattle.rand_pcg.specs.Lcg.{Lcg}
 use Rattle.gptp_network.specs.Document.{DocumentState}
 use Rattle.gptp_network.specs.Snapshot.{IsSnapshot}
-use Rattle.gptp_network.specs.Span.{IsBound}
 use Rattle.gptp_network.specs.declared.fault.DocumentFault.{DocumentFault}
 use Rattle.gptp_timeline.specs.Aside.{AsideState}
 use Rattle.gptp_timeline.specs.LastStretches.{EndsOf}
@@ -29,13 +30,14 @@ StandsWithout d at e = IsSnapshot (failed_document at e d) (at + e.delay)
 abbrev pub TellsSettled : Snapshot → OutcomeState → Type 0
 TellsSettled g o = (roots : List ℕ) × AreRoots g roots × AreFollows roots o.follow
 
--- Where the network without what fails in a case at this time is calm, and the case stays down as long as it takes at
--- most to settle, its `follow` lines are those of the settled choice of the network without it.
+-- Where bounds are told of the network without what fails in a case, at the time at which that is seen, and the case
+-- stays down for longer than the choice from then on, as it does by default, its `follow` lines are those of the settled
+-- choice of that network.
 abbrev pub FollowSettled : DocumentState → FaultsOptions → ℕ → List OutcomeState → Type 0
-FollowSettled d options at outcomes = (o : OutcomeState) (g : Snapshot) (span : ℕ) → In o outcomes
-    → IsBound (failed_document at (case_events d options o.failing) d)
-    (at + (case_events d options o.failing).delay) (Some span)
-    → span ≤ hold_of d options.hold (case_events d options o.failing) at
+FollowSettled d options at outcomes = (o : OutcomeState) (g : Snapshot) (s : Settling) → In o outcomes
+    → settling_of (failed_document at (case_events d options o.failing) d)
+    (at + (case_events d options o.failing).delay) ≡ Some s
+    → (options.hold ≡ None) ⊎ (s.choice < hold_of d options.hold (case_events d options o.failing) at)
     → StandsWithout d at (case_events d options o.failing) g → TellsSettled g o
 
 -- The lines on followers are settled in every document that is playable.

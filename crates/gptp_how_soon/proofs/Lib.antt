@@ -6,3 +6,4 @@ pub mod TimesLemmas
 pub mod SettleLemmas
 pub mod CalmLemmas
 pub mod ShortLemmas
+pub mod WatchLemmas

@@ -77,8 +77,8 @@ module _ (n : NetworkState) (network : IsNetwork n) (paths : SyncPaths) (few : p
   ready_most told new =
       let e = two in
       either_most (length new == 0) 0 _ 65000000000 (omega arith)
-      (either_most (list_any (is_again told) new) (asked_again n.params paths) (two_exchanges n.params paths) 65000000000
-      again (omega (arith, e)))
+      (either_most (list_any (is_again told) new) (asked_again n.params paths) (two_exchanges n.params paths)
+      65000000000 again (omega (arith, e)))
 
   at_once : settling_span_at_once (pace_of n) paths ≤ 195000000000000
   at_once =
@@ -195,7 +195,8 @@ module _ (d : DocumentState) (network : IsNetwork d.network) (events : AreEvents
   there_before None at t is member = absurd member
   there_before (Some b) at t is member =
       let (there, test) = from_filter (λ (e : Timed). nat_le e.at b.at) t d.events member in
-      let early : t.at ≤ b.at = grind (arith, nat_tests) in (there, let last : b.at ≤ at = is in omega (arith, early, last))
+      let early : t.at ≤ b.at = grind (arith, nat_tests) in
+      (there, let last : b.at ≤ at = is in omega (arith, early, last))
 
   there_then : (before : Option SettlingTime) (at : ℕ) (t : Timed) → IsBefore at before → In t (all_then before at)
       → In t d.events × (t.at ≤ at)

@@ -1,5 +1,5 @@
 -- The world that a run ends with has settled by the bounds that are told of a time.
-use Rattle.std.proofs.Common.{◌≡◌, ℕ, List, [], ◌∷◌, ◌++◌, Option, refl, sym, ap, subst, ◌∙◌, append-nil, append_assoc, arith}
+use Rattle.std.proofs.Common.{◌≡◌, ◌<◌, ◌+◌, ℕ, List, [], ◌∷◌, ◌++◌, Option, refl, sym, ap, subst, ◌∙◌, append-nil, append_assoc, arith}
 use Rattle.std.specs.List.{AllByRecursion}
 use Rattle.gptp_links.specs.declared.bounds.Bounds.{Bounds}
 use Rattle.gptp_scenario.specs.Network.{pace_of}
@@ -7,11 +7,13 @@ use Rattle.gptp_scenario.specs.declared.change.Timed.{Timed}
 use Rattle.gptp_model.specs.World.{WorldState}
 use Rattle.gptp_network.specs.Document.{DocumentState}
 use Rattle.gptp_network.specs.Snapshot.{events_by}
-use Rattle.gptp_report.specs.Transitions.{ActTrace, Courses}
+use Rattle.gptp_report.specs.Transitions.{ActTrace, Courses, Unfolds}
 use Rattle.gptp_theorem.specs.PlayedLaws.{IsMade, IsPlayable}
 use Rattle.gptp_theorem.proofs.HeadlineLemmas.{is_settled}
 use Rattle.gptp_theorem.proofs.SettlingInvariantLemmas.{IsFitEvent, events_fit, events_made, least_of}
 use Rattle.gptp_theorem.proofs.SnapshotLemmas.{snapshots_stand}
+use Rattle.gptp_settling_time.specs.Documents.{IsSettledAs}
+use Rattle.gptp_settling_time.specs.HowSoon.{IsChoiceBound, NoneBetween}
 use Rattle.gptp_settling_time.specs.InTurn.{LeadOn, Past}
 use Rattle.gptp_settling_time.proofs.FollowedLemmas.{bound_settles}
 use Rattle.gptp_settling_time.proofs.InTurnLemmas.{IsAfter, after_act, after_keeps, after_later, after_settles, begins_after, leads_to}
@@ -53,13 +55,14 @@ module _ {F : Type 0} (answers : Bounds → ℕ → F → Option ℕ → F → T
         (leads_to answers d playable made event k.drawn drawn k.between between k.done is.0 fit.0 k.made
         (after_keeps d made past k.between passed.end) moment past next leads passed.end)
 
-  pub ends_settled : EndsSettled answers
-  ends_settled d time s next until fate first w ts playable k told is none late early =
-      let bound = (settlings_are_choice_bounds d time s playable told is).0 in
+  pub bound_ends_settled : (d : DocumentState) (at choice next until : ℕ) (fate : F) (first w : WorldState)
+      (ts : List ActTrace) → IsPlayable d → Unfolds answers d until fate first ts w → IsChoiceBound d at choice
+      → NoneBetween d.events at next → at + choice < until → until < next → IsSettledAs d until w
+  bound_ends_settled d at choice next until fate first w ts playable k bound none late early =
       let all : List Timed = events_by until d.events in
-      let same = none_later d.events time.at until next (omega (arith, late)) early none in
+      let same = none_later d.events at until next (omega (arith, late)) early none in
       let settles =
-      bound_settles d playable.network playable.events.in_order time.at s.choice until until same late bound in
+      bound_settles d playable.network playable.events.in_order at choice until until same late bound in
       let so = end_in_turn d playable all settles.last until [] settles.first all ts k.started k.drawn first w refl
       (events_made d until playable.network playable.events) (events_fit d until playable) settles.lead k.courses
       (begins_after answers d playable fate until first w ts k settles.first settles.begins) in
@@ -73,3 +76,8 @@ module _ {F : Type 0} (answers : Bounds → ℕ → F → Option ℕ → F → T
             let (systems, links) = snapshots_stand d.network all w g keeps.stands keeps.claim.world.sound stands in
             record { systems = systems; links = links };
       }
+
+  pub ends_settled : EndsSettled answers
+  ends_settled d time s next until fate first w ts playable k told is none late early =
+      bound_ends_settled d time.at s.choice next until fate first w ts playable k
+      (settlings_are_choice_bounds d time s playable told is).0 none late early

@@ -1,5 +1,5 @@
 -- Offsets are exact in each run from the time on that is told of a time.
-use Rattle.std.proofs.Common.{◌≡◌, ◌<◌, ◌≤◌, ◌+◌, ◌*◌, ◌^◌, ℕ, Bool, true, false, cond, suc, max, List, [], ◌∷◌, Option, filter, refl, ap, arith}
+use Rattle.std.proofs.Common.{◌≡◌, ◌<◌, ◌≤◌, ◌+◌, ◌*◌, ◌^◌, ℕ, Bool, true, false, cond, suc, max, List, [], ◌∷◌, Option, filter, refl, ap, ap₂, subst, arith}
 use Rattle.std.specs.List.{AllByRecursion}
 use Rattle.std.proofs.Math.Nat.{mul-le-mul}
 use Rattle.gptp_lists.specs.Members.{In}
@@ -15,7 +15,6 @@ use Rattle.gptp_scenario.specs.declared.change.Act.TheVariants as acts
 use Rattle.gptp_scenario.specs.declared.change.Change.TheVariants as changes
 use Rattle.gptp_scenario.specs.declared.change.Timed.{Timed}
 use Rattle.gptp_scenario.specs.declared.sync_wait.SyncPaths.{SyncPaths}
-use Rattle.gptp_scenario.proofs.LogLemmas.{largest_log}
 use Rattle.gptp_model.specs.World.{WorldState}
 use Rattle.gptp_network.specs.Document.{DocumentState}
 use Rattle.gptp_network.specs.Snapshot.{events_by}
@@ -27,13 +26,15 @@ use Rattle.gptp_invariants.proofs.SyncFollowWayLemmas.{way_distance}
 use Rattle.gptp_invariants.proofs.WorldStandsLemmas.{stands_well}
 use Rattle.gptp_theorem.specs.PlayedLaws.{IsPlayable}
 use Rattle.gptp_theorem.proofs.SyncPathLemmas.{paths_stand}
+use Rattle.gptp_how_soon.specs.Kinds.{sets_bounds}
+use Rattle.gptp_how_soon.specs.Times.{last_set as set_here}
+use Rattle.gptp_how_soon.specs.declared.bounds.Settling.{Settling}
 use Rattle.gptp_settling_time.specs.HowSoon.{IsChoiceBound, NoneBetween}
 use Rattle.gptp_settling_time.specs.ExactInTurn.{last_set, sets_link}
 use Rattle.gptp_settling_time.proofs.ChoiceBoundLemmas.{choice_bounds_are_exact, choice_bounds_carry}
-use Rattle.gptp_settling_time.proofs.CutLemmas.{IsBy, all_by}
 use Rattle.gptp_settling_time.proofs.ExactInTurnLemmas.{IsCarried}
 use Rattle.gptp_how_soon_laws.specs.Exact.{IsExact, IsExactSoon}
-use Rattle.gptp_how_soon_laws.proofs.ChoiceLemmas.{time_so}
+use Rattle.gptp_how_soon_laws.proofs.ChoiceLemmas.{IsSo, time_so}
 use Rattle.gptp_how_soon_laws.proofs.StepLemmas.{IsKept, kept}
 
 -- ---- lists
@@ -97,65 +98,75 @@ come_down steps systems hop most settled exact at few some is told on =
     let more : suc (suc steps) * hop ≡ suc steps * hop + hop = omega arith in
     omega (arith, times, more, some, is, told, on)
 
--- each act that is done from then on, by a choice bound of a time, and before the next event
+-- ---- from when on
+
+-- the choice of a time stands, and an announce interval has passed since the network began and a link was last set
+abbrev pub carried_from : DocumentState → ℕ → ℕ → ℕ
+carried_from d time choice =
+    max (time + choice) (last_set (events_by time d.events) + largest_interval (pace_of d.network))
+
+-- and then what each system uses has come down the tree
+abbrev pub come_from : DocumentState → ℕ → ℕ → ℕ
+come_from d time choice =
+    carried_from d time choice
+    + (sync_paths d.network (events_by time d.events)).systems
+    * (d.network.params.threshold + d.network.params.residence)
+
+-- offsets are exact no sooner by what is told of a time
+pub told_later : (d : DocumentState) (playable : IsPlayable d) (earlier : List ℕ) (time : ℕ) (s : Settling)
+    → IsSo d playable earlier time s → come_from d time s.choice ≤ s.exact_from
+told_later d playable earlier time s so =
+    subst (λ last. max (time + s.choice) (last + largest_interval (pace_of d.network))
+    + (sync_paths d.network (events_by time d.events)).systems
+    * (d.network.params.threshold + d.network.params.residence)
+    ≤ s.exact_from) (same_set (events_by time d.events)) so.exact
+
+-- ---- each act that is done from then on, by a choice bound of a time, and before the next event
+
 module _ {F : Type 0} (answers : Bounds → ℕ → F → Option ℕ → F → Type 0) (d : DocumentState)
     (time choice exact next until : ℕ) (fate : F) (first w : WorldState) (ts : List ActTrace) (t : ActTrace)
     (playable : IsPlayable d) (k : Unfolds answers d until fate first ts w) (member : In t ts)
     (bound : IsChoiceBound d time choice) (none : NoneBetween d.events time next)
-    (told : time + max choice (largest_interval (pace_of d.network))
-    + (sync_paths d.network (events_by time d.events)).systems
-    * (d.network.params.threshold + d.network.params.residence)
-    ≤ exact)
-    (on : exact ≤ t.told.timed.at) (early : t.told.timed.at < next) where
-  some : 1 ≤ largest_interval (pace_of d.network)
-  some = interval_positive (pace_of d.network).largest (largest_log d.network playable.network)
-
+    (told : come_from d time choice ≤ exact) (behind : time < t.told.timed.at) (on : exact ≤ t.told.timed.at)
+    (early : t.told.timed.at < next) where
   least : 1 ≤ d.network.params.threshold + d.network.params.residence
   least = let one = playable.network.params.ranges.params.threshold-least in omega (arith, one)
 
   pub kept_then : IsKept d (events_by time d.events) t
-  kept_then =
-      let one = some in
-      kept answers d time choice next until fate first w ts t playable k member bound none
-      (omega (arith, one, told, on)) early
+  kept_then = kept answers d time choice next until fate first w ts t playable k member bound none behind early
 
   module _ (steps number error : ℕ) (way : IsWayError d.network.params t.before number (suc steps) error) where
     few : suc steps < (sync_paths d.network (events_by time d.events)).systems
     few = few_links d (events_by time d.events) t steps number error playable kept_then way
 
-    pub come : time + max choice (largest_interval (pace_of d.network)) + 1
+    pub come : carried_from d time choice + 1
         + suc steps * (d.network.params.threshold + d.network.params.residence)
         ≤ t.told.timed.at
     come =
         come_down steps (sync_paths d.network (events_by time d.events)).systems
-        (d.network.params.threshold + d.network.params.residence)
-        (time + max choice (largest_interval (pace_of d.network)))
-        (time + max choice (largest_interval (pace_of d.network)) + 1) exact t.told.timed.at few least refl told on
+        (d.network.params.threshold + d.network.params.residence) (carried_from d time choice)
+        (carried_from d time choice + 1) exact t.told.timed.at few least refl told on
 
     -- the choice stands then
     pub stands_then : time + choice < t.told.timed.at
     stands_then = let is = come in omega (arith, is)
 
   -- and time has been carried right since then
-  pub carried_then : t.told.timed.at ≤ 10 ^ 18
-      → time + max choice (largest_interval (pace_of d.network)) + 1 ≤ t.told.timed.at
-      → IsCarried answers (pace_of d.network) (time + max choice (largest_interval (pace_of d.network)) + 1) t
+  pub carried_then : t.told.timed.at ≤ 10 ^ 18 → carried_from d time choice + 1 ≤ t.told.timed.at
+      → IsCarried answers (pace_of d.network) (carried_from d time choice + 1) t
   carried_then shown late =
-      let set = set_by time d.events in
-      choice_bounds_carry answers d time choice next (time + max choice (largest_interval (pace_of d.network)) + 1)
-      until fate first w ts t playable k member shown bound none (omega arith) (omega (arith, set)) late early
+      choice_bounds_carry answers d time choice next (carried_from d time choice + 1) until fate first w ts t playable k
+      member shown bound none (omega arith) (omega arith) late early
 
   pub exact_then : t.told.timed.at ≤ 10 ^ 18
       → IsExact d.network.params t.before t.told.timed.at t.after t.told.done
   exact_then shown steps number error offset ahead leaves near way is_ahead =
-      let set = set_by time d.events in
-      choice_bounds_are_exact answers d time choice next
-      (time + max choice (largest_interval (pace_of d.network)) + 1) until fate first w ts t playable k member shown
-      bound none (omega arith) (omega (arith, set)) early steps number error offset ahead
+      choice_bounds_are_exact answers d time choice next (carried_from d time choice + 1) until fate first w ts t
+      playable k member shown bound none (omega arith) (omega arith) early steps number error offset ahead
       (come steps number error way) leaves near way is_ahead
 
 pub exact_soon : {F : Type 0} (answers : Bounds → ℕ → F → Option ℕ → F → Type 0) → IsExactSoon answers
-exact_soon answers d time s next until fate first w ts t playable k member shown told is none on early =
+exact_soon answers d time s next until fate first w ts t playable k member shown told is none behind on early =
     let (before, so) = time_so d playable time s told is in
     exact_then answers d time.at s.choice s.exact_from next until fate first w ts t playable k member
-    (before, so.choice) none so.exact on early shown
+    (before, so.choice) none (told_later d playable before time.at s so) behind on early shown

@@ -129,16 +129,13 @@ best_alike g h alike name root (s, is, same) = (s, best g h alike name s is, sam
 module _ {F : Type 0} (answers : Bounds → ℕ → F → Option ℕ → F → Type 0) (d : DocumentState)
     (playable : IsPlayable d) (names : List ℕ) where
   -- a near system of a world that has settled follows the best of its component
-  root_settles : (events : List Timed) (g : Snapshot) (w : WorldState) (name : ℕ) (s : SystemState)
+  root_settles : (events : List Timed) (g : Snapshot) (w : WorldState) (name root : ℕ)
       → StandsAfter d.network events g → Keeps answers d playable names events w
-      → (IsNear (snapshot_of w) name → IsAtRest (snapshot_of w) s) → live_system name w ≡ Some s
-      → IsShownRoot g name s.root
-  root_settles events g w name s stands keeps rests is near =
+      → (IsNear (snapshot_of w) name → IsBestIdentity (snapshot_of w) name root) → IsShownRoot g name root
+  root_settles events g w name root stands keeps best near =
       let alike = alike_after answers d playable names events g w stands keeps in
-      let rest = rests (near_alike g (snapshot_of w) (turned (snapshot_of w) g alike) name near) in
-      let (x, member, clock_is, ports, named) = stands_there w name s is in
-      best_alike (snapshot_of w) g alike name s.root
-      (subst (λ v. IsBestIdentity (snapshot_of w) v s.root) named rest.settled.root)
+      best_alike (snapshot_of w) g alike name root
+      (best (near_alike g (snapshot_of w) (turned (snapshot_of w) g alike) name near))
 
   -- and these are the systems of its snapshot
   live_names : (events : List Timed) (g : Snapshot) (w : WorldState) → StandsAfter d.network events g
@@ -164,6 +161,33 @@ module _ {F : Type 0} (answers : Bounds → ℕ → F → Option ℕ → F → T
           let live = found_live name w.stations s is in
           subst (λ c. In c names) live.is_named (keeps.named.each live.place live.station live.here)
 
+  -- so where a stretch ends with near systems that follow the bests, the roots are those of the settled choice
+  pub follow_best : (exact : Bool) (until : ℕ) (passages : List StretchTrace) (fate fate_after : F)
+      (start after : WorldState) (p : StretchTrace) (g : Snapshot) → Keeps answers d playable names [] start
+      → AllPass answers exact d until 0 (events_by until d.events) fate fate_after start after passages → In p passages
+      → ((name : ℕ) (s : SystemState) → live_system name p.after ≡ Some s → IsNear (snapshot_of p.after) name
+      → IsBestIdentity (snapshot_of p.after) name s.root) → IsSnapshot d p.from g
+      → AreRoots g (roots_of (map (λ name. shown name p.after) names))
+  follow_best exact until passages fate fate_after start after p g keeps pass member best at_begin =
+      let b = begins answers d playable names exact until passages 0 [] (events_by until d.events) fate fate_after start
+      after p (left_first answers d playable names until) keeps pass member in
+      let events = b.before ++ now_of b.from b.left in
+      let are : events_by b.from d.events ≡ events =
+      events_then answers d playable names until b.from b.before b.left b.is_left in
+      let is = b.passage.from_is in
+      let at_end = keeps_one answers d playable names exact until b.from b.before b.left b.fate b.fate_after b.w p
+      b.is_left b.keeps b.passage in
+      let stands : StandsAfter d.network events g =
+      subst (λ es. StandsAfter d.network es g) are (subst (λ t. IsSnapshot d t g) is at_begin) in
+      each_root p.after (IsShownRoot g) names (clocks g) (live_names events g p.after stands at_end)
+      (λ name s lives. root_settles events g p.after name s.root stands at_end (best name s lives))
+
+  rest_follows : (w : WorldState) (name : ℕ) (s : SystemState) → live_system name w ≡ Some s
+      → IsAtRest (snapshot_of w) s → IsBestIdentity (snapshot_of w) name s.root
+  rest_follows w name s is rest =
+      let (x, member, clock_is, ports, named) = stands_there w name s is in
+      subst (λ v. IsBestIdentity (snapshot_of w) v s.root) named rest.settled.root
+
   pub follow_there : (exact : Bool) (until : ℕ) (passages : List StretchTrace) (fate fate_after : F)
       (start after : WorldState) (p : StretchTrace) (bound : ℕ) (g : Snapshot) → Keeps answers d playable names [] start
       → AllPass answers exact d until 0 (events_by until d.events) fate fate_after start after passages → In p passages
@@ -182,16 +206,14 @@ module _ {F : Type 0} (answers : Bounds → ℕ → F → Option ℕ → F → T
       let span = bounds.1 in
       let calm = subst (IsCalm d.network) are bounds.0 in
       let stood = subst (λ es. StandsAfter d.network es span.snapshot) are span.stands in
-      let stands : StandsAfter d.network events g =
-      subst (λ es. StandsAfter d.network es g) are (subst (λ t. IsSnapshot d t g) is at_begin) in
       let time = courses_end answers p.to p.events p.acts b.fate b.fate_after b.w p.after b.passage.courses in
       let settled : b.from + bound ≤ p.after.time = omega (arith, is, time, late) in
       let last = last_past b.from events (past_both b.from b.before b.left b.is_left.past) in
       let spans = subst (λ es. bound ≡ span_after answers d playable names es span.snapshot) are span.is in
-      each_root p.after (IsShownRoot g) names (clocks g) (live_names events g p.after stands at_end)
-      (λ name s lives. root_settles events g p.after name s stands at_end
-      (λ near. rests answers d playable names events b.from bound span.snapshot calm stood last spans p.after at_end
-      settled name near s lives) lives)
+      follow_best exact until passages fate fate_after start after p g keeps pass member
+      (λ name s lives near. rest_follows p.after name s lives
+      (rests answers d playable names events b.from bound span.snapshot calm stood last spans p.after at_end settled
+      name near s lives)) at_begin
 
 pub stretches_follow : {F : Type 0} (answers : Bounds → ℕ → F → Option ℕ → F → Type 0) (d : DocumentState) (until : ℕ)
     (options : TimelineOptions) (fate : F) (lines : List (List ℕ)) (exceeded : Bool)

@@ -1,16 +1,19 @@
 -- Receipts of a stretch are exact from the time on that its time errors say.
 use Rattle.std.proofs.Common.{◌≡◌, ◌≤◌, ◌<◌, ◌+◌, ◌*◌, ◌^◌, ◌-ℤ◌, ℕ, suc, max, ℤ, true, List, [], nat_le, Option, Some, None, option_map, unsigned_abs, refl, sym, ap, subst, ◌∙◌, append-nil, arith}
+use Rattle.std.proofs.Math.Nat.{mul-le-mul}
 use Rattle.std.proofs.lemmas.Option.{none-some, same_Some}
 use Rattle.gptp_accuracy.specs.Settlings.{settling_of}
 use Rattle.gptp_accuracy.specs.TimeErrors.{AreTimeErrors, exact_from}
 use Rattle.gptp_graph.specs.Best.{IsBest}
 use Rattle.gptp_graph.specs.Distance.{IsDistance, IsNear}
+use Rattle.gptp_graph.specs.PathBound.{path_bound}
 use Rattle.gptp_graph.specs.Snapshot.{IsWellFormed, Snapshot}
+use Rattle.gptp_graph.proofs.PathBoundLemmas.{IsDistance-within, paths_within}
 use Rattle.gptp_how_soon.specs.Times.{settling_times}
 use Rattle.gptp_how_soon.specs.declared.bounds.Settling.{Settling}
 use Rattle.gptp_how_soon_laws.specs.Exact.{IsExact}
 use Rattle.gptp_how_soon_laws.proofs.ChoiceLemmas.{IsSo, time_so}
-use Rattle.gptp_how_soon_laws.proofs.ExactLemmas.{carried_then, come, exact_then, kept_then, stands_then}
+use Rattle.gptp_how_soon_laws.proofs.ExactLemmas.{carried_from, carried_then, come, come_from, exact_then, kept_then, stands_then, told_later}
 use Rattle.gptp_how_soon_laws.proofs.StepLemmas.{IsKept}
 use Rattle.gptp_invariants.specs.ChoiceSettled.{IsSettledSystem, Settled}
 use Rattle.gptp_invariants.specs.SyncExact.{IsWayError}
@@ -27,6 +30,7 @@ use Rattle.gptp_model.specs.Views.{rising_clocks}
 use Rattle.gptp_model.specs.World.{WorldState}
 use Rattle.gptp_network.specs.Document.{DocumentState}
 use Rattle.gptp_network.specs.Snapshot.{events_by}
+use Rattle.gptp_network.proofs.InUseLemmas.{paths_are}
 use Rattle.gptp_pdelay.specs.Clock.{local_clock}
 use Rattle.gptp_report.specs.Transitions.{Unfolds}
 use Rattle.gptp_roles.specs.Selection.{clock_of}
@@ -34,6 +38,7 @@ use Rattle.gptp_scenario.specs.Calm.{last_change}
 use Rattle.gptp_scenario.specs.Network.{pace_of}
 use Rattle.gptp_scenario.specs.SyncWait.{sync_paths}
 use Rattle.gptp_scenario.specs.declared.change.Timed.{Timed}
+use Rattle.gptp_settling_time.specs.ExactInTurn.{last_set}
 use Rattle.gptp_settling_time.specs.HowSoon.{IsChoiceBound, NoneBetween}
 use Rattle.gptp_settling_time.proofs.ChoiceBoundLemmas.{choice_bounds_hold}
 use Rattle.gptp_settling_time.proofs.CutLemmas.{acts_by}
@@ -168,11 +173,7 @@ module _ {F : Type 0} (answers : Bounds → ℕ → F → Option ℕ → F → T
     (begun : Begun answers d.network fate started start)
     (run : RunsTo answers p 0 (events_by until d.events) started start) (due : p.from ≤ until) (on : p.from ≤ p.to)
     (time choice exact : ℕ) (past : PastBy time (events_by p.from d.events)) (le : time ≤ p.from)
-    (bounds : IsChoiceBound d time choice)
-    (told : time + max choice (largest_interval (pace_of d.network))
-    + (sync_paths d.network (events_by time d.events)).systems
-    * (d.network.params.threshold + d.network.params.residence)
-    ≤ exact)
+    (bounds : IsChoiceBound d time choice) (told : come_from d time choice ≤ exact) (later : time < exact)
     (a : ActTrace) (member : In a p.acts) (late : exact ≤ at_of a) where
   abbrev events : List Timed
   events = events_by p.from d.events
@@ -187,10 +188,10 @@ module _ {F : Type 0} (answers : Bounds → ℕ → F → Option ℕ → F → T
   runs = unfolds answers d playable until p fate started start begun run due on
 
   pub none : NoneBetween short.events time (suc p.to)
-  none event among later =
+  none event among behind =
       let (place, there) = slice_get-In event events among in
       let soon : event.at ≤ time = each_there (λ (e : Timed). e.at ≤ time) events past place event there in
-      absurd (omega (arith, soon, later))
+      absurd (omega (arith, soon, behind))
 
   pub bounded : IsChoiceBound short time choice
   bounded = (bounds.0, bound_by d.network d.events p.from bounds.0 time choice le bounds.1)
@@ -201,44 +202,44 @@ module _ {F : Type 0} (answers : Bounds → ℕ → F → Option ℕ → F → T
   pub early : at_of a < suc p.to
   early = let is = soon in omega (arith, is)
 
-  pub told_short : time + max choice (largest_interval (pace_of d.network))
-      + (sync_paths d.network (events_by time events)).systems
-      * (d.network.params.threshold + d.network.params.residence)
-      ≤ exact
+  pub told_short : come_from short time choice ≤ exact
   told_short =
-      subst (λ es. time + max choice (largest_interval (pace_of d.network))
+      subst (λ es. max (time + choice) (last_set es + largest_interval (pace_of d.network))
       + (sync_paths d.network es).systems * (d.network.params.threshold + d.network.params.residence)
       ≤ exact) (sym (by_sooner time p.from d.events le)) told
+
+  pub behind : time < at_of a
+  behind = omega (arith, later, late)
 
   pub kept : IsKept short events a
   kept =
       subst (λ es. IsKept short es a) (now_all time events past)
       (kept_then answers short time choice exact (suc p.to) p.to fate start p.after run.ts a fit runs
-      (run.among a member) bounded none told_short late early)
+      (run.among a member) bounded none told_short behind late early)
 
   module _ (names : List ℕ) (g : Snapshot) (name from bound : ℕ)
       (has : HasBound answers d playable names events g name from bound) where
     pub settled : Settled a.after
     settled =
         let passed = stands_then answers short time choice exact (suc p.to) p.to fate start p.after run.ts a fit runs
-        (run.among a member) bounded none told_short late early has.steps name bound
+        (run.among a member) bounded none told_short behind late early has.steps name bound
         (way answers d playable names events events g name from bound has a kept) in
         (choice_bounds_hold answers short time choice (suc p.to) p.to fate start p.after run.ts a fit runs
         (run.among a member) bounded none passed early).0.settled.tree.settled
 
     -- time is carried right since a Sync may have come down the way
     pub carried : p.to ≤ 10 ^ 18
-        → IsCarried answers (pace_of d.network) (time + max choice (largest_interval (pace_of d.network)) + 1) a
-        × (time + max choice (largest_interval (pace_of d.network)) + 1
+        → IsCarried answers (pace_of d.network) (carried_from short time choice + 1) a
+        × (carried_from short time choice + 1
         + suc has.steps * (d.network.params.threshold + d.network.params.residence)
         ≤ at_of a)
     carried ends =
         let by = soon in
         let down = come answers short time choice exact (suc p.to) p.to fate start p.after run.ts a fit runs
-        (run.among a member) bounded none told_short late early has.steps name bound
+        (run.among a member) bounded none told_short behind late early has.steps name bound
         (way answers d playable names events events g name from bound has a kept) in (
           carried_then answers short time choice exact (suc p.to) p.to fate start p.after run.ts a fit runs
-              (run.among a member) bounded none told_short late early (omega (arith, by, ends)) (omega (arith, down)),
+              (run.among a member) bounded none told_short behind late early (omega (arith, by, ends)) (omega (arith, down)),
           down,
         )
 
@@ -247,7 +248,7 @@ module _ {F : Type 0} (answers : Bounds → ℕ → F → Option ℕ → F → T
         let by = soon in
         act_within answers d playable names events events g name from bound has a kept settled
         (exact_then answers short time choice exact (suc p.to) p.to fate start p.after run.ts a fit runs
-        (run.among a member) bounded none told_short late early (omega (arith, by, ends)))
+        (run.among a member) bounded none told_short behind late early (omega (arith, by, ends)))
         error own is
 
 -- ---- what is told of a time
@@ -256,10 +257,7 @@ module _ {F : Type 0} (answers : Bounds → ℕ → F → Option ℕ → F → T
 pub record IsTold (d : DocumentState) (at from : ℕ) : Type 0 where
   pub choice : ℕ
   pub bounds : IsChoiceBound d (last_change (events_by at d.events)) choice
-  pub told : last_change (events_by at d.events) + max choice (largest_interval (pace_of d.network))
-      + (sync_paths d.network (events_by (last_change (events_by at d.events)) d.events)).systems
-      * (d.network.params.threshold + d.network.params.residence)
-      ≤ from
+  pub told : come_from d (last_change (events_by at d.events)) choice ≤ from
 
 -- the settling from which a time is told
 told_exact : (settling : Option Settling) (from : ℕ) → option_map (λ (s : Settling). s.exact_from) settling ≡ Some from
@@ -276,11 +274,38 @@ is_told d at from playable is =
     let so : IsSo d playable earlier last s = subst (λ at. IsSo d playable earlier at s) at_is so_then in record {
       choice = s.choice;
       bounds = (earlier, so.choice);
-      told = subst (λ e. last + max s.choice (largest_interval (pace_of d.network))
-          + (sync_paths d.network (events_by last d.events)).systems
-          * (d.network.params.threshold + d.network.params.residence)
-          ≤ e) exact_is so.exact;
+      told = subst (λ e. come_from d last s.choice ≤ e) exact_is (told_later d playable earlier last s so);
     }
+
+-- Where errors are said of a system, a path has two systems at least, so that is later than the last change.
+module _ {F : Type 0} (answers : Bounds → ℕ → F → Option ℕ → F → Type 0) (d : DocumentState) (playable : IsPlayable d)
+    (names : List ℕ) (at : ℕ) (g : Snapshot) (name from_span bound from : ℕ)
+    (has : HasBound answers d playable names (events_by at d.events) g name from_span bound) (g_well : IsWellFormed g)
+    (it : IsTold d at from) (past : PastBy (last_change (events_by at d.events)) (events_by at d.events))
+    (le : last_change (events_by at d.events) ≤ at) where
+  abbrev last : ℕ
+  last = last_change (events_by at d.events)
+
+  -- these are all events by the last change
+  same : events_by last d.events ≡ events_by at d.events
+  same = sym (by_sooner last at d.events le) ∙ now_all last (events_by at d.events) past
+
+  few : suc has.steps < (sync_paths d.network (events_by last d.events)).systems
+  few =
+      let less = IsDistance-within g (path_bound g) name (suc has.steps) (paths_within g g_well) has.far in
+      let systems : (sync_paths d.network (events_by at d.events)).systems ≡ path_bound g =
+      paths_are d.network playable.network (events_by at d.events) g has.stands in
+      subst (λ es. suc has.steps < (sync_paths d.network es).systems) (sym same) (omega (arith, less, systems))
+
+  pub later_told : last < from
+  later_told =
+      let many = few in
+      let one = playable.network.params.ranges.params.threshold-least in
+      let told = it.told in
+      let hop : 1 * 1 ≤ (sync_paths d.network (events_by last d.events)).systems
+      * (d.network.params.threshold + d.network.params.residence) =
+      mul-le-mul (omega (arith, many)) (omega (arith, one)) in
+      omega (arith, told, hop)
 
 -- ---- the law
 
@@ -311,9 +336,12 @@ timelines_are_exact_soon answers d until options fate lines exceeded t playable 
     let has = has_bound answers d playable names p.from errors name
     (exact_by_span d.network (events_by p.from d.events) say.snapshot) bound say
     (record { snapshot = say.snapshot; stands = say.is; is = refl }) says in
+    let later = later_told answers d playable names p.from say.snapshot name
+    (exact_by_span d.network (events_by p.from d.events) say.snapshot) bound from has say.network it past
+    (last_by p.from d.events) in
     let each : (act : ActTrace) → In act p.acts → ErrorIsWithin name from bound act = λ act here error late.
     stretch_within answers d playable until p fate t.started t.start t.begun run (omega (arith, begins_at, due))
-    (omega (arith, begins_at, to_is, over)) last it.choice from past (last_by p.from d.events) it.bounds it.told
+    (omega (arith, begins_at, to_is, over)) last it.choice from past (last_by p.from d.events) it.bounds it.told later
     act here late names say.snapshot name
     (exact_by_span d.network (events_by p.from d.events) say.snapshot) bound has (omega (arith, ends, shown))
     error late in

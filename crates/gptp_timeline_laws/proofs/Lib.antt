@@ -17,6 +17,7 @@ pub mod SourceLemmas
 pub mod SoFarLemmas
 pub mod PartLemmas
 pub mod RootLemmas
+pub mod RootsSoonLemmas
 pub mod AgeLemmas
 pub mod BestLemmas
 pub mod ShortenedLemmas

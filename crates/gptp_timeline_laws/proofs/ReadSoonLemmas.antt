@@ -14,9 +14,7 @@ use Rattle.gptp_network.specs.Snapshot.{events_by}
 use Rattle.gptp_scenario.specs.Calm.{last_change}
 use Rattle.gptp_scenario.specs.Network.{pace_of}
 use Rattle.gptp_scenario.specs.declared.change.Timed.{Timed}
-use Rattle.gptp_scenario.proofs.LogLemmas.{largest_log}
 use Rattle.gptp_setup.specs.SettlingParams.{largest_interval}
-use Rattle.gptp_setup.proofs.IntervalLemmas.{interval_positive}
 use Rattle.gptp_how_soon_laws.proofs.StepLemmas.{IsKept}
 use Rattle.gptp_settling_time.proofs.AsIfChangedLemmas.{changed_at, shows_so}
 use Rattle.gptp_settling_time.proofs.ExactInTurnLemmas.{IsCarried}
@@ -35,10 +33,12 @@ use Rattle.gptp_timeline.proofs.WithinLemmas.{has_bound, HasBound}
 use Rattle.gptp_timeline_laws.specs.ExactSoon.{TimelinesBoundReceiptsSoon, TimelinesReadExactlySoon}
 use Rattle.gptp_timeline_laws.specs.Moments.{BeginsWith}
 use Rattle.gptp_timeline_laws.proofs.ExactLemmas.{stretch_reads}
-use Rattle.gptp_timeline_laws.proofs.ExactSoonLemmas.{carried, far, is_told, IsTold, kept, leads_there, near, settled, settled_system, well}
+use Rattle.gptp_how_soon_laws.proofs.ExactLemmas.{carried_from}
+use Rattle.gptp_timeline_laws.proofs.ExactSoonLemmas.{carried, far, is_told, IsTold, kept, later_told, leads_there, near, settled, settled_system, well}
 use Rattle.gptp_timeline_laws.proofs.HeldLemmas.{AreRight, IsRight, right_for}
 use Rattle.gptp_timeline_laws.proofs.MomentLemmas.{Found, timeline_found}
 use Rattle.gptp_timeline_laws.proofs.ReceiptLemmas.{moment_reads}
+use Rattle.gptp_timeline_laws.proofs.ShortenedLemmas.{shortened}
 use Rattle.gptp_timeline_laws.proofs.StretchRunLemmas.{ends_on, runs_to}
 use Rattle.gptp_world.specs.Transitions.{ActTrace}
 
@@ -165,21 +165,22 @@ module _ {F : Type 0} (answers : Bounds → ℕ → F → Option ℕ → F → T
 
   less : last_change (events_by b.from d.events) < from
   less =
-      let told = it.told in
-      let some = interval_positive (pace_of d.network).largest (largest_log d.network playable.network) in
-      omega (arith, told, some)
+      let past = all_past (last_change (events_by b.from d.events)) (events_by b.from d.events)
+      (filter_in_order (λ (e : Timed). nat_le e.at b.from) d.events playable.events.in_order) (omega arith) in
+      later_told answers d playable names b.from say.snapshot name span_from bound from has say.network it past
+      (last_by b.from d.events)
 
   act_is_right : (a : ActTrace) → In a p.acts → from ≤ at_of a
       → IsRight name (reading_error_at has.way has.steps) a a.before
   act_is_right a member late =
-      subst (λ at. IsTold d at from
+      subst (λ at. IsTold d at from → last_change (events_by at d.events) < from
       → (h : HasBound answers d playable names (events_by at d.events) say.snapshot name span_from bound)
-      → IsRight name (reading_error_at h.way h.steps) a a.before) b.passage.from_is by it has
+      → IsRight name (reading_error_at h.way h.steps) a a.before) b.passage.from_is by it less has
     where
-      by : IsTold d p.from from
+      by : IsTold d p.from from → last_change (events_by p.from d.events) < from
           → (h : HasBound answers d playable names (events_by p.from d.events) say.snapshot name span_from bound)
           → IsRight name (reading_error_at h.way h.steps) a a.before
-      by told h =
+      by told later h =
           let order = filter_in_order (λ (e : Timed). nat_le e.at until) d.events playable.events.in_order in
           let run = runs_to answers d until t.passages 0 (events_by until d.events) t.started t.fate_after t.start
           t.after p order t.pass
@@ -197,15 +198,15 @@ module _ {F : Type 0} (answers : Bounds → ℕ → F → Option ℕ → F → T
           let begun : p.from ≤ until = omega (arith, begins_at, due) in
           let goes_on : p.from ≤ p.to = omega (arith, begins_at, to_is, over) in
           let (is_carried, down) = carried answers d playable until p fate t.started t.start t.begun run begun goes_on
-          last told.choice from past (last_by p.from d.events) told.bounds told.told a member late names say.snapshot
+          last told.choice from past (last_by p.from d.events) told.bounds told.told later a member late names say.snapshot
           name span_from bound h (omega (arith, ends, shown)) in
           carried_is_right answers d playable names (events_by p.from d.events) (events_by p.from d.events)
           say.snapshot name span_from bound h a
           (kept answers d playable until p fate t.started t.start t.begun run begun goes_on last told.choice from past
-          (last_by p.from d.events) told.bounds told.told a member late)
+          (last_by p.from d.events) told.bounds told.told later a member late)
           (settled answers d playable until p fate t.started t.start t.begun run begun goes_on last told.choice from
-          past (last_by p.from d.events) told.bounds told.told a member late names say.snapshot name span_from bound h)
-          (last + max told.choice (largest_interval (pace_of d.network)) + 1) is_carried down
+          past (last_by p.from d.events) told.bounds told.told later a member late names say.snapshot name span_from bound h)
+          (carried_from (shortened p.from d) last told.choice + 1) is_carried down
 
   acts_are_right : AreRight answers d playable names (events_by b.from d.events) name from
       (reading_error_at has.way has.steps) p.acts

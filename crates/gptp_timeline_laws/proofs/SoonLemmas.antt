@@ -144,14 +144,14 @@ module _ {F : Type 0} (answers : Bounds → ℕ → F → Option ℕ → F → T
           (by_sooner p.from until d.events due ∙ sym (now_by p.from p.to d.events on)) run.courses;
     }
 
-    module _ (choice : ℕ) (bound : IsChoiceBound d p.from choice) (near : AllNear (snapshot_of p.after)) where
-      none : NoneBetween short.events p.from (suc p.to)
-      none event member late =
-          let early : nat_le event.at p.from ≡ true =
-          (from_filter (λ (t : Timed). nat_le t.at p.from) event d.events member).1 in
-          let soon : event.at ≤ p.from = grind (arith, nat_tests) in
-          absurd (omega (arith, soon, late))
+    pub none : NoneBetween short.events p.from (suc p.to)
+    none event member late =
+        let early : nat_le event.at p.from ≡ true =
+        (from_filter (λ (t : Timed). nat_le t.at p.from) event d.events member).1 in
+        let soon : event.at ≤ p.from = grind (arith, nat_tests) in
+        absurd (omega (arith, soon, late))
 
+    module _ (choice : ℕ) (bound : IsChoiceBound d p.from choice) (near : AllNear (snapshot_of p.after)) where
       bounded : IsChoiceBound short p.from choice
       bounded = (bound.0, bound_by d.network d.events p.from bound.0 p.from choice (omega arith) bound.1)
 

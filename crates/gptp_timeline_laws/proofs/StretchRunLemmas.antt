@@ -1,5 +1,5 @@
 -- The stretches of a timeline up to one of them are a run, without the events after that begins.
-use Rattle.std.proofs.Common.{◌≡◌, ◌≢◌, inl, inr, ◌<◌, ◌≤◌, ℕ, true, nat_le, nat_lt, List, [], ◌∷◌, ◌++◌, Option, slice_get, refl, sym, ap, subst, ◌∙◌, arith}
+use Rattle.std.proofs.Common.{◌≡◌, ◌≢◌, inl, inr, ◌<◌, ◌≤◌, ℕ, Bool, true, nat_le, nat_lt, List, [], ◌∷◌, ◌++◌, Option, slice_get, refl, sym, ap, subst, ◌∙◌, arith}
 use Rattle.std.specs.List.{AllByRecursion}
 use Rattle.std.proofs.lemmas.Bool.Decides.{nat_tests}
 use Rattle.std.proofs.lemmas.List.Elements.{filter-append}
@@ -61,9 +61,9 @@ module _ {F : Type 0} (answers : Bounds → ℕ → F → Option ℕ → F → T
     pub own : Courses answers p.to p.events p.acts fate_then drawn begins p.after
     pub early : AllByRecursion (λ (e : Timed). e.at ≤ p.from) p.events
 
-  module _ (d : DocumentState) (until : ℕ) where
+  module _ {exact : Bool} (d : DocumentState) (until : ℕ) where
     passage_runs : (p : StretchTrace) (from : ℕ) (events : List Timed) (fate drawn : F) (w : WorldState)
-        → IsPassage answers true d until from events fate drawn w p → RunsTo p from events fate w
+        → IsPassage answers exact d until from events fate drawn w p → RunsTo p from events fate w
     passage_runs p from events fate drawn w passage =
         let same : p.events ≡ events_by p.from events =
         passage.events_are ∙ ap (λ time. events_by time events) (sym passage.from_is) in
@@ -83,7 +83,7 @@ module _ {F : Type 0} (answers : Bounds → ℕ → F → Option ℕ → F → T
     -- after a stretch that ends where the next event comes
     runs_on : (q p : StretchTrace) (from : ℕ) (events : List Timed) (later : List Timed) (fate drawn : F)
         (w : WorldState) → AreInOrder events → later_than from events ≡ later → later ≢ []
-        → IsPassage answers true d until from events fate drawn w q → q.to ≡ end_before until later
+        → IsPassage answers exact d until from events fate drawn w q → q.to ≡ end_before until later
         → RunsTo p q.to later drawn q.after → RunsTo p from events fate w
     runs_on q p from events [] fate drawn w order is some passage ends run = absurd (some refl)
     runs_on q p from events (e ∷ es) fate drawn w order is some passage ends run =
@@ -113,16 +113,16 @@ module _ {F : Type 0} (answers : Bounds → ℕ → F → Option ℕ → F → T
 
     pub runs_to : (passages : List StretchTrace) (from : ℕ) (events : List Timed) (fate fate_after : F)
         (w w' : WorldState) (p : StretchTrace) → AreInOrder events
-        → AllPass answers true d until from events fate fate_after w w' passages → In p passages
+        → AllPass answers exact d until from events fate fate_after w w' passages → In p passages
         → RunsTo p from events fate w
     runs_to [] from events fate fate_after w w' p order pass member = absurd pass
     runs_to (q ∷ []) from events fate fate_after w w' p order (passage, none, ends) (inl same) =
         passage_runs p from events fate fate_after w
-        (subst (IsPassage answers true d until from events fate fate_after w) (sym same) passage)
+        (subst (IsPassage answers exact d until from events fate fate_after w) (sym same) passage)
     runs_to (q ∷ []) from events fate fate_after w w' p order pass (inr member) = absurd member
     runs_to (q ∷ (r ∷ rs)) from events fate fate_after w w' p order (drawn, passage, some, rest) (inl same) =
         passage_runs p from events fate drawn w
-        (subst (IsPassage answers true d until from events fate drawn w) (sym same) passage)
+        (subst (IsPassage answers exact d until from events fate drawn w) (sym same) passage)
     runs_to (q ∷ (r ∷ rs)) from events fate fate_after w w' p order (drawn, passage, some, rest) (inr member) =
         runs_on q p from events (later_than from events) fate drawn w order refl some passage passage.to_is
         (runs_to (r ∷ rs) q.to (later_than from events) drawn fate_after q.after w' p

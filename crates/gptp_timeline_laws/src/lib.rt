@@ -29,5 +29,5 @@ pub use exact_soon::{
 pub use looks::looks_suffice;
 pub use moments::times_bound_moments;
 pub use right::timelines_read_right;
-pub use soon::stretches_settle_soon;
+pub use soon::{stretches_follow_soon, stretches_settle_soon};
 pub use sources::{timelines_keep_sources, timelines_read_from_bests, timelines_read_from_roots};

@@ -1,0 +1,42 @@
+-- A time is watched for longer than its choice.
+use Rattle.std.proofs.Common.{◌≡◌, ◌<◌, ℕ, Bool, true, false, List, [], ◌∷◌, Option, Some, sym, subst, inl, inr, arith}
+use Rattle.std.proofs.lemmas.Option.{same_Some}
+use Rattle.gptp_lists.specs.Members.{In}
+use Rattle.gptp_network.specs.Document.{DocumentState}
+use Rattle.gptp_scenario.specs.Network.{NetworkState}
+use Rattle.gptp_scenario.specs.declared.sync_wait.SyncPaths.{SyncPaths}
+use Rattle.gptp_how_soon.specs.Bounds.{choice_by, settled, settling_by, watch}
+use Rattle.gptp_how_soon.specs.Kinds.{sets_link}
+use Rattle.gptp_how_soon.specs.Times.{View, events_at, events_before, gained_at, row_at, settling_times, settling_times_from, time_at, view_at}
+use Rattle.gptp_how_soon.specs.declared.bounds.Row.{Row}
+use Rattle.gptp_how_soon.specs.declared.bounds.Settling.{Settling}
+use Rattle.gptp_how_soon.specs.declared.bounds.SettlingTime.{SettlingTime}
+
+watched_longer : (n : NetworkState) (at last_set : ℕ) (paths : SyncPaths) (calm sets : Bool) (row : Row) (gained : ℕ)
+    (s : Settling) → settling_by n at last_set paths calm sets row gained ≡ Some s
+    → s.choice < watch n at paths (settling_by n at last_set paths calm sets row gained)
+watched_longer n at last_set paths false sets row gained s is = absurd cc
+watched_longer n at last_set paths true sets row gained s is =
+    let told : Settling = settled n at last_set paths sets (choice_by n paths row gained) in
+    let same : told ≡ s = same_Some told s is in
+    subst (λ (x : Settling). x.choice < watch n at paths (Some told)) same (omega arith)
+
+watched_longer_then : (d : DocumentState) (before : Option SettlingTime) (at : ℕ) (s : Settling)
+    → (time_at d before at).settling ≡ Some s → s.choice < (time_at d before at).watch
+watched_longer_then d before at s is =
+    let n = d.network in
+    let v : View = view_at n (events_before before d.events) (events_at at d.events) before at in
+    watched_longer n at v.last_set v.paths v.calm (sets_link v.told) (row_at n v) (gained_at n v) s is
+
+watched_longer_from : (d : DocumentState) (before : Option SettlingTime) (ats : List ℕ) (t : SettlingTime)
+    (s : Settling) → In t (settling_times_from d before ats) → t.settling ≡ Some s → s.choice < t.watch
+watched_longer_from d before [] t s member is = absurd member
+watched_longer_from d before (at ∷ ats) t s (inl same) is =
+    subst (λ (x : SettlingTime). s.choice < x.watch) (sym same)
+    (watched_longer_then d before at s (subst (λ (x : SettlingTime). x.settling ≡ Some s) same is))
+watched_longer_from d before (at ∷ ats) t s (inr later) is =
+    watched_longer_from d (Some (time_at d before at)) ats t s later is
+
+pub watched_past_choice : (d : DocumentState) (t : SettlingTime) (s : Settling) → In t (settling_times d)
+    → t.settling ≡ Some s → s.choice < t.watch
+watched_past_choice d t s member is = watched_longer_from d _ _ t s member is
