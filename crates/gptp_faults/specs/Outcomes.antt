@@ -9,7 +9,8 @@ use Rattle.gptp_faults.specs.Cases.{failing_system}
 use Rattle.gptp_faults.specs.Extremes.{greatest_behind, of_back, of_down}
 use Rattle.gptp_faults.specs.Follows.{AreFollows}
 use Rattle.gptp_timeline.specs.Each.{Each}
-use Rattle.gptp_faults.specs.Parts.{AreCaseParts}
+use Rattle.gptp_faults.specs.CaseEvents.{events_of}
+use Rattle.gptp_faults.specs.Parts.{AreCaseParts, AreFew}
 use Rattle.gptp_faults.specs.Refusals.{case_events}
 use Rattle.gptp_faults.specs.Runs.{CaseRunEnds, runs_of}
 use Rattle.gptp_faults.specs.Whole.{IsWhole, WholeState}
@@ -17,6 +18,7 @@ use Rattle.gptp_faults.specs.declared.runs.RunEnds.{RunEnds}
 use Rattle.gptp_faults.specs.declared.cases.Case.{Case}
 use Rattle.gptp_faults.specs.declared.extremes.Extremes.{Extremes}
 use Rattle.gptp_faults.specs.declared.follows.Follow.{Follow}
+use Rattle.gptp_faults.specs.declared.outcome.CasePlan.{CasePlan}
 use Rattle.gptp_faults.specs.declared.options.FaultsOptions.{FaultsOptions}
 use Rattle.gptp_faults.specs.declared.times.Times.{Times}
 
@@ -36,6 +38,14 @@ and_this names (Some name) = names ++ name ∷ []
 
 abbrev pub aside_of : Case → List ℕ → List ℕ
 aside_of c cut = and_this cut (failing_system c)
+
+-- what is known of a case before it is run
+pub record IsCasePlan (d : DocumentState) (whole : WholeState) (detect : Option ℕ) (at : ℕ) (c : Case) (p : CasePlan)
+    : Type 0 where
+  pub events : p.events ≡ events_of whole.cables detect c
+  pub parts : AreCaseParts d whole.snapshot p.events at p.parts.cut.items p.parts.main.items
+  pub few : AreFew p.parts.main.items
+  pub aside : p.aside.items ≡ aside_of c p.parts.cut.items
 
 -- the greatest of a run while a case is down, where these systems are cut off, and these are the main parts
 abbrev pub down_in : List ℕ → List (List ℕ) → RunEnds → Extremes

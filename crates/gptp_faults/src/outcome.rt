@@ -1,7 +1,7 @@
 //! What becomes of a case.
 
-ghost use Rattle.std.specs.Prelude.{◌≡◌, ◌++◌, ◌∷◌, [], IfErr, IfOk, OnOk, false};
-ghost use Rattle.gptp_faults.specs.Outcomes.{IsOutcome, aside_of, back_in, down_in};
+ghost use Rattle.std.specs.Prelude.{◌≡◌, ◌≤◌, ◌++◌, ◌∷◌, [], IfErr, IfOk, IfSome, OnOk, false};
+ghost use Rattle.gptp_faults.specs.Outcomes.{IsCasePlan, IsOutcome, aside_of, back_in, down_in};
 ghost use Rattle.gptp_faults.specs.Parts.{AreFew};
 ghost use Rattle.gptp_faults.specs.Refusals.{case_events, is_late};
 ghost use Rattle.gptp_faults.specs.Whole.{IsWhole};
@@ -146,7 +146,7 @@ pub(crate) struct CasePlan {
     aside: Vec<ClockId>,
 }
 
-/// What is known of a case before it is run, where the links and the components of the document are these.
+/// What is known of a case before it is run.
 fn plan_of(
     alloc: Global,
     document: &mut Document,
@@ -154,7 +154,13 @@ fn plan_of(
     detect: Option<u64>,
     times: &Times,
     failing: &Case,
-) -> Result<CasePlan, Cut> {
+) -> Result<CasePlan, Cut>
+    requires detect { IfSome detect (λ delay. delay ≤ 1000000000000000) }
+    requires times { TimesAreBounded times.now }
+    ensures plan { IfOk result (IsCasePlan document.old whole.now detect times.now.from failing.now) }
+    ensures same { OnOk result (document.new ≡ document.old) }
+    ensures memory { IfErr result (λ e. e ≡ Cut.Memory) }
+{
     let events = events_of(alloc, whole.cables(), detect, failing)?;
     let parts = case_parts(alloc, document, whole.components(), &events, times.from)?;
     let aside = set_aside(alloc, failing, &parts.cut)?;
@@ -172,10 +178,15 @@ fn down_in(alloc: Global, parts: &CaseParts, ends: &RunEnds) -> Result<Extremes,
 {
     let cut = parts.cut.len() as u64;
     let astray = astray_of(alloc, &parts.main, ends.down.keepers())?;
-    Ok(match &ends.first {
-        Some(first) => of_down(Some(first.stretch()), ends.down.stretch(), cut, astray),
-        None => of_down(None, ends.down.stretch(), cut, astray),
-    })
+    match &ends.first {
+        Some(first) => Ok(of_down(
+            Some(first.stretch()),
+            ends.down.stretch(),
+            cut,
+            astray,
+        )),
+        None => Ok(of_down(None, ends.down.stretch(), cut, astray)),
+    }
 }
 
 /// The greatest when a case is back, in a run that ended so.
@@ -206,19 +217,16 @@ pub(crate) fn try_case(
     ensures memory { IfErr result (λ e. e ≡ Cut.Memory) }
 {
     let plan = plan_of(alloc, document, whole, options.detect, times, failing)?;
-    let CasePlan {
-        events,
-        parts,
-        aside,
-    } = plan;
-    let first = run_case(alloc, document, options, times, &events, &aside, 0)?;
+    let first = run_case(alloc, document, options, times, &plan.events, &plan.aside, 0)?;
     let follow = follows_of(alloc, first.down.roots())?;
-    let mut down = down_in(alloc, &parts, &first)?;
+    let mut down = down_in(alloc, &plan.parts, &first)?;
     let mut back = back_in(alloc, whole.parts(), &first)?;
     for run in 1..runs_of(times) {
-        let next = run_case(alloc, document, options, times, &events, &aside, run)?;
-        down = joined(&down, &down_in(alloc, &parts, &next)?);
-        back = joined(&back, &back_in(alloc, whole.parts(), &next)?);
+        let next = run_case(alloc, document, options, times, &plan.events, &plan.aside, run)?;
+        let next_down = down_in(alloc, &plan.parts, &next)?;
+        let next_back = back_in(alloc, whole.parts(), &next)?;
+        down = joined(&down, &next_down);
+        back = joined(&back, &next_back);
     }
     Ok(Outcome::new(number, *failing, down, back, follow))
 }
