@@ -162,7 +162,8 @@ module _ (d : DocumentState) (asked : Option ℕ) where
           let rest : first_some (map (λ n. refusal_at d asked e (moment t n)) (range_with_len 0 t.moments)) ≡ None =
           rw is at none in
           in_time_at e (moment t number)
-          (none_at (λ n. refusal_at d asked e (moment t n)) t.moments 0 number rest (omega arith) (omega (arith, below)))
+          (none_at (λ n. refusal_at d asked e (moment t n)) t.moments 0 number rest (omega arith)
+          (omega (arith, below)))
 
   pub ends_early : (e : EventsState) (at : ℕ) → is_late_at d asked e at ≡ false → end_at d asked e at ≤ latest_end
   ends_early e at none = grind (arith, nat_tests)
