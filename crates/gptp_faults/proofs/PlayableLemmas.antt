@@ -1,5 +1,5 @@
 -- A document in which a case fails and comes back can be played.
-use Rattle.std.proofs.Common.{◌≡◌, ◌≤◌, ◌+◌, ◌||◌, ◌&&◌, ◌==◌, ℕ, Bool, true, false, if◌then◌else◌, List, [], ◌∷◌, Option, Some, None, filter_map, map, ◌++◌, ◌×◌, refl, sym, ap, subst, ◌∙◌, inl, inr, arith}
+use Rattle.std.proofs.Common.{◌≡◌, ◌≤◌, ◌+◌, ◌||◌, ◌&&◌, ◌==◌, ℕ, Bool, true, false, if◌then◌else◌, List, [], ◌∷◌, Option, Some, None, filter_map, map, ◌++◌, refl, sym, ap, subst, ◌∙◌, inl, inr, arith}
 use Rattle.std.specs.List.{AllByRecursion, list_any, range_with_len}
 use Rattle.std.proofs.lemmas.Bool.Decides.{nat_tests}
 use Rattle.std.proofs.lemmas.Option.{same_Some}
@@ -14,6 +14,7 @@ use Rattle.gptp_network.specs.Document.{DocumentState}
 use Rattle.gptp_network.specs.Events.{IsPossibleChange}
 use Rattle.gptp_network.specs.Snapshot.{joins_two, link_of}
 use Rattle.gptp_network.proofs.EventLemmas.{event_added}
+use Rattle.gptp_network.proofs.PassLemmas.{passes}
 use Rattle.gptp_network.proofs.SnapshotLemmas.{clock_after, from_filter, from_filter_map}
 use Rattle.gptp_scenario.specs.Calm.{last_change}
 use Rattle.gptp_scenario.specs.Change.{live_after, system_after}
@@ -30,7 +31,7 @@ use Rattle.gptp_topology.specs.declared.course.Cable.{Cable}
 use Rattle.gptp_topology.proofs.CourseLemmas.{same_a, same_b}
 use Rattle.gptp_vector.specs.declared.port.PortId.{PortId}
 use Rattle.gptp_faults.specs.Cables.{bounds_at, cable_after, cables_after, is_at_port, is_up_at, port_after, up_ports}
-use Rattle.gptp_faults.specs.CaseEvents.{change_of, events_of, EventsState, link_events, link_if, power_if, with_changes}
+use Rattle.gptp_faults.specs.CaseEvents.{change_of, events_of, EventsState, link_if, power_if, with_changes}
 use Rattle.gptp_faults.specs.Cases.{AreCases, has_links, has_power, has_systems, link_case, link_cases, live_clock, live_clocks, power_cases, system_cases}
 use Rattle.gptp_faults.specs.Stays.{back_at, failed_document, with_case}
 use Rattle.gptp_faults.specs.declared.case_events.CaseChange.{CaseChange}
@@ -63,20 +64,6 @@ same_itself n = grind (arith, nat_tests)
 
 port_itself : (p : PortId) → same_port p p ≡ true
 port_itself p = let one = same_itself p.clock in let other = same_itself p.port in rw (one, other) refl
-
--- one that passes is a member
-passing : {X : Type 0} (test : X → Bool) (xs : List X) → list_any test xs ≡ true
-    → (x : X) × In x xs × (test x ≡ true)
-passing test [] some = absurd cc
-passing test (x ∷ xs) some = by (test x) refl (passing test xs)
-  where
-    by : (t : Bool) → test x ≡ t
-        → (list_any test xs ≡ true → (y : _) × In y xs × (test y ≡ true))
-        → (y : _) × In y (x ∷ xs) × (test y ≡ true)
-    by true is later = (x, inl refl, is)
-    by false is later =
-        let rest : list_any test xs ≡ true = rw is at some in
-        let (y, member, passes) = later rest in (y, inr member, passes)
 
 -- the changes of a case can be made in the network
 abbrev AllPossible : NetworkState → List CaseChange → Type 0
@@ -148,8 +135,8 @@ module _ (d : DocumentState) (playable : IsPlayable d) (detect : Option ℕ) whe
   -- a link is at the port of one that is up
   taken_by : (p : PortId) → is_up_at cables p ≡ true → is_taken d.network.links p ≡ true
   taken_by p up =
-      let (c, member, passes) = passing (λ (x : Cable). x.up && is_at_port x p) cables up in
-      let here : is_at_port c p ≡ true = both c.up (is_at_port c p) passes in
+      let (c, member, both_pass) = passes (λ (x : Cable). x.up && is_at_port x p) cables up in
+      let here : is_at_port c p ≡ true = both c.up (is_at_port c p) both_pass in
       let (w, wire, is) = from_map (cable_after d.events) c d.network.links member in
       let a : w.a ≡ c.a = sym (same_a d.events w) ∙ ap (λ (x : Cable). x.a) is in
       let b : w.b ≡ c.b = sym (same_b d.events w) ∙ ap (λ (x : Cable). x.b) is in
@@ -268,10 +255,10 @@ module _ (d : DocumentState) (e : EventsState) (playable : IsPlayable d) (can : 
   network_at : (at : ℕ) → (with_changes at e.at d).network ≡ d.network
   network_at at = ap (λ (x : DocumentState). x.network) (changes_are at e.at d)
 
-  network_failed : (at : ℕ) → (failed_document at e d).network ≡ d.network
+  pub network_failed : (at : ℕ) → (failed_document at e d).network ≡ d.network
   network_failed at = ap (λ (x : DocumentState). x.network) (failed_are at e d)
 
-  failed_playable : (at : ℕ) → last_change d.events ≤ at → at + e.delay ≤ 800000000000000
+  pub failed_playable : (at : ℕ) → last_change d.events ≤ at → at + e.delay ≤ 800000000000000
       → IsPlayable (failed_document at e d)
   failed_playable at later early =
       let last = changes_last at e.at d later in

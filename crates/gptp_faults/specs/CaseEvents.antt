@@ -1,5 +1,5 @@
 -- What happens to the network of a document in a case (profile).
-use Rattle.std.specs.Prelude.{◌×◌, ◌≤◌, ⊤, ℕ, ◌+◌, List, [], ◌∷◌, map, length, Option, Some, None}
+use Rattle.std.specs.Prelude.{◌≤◌, ⊤, ℕ, ◌+◌, List, [], ◌∷◌, map, length, Option, Some, None}
 use Rattle.std.specs.List.{AllByRecursion}
 use Rattle.gptp_links.specs.declared.bounds.Bounds.{Bounds}
 use Rattle.gptp_network.specs.Adding.{with_event}

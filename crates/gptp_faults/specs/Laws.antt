@@ -1,5 +1,5 @@
 -- Laws of faults.
-use Rattle.std.specs.Prelude.{◌≡◌, ◌×◌, ◌<◌, ◌⊎◌, ◌+◌, ℕ, Bool, List, Some, None}
+use Rattle.std.specs.Prelude.{◌≡◌, ◌<◌, ◌⊎◌, ◌+◌, ℕ, Bool, List, Some, None}
 use Rattle.gptp_accuracy.specs.Settlings.{settling_of}
 use Rattle.gptp_graph.specs.Snapshot.{Snapshot}
 use Rattle.gptp_how_soon.specs.declared.bounds.Settling.{Settling}

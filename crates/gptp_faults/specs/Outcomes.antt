@@ -1,5 +1,5 @@
 -- What becomes of a case (profile).
-use Rattle.std.specs.Prelude.{◌≡◌, ◌×◌, ◌==◌, ◌+◌, ◌%◌, ℕ, Bool, List, [], ◌∷◌, ◌++◌, filter, map, length, slice_get, Option, Some, None}
+use Rattle.std.specs.Prelude.{◌≡◌, ◌==◌, ◌+◌, ◌%◌, ℕ, Bool, List, [], ◌∷◌, ◌++◌, filter, map, length, slice_get, Option, Some, None}
 use Rattle.std.specs.List.{range_with_len}
 use Rattle.std.specs.Option.{option_map}
 use Rattle.gptp_network.specs.Document.{DocumentState}

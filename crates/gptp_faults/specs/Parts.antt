@@ -1,5 +1,5 @@
 -- What a fault leaves of the components of a network (profile).
-use Rattle.std.specs.Prelude.{◌≡◌, ◌×◌, ◌≤◌, ℕ, ◌==◌, ◌&&◌, ◌||◌, nat_lt, not, Bool, List, filter, length, map}
+use Rattle.std.specs.Prelude.{◌≡◌, ◌≤◌, ℕ, ◌==◌, ◌&&◌, ◌||◌, nat_lt, not, Bool, List, filter, length, map}
 use Rattle.std.specs.List.{AllByRecursion, count_by, list_any}
 use Rattle.gptp_graph.specs.SettledChoice.{IsBestIdentity}
 use Rattle.gptp_graph.specs.Snapshot.{clocks, Snapshot}

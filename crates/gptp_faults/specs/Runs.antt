@@ -1,5 +1,5 @@
 -- The runs of a case (profile).
-use Rattle.std.specs.Prelude.{◌≡◌, ◌×◌, ℕ, ◌+◌, ◌*◌, ◌/◌, ◌%◌, Bool, true, false, not, List, is_empty, Option, Some, None, is_some}
+use Rattle.std.specs.Prelude.{◌≡◌, ℕ, ◌+◌, ◌*◌, ◌/◌, ◌%◌, Bool, true, false, List, [], ◌∷◌, Option, Some, None, is_some}
 use Rattle.rand_core.specs.Pcg32Seed.{pcg32_seed}
 use Rattle.rand_pcg.specs.Lcg.{Lcg}
 use Rattle.rand_pcg.specs.Pcg.{pcg64_of_seed}
@@ -13,6 +13,7 @@ use Rattle.gptp_faults.specs.CaseEvents.{EventsState}
 use Rattle.gptp_faults.specs.Options.{tracks}
 use Rattle.gptp_faults.specs.Stays.{document_of, end_at, return_at}
 use Rattle.gptp_faults.specs.Times.{moment}
+use Rattle.gptp_faults.specs.declared.case_events.CaseChange.{CaseChange}
 use Rattle.gptp_faults.specs.declared.runs.RunEnds.{RunEnds}
 use Rattle.gptp_faults.specs.declared.options.FaultsOptions.{FaultsOptions}
 use Rattle.gptp_faults.specs.declared.times.Times.{Times}
@@ -46,8 +47,13 @@ AreRunEnds false last r =
 AreRunEnds true last r =
     (is_some r.first ≡ true) × (last.earlier ≡ r.first) × (last.before ≡ Some r.down) × (last.last ≡ Some r.back)
 
+-- it is seen later than at once that a case failed, where something happens then
+abbrev pub has_changes : List CaseChange → Bool
+has_changes [] = false
+has_changes (c ∷ cs) = true
+
 abbrev pub is_seen : EventsState → Bool
-is_seen e = not (is_empty e.seen)
+is_seen e = has_changes e.seen
 
 -- How the stretches of a run end in which a case is down and is back, of which these systems are set aside, where it is
 -- asked what systems read, or isn't.

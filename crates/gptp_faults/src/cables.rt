@@ -2,8 +2,6 @@
 
 ghost use Rattle.std.specs.Prelude.{◌≡◌, ◌+◌, ◌++◌, ◌∷◌, [], if◌then◌else◌, IfOk, OnOk, map, take};
 ghost use Rattle.std.specs.List.{AllByRecursion};
-ghost use Rattle.gptp_scenario.specs.Change.{link_after};
-ghost use Rattle.gptp_topology.specs.Course.{cable_of};
 ghost use Rattle.gptp_faults.specs.Cables.{HasBounds, acted_cable, bounds_at, cable_after, cables_after, changed_cable, is_at_port, is_up_at, stood_cable, up_ports};
 
 use gptp_links::Bounds;

@@ -18,7 +18,7 @@ use Rattle.gptp_words.specs.Lines.{text_of}
 use Rattle.gptp_timeline.specs.Ends.{EndState}
 use Rattle.gptp_timeline.specs.Aside.{AsideState}
 use Rattle.gptp_timeline.specs.Keepers.{keepers_among}
-use Rattle.gptp_timeline.specs.LastStretches.{all_kept, carry_begun, carry_ended, carry_over, CarriedAside, end_in, end_of, kept_after, none_kept}
+use Rattle.gptp_timeline.specs.LastStretches.{all_kept, carry_begun, carry_over, CarriedAside, end_in, end_of, kept_after, none_kept}
 use Rattle.gptp_timeline.specs.Passing.{first_time, StretchIsSeen, IsSeenSoFar, StopsSeen}
 use Rattle.gptp_timeline.specs.Stretch.{roots_of, shown_of_all}
 use Rattle.gptp_timeline.specs.StretchText.{after_line, ended_stretch}

@@ -1,17 +1,15 @@
 -- What is kept of the stretches that passed.
-use Rattle.std.proofs.Common.{◌≡◌, ℕ, List, [], ◌∷◌, length, Option, Some, None, option_map, refl, sym, ap, ◌∙◌, replicate}
-use Rattle.gptp_timeline.specs.Aside.{aside_begun, AsideState, looked_acts, readings_begun}
+use Rattle.std.proofs.Common.{◌≡◌, ℕ, List, [], ◌∷◌, length, Option, Some, None, option_map, refl, ap, ◌∙◌, replicate}
+use Rattle.gptp_timeline.specs.Aside.{aside_begun, AsideState, readings_begun}
 use Rattle.gptp_timeline.specs.LastStretches.{all_kept, carry_begun, carry_over, CarriedAside, end_in, kept_after, last_behind, none_kept, none_last, stretch_aside}
 use Rattle.gptp_timeline.specs.Limits.{exceeded_after}
 use Rattle.gptp_timeline.specs.Looks.{measured_times}
 use Rattle.gptp_timeline.specs.Readings.{readings_after}
 use Rattle.gptp_timeline.specs.Stretch.{waits}
 use Rattle.gptp_timeline.specs.Timeline.{all_exceeded, Carried, carry, StretchTrace, stretch_of}
-use Rattle.gptp_timeline.specs.declared.ends.LastStretches.{LastStretches}
 use Rattle.gptp_timeline.specs.declared.ends.StretchesSoFar.{StretchesSoFar}
 use Rattle.gptp_timeline.specs.declared.limits.Limit.{Limit}
 use Rattle.gptp_timeline.specs.declared.limits.Limits.{Limits}
-use Rattle.gptp_timeline.specs.declared.looks.TimeMeasures.{TimeMeasures}
 use Rattle.gptp_timeline.specs.declared.readings.SystemReading.{SystemReading}
 use Rattle.gptp_timeline.proofs.AsideLemmas.{nobody_acts, nobody_begins, nobody_over}
 

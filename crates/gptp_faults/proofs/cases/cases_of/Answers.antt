@@ -1,6 +1,6 @@
 use Rattle.std.proofs.Common.{◌++◌, [], ℕ, Bool, List, map, if◌then◌else◌, ap, subst, ◌∙◌}
 use Rattle.gptp_network.specs.Snapshot.{IsSnapshot}
-use Rattle.gptp_faults.specs.Cases.{has_power, has_systems, link_cases, live_clocks, power_cases, system_cases}
+use Rattle.gptp_faults.specs.Cases.{has_power, has_systems, link_cases, live_clocks, system_cases}
 use Rattle.gptp_faults.specs.declared.cases.Case.{Case}
 use Rattle.gptp_faults.specs.declared.cases.Case.TheVariants as cases
 use Rattle.gptp_faults.proofs.cases.cases_of.Goals as goal

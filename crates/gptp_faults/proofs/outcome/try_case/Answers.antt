@@ -2,7 +2,7 @@ use Rattle.std.proofs.Common.{◌≡◌, arith, rules, subst, ◌∙◌}
 use Rattle.gptp_network.specs.Document.{DocumentState}
 use Rattle.gptp_faults.specs.Extremes.{greatest_of_two}
 use Rattle.gptp_faults.specs.Follows.{AreFollows}
-use Rattle.gptp_faults.specs.Outcomes.{back_in, down_in, IsOutcome}
+use Rattle.gptp_faults.specs.Outcomes.{back_in, down_in}
 use Rattle.gptp_faults.specs.Runs.{CaseRunEnds}
 use Rattle.gptp_faults.proofs.OutcomeLemmas.{all_tried, more_tried, one_tried}
 use Rattle.gptp_faults.proofs.outcome.try_case.Goals as goal

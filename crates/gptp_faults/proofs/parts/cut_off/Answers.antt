@@ -1,6 +1,6 @@
 use Rattle.std.proofs.Common.{◌≡◌, ◌+◌, ◌++◌, ◌∷◌, ℕ, List, drop, filter, map, ap, sym, ◌∙◌, append-nil}
 use Rattle.std.proofs.lemmas.List.{drop_all, drop_more}
-use Rattle.gptp_faults.specs.Parts.{clock_in, cut_off, is_cut}
+use Rattle.gptp_faults.specs.Parts.{clock_in, is_cut}
 use Rattle.gptp_faults.specs.declared.parts.Weighed.{Weighed}
 use Rattle.gptp_faults.proofs.KeptLemmas.{kept_more}
 use Rattle.gptp_faults.proofs.parts.cut_off.Goals as goal

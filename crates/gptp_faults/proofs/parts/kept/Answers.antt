@@ -1,4 +1,4 @@
-use Rattle.std.proofs.Common.{◌≡◌, ◌+◌, ◌++◌, ◌∷◌, ℕ, List, drop, filter, map, ap, sym, ◌∙◌, append-nil}
+use Rattle.std.proofs.Common.{◌≡◌, ◌+◌, ◌++◌, ◌∷◌, List, drop, filter, map, ap, sym, ◌∙◌, append-nil}
 use Rattle.std.proofs.lemmas.List.{drop_all, drop_more}
 use Rattle.gptp_faults.specs.Parts.{is_kept, kept, placed_in}
 use Rattle.gptp_faults.specs.declared.parts.Placed.{Placed}

@@ -1,6 +1,6 @@
 use Rattle.std.proofs.Common.{◌≡◌, ◌+◌, ◌++◌, ◌∷◌, ℕ, List, drop, filter, map, ap, sym, ◌∙◌, append-nil}
 use Rattle.std.proofs.lemmas.List.{drop_all, drop_more}
-use Rattle.gptp_faults.specs.Parts.{clock_of_placed, is_of, part_among}
+use Rattle.gptp_faults.specs.Parts.{clock_of_placed, is_of}
 use Rattle.gptp_faults.specs.declared.parts.Placed.{Placed}
 use Rattle.gptp_faults.proofs.KeptLemmas.{kept_more}
 use Rattle.gptp_faults.proofs.parts.members.Goals as goal

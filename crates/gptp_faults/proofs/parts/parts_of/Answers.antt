@@ -1,6 +1,6 @@
 use Rattle.std.proofs.Common.{◌≡◌, ◌+◌, ◌++◌, ◌∷◌, ℕ, List, drop, filter, map, ap, sym, ◌∙◌, append-nil}
 use Rattle.std.proofs.lemmas.List.{drop_all, drop_more}
-use Rattle.gptp_faults.specs.Parts.{leads, part_of, parts_of}
+use Rattle.gptp_faults.specs.Parts.{leads, part_of}
 use Rattle.gptp_faults.specs.declared.parts.Placed.{Placed}
 use Rattle.gptp_faults.proofs.KeptLemmas.{kept_more}
 use Rattle.gptp_faults.proofs.parts.parts_of.Goals as goal

@@ -1,4 +1,4 @@
-use Rattle.std.proofs.Common.{◌≡◌, Err, ap, ◌∙◌, false, refl}
+use Rattle.std.proofs.Common.{◌≡◌, Err, ap, ◌∙◌, refl}
 use Rattle.std.proofs.lemmas.Result.{err_from_is_err_and}
 use Rattle.gptp_sink.specs.declared.cut.Cut.{Cut}
 use Rattle.gptp_sink.specs.declared.cut.Cut.TheVariants.{Memory, Write}
