@@ -217,6 +217,6 @@ follow_settles d options lines exceeded f playable o g s member told longer stan
     let has = has_events 0 (cables_after d) options.detect c (any_delay options.detect) in (
       first.down.roots,
       roots_settle options d t e has names playable in_time.behind_last s told_here held first g can first_of_all
-      g_stands,
+          g_stands,
       outcome.follow,
     )

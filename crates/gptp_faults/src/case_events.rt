@@ -230,19 +230,30 @@ fn push_ups(changes: &mut Vec<CaseChange>, ports: &[PortId]) -> Result<(), Alloc
     Ok(())
 }
 
+/// A system that starts again, and then the links at these ports come up.
+fn power_back(
+    alloc: Global,
+    clock: ClockId,
+    ports: &[PortId],
+) -> Result<Vec<CaseChange>, AllocError>
+    ensures { IfOk result (λ back. back.items ≡ CaseChange.Recover clock ∷ map CaseChange.LinkUp ports.now) }
+{
+    let mut back = one(alloc, CaseChange::Recover(clock))?;
+    push_ups(&mut back, ports)?;
+    Ok(back)
+}
+
 /// A system with links at these ports that loses its power, where that is seen at once.
 fn power_at_once(alloc: Global, clock: ClockId, ports: &[PortId]) -> Result<CaseEvents, AllocError>
     ensures { IfOk result (λ e. e ≡ power_events clock ports.now) }
 {
     let mut at = one(alloc, CaseChange::Fail(clock))?;
     push_downs(&mut at, ports)?;
-    let mut back = one(alloc, CaseChange::Recover(clock))?;
-    push_ups(&mut back, ports)?;
     Ok(CaseEvents {
         at,
         seen: Vec::new(alloc),
         delay: 0,
-        back,
+        back: power_back(alloc, clock, ports)?,
     })
 }
 
@@ -258,13 +269,11 @@ fn power_seen(
 {
     let mut seen = Vec::new(alloc);
     push_downs(&mut seen, ports)?;
-    let mut back = one(alloc, CaseChange::Recover(clock))?;
-    push_ups(&mut back, ports)?;
     Ok(CaseEvents {
         at: one(alloc, CaseChange::Fail(clock))?,
-        delay: if ports.is_empty() { 0 } else { delay },
         seen,
-        back,
+        delay: if ports.is_empty() { 0 } else { delay },
+        back: power_back(alloc, clock, ports)?,
     })
 }
 

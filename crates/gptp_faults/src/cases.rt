@@ -169,11 +169,7 @@ fn push_hangs_if(cases: &mut Vec<Case>, clocks: &[ClockId], asked: bool) -> Resu
 }
 
 /// Puts the cases of systems that lose their power after others, where they are cases.
-fn push_powers_if(
-    cases: &mut Vec<Case>,
-    clocks: &[ClockId],
-    asked: bool,
-) -> Result<(), AllocError>
+fn push_powers_if(cases: &mut Vec<Case>, clocks: &[ClockId], asked: bool) -> Result<(), AllocError>
     ensures { OnOk result (cases.new.items ≡ cases.old.items ++ (if asked then map cases.Power clocks.now else [])) }
 {
     match asked {

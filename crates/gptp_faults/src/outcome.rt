@@ -179,12 +179,7 @@ fn down_in(alloc: Global, parts: &CaseParts, ends: &RunEnds) -> Result<Extremes,
     let cut = parts.cut.len() as u64;
     let astray = astray_of(alloc, &parts.main, ends.down.keepers())?;
     match &ends.first {
-        Some(first) => Ok(of_down(
-            Some(first.stretch()),
-            ends.down.stretch(),
-            cut,
-            astray,
-        )),
+        Some(first) => Ok(of_down(Some(first.stretch()), ends.down.stretch(), cut, astray)),
         None => Ok(of_down(None, ends.down.stretch(), cut, astray)),
     }
 }
@@ -217,12 +212,28 @@ pub(crate) fn try_case(
     ensures memory { IfErr result (λ e. e ≡ Cut.Memory) }
 {
     let plan = plan_of(alloc, document, whole, options.detect, times, failing)?;
-    let first = run_case(alloc, document, options, times, &plan.events, &plan.aside, 0)?;
+    let first = run_case(
+        alloc,
+        document,
+        options,
+        times,
+        &plan.events,
+        &plan.aside,
+        0,
+    )?;
     let follow = follows_of(alloc, first.down.roots())?;
     let mut down = down_in(alloc, &plan.parts, &first)?;
     let mut back = back_in(alloc, whole.parts(), &first)?;
     for run in 1..runs_of(times) {
-        let next = run_case(alloc, document, options, times, &plan.events, &plan.aside, run)?;
+        let next = run_case(
+            alloc,
+            document,
+            options,
+            times,
+            &plan.events,
+            &plan.aside,
+            run,
+        )?;
         let next_down = down_in(alloc, &plan.parts, &next)?;
         let next_back = back_in(alloc, whole.parts(), &next)?;
         down = joined(&down, &next_down);

@@ -199,11 +199,7 @@ fn is_cut(all: &[Weighed], one: &Weighed) -> bool
 }
 
 /// Puts a system after others, where it is cut off.
-fn push_cut(
-    cut: &mut Vec<ClockId>,
-    all: &[Weighed],
-    one: &Weighed,
-) -> Result<(), AllocError>
+fn push_cut(cut: &mut Vec<ClockId>, all: &[Weighed], one: &Weighed) -> Result<(), AllocError>
     ensures { OnOk result (cut.new.items ≡ cut.old.items ++ (if is_cut all.now one.now then clock_in one.now ∷ [] else [])) }
 {
     match is_cut(all, one) {
@@ -227,11 +223,7 @@ fn cut_off(alloc: Global, all: &[Weighed]) -> Result<Vec<ClockId>, AllocError>
 }
 
 /// Puts a system after others, where it isn't cut off.
-fn push_kept(
-    kept: &mut Vec<Placed>,
-    all: &[Weighed],
-    one: &Weighed,
-) -> Result<(), AllocError>
+fn push_kept(kept: &mut Vec<Placed>, all: &[Weighed], one: &Weighed) -> Result<(), AllocError>
     ensures { OnOk result (kept.new.items ≡ kept.old.items ++ (if is_kept all.now one.now then placed_in one.now ∷ [] else [])) }
 {
     match is_cut(all, one) {
@@ -262,11 +254,7 @@ fn leads(one: &Placed) -> bool
 }
 
 /// Puts a system after others, where it is of a part.
-fn push_member(
-    clocks: &mut Vec<ClockId>,
-    part: Identity,
-    one: &Placed,
-) -> Result<(), AllocError>
+fn push_member(clocks: &mut Vec<ClockId>, part: Identity, one: &Placed) -> Result<(), AllocError>
     ensures { OnOk result (clocks.new.items ≡ clocks.old.items ++ (if is_of part one.now then clock_of_placed one.now ∷ [] else [])) }
 {
     match one.part == part {
