@@ -81,8 +81,8 @@ whole_exists d playable =
       record { cables = refl; stands = stands; parts = record { systems = systems; are = are; parts_are = refl } },
     )
 
-parts_exist : (d : DocumentState) (e : EventsState) (playable : IsPlayable d) (can : CanHappen d.network e) → StartNone e
-    → (at : ℕ) → IsPlayable (failed_document at e d) → (g : Snapshot) → IsSnapshot d (last_change d.events) g
+parts_exist : (d : DocumentState) (e : EventsState) (playable : IsPlayable d) (can : CanHappen d.network e)
+    → StartNone e → (at : ℕ) → IsPlayable (failed_document at e d) → (g : Snapshot) → IsSnapshot d (last_change d.events) g
     → (cut : List ℕ) × (main : List (List ℕ)) × AreCaseParts d g e at cut main
 parts_exist d e playable can none at failed_plays g stands =
     let failed = failed_document at e d in
@@ -237,8 +237,9 @@ module _ (d : DocumentState) (playable : IsPlayable d) (runs : RunsEnd d) (optio
     outcome_exists : is_late d options.hold t e ≡ false → (o : OutcomeState) × IsOutcome options d t place c o
     outcome_exists in_end =
         let (whole, is_whole) = whole_exists d playable in
-        let (cut, main, parts) = parts_exist d e playable can (case_starts_none (cables_after d) options.detect c) t.from
-        failed_plays whole.snapshot is_whole.stands in
+        let none = case_starts_none (cables_after d) options.detect c in
+        let (cut, main, parts) =
+        parts_exist d e playable can none t.from failed_plays whole.snapshot is_whole.stands in
         let (ends, each) = each_exists (CaseRunEnds options d t e (aside_of c cut)) (range_with_len 0 (runs_of t))
         (λ n among. case_run (aside_of c cut) in_end n (below_count (runs_of t) n among)) in
         outcome_of options d t c place whole is_whole cut main parts ends some_run each

@@ -91,8 +91,8 @@ lived at (c ∷ cs) none own s live =
 both_lived : (at : ℕ) (e : EventsState) → StartNone e → (own : ℕ) (s : Standing)
     → (system_stands (failing_events at e) own s).live ≡ true → s.live ≡ true
 both_lived at e none own s live =
-    let later = ap (λ (x : Standing). x.live) (sym (stands_behind (all_at at e.at) (all_at (at + e.delay) e.seen) own s))
-    ∙ live in
+    let later = ap (λ (x : Standing). x.live)
+    (sym (stands_behind (all_at at e.at) (all_at (at + e.delay) e.seen) own s)) ∙ live in
     lived at e.at none.at own s
     (lived (at + e.delay) e.seen none.seen own (system_stands (all_at at e.at) own s) later)
 

@@ -31,8 +31,8 @@ abbrev pub TellsSettled : Snapshot → OutcomeState → Type 0
 TellsSettled g o = (roots : List ℕ) × AreRoots g roots × AreFollows roots o.follow
 
 -- Where bounds are told of the network without what fails in a case, at the time at which that is seen, and the case
--- stays down for longer than the choice from then on, as it does by default, its `follow` lines are those of the settled
--- choice of that network.
+-- stays down for longer than the choice from then on, as it does by default, its `follow` lines are those of the
+-- settled choice of that network.
 abbrev pub FollowSettled : DocumentState → FaultsOptions → ℕ → List OutcomeState → Type 0
 FollowSettled d options at outcomes = (o : OutcomeState) (g : Snapshot) (s : Settling) → In o outcomes
     → settling_of (failed_document at (case_events d options o.failing) d)

@@ -436,7 +436,8 @@ rest_after options from names events a ts (Some rs) times is = (
 
 module _ (options : TimelineOptions) (names : List ℕ) (a : AsideState) (p : StretchTrace) (from : Option ℕ) (events : ℕ)
   where
-    pub line_kept : (readings : Option (List SystemReading)) (s : Stretch) (measured : List SystemReading → TimeMeasures)
+    pub line_kept : (readings : Option (List SystemReading)) (s : Stretch)
+        (measured : List SystemReading → TimeMeasures)
         → line_of_times (asks_lines (account_if options from names events a p.acts readings)) s
         (option_map measured readings)
         ≡ line_of_times options.times s (option_map measured readings)

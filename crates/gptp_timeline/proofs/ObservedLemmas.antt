@@ -88,7 +88,8 @@ pub record Observes (options : TimelineOptions) (names : List ℕ) (c : CarriedA
     (ts : List ActTrace) (w : WorldState) (o : WatchState) : Type 0 where
   pub named : AreNamed names w
   pub follow : AllFollow w.stations
-  pub tracks : Tracks options.summary options.offsets from names c.carried.since (λ name. error_from name from ts) ts w o
+  pub tracks : Tracks options.summary options.offsets from names c.carried.since (λ name. error_from name from ts) ts w
+      o
   pub times_are : o.times ≡ account_if options from names events c.aside ts c.carried.readings
   pub others : (name : ℕ) → (In name names → ⊥) → error_from name from ts ≡ None
 
@@ -348,7 +349,8 @@ module _ (options : TimelineOptions) (names : List ℕ) (c : CarriedAside) where
         passes.leaves.is_other stays.nobody in (
           is
               ∙ sym (ap (λ times. record o { times = times })
-              (none_timed (at_of t) act t.told.done t.after o.times passes.leaves.is_other stays.nobody passes.gets_none))
+              (none_timed (at_of t) act t.told.done t.after o.times passes.leaves.is_other stays.nobody
+              passes.gets_none))
               ∙ sym (ap (see_times (at_of t) act t.told.done t.after) kept),
           none
               ∙ sym (none_told (at_of t) act t.told.done t.after o.times passes.gets_none)
@@ -380,7 +382,8 @@ module _ (options : TimelineOptions) (names : List ℕ) (c : CarriedAside) where
           λ nobody. are ∙ ap (λ ls. ls ++ others) (told ∙ step.1 nobody)
               ∙ ap (λ ls. (act_lines options names t
               ++ stretch_reading_lines options (option_map (readings_after ts) c.carried.readings) t) ++ ls)
-              (next.1 nobody ∙ ap (λ readings. acts_lines options names readings us) (next_readings ts t c.carried.readings)),
+              (next.1 nobody
+              ∙ ap (λ readings. acts_lines options names readings us) (next_readings ts t c.carried.readings)),
         )
 
   none_before : (readings : Option (List SystemReading)) → option_map (readings_after []) readings ≡ readings
@@ -392,7 +395,7 @@ module _ (options : TimelineOptions) (names : List ℕ) (c : CarriedAside) where
       (lines : List (List ℕ)) (begins : Observes options names c from (length events) [] w o)
       (tells : Tells tells_changes ts o o_after lines) where
     lines_from : lines ≡ acts_lines options names (option_map (readings_after []) c.carried.readings) ts
-        → lines ≡ acts_lines options names c.readings ts
+        → lines ≡ acts_lines options names c.carried.readings ts
     lines_from are = are ∙ ap (λ readings. acts_lines options names readings ts) (none_before c.carried.readings)
 
     -- they pass
@@ -408,13 +411,14 @@ module _ (options : TimelineOptions) (names : List ℕ) (c : CarriedAside) where
         → Observes options names c from (length events) ts w' o_after
     stretch_passes fate_after w' courses = (passes fate_after w' courses).0
 
-    pub stretch_told : (fate_after : F) (w' : WorldState) → Courses answers until events ts fate fate_after w w'
-        → lines ≡ acts_lines options names c.readings ts
-    stretch_told fate_after w' courses = lines_from (passes fate_after w' courses).1
+    pub stretch_told : c.aside.clocks ≡ [] → (fate_after : F) (w' : WorldState)
+        → Courses answers until events ts fate fate_after w w' → lines ≡ acts_lines options names c.carried.readings ts
+    stretch_told nobody fate_after w' courses = lines_from ((passes fate_after w' courses).1 nobody)
 
     -- or break off
-    pub broken_told : CoursesSoFar answers until events ts fate w → lines ≡ acts_lines options names c.readings ts
-    broken_told courses =
+    pub broken_told : c.aside.clocks ≡ [] → CoursesSoFar answers until events ts fate w
+        → lines ≡ acts_lines options names c.carried.readings ts
+    broken_told nobody courses =
         let (after, chain) = broken_chain answers until events ts fate w courses in
         lines_from ((chained from (length events) ts [] w (record w { stations = after }) w.stations after o o_after
         lines refl chain refl tells begins).1 nobody)

@@ -157,11 +157,12 @@ module _ {F : Type 0} (answers : Bounds → ℕ → F → Option ℕ → F → T
     }
 
     -- all stretches passed, to these lines
-    pub record AllGone (fate_after : F) (w' : WorldState) (verdict : StretchesSoFar) (all : List (List ℕ)) : Type 0 where
-      pub passages : List StretchTrace
-      pub pass : AllPass answers exact d until 0 events fate fate_after w w' passages
-      pub verdict_is : verdict ≡ all_kept options.limits names first passages none_kept
-      pub are : Nobody → all ≡ all_lines options names first.carried passages []
+    pub record AllGone (fate_after : F) (w' : WorldState) (verdict : StretchesSoFar) (all : List (List ℕ)) : Type 0
+      where
+        pub passages : List StretchTrace
+        pub pass : AllPass answers exact d until 0 events fate fate_after w w' passages
+        pub verdict_is : verdict ≡ all_kept options.limits names first passages none_kept
+        pub are : Nobody → all ≡ all_lines options names first.carried passages []
 
     -- or some of them did
     pub record SomeGone (some_lines : List (List ℕ)) : Type 0 where
@@ -173,8 +174,8 @@ module _ {F : Type 0} (answers : Bounds → ℕ → F → Option ℕ → F → T
     -- one stretch more after which another comes
     module _ (from to : ℕ) (left : List Timed) (drawn next : F) (between : WorldState) (kept : StretchesSoFar)
         (c : CarriedAside) (lines : List (List ℕ)) (gone : Gone from left drawn between kept c lines)
-        (p : StretchTrace) (told : List (List ℕ))
-        (told_is : Nobody → told ≡ passage_lines options names c.carried p) (passage : IsPassage answers exact d until from left drawn next between p)
+        (p : StretchTrace) (told : List (List ℕ)) (told_is : Nobody → told ≡ passage_lines options names c.carried p)
+        (passage : IsPassage answers exact d until from left drawn next between p)
         (is : first_time (later_than from left) ≡ Some to) where
       to_is : p.to ≡ to
       to_is = passage.to_is ∙ ends_before until (later_than from left) to is
@@ -414,8 +415,9 @@ module _ {F : Type 0} (answers : Bounds → ℕ → F → Option ℕ → F → T
       so = so;
     }
 
-    module _ (from to : ℕ) (left : List Timed) (drawn : F) (between : WorldState) (kept : StretchesSoFar) (o : WatchState)
-        (First Second Both : List ℕ → Type 0) (both : (one two : List ℕ) → First one → Second two → Both (one ++ two))
+    module _ (from to : ℕ) (left : List Timed) (drawn : F) (between : WorldState) (kept : StretchesSoFar)
+        (o : WatchState) (First Second Both : List ℕ → Type 0)
+        (both : (one two : List ℕ) → First one → Second two → Both (one ++ two))
         (so_far : GoneSeen from left drawn between kept o First) where
       -- what is so of the lines so far and of those of the next is so of both
       joined : (told : List (List ℕ)) → Second (text_of told) → Both (text_of (so_far.lines ++ told))
@@ -455,8 +457,8 @@ module _ {F : Type 0} (answers : Bounds → ℕ → F → Option ℕ → F → T
         seen_more is = record {
           carried = carry_over passed so_far.carried;
           lines = so_far.lines ++ written;
-          gone = subst (λ e. Gone answers exact d until options names events fate w a to (later_than from left) next after
-              e (carry_over passed so_far.carried) (so_far.lines ++ written))
+          gone = subst (λ e. Gone answers exact d until options names events fate w a to (later_than from left) next
+              after e (carry_over passed so_far.carried) (so_far.lines ++ written))
               (sym verdict_so)
               (gone_more answers exact d until options names events fate w a from to left drawn next between kept
               so_far.carried so_far.lines so_far.gone passed written lines_are
@@ -527,8 +529,9 @@ module _ {F : Type 0} (answers : Bounds → ℕ → F → Option ℕ → F → T
               so_far.rests lines some (so_far.gone.nobody nobody)))
           by (inr (plan, known, inr whole)) =
               some_of lines refl
-              (gone_to_end answers exact d until options names events fate w a from left drawn between kept so_far.carried
-              so_far.lines so_far.gone (passage_of plan (now_of from left) whole.seen.acts whole.after) lines
+              (gone_to_end answers exact d until options names events fate w a from left drawn between kept
+              so_far.carried so_far.lines so_far.gone
+              (passage_of plan (now_of from left) whole.seen.acts whole.after) lines
               (λ nobody. whole.are
               ∙ seen_lines answers options names so_far.carried plan (now_of from left) drawn between o so_far.rests
               whole.fate_after whole.after whole.o_after whole.told whole.seen known.begins_is

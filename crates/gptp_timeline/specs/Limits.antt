@@ -14,7 +14,8 @@ use Rattle.gptp_timeline.specs.declared.stretch.Stretch.{Stretch}
 
 -- in the order in which a verdict names the first that is exceeded
 abbrev pub all_limits : List Limit
-all_limits = Choice ∷ Holdover ∷ Error ∷ Without ∷ Roots ∷ Alone ∷ Cut ∷ Astray ∷ Bound ∷ Time ∷ Apart ∷ Step ∷ First ∷ []
+all_limits =
+    Choice ∷ Holdover ∷ Error ∷ Without ∷ Roots ∷ Alone ∷ Cut ∷ Astray ∷ Bound ∷ Time ∷ Apart ∷ Step ∷ First ∷ []
 
 -- the place of each among them
 abbrev pub limit_number : Limit → ℕ

@@ -4,4 +4,5 @@ use Rattle.gptp_faults.specs.Parts.{clock_of_placed, is_of, part_among}
 use Rattle.gptp_faults.proofs.parts.members.Given as goal
 
 abbrev pub invariant-loop-one : goal.invariant-loop-one
-invariant-loop-one l = l.clocks.items ++ map clock_of_placed (filter (is_of l.part) (drop l.one-index l.all)) ≡ part_among l.all l.part
+invariant-loop-one l =
+    l.clocks.items ++ map clock_of_placed (filter (is_of l.part) (drop l.one-index l.all)) ≡ part_among l.all l.part
