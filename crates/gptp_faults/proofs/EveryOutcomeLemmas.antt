@@ -82,8 +82,8 @@ whole_exists d playable =
     )
 
 parts_exist : (d : DocumentState) (e : EventsState) (playable : IsPlayable d) (can : CanHappen d.network e)
-    → StartNone e → (at : ℕ) → IsPlayable (failed_document at e d) → (g : Snapshot) → IsSnapshot d (last_change d.events) g
-    → (cut : List ℕ) × (main : List (List ℕ)) × AreCaseParts d g e at cut main
+    → StartNone e → (at : ℕ) → IsPlayable (failed_document at e d) → (g : Snapshot)
+    → IsSnapshot d (last_change d.events) g → (cut : List ℕ) × (main : List (List ℕ)) × AreCaseParts d g e at cut main
 parts_exist d e playable can none at failed_plays g stands =
     let failed = failed_document at e d in
     let (after, stands') = snapshot_exists failed (last_change failed.events) failed_plays.network in
