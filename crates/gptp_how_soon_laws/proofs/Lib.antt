@@ -8,5 +8,5 @@ mod RowLemmas
 pub mod ChoiceLemmas
 pub mod StepLemmas
 mod SettledLemmas
-mod EndLemmas
+pub mod EndLemmas
 pub mod ExactLemmas

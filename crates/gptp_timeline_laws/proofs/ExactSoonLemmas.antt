@@ -1,6 +1,6 @@
 -- Receipts of a stretch are exact from the time on that its time errors say.
 use Rattle.std.proofs.Common.{◌≡◌, ◌≤◌, ◌<◌, ◌+◌, ◌*◌, ◌^◌, ◌-ℤ◌, ℕ, suc, max, ℤ, true, List, [], nat_le, Option, Some, None, option_map, unsigned_abs, refl, sym, ap, subst, ◌∙◌, append-nil, arith}
-use Rattle.std.proofs.Math.Nat.{mul-le-mul}
+use Rattle.std.proofs.lemmas.Nat.{mul-le}
 use Rattle.std.proofs.lemmas.Option.{none-some, same_Some}
 use Rattle.gptp_accuracy.specs.Settlings.{settling_of}
 use Rattle.gptp_accuracy.specs.TimeErrors.{AreTimeErrors, exact_from}
@@ -239,7 +239,8 @@ module _ {F : Type 0} (answers : Bounds → ℕ → F → Option ℕ → F → T
         (run.among a member) bounded none told_short behind late early has.steps name bound
         (way answers d playable names events events g name from bound has a kept) in (
           carried_then answers short time choice exact (suc p.to) p.to fate start p.after run.ts a fit runs
-              (run.among a member) bounded none told_short behind late early (omega (arith, by, ends)) (omega (arith, down)),
+              (run.among a member) bounded none told_short behind late early (omega (arith, by, ends))
+              (omega (arith, down)),
           down,
         )
 
@@ -304,7 +305,8 @@ module _ {F : Type 0} (answers : Bounds → ℕ → F → Option ℕ → F → T
       let told = it.told in
       let hop : 1 * 1 ≤ (sync_paths d.network (events_by last d.events)).systems
       * (d.network.params.threshold + d.network.params.residence) =
-      mul-le-mul (omega (arith, many)) (omega (arith, one)) in
+      mul-le 1 1 (sync_paths d.network (events_by last d.events)).systems
+      (d.network.params.threshold + d.network.params.residence) (omega (arith, many)) (omega (arith, one)) in
       omega (arith, told, hop)
 
 -- ---- the law
@@ -314,8 +316,8 @@ pub timelines_are_exact_soon : {F : Type 0} (answers : Bounds → ℕ → F → 
 timelines_are_exact_soon answers d until options fate lines exceeded t playable shown p errors name from bound member
     are from_is says =
     let order = filter_in_order (λ (e : Timed). nat_le e.at until) d.events playable.events.in_order in
-    let run = runs_to answers d until t.passages 0 (events_by until d.events) t.started t.fate_after t.start t.after p
-    order t.pass member in
+    let run = runs_to answers true d until t.passages 0 (events_by until d.events) t.started t.fate_after t.start
+    t.after p order t.pass member in
     let names = rising_clocks t.start in
     let b = begins answers d playable names true until t.passages 0 [] (events_by until d.events) t.started
     t.fate_after t.start t.after p (left_first answers d playable names until)

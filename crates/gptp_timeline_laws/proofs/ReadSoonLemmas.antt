@@ -1,5 +1,5 @@
 -- What systems read is exact from the time on that the time errors of a stretch say.
-use Rattle.std.proofs.Common.{◌≡◌, ◌≤◌, ◌<◌, ◌+◌, ◌*◌, ◌^◌, ℕ, suc, max, Bool, List, [], ◌∷◌, nat_le, Option, Some, inl, inr, refl, sym, subst, ◌∙◌, arith}
+use Rattle.std.proofs.Common.{◌≡◌, ◌≤◌, ◌<◌, ◌+◌, ◌*◌, ◌^◌, ℕ, suc, max, Bool, true, List, [], ◌∷◌, nat_le, Option, Some, inl, inr, refl, sym, subst, ◌∙◌, arith}
 use Rattle.gptp_accuracy.specs.TimeErrors.{AreTimeErrors}
 use Rattle.gptp_accuracy.specs.declared.errors.TimeErrors.{TimeErrors}
 use Rattle.gptp_error_laws.specs.TimeError.{reading_error_at}
@@ -182,7 +182,7 @@ module _ {F : Type 0} (answers : Bounds → ℕ → F → Option ℕ → F → T
           → IsRight name (reading_error_at h.way h.steps) a a.before
       by told later h =
           let order = filter_in_order (λ (e : Timed). nat_le e.at until) d.events playable.events.in_order in
-          let run = runs_to answers d until t.passages 0 (events_by until d.events) t.started t.fate_after t.start
+          let run = runs_to answers true d until t.passages 0 (events_by until d.events) t.started t.fate_after t.start
           t.after p order t.pass
           (begins_in t.passages t.start (none_carried (tracks options) names) p w c begins) in
           let last = last_change (events_by p.from d.events) in
@@ -198,14 +198,15 @@ module _ {F : Type 0} (answers : Bounds → ℕ → F → Option ℕ → F → T
           let begun : p.from ≤ until = omega (arith, begins_at, due) in
           let goes_on : p.from ≤ p.to = omega (arith, begins_at, to_is, over) in
           let (is_carried, down) = carried answers d playable until p fate t.started t.start t.begun run begun goes_on
-          last told.choice from past (last_by p.from d.events) told.bounds told.told later a member late names say.snapshot
-          name span_from bound h (omega (arith, ends, shown)) in
+          last told.choice from past (last_by p.from d.events) told.bounds told.told later a member late names
+          say.snapshot name span_from bound h (omega (arith, ends, shown)) in
           carried_is_right answers d playable names (events_by p.from d.events) (events_by p.from d.events)
           say.snapshot name span_from bound h a
           (kept answers d playable until p fate t.started t.start t.begun run begun goes_on last told.choice from past
           (last_by p.from d.events) told.bounds told.told later a member late)
           (settled answers d playable until p fate t.started t.start t.begun run begun goes_on last told.choice from
-          past (last_by p.from d.events) told.bounds told.told later a member late names say.snapshot name span_from bound h)
+          past (last_by p.from d.events) told.bounds told.told later a member late names say.snapshot name span_from
+          bound h)
           (carried_from (shortened p.from d) last told.choice + 1) is_carried down
 
   acts_are_right : AreRight answers d playable names (events_by b.from d.events) name from

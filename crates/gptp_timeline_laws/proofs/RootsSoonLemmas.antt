@@ -1,6 +1,6 @@
 -- The roots that live systems follow where a stretch ends that lasts longer than its choice are those of the settled
 -- choice.
-use Rattle.std.proofs.Common.{◌≡◌, ◌<◌, ◌≤◌, ◌+◌, ℕ, suc, Bool, true, nat_le, List, map, Option, Some, refl, sym, ap, subst, ◌∙◌, arith}
+use Rattle.std.proofs.Common.{◌≡◌, ◌<◌, ◌≤◌, ◌+◌, ℕ, suc, Bool, true, nat_le, List, [], map, Option, Some, refl, sym, ap, subst, ◌∙◌, arith}
 use Rattle.gptp_accuracy.specs.Settlings.{settling_of}
 use Rattle.gptp_graph.specs.Distance.{IsNear}
 use Rattle.gptp_graph.specs.SettledChoice.{IsBestIdentity}
@@ -51,17 +51,17 @@ follows_best d until w settled name s is near =
 -- ---- a stretch
 
 -- one that begins with a choice bound
-pub bound_follows : {F : Type 0} (answers : Bounds → ℕ → F → Option ℕ → F → Type 0) (d : DocumentState) {exact : Bool}
+pub bound_follows : {F : Type 0} (answers : Bounds → ℕ → F → Option ℕ → F → Type 0) (d : DocumentState) (exact : Bool)
     (until : ℕ) (passages : List StretchTrace) (fate started fate_after : F) (start after : WorldState)
     (p : StretchTrace) (choice : ℕ) (g : Snapshot) → IsPlayable d → Begun answers d.network fate started start
     → AllPass answers exact d until 0 (events_by until d.events) started fate_after start after passages → In p passages
     → IsChoiceBound (shortened p.from d) p.from choice → p.from + choice < p.to → IsSnapshot d p.from g
     → AreRoots g (roots_of (map (λ name. shown name p.after) (rising_clocks start)))
-bound_follows answers d {exact} until passages fate started fate_after start after p choice g playable begun pass
+bound_follows answers d exact until passages fate started fate_after start after p choice g playable begun pass
     member bound late stands =
     let order = filter_in_order (λ (e : Timed). nat_le e.at until) d.events playable.events.in_order in
-    let run = runs_to answers d until passages 0 (events_by until d.events) started fate_after start after p order pass
-    member in
+    let run = runs_to answers exact d until passages 0 (events_by until d.events) started fate_after start after p order
+    pass member in
     let names = rising_clocks start in
     let keeps = keeps_first answers d playable names fate started start refl begun in
     let b = begins answers d playable names exact until passages 0 [] (events_by until d.events) started fate_after
@@ -94,6 +94,6 @@ stretches_follow_soon answers d until options fate lines exceeded t playable p s
     (keeps_first answers d playable names fate t.started t.start refl t.begun) t.pass member in
     let bound = subst (λ at. IsChoiceBound d at s.choice) (sym b.passage.from_is)
     (told_bound d b.from s playable (sym b.passage.settling_is ∙ told)) in
-    bound_follows answers d until t.passages fate t.started t.fate_after t.start t.after p s.choice g playable t.begun
-    t.pass member (bound.0, bound_by d.network d.events p.from bound.0 p.from s.choice (omega arith) bound.1) late
-    stands
+    bound_follows answers d true until t.passages fate t.started t.fate_after t.start t.after p s.choice g playable
+    t.begun t.pass member
+    (bound.0, bound_by d.network d.events p.from bound.0 p.from s.choice (omega arith) bound.1) late stands

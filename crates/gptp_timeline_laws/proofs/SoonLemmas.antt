@@ -217,8 +217,8 @@ pub stretches_settle_soon : {F : Type 0} (answers : Bounds → ℕ → F → Opt
     → StretchesSettleSoon answers
 stretches_settle_soon answers d until options fate lines exceeded t playable p s names carried member told near =
     let order = filter_in_order (λ (e : Timed). nat_le e.at until) d.events playable.events.in_order in
-    let run = runs_to answers d until t.passages 0 (events_by until d.events) t.started t.fate_after t.start t.after p
-    order t.pass member in
+    let run = runs_to answers true d until t.passages 0 (events_by until d.events) t.started t.fate_after t.start
+    t.after p order t.pass member in
     let clocks = rising_clocks t.start in
     let b = begins answers d playable clocks true until t.passages 0 [] (events_by until d.events) t.started
     t.fate_after t.start t.after p (left_first answers d playable clocks until)

@@ -61,7 +61,7 @@ module _ {F : Type 0} (answers : Bounds → ℕ → F → Option ℕ → F → T
     pub own : Courses answers p.to p.events p.acts fate_then drawn begins p.after
     pub early : AllByRecursion (λ (e : Timed). e.at ≤ p.from) p.events
 
-  module _ {exact : Bool} (d : DocumentState) (until : ℕ) where
+  module _ (exact : Bool) (d : DocumentState) (until : ℕ) where
     passage_runs : (p : StretchTrace) (from : ℕ) (events : List Timed) (fate drawn : F) (w : WorldState)
         → IsPassage answers exact d until from events fate drawn w p → RunsTo p from events fate w
     passage_runs p from events fate drawn w passage =
