@@ -183,8 +183,8 @@ module _ (options : FaultsOptions) (d : DocumentState) (t : Times) (e : EventsSt
       subst (λ es. StandsAfter whole.network es g) (by_sooner down down whole.events (omega arith))
       (subst (λ x. IsSnapshot x down g) (sym short_is) stands) in
       subst (AreRoots g) (ap (λ (x : EndState). x.roots) (sym k.ended))
-      (bound_follows draws whole until ends.passages fate ends.started ends.fate_after ends.start ends.after k.passage
-      s.choice g can ends.begun ends.pass k.member bound (omega (arith, from, to, stays))
+      (bound_follows draws whole false until ends.passages fate ends.started ends.fate_after ends.start ends.after
+      k.passage s.choice g can ends.begun ends.pass k.member bound (omega (arith, from, to, stays))
       (subst (λ at. IsSnapshot whole at g) (sym from) there))
 
 -- ---- the law
