@@ -125,6 +125,14 @@ def largest_linted():
     return f"chance {identity(1)} {identity(2)}\n{calm}"
 
 
+def full_of_events():
+    """Two systems, and 4,093 events by which nothing changes."""
+    ends = '[[system]]\nclock = "{}"\nports = 1\n'
+    systems = "".join(ends.format(clock(number)) for number in (1, 2))
+    event = f'{{at=0,kind="recover",clock="{clock(1)}"}}'
+    return f"version = 1\nevent=[{','.join([event] * 4093)}]\n[network]\n{systems}{link(1, 1, 2, 1, 100, 140)}"
+
+
 def files():
     """The text of each file, by its name."""
     return {
@@ -149,6 +157,7 @@ def files():
         "1048577_zeros": "0" * 1_048_577,
         "1048577_line_feeds": "\n" * 1_048_577,
         "1048580_line_feeds": "\n" * 1_048_580,
+        "full_of_events.toml": full_of_events(),
         "largest.toml": largest(),
         "largest.linted": largest_linted(),
     }

@@ -11,12 +11,14 @@ from . import jobs
 from .refusal import Refused
 from .texts import Line, read_line
 
-_WORDS = ("choice", "holdover", "error", "without", "roots", "alone")
+_WORDS = ("choice", "holdover", "error", "without", "roots", "alone", "cut", "astray")
 _TIMES = ("time", "apart", "step", "first")
 _BOUNDS = ("bound", "roles_bound")
-# what a verdict may name, in the order in which it looks; cut and astray the program doesn't have yet
-VERDICTS = (*_WORDS, "cut", "astray", "bound", *_TIMES)
-_ORDER = ("without", "roots", "holdover", "choice", "alone")
+# what a verdict may name, in the order in which it looks
+VERDICTS = (*_WORDS, "bound", *_TIMES)
+_MILLISECOND = 1_000_000
+# what cases are sorted by, and in which units
+_ORDER = (("astray", 1), ("holdover", _MILLISECOND), ("choice", 1), ("cut", 1))
 
 
 @dataclass(frozen=True)
@@ -44,7 +46,7 @@ class Case:
 
     def rank(self) -> tuple[Any, ...]:
         """What cases are sorted by: the worst first, of equals by number."""
-        return (*(-max(size(self.down, word), size(self.back, word)) for word in _ORDER), self.number)
+        return (*(-(max(size(self.down, word), size(self.back, word)) // unit) for word, unit in _ORDER), self.number)
 
 
 @dataclass(frozen=True)
@@ -88,7 +90,7 @@ def read(lines: Sequence[Line], source: str) -> Faults:
     ends = kinds[-1] == "within" or kinds[-1] == "exceeded" and lines[-1]["word"] in VERDICTS
     if last < 1 or kinds[last] != "worst" or not ends:
         raise Refused(f"{source}: line {len(lines)}: isn't the end of a text of `faults`")
-    begins = [place for place, kind in enumerate(kinds) if kind in ("case link", "case system")]
+    begins = [place for place, kind in enumerate(kinds) if kind in ("case link", "case system", "case power")]
     if begins[:1] != [1] and last > 1:
         raise Refused(f"{source}: line 2: `{lines[1].text}` is before any case")
     cases = [_case(lines[begin:end], f"{source}: line {begin + 1}") for begin, end in zip(begins, [*begins[1:], last])]

@@ -214,7 +214,7 @@ class _Judge:
                      if line.kind == "choice" and line["clock"] == self._asked["grandmaster"][0]), None)
         yield root, self._asked["grandmaster"][0], "always"
         for case in self._cases():
-            failed = case.lines[0]["clock"] if case.lines[0].kind == "case system" else None
+            failed = case.lines[0]["clock"] if case.lines[0].kind != "case link" else None
             second = next((clock for clock in leaders if clock != failed), None)
             for line, wanted in ((case.down, second), (case.back, first)):
                 followed = case.followed(line)
@@ -235,8 +235,8 @@ class _Judge:
     def _fault(self, case: Case) -> str:
         """Where a fault is."""
         line = case.lines[0]
-        if line.kind == "case system":
-            return f"fault system {self._name(line['clock'])}"
+        if line.kind != "case link":
+            return f"fault {line.kind.removeprefix('case ')} {self._name(line['clock'])}"
         return f"fault link {self._port(line['a_clock'], line['a_port'])} {self._port(line['b_clock'], line['b_port'])}"
 
     def _event(self, event: Event) -> str:

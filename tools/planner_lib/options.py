@@ -70,26 +70,28 @@ def setting(text: str) -> tuple[str, str, int]:
 
 def kind(text: str) -> str:
     """Which kind of single faults."""
-    if text not in ("links", "systems"):
-        raise argparse.ArgumentTypeError(f"'{text}' isn't links or systems")
+    if text not in ("links", "systems", "power"):
+        raise argparse.ArgumentTypeError(f"'{text}' isn't links, systems or power")
     return text
 
 
 _LONGEST = 10**15
-# the options of `faults` that a part takes as the whole does; those of power and of detection are here when the program
-# has them
+# the options of `faults` that a part takes as the whole does
 FAULTS_OPTIONS: dict[str, Callable[[str], int | str]] = {
     "--seeds": whole(1, 1000),
     "--moments": whole(1, 1000),
     "--at": time(0, _LONGEST),
     "--hold": time(1, _LONGEST),
     "--only": kind,
+    "--detect": time(1, _LONGEST),
     "--max-choice": time(0, _LONGEST),
     "--max-holdover": time(0, _LONGEST),
     "--max-error": time(0, _LONGEST),
     "--max-without": whole(0, _LONGEST),
     "--max-roots": whole(0, _LONGEST),
     "--max-alone": whole(0, _LONGEST),
+    "--max-cut": whole(0, _LONGEST),
+    "--max-astray": whole(0, _LONGEST),
     "--max-bound": time(0, _LONGEST),
     "--max-time": time(0, _LONGEST),
     "--max-apart": time(0, _LONGEST),
@@ -97,4 +99,4 @@ FAULTS_OPTIONS: dict[str, Callable[[str], int | str]] = {
     "--max-first": time(0, _LONGEST),
 }
 # and those that take no value
-FAULTS_FLAGS = ("--times",)
+FAULTS_FLAGS = ("--times", "--power")

@@ -327,10 +327,10 @@ class _Page:
                       for case in faults.cases for when, line in zip(("down", "back"), case.times)])
 
     def _what(self, case: Case) -> str:
-        """The link or the system that fails."""
+        """The link that fails, or the system and how."""
         line = case.lines[0]
-        if line.kind == "case system":
-            return f"{self._document.name(line['clock'])} hangs"
+        if line.kind != "case link":
+            return f"{self._document.name(line['clock'])} {'hangs' if line.kind == 'case system' else 'loses power'}"
         ends = ((line["a_clock"], line["a_port"]), (line["b_clock"], line["b_port"]))
         return f"link {' '.join(self._names.number(clock, port) for clock, port in ends)}"
 

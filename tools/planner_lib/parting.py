@@ -60,7 +60,7 @@ class Parting:
     def cut(self, case: Case) -> Cut:
         """What a fault cuts off: of each component all parts but that of most systems, of equals the best's."""
         line = case.lines[0]
-        if line.kind == "case system":
+        if line.kind != "case link":
             parts = self._components(self.live - {line["clock"]}, None)
         else:
             parts = self._components(self.live, self._document.link_at[End(line["a_clock"], line["a_port"])])

@@ -14,7 +14,9 @@ Value = str | int | Decimal | bool | None | list[str]
 
 _COUNTS = "without WITHOUT roots ROOTS alone ALONE"
 _BOUNDS = "bound BOUND ROLES_BOUND"
-_MEASURES = f"holdover HOLDOVER HOLDOVER_CLOCK error ERROR ERROR_CLOCK {_COUNTS} {_BOUNDS}"
+_WAITS = "holdover HOLDOVER HOLDOVER_CLOCK error ERROR ERROR_CLOCK"
+_MEASURES = f"{_WAITS} {_COUNTS} {_BOUNDS}"
+_PARTED = f"{_COUNTS} cut CUT astray ASTRAY {_BOUNDS}"
 _LINK = "A_CLOCK A_PORT B_CLOCK B_PORT"
 _SHOWN = "root ROOT_ID steps STEPS gm GM slave SLAVE offset OFFSET"
 _BY = "[ by FIELD FIRST SECOND]"
@@ -60,12 +62,13 @@ _TEMPLATES = (
     ("cases", "cases CASES moments MOMENTS seeds SEEDS from FROM"),
     ("case link", f"case CASE link {_LINK}"),
     ("case system", "case CASE system CLOCK"),
-    ("down", f"down choice CHOICE {_MEASURES}"),
-    ("back", f"back choice CHOICE {_MEASURES}"),
+    ("case power", "case CASE power CLOCK"),
+    ("down", f"down choice CHOICE {_WAITS} {_PARTED}"),
+    ("back", f"back choice CHOICE {_WAITS} {_PARTED}"),
     ("down_times", f"down_times {_TIMES}"),
     ("back_times", f"back_times {_TIMES}"),
     ("follow", "follow ROOT_ID SYSTEMS"),
-    ("worst", f"worst choice CHOICE holdover HOLDOVER error ERROR {_COUNTS} {_BOUNDS}"),
+    ("worst", f"worst choice CHOICE holdover HOLDOVER error ERROR {_PARTED}"),
     ("worst_times", "worst_times time TIME apart APART step STEP first FIRST"),
     # lint
     ("unknown", "unknown PLACE key KEY[ near NEAR]"),

@@ -1,4 +1,5 @@
 pub mod EachLemmas
+pub mod KeptLemmas
 pub mod RootLemmas
 pub mod CaseLemmas
 pub mod StayLemmas
@@ -9,8 +10,13 @@ pub mod ProgressLemmas
 pub mod RefusalLemmas
 pub mod TextLemmas
 pub mod AnswerLemmas
+pub mod BoundsLemmas
+mod EventsLemmas
 mod DownLemmas
 mod PlayableLemmas
+mod ReturnLemmas
+mod WellLemmas
+mod LivedLemmas
 mod FollowLemmas
 pub mod OrderLemmas
 pub mod OneLemmas

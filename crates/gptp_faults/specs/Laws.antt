@@ -1,54 +1,55 @@
 -- Laws of faults.
-use Rattle.std.specs.Prelude.{◌≡◌, ◌<◌, ◌⊎◌, ℕ, Bool, List, Option, Some, None}
+use Rattle.std.specs.Prelude.{◌≡◌, ◌<◌, ◌⊎◌, ◌+◌, ℕ, Bool, List, Some, None}
 use Rattle.gptp_accuracy.specs.Settlings.{settling_of}
 use Rattle.gptp_graph.specs.Snapshot.{Snapshot}
 use Rattle.gptp_how_soon.specs.declared.bounds.Settling.{Settling}
 use Rattle.gptp_lists.specs.Members.{In}
 use Rattle.rand_pcg.specs.Lcg.{Lcg}
-use Rattle.gptp_network.specs.Adding.{with_event}
 use Rattle.gptp_network.specs.Document.{DocumentState}
 use Rattle.gptp_network.specs.Snapshot.{IsSnapshot}
 use Rattle.gptp_network.specs.declared.fault.DocumentFault.{DocumentFault}
-use Rattle.gptp_timeline.specs.Ends.{EndState}
-use Rattle.gptp_timeline.specs.LastTwo.{EndsOf}
+use Rattle.gptp_timeline.specs.Aside.{AsideState}
+use Rattle.gptp_timeline.specs.LastStretches.{EndsOf}
+use Rattle.gptp_timeline.specs.declared.ends.LastStretches.{LastStretches}
 use Rattle.gptp_theorem.specs.PlayedLaws.{IsPlayable}
 use Rattle.gptp_timeline.specs.Laws.{AreRoots}
-use Rattle.gptp_faults.specs.Cases.{fault_of}
+use Rattle.gptp_faults.specs.CaseEvents.{EventsState}
 use Rattle.gptp_faults.specs.Faults.{FaultsOf}
 use Rattle.gptp_faults.specs.Follows.{AreFollows}
 use Rattle.gptp_faults.specs.Outcomes.{OutcomeState}
-use Rattle.gptp_faults.specs.Refusals.{RefusesFaults}
+use Rattle.gptp_faults.specs.Refusals.{case_events, RefusesFaults}
 use Rattle.gptp_faults.specs.Runs.{draws}
-use Rattle.gptp_faults.specs.Stays.{hold_of}
+use Rattle.gptp_faults.specs.Stays.{failed_document, hold_of}
 use Rattle.gptp_faults.specs.declared.options.FaultsOptions.{FaultsOptions}
 
--- the network of a document as it stands where a case fails at a time
-abbrev pub StandsWithout : DocumentState → ℕ → OutcomeState → Snapshot → Type 0
-StandsWithout d at o = IsSnapshot (with_event at (fault_of o.failing) d) at
+-- the network of a document as it stands where a case failed at a time and that is seen
+abbrev pub StandsWithout : DocumentState → ℕ → EventsState → Snapshot → Type 0
+StandsWithout d at e = IsSnapshot (failed_document at e d) (at + e.delay)
 
 -- What is told of roots counts those of the settled choice of a network: of each near system the best of its component.
 abbrev pub TellsSettled : Snapshot → OutcomeState → Type 0
 TellsSettled g o = (roots : List ℕ) × AreRoots g roots × AreFollows roots o.follow
 
--- Where bounds are told of the network without what fails in a case, at the time at which it fails, and the case stays
--- down for longer than the choice, as it does by default, its `follow` lines are those of the settled choice of that
--- network.
+-- Where bounds are told of the network without what fails in a case, at the time at which that is seen, and the case
+-- stays down for longer than the choice from then on, as it does by default, its `follow` lines are those of the
+-- settled choice of that network.
 abbrev pub FollowSettled : DocumentState → FaultsOptions → ℕ → List OutcomeState → Type 0
 FollowSettled d options at outcomes = (o : OutcomeState) (g : Snapshot) (s : Settling) → In o outcomes
-    → settling_of (with_event at (fault_of o.failing) d) at ≡ Some s
-    → (options.hold ≡ None) ⊎ (s.choice < hold_of d options.hold o.failing at)
-    → StandsWithout d at o g → TellsSettled g o
+    → settling_of (failed_document at (case_events d options o.failing) d)
+    (at + (case_events d options o.failing).delay) ≡ Some s
+    → (options.hold ≡ None) ⊎ (s.choice < hold_of d options.hold (case_events d options o.failing) at)
+    → StandsWithout d at (case_events d options o.failing) g → TellsSettled g o
 
 -- The lines on followers are settled in every document that is playable.
 abbrev pub FollowLinesSettle : Type 0
 FollowLinesSettle = (d : DocumentState) (options : FaultsOptions) (lines : List (List ℕ)) (exceeded : Bool)
     (f : FaultsOf d options lines exceeded) → IsPlayable d → FollowSettled d options f.times.from f.outcomes
 
--- In each document with the network of this one the last two stretches of a run end in one way.
+-- In each document with the network of this one the last stretches of a run end in one way.
 abbrev pub RunsEndOnce : DocumentState → Type 0
-RunsEndOnce d = (asked : Bool) (e : DocumentState) (until : ℕ) (fate : Lcg)
-    (two other : Option (EndState × EndState)) → e.network ≡ d.network → EndsOf draws asked e until fate two
-    → EndsOf draws asked e until fate other → two ≡ other
+RunsEndOnce d = (asked : Bool) (aside : AsideState) (e : DocumentState) (until : ℕ) (fate : Lcg)
+    (one other : LastStretches) → e.network ≡ d.network → EndsOf draws asked aside e until fate one
+    → EndsOf draws asked aside e until fate other → one ≡ other
 
 -- then two tables of a document are one
 abbrev pub OneTable : Type 0

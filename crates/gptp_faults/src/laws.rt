@@ -18,7 +18,7 @@ pub fn one_table()
     ensures refusal { OneRefusal }
 {}
 
-/// Where each run of a document with two events more ends its last two stretches in some way, and a fault stays for 1
+/// Where each run of a document with the events of a case ends its last stretches in some way, and a fault stays for 1
 /// ns at least, the document has a table of its faults, or is refused.
 pub fn every_document_has_faults()
     ensures { EachHasFaults }

@@ -80,12 +80,12 @@ nothing = record { choice = None; roles = None; offsets = None; holdover = None;
 abbrev pub without_error : Watched → Watched
 without_error x = record x { error = None }
 
-abbrev pub watch_begun : Option ℕ → ℕ → WatchState → WatchState
-watch_begun exact_from events o = record o {
+abbrev pub watch_begun : ℕ → Option ℕ → ℕ → WatchState → WatchState
+watch_begun at exact_from events o = record o {
   exact_from = exact_from;
   systems = map without_error o.systems;
   measures = nothing;
-  times = option_map (times_begun exact_from events) o.times;
+  times = option_map (times_begun at exact_from events) o.times;
 }
 
 -- ---- systems that are looked at

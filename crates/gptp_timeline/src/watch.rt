@@ -163,11 +163,11 @@ fn gets_none<F: Fate + Drop>(
 }
 
 /// A stretch begins in the account, where there is one.
-fn begin_times(times: &mut Option<TimeWatch>, exact_from: Option<u64>, events: usize)
-    ensures { times.new ≡ option_map (times_begun exact_from events) times.old }
+fn begin_times(times: &mut Option<TimeWatch>, at: u64, exact_from: Option<u64>, events: usize)
+    ensures { times.new ≡ option_map (times_begun at exact_from events) times.old }
 {
     match times {
-        Some(times) => times.begin(exact_from, events),
+        Some(times) => times.begin(at, exact_from, events),
         None => {}
     }
 }
@@ -248,14 +248,14 @@ impl Watch {
         self.measures
     }
 
-    /// A stretch begins, in which the receipts of each system count by themselves from a time on.
-    pub(crate) fn begin(&mut self, exact_from: Option<u64>, events: usize)
-        ensures { self.new ≡ watch_begun exact_from events self.old }
+    /// A stretch begins at a time, in which the receipts of each system count by themselves from another on.
+    pub(crate) fn begin(&mut self, at: u64, exact_from: Option<u64>, events: usize)
+        ensures { self.new ≡ watch_begun at exact_from events self.old }
     {
         self.exact_from = exact_from;
         self.measures = NOTHING;
         clear_errors(&mut self.systems);
-        begin_times(&mut self.times, exact_from, events);
+        begin_times(&mut self.times, at, exact_from, events);
     }
 
     /// What systems read, where that is asked.

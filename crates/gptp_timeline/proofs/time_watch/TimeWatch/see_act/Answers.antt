@@ -3,7 +3,7 @@ use Rattle.std.specs.Prelude.{string_bytes}
 use Rattle.gptp_words.specs.Lines.{text_of}
 use Rattle.gptp_timeline.specs.TimeWatch.{reading_lines, times_with}
 use Rattle.gptp_timeline.proofs.NewReadingLemmas.{none_given}
-use Rattle.gptp_timeline.proofs.time_watch.TimeWatch.see.Goals as goal
+use Rattle.gptp_timeline.proofs.time_watch.TimeWatch.see_act.Goals as goal
 
 pub returns-in-false-clause-sees : goal.returns-in-false-clause-sees
 returns-in-false-clause-sees g c =
