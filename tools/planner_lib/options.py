@@ -68,14 +68,17 @@ def setting(text: str) -> tuple[str, str, int]:
         raise argparse.ArgumentTypeError(str(why)) from why
 
 
+FAULTS_KINDS = ("links", "systems", "power")
+
+
 def kind(text: str) -> str:
     """Which kind of single faults."""
-    if text not in ("links", "systems", "power"):
-        raise argparse.ArgumentTypeError(f"'{text}' isn't links, systems or power")
+    if text not in FAULTS_KINDS:
+        raise argparse.ArgumentTypeError(f"'{text}' isn't one of {', '.join(FAULTS_KINDS)}")
     return text
 
 
-_LONGEST = 10**15
+_LONGEST = 10**15  # ns
 # the options of `faults` that a part takes as the whole does
 FAULTS_OPTIONS: dict[str, Callable[[str], int | str]] = {
     "--seeds": whole(1, 1000),
@@ -99,4 +102,4 @@ FAULTS_OPTIONS: dict[str, Callable[[str], int | str]] = {
     "--max-first": time(0, _LONGEST),
 }
 # and those that take no value
-FAULTS_FLAGS = ("--times", "--power")
+FAULTS_FLAGS = ("--power", "--times")
