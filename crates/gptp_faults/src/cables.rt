@@ -122,7 +122,8 @@ fn is_up_at(cables: &[Cable], port: PortId) -> bool
 fn push_up(ports: &mut Vec<PortId>, cables: &[Cable], port: PortId) -> Result<(), AllocError>
     ensures { OnOk result (ports.new.items ≡ ports.old.items ++ (if is_up_at cables.now port then port ∷ [] else [])) }
 {
-    match is_up_at(cables, port) {
+    let up = is_up_at(cables, port);
+    match up {
         true => {
             ports.push(port)?;
             Ok(())
