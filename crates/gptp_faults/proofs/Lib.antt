@@ -14,6 +14,7 @@ pub mod BoundsLemmas
 pub mod CableLemmas
 pub mod RangeLemmas
 pub mod MostLemmas
+pub mod PlacedLemmas
 mod EventsLemmas
 mod DownLemmas
 mod PlayableLemmas

@@ -84,7 +84,7 @@ impl Model for CaseEvents {
 }
 
 impl CaseEvents {
-    ghost use Rattle.std.specs.Prelude.{◌≡◌, ◌≤◌};
+    ghost use Rattle.std.specs.Prelude.{◌≡◌, ◌≤◌, ◌<◌, ◌^◌};
     ghost use Rattle.std.specs.List.{AllByRecursion};
     ghost use Rattle.gptp_faults.specs.CaseEvents.{IsChangeInRange, count_events};
 
@@ -193,8 +193,7 @@ fn link_events(
     requires detect { IfSome detect (λ delay. delay ≤ 1000000000000000) }
     ensures { IfOk result (λ e. e ≡ link_events cables.now detect port) }
 {
-    let bounds = bounds_at(cables, port);
-    match (detect, bounds) {
+    match (detect, bounds_at(cables, &port)) {
         (Some(delay), Some(bounds)) => seen_link(alloc, port, bounds, delay),
         _ => plain_link(alloc, port),
     }

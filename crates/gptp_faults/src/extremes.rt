@@ -269,17 +269,13 @@ fn first_asked(astray: u64, length: u64, first: Option<Greatest>) -> Option<u128
 fn with_parts(extremes: Extremes, cut: u64, astray: u64, length: u64) -> Extremes
     ensures { result ≡ with_parts extremes cut astray length }
 {
-    let first_asked = first_asked(astray, length, extremes.times.first);
-    let times = TimeExtremes {
-        first_asked,
-        ..extremes.times
-    };
-    Extremes {
-        cut,
-        astray,
-        times,
-        ..extremes
-    }
+    let mut extremes = extremes;
+    extremes.cut = cut;
+    extremes.astray = astray;
+    let mut times = extremes.times;
+    times.first_asked = first_asked(astray, length, times.first);
+    extremes.times = times;
+    extremes
 }
 
 /// Those of a stretch in which a case is down, where so many are cut off, and so many of the others astray at its end.
