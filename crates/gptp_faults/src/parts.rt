@@ -129,8 +129,16 @@ fn place_system(before: &Components, after: &Components, clock: ClockId) -> Resu
     }
 }
 
+/// Puts a system after others.
+fn push_placed(all: &mut Vec<Placed>, one: Placed) -> Result<(), AllocError>
+    ensures { OnOk result (all.new.items ≡ all.old.items ++ one ∷ []) }
+{
+    all.push(one)?;
+    Ok(())
+}
+
 /// Puts the live system at a place after those of the places before.
-fn push_placed(
+fn push_live(
     all: &mut Vec<Placed>,
     before: &Components,
     after: &Components,
@@ -142,7 +150,7 @@ fn push_placed(
 {
     if let Some((identity, _)) = after.snapshot().system_at(place) {
         let one = place_system(before, after, identity.clock())?;
-        all.push(one)?;
+        push_placed(all, one)?;
     }
     Ok(())
 }
@@ -156,7 +164,7 @@ fn placed_all(alloc: Global, before: &Components, after: &Components) -> Result<
     after.snapshot().well_formed();
     let mut all = Vec::new(alloc);
     for place in 0..after.snapshot().systems() {
-        push_placed(&mut all, before, after, place)?;
+        push_live(&mut all, before, after, place)?;
     }
     Ok(all)
 }
