@@ -7,7 +7,7 @@ use Rattle.gptp_lists.proofs.MappedLemmas.{taken}
 use Rattle.gptp_network.specs.Snapshot.{system_of}
 use Rattle.gptp_roles.specs.Selection.{clock_of}
 use Rattle.gptp_timeline.specs.Each.{Each}
-use Rattle.gptp_faults.specs.Parts.{AreFew, ArePlaced, ArePlacedBy, is_kept, is_of, IsPlaced, kept, leads, part_of, parts_of, weighed}
+use Rattle.gptp_faults.specs.Parts.{AreFew, ArePlaced, ArePlacedBy, is_kept, is_of, IsPlaced, kept, leads, part_of, parts_of, weigh_among, weighed}
 use Rattle.gptp_faults.specs.declared.parts.Placed.{Placed}
 use Rattle.gptp_faults.specs.declared.parts.Weighed.{Weighed}
 use Rattle.gptp_faults.proofs.CaseLemmas.{none_more}
@@ -40,6 +40,11 @@ placed_none g g' place xs so_far none =
     ∙ ap (option_map (λ (s : System). s.clock)) none in
     subst (λ names. Each (IsPlaced g g') names xs) (sym (none_more (clocks g') place there)) so_far
 
+-- no system is there
+pub no_system : (o : Option (ℕ × ℕ)) (found : Option System) → option_map system_of o ≡ found → o ≡ None
+    → found ≡ None
+no_system o found is none = sym is ∙ ap (option_map system_of) none
+
 -- ---- how many there are
 
 each_length : {X Y : Type 0} (P : X → Y → Type 0) (xs : List X) (ys : List Y) → Each P xs ys → length ys ≡ length xs
@@ -52,7 +57,7 @@ pub placed_few : (g g' : Snapshot) (xs : List Placed) → ArePlaced g g' xs → 
     → length xs ≤ 512
 placed_few g g' xs are few =
     let same = each_length (IsPlaced g g') (clocks g') xs are in
-    let many = length-map (λ (s : System). s.clock) g'.systems in omega (arith, same, many, few)
+    let many = length-map g'.systems (λ (s : System). s.clock) in omega (arith, same, many, few)
 
 filter_fewer : {X : Type 0} (p : X → Bool) (xs : List X) → length (filter p xs) ≤ length xs
 filter_fewer p [] = omega arith
@@ -67,21 +72,21 @@ pub kept_few : (xs : List Placed) → length xs ≤ 512 → length (kept (weighe
 kept_few xs few =
     let ws : List Weighed = weighed xs in
     let same : length (kept ws) ≡ length (filter (is_kept ws) ws) =
-    length-map (λ (w : Weighed). w.placed) (filter (is_kept ws) ws) in
+    length-map (filter (is_kept ws) ws) (λ (w : Weighed). w.placed) in
     let fewer = filter_fewer (is_kept ws) ws in
-    let all : length ws ≡ length xs = search (length-map) in
+    let all : length ws ≡ length xs = length-map xs (weigh_among xs) in
     omega (arith, same, fewer, all, few)
 
 part_few : (xs : List Placed) (ys : List Placed) → length xs ≤ 512
     → AllByRecursion (λ part. length part ≤ 512) (map (part_of xs) ys)
 part_few xs [] few = tt
 part_few xs (y ∷ ys) few =
-    let same = length-map (λ (x : Placed). x.clock) (filter (is_of y.part) xs) in
+    let same = length-map (filter (is_of y.part) xs) (λ (x : Placed). x.clock) in
     let fewer = filter_fewer (is_of y.part) xs in (omega (arith, same, fewer, few), part_few xs ys few)
 
 pub parts_few : (xs : List Placed) → length xs ≤ 512 → AreFew (parts_of xs)
 parts_few xs few =
-    let same = length-map (part_of xs) (filter leads xs) in
+    let same = length-map (filter leads xs) (part_of xs) in
     let fewer = filter_fewer leads xs in record {
       parts_few = omega (arith, same, fewer, few);
       systems_few = part_few xs (filter leads xs) few;

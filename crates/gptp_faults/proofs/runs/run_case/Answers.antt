@@ -1,5 +1,6 @@
-use Rattle.std.proofs.Common.{◌≡◌, ◌≤◌, ◌+◌, ◌/◌, ◌==◌, ℕ, Bool, not, List, [], ◌∷◌, length, Result, Ok, Err, refl, ap, sym, subst, ◌∙◌, arith}
+use Rattle.std.proofs.Common.{◌≡◌, ◌≤◌, ◌+◌, ◌/◌, ◌==◌, ℕ, Bool, false, not, List, [], ◌∷◌, length, Result, Ok, Err, refl, ap, sym, subst, ◌∙◌, arith}
 use Rattle.std.specs.Prelude.{IfOk, OnOk}
+use Rattle.std.proofs.lemmas.Bool.Decides.{nat_tests}
 use Rattle.rand_pcg.specs.Lcg.{Lcg}
 use Rattle.gptp_network.specs.Adding.{with_first}
 use Rattle.gptp_network.specs.Document.{DocumentState}
@@ -48,7 +49,7 @@ on_ok (Err e) p = tt
 
 seen_is : (cs : List CaseChange) → not (length cs == 0) ≡ has_changes cs
 seen_is [] = refl
-seen_is (c ∷ cs) = refl
+seen_is (c ∷ cs) = let some : (length (c ∷ cs) == 0) ≡ false = grind (arith, nat_tests) in rw some refl
 
 pub returns-clause-run : goal.returns-clause-run
 returns-clause-run c =
