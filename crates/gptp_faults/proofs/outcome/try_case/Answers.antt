@@ -41,9 +41,9 @@ loop-run-preserved c =
           c.loop-run.back c.joined-down.result c.joined-back.result c.in_ok-follow.follow.items
           c.loop-run.invariant.tried ends
           (subst (λ (names : List ℕ). CaseRunEnds c.args.options.now d c.args.times.now p.events names run ends)
-          c.deref-2.ensures.value
+          c.deref-in-loop-run.ensures.value
           (subst (λ (e : DocumentState). CaseRunEnds c.args.options.now e c.args.times.now p.events
-          c.deref-2.result.now run ends) c.loop-run.invariant.same c.in_ok-next.ensures.run)) down_is back_is;
+          c.deref-in-loop-run.result.now run ends) c.loop-run.invariant.same c.in_ok-next.ensures.run)) down_is back_is;
       most = omega (arith, count, below);
       same = c.in_ok-next.ensures.same ∙ c.loop-run.invariant.same;
     }
