@@ -1,9 +1,10 @@
 -- Links as they stand after the events of a document have bounds that a link of its network can have.
-use Rattle.std.proofs.Common.{◌≡◌, ◌<◌, inl, inr, ℕ, ℤ, Bool, true, false, if◌then◌else◌, length, map, List, [], ◌∷◌, Some, slice_get, refl, sym, ap, subst, ◌∙◌, arith}
+use Rattle.std.proofs.Common.{◌≡◌, ◌<◌, ◌≤◌, inl, inr, ℕ, ℤ, Bool, true, false, if◌then◌else◌, length, map, List, [], ◌∷◌, Some, slice_get, refl, sym, ap, subst, ◌∙◌, arith}
 use Rattle.std.specs.Int.{int_min}
 use Rattle.std.specs.List.{AllByRecursion, reduce}
 use Rattle.std.specs.Option.{unwrap_or}
 use Rattle.std.proofs.lemmas.Int.{fold-int_min_reached}
+use Rattle.std.proofs.lemmas.Option.{same_Some}
 use Rattle.gptp_links.specs.declared.bounds.Bounds.{Bounds}
 use Rattle.gptp_lists.specs.Members.{In}
 use Rattle.gptp_lists.proofs.MappedLemmas.{there_contains}
@@ -12,7 +13,7 @@ use Rattle.gptp_lists.proofs.SystemSpecLemmas.{from_map, In-slice_get, slice_get
 use Rattle.gptp_network.specs.Document.{DocumentState}
 use Rattle.gptp_network.specs.Events.{AreBounds, AreEvents, IsEvent, IsPossibleChange}
 use Rattle.gptp_scenario.specs.Change.{is_at, link_acted, link_after, link_changed, member_with_bounds, with_up}
-use Rattle.gptp_scenario.specs.Network.{IsNetwork, logs_of, NetworkState, smallest_of}
+use Rattle.gptp_scenario.specs.Network.{IsNetwork, logs_of, NetworkState, same_port, smallest_of}
 use Rattle.gptp_scenario.specs.declared.change.Act.{Act}
 use Rattle.gptp_scenario.specs.declared.change.Change.{Change}
 use Rattle.gptp_scenario.specs.declared.change.Change.TheVariants as changes
@@ -21,7 +22,8 @@ use Rattle.gptp_scenario.specs.declared.network.LinkSpec.{LinkSpec}
 use Rattle.gptp_scenario.specs.declared.network.SystemSpec.{SystemSpec}
 use Rattle.gptp_scenario.proofs.LogLemmas.{In-flat_map}
 use Rattle.gptp_topology.specs.declared.course.Cable.{Cable}
-use Rattle.gptp_faults.specs.Cables.{cable_after, cables_after, HasBounds}
+use Rattle.gptp_vector.specs.declared.port.PortId.{PortId}
+use Rattle.gptp_faults.specs.Cables.{bounds_at, cable_after, cables_after, HasBounds}
 
 -- such bounds
 abbrev pub AreWithin : NetworkState → Bounds → Type 0
@@ -109,3 +111,16 @@ module _ (d : DocumentState) (network : IsNetwork d.network) (events : AreEvents
 
   pub cables_in_range : AllByRecursion HasBounds (cables_after d)
   cables_in_range = ranges_of (cables_after d) cable_within
+
+-- so are those that are found
+pub found_in_range : (cs : List Cable) (p : PortId) (b : Bounds) → AllByRecursion HasBounds cs
+    → bounds_at cs p ≡ Some b → (1 ≤ b.min) × (b.loss ≤ 1000)
+found_in_range [] p b each is = absurd cc
+found_in_range (c ∷ cs) p b each is = by (same_port c.a p) is (found_in_range cs p b each.1)
+  where
+    by : (t : Bool) → (if t then Some c.bounds else bounds_at cs p) ≡ Some b
+        → (bounds_at cs p ≡ Some b → (1 ≤ b.min) × (b.loss ≤ 1000)) → (1 ≤ b.min) × (b.loss ≤ 1000)
+    by true here later =
+        let first = each.0 in
+        subst (λ (k : Bounds). (1 ≤ k.min) × (k.loss ≤ 1000)) (same_Some c.bounds b here) (first.least, first.share)
+    by false there later = later there

@@ -11,6 +11,10 @@ pub mod RefusalLemmas
 pub mod TextLemmas
 pub mod AnswerLemmas
 pub mod BoundsLemmas
+pub mod CableLemmas
+pub mod RangeLemmas
+pub mod MostLemmas
+pub mod PlacedLemmas
 mod EventsLemmas
 mod DownLemmas
 mod PlayableLemmas

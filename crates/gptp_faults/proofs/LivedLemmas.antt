@@ -1,6 +1,7 @@
 -- Who lives after a case failed lived before.
 use Rattle.std.proofs.Common.{◌≡◌, ◌==◌, ◌&&◌, ◌+◌, ℕ, Bool, true, false, if◌then◌else◌, List, [], ◌∷◌, ◌++◌, map, Option, Some, None, refl, sym, ap, subst, ◌∙◌, arith}
 use Rattle.std.specs.List.{AllByRecursion, list_any}
+use Rattle.std.specs.Prelude.{⊤}
 use Rattle.std.proofs.lemmas.Bool.{and_from, and_parts, eq-eqb}
 use Rattle.gptp_graph.specs.Snapshot.{clocks, Snapshot, System}
 use Rattle.gptp_links.specs.declared.bounds.Bounds.{Bounds}
@@ -16,7 +17,6 @@ use Rattle.gptp_scenario.specs.Calm.{last_change}
 use Rattle.gptp_scenario.specs.Change.{standing, system_acted, system_after, system_stands, with_live}
 use Rattle.gptp_scenario.specs.InUse.{lives}
 use Rattle.gptp_scenario.specs.Network.{NetworkState}
-use Rattle.gptp_scenario.specs.declared.calm.Standing.{Standing}
 use Rattle.gptp_scenario.specs.declared.change.Timed.{Timed}
 use Rattle.gptp_scenario.specs.declared.network.SystemSpec.{SystemSpec}
 use Rattle.gptp_theorem.specs.PlayedLaws.{IsPlayable}
@@ -65,12 +65,12 @@ case_starts_none cables detect (cases.Power clock) = power_starts_none detect cl
 
 -- ---- a system
 
-stands_behind : (es fs : List Timed) (own : ℕ) (s : Standing)
-    → system_stands (es ++ fs) own s ≡ system_stands fs own (system_stands es own s)
-stands_behind [] fs own s = refl
-stands_behind (e ∷ es) fs own s = stands_behind es fs own (system_acted e.act own s)
+lives_behind : (es fs : List Timed) (own : ℕ) (s : _)
+    → (system_stands (es ++ fs) own s).live ≡ (system_stands fs own (system_stands es own s)).live
+lives_behind [] fs own s = refl
+lives_behind (e ∷ es) fs own s = lives_behind es fs own (system_acted e.act own s)
 
-one_lived : (at : ℕ) (c : CaseChange) → StartsNone c → (own : ℕ) (s : Standing)
+one_lived : (at : ℕ) (c : CaseChange) → StartsNone c → (own : ℕ) (s : _)
     → (system_acted (timed_at at c).act own s).live ≡ true → s.live ≡ true
 one_lived at (LinkDown p) none own s live = live
 one_lived at (LinkUp p) none own s live = absurd none
@@ -82,17 +82,16 @@ one_lived at (Fail clock) none own s live = by (clock == own) live
     by false is = is
 one_lived at (Recover clock) none own s live = absurd none
 
-lived : (at : ℕ) (cs : List CaseChange) → AllByRecursion StartsNone cs → (own : ℕ) (s : Standing)
+lived : (at : ℕ) (cs : List CaseChange) → AllByRecursion StartsNone cs → (own : ℕ) (s : _)
     → (system_stands (all_at at cs) own s).live ≡ true → s.live ≡ true
 lived at [] none own s live = live
 lived at (c ∷ cs) none own s live =
     one_lived at c none.0 own s (lived at cs none.1 own (system_acted (timed_at at c).act own s) live)
 
-both_lived : (at : ℕ) (e : EventsState) → StartNone e → (own : ℕ) (s : Standing)
+both_lived : (at : ℕ) (e : EventsState) → StartNone e → (own : ℕ) (s : _)
     → (system_stands (failing_events at e) own s).live ≡ true → s.live ≡ true
 both_lived at e none own s live =
-    let later = ap (λ (x : Standing). x.live)
-    (sym (stands_behind (all_at at e.at) (all_at (at + e.delay) e.seen) own s)) ∙ live in
+    let later = sym (lives_behind (all_at at e.at) (all_at (at + e.delay) e.seen) own s) ∙ live in
     lived at e.at none.at own s
     (lived (at + e.delay) e.seen none.seen own (system_stands (all_at at e.at) own s) later)
 
@@ -109,8 +108,8 @@ lives_before n events at e none name live =
     (λ (m : SystemSpec). clock_of m.identity == name && (system_after events m).live) n.systems (λ m both.
     let (named, is) = and_parts (clock_of m.identity == name) (system_after (events ++ failing_events at e) m).live
     both in
-    let then_live = ap (λ (x : Standing). x.live) (sym (stands_behind events (failing_events at e)
-    (clock_of m.identity) (standing m))) ∙ is in
+    let then_live =
+    sym (lives_behind events (failing_events at e) (clock_of m.identity) (standing m)) ∙ is in
     and_from (clock_of m.identity == name) (system_after events m).live named
     (both_lived at e none (clock_of m.identity) (system_after events m) then_live)) live
 

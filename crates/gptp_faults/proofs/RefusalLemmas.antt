@@ -21,7 +21,7 @@ neither true b none = absurd cc
 -- ---- whether one of several numbers passes a test
 
 module _ (test : ℕ → Bool) where
-  range_first : (number count : ℕ) → number < count
+  pub range_first : (number count : ℕ) → number < count
       → range_with_len number (count - number) ≡ number ∷ range_with_len (number + 1) (count - (number + 1))
   range_first number count below =
       let more : count - number ≡ suc (count - (number + 1)) = omega (arith, below) in rw more refl

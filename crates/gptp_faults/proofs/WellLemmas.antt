@@ -1,5 +1,5 @@
 -- The network of a document that can be played is well formed at each time.
-use Rattle.std.proofs.Common.{◌≡◌, ◌<◌, ◌^◌, ℕ, nat_le, List, [], ◌∷◌, sym, subst, inl, inr}
+use Rattle.std.proofs.Common.{◌≡◌, ◌<◌, ◌^◌, ℕ, true, nat_le, List, [], ◌∷◌, refl, sym, subst, inl, inr}
 use Rattle.gptp_graph.specs.Snapshot.{IsWellFormed, Snapshot, System}
 use Rattle.gptp_invariants.specs.WorldEncodableLaws.{SetsAnOctet}
 use Rattle.gptp_lists.specs.Members.{In}
@@ -9,8 +9,7 @@ use Rattle.gptp_network.specs.Snapshot.{events_by, IsSnapshot}
 use Rattle.gptp_network.proofs.MeantLemmas.{SetsOctets, stands_below}
 use Rattle.gptp_network.proofs.SnapshotLemmas.{from_filter, member_there, stands_well}
 use Rattle.gptp_roles.specs.Selection.{clock_of}
-use Rattle.gptp_scenario.specs.Change.{standing, system_acted, system_stands}
-use Rattle.gptp_scenario.specs.declared.calm.Standing.{Standing}
+use Rattle.gptp_scenario.specs.Change.{standing, system_acted, system_stands, with_live}
 use Rattle.gptp_scenario.specs.declared.change.Act.{Act}
 use Rattle.gptp_scenario.specs.declared.change.Act.TheVariants as acts
 use Rattle.gptp_scenario.specs.declared.change.Change.TheVariants as changes
@@ -18,7 +17,7 @@ use Rattle.gptp_scenario.specs.declared.change.Timed.{Timed}
 use Rattle.gptp_theorem.specs.PlayedLaws.{IsPlayable}
 
 -- an act that sets octets leaves an identity of fourteen of them
-one_below : (act : Act) → SetsOctets act → (own : ℕ) (s : Standing) → s.identity < 2 ^ 112
+one_below : (act : Act) → SetsOctets act → (own : ℕ) (s : _) → (with_live true s).identity < 2 ^ 112
     → (system_acted act own s).identity < 2 ^ 112
 one_below act sets own s below =
     let timed : Timed = record { at = 0; act = act } in
@@ -28,7 +27,7 @@ one_below act sets own s below =
     ]) own s below
 
 -- a frame changes none
-acted_below : (act : Act) → SetsAnOctet act → (own : ℕ) (s : Standing) → s.identity < 2 ^ 112
+acted_below : (act : Act) → SetsAnOctet act → (own : ℕ) (s : _) → (with_live true s).identity < 2 ^ 112
     → (system_acted act own s).identity < 2 ^ 112
 acted_below (acts.Deliver link direction) sets own s below = below
 acted_below (acts.Expire name timer) sets own s below = below
@@ -43,8 +42,8 @@ acted_below (acts.Change (changes.Priority1 name value)) sets own s below =
     one_below (acts.Change (changes.Priority1 name value)) sets own s below
 acted_below (acts.Change (changes.Inject name port octets)) sets own s below = below
 
-all_below : (events : List Timed) → ((t : Timed) → In t events → SetsAnOctet t.act) → (own : ℕ) (s : Standing)
-    → s.identity < 2 ^ 112 → (system_stands events own s).identity < 2 ^ 112
+all_below : (events : List Timed) → ((t : Timed) → In t events → SetsAnOctet t.act) → (own : ℕ) (s : _)
+    → (with_live true s).identity < 2 ^ 112 → (system_stands events own s).identity < 2 ^ 112
 all_below [] sets own s below = below
 all_below (t ∷ ts) sets own s below =
     all_below ts (λ u member. sets u (inr member)) own (system_acted t.act own s)

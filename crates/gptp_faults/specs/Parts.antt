@@ -1,5 +1,5 @@
 -- What a fault leaves of the components of a network (profile).
-use Rattle.std.specs.Prelude.{◌≡◌, ◌≤◌, ℕ, ◌==◌, ◌&&◌, ◌||◌, nat_lt, not, Bool, List, filter, length, map}
+use Rattle.std.specs.Prelude.{◌≡◌, ◌≤◌, ℕ, ◌==◌, ◌&&◌, ◌||◌, nat_lt, not, Bool, List, filter, length, map, take}
 use Rattle.std.specs.List.{AllByRecursion, count_by, list_any}
 use Rattle.gptp_graph.specs.SettledChoice.{IsBestIdentity}
 use Rattle.gptp_graph.specs.Snapshot.{clocks, Snapshot}
@@ -20,9 +20,12 @@ pub record IsPlaced (g g' : Snapshot) (name : ℕ) (x : Placed) : Type 0 where
   pub component : IsBestIdentity g name x.component
   pub part : IsBestIdentity g' name x.part
 
--- all of them, by rising clock
+-- all of them, by rising clock; and the first of them
 abbrev pub ArePlaced : Snapshot → Snapshot → List Placed → Type 0
 ArePlaced g g' = Each (IsPlaced g g') (clocks g')
+
+abbrev pub ArePlacedBy : Snapshot → Snapshot → ℕ → List Placed → Type 0
+ArePlacedBy g g' place = Each (IsPlaced g g') (take place (clocks g'))
 
 -- ---- the main part of a component
 

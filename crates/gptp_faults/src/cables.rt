@@ -100,11 +100,11 @@ pub(crate) fn cables_after(alloc: Global, document: &Document) -> Result<Vec<Cab
 }
 
 /// The bounds of the link that has this port as its first end, if there is one.
-pub(crate) fn bounds_at(cables: &[Cable], port: PortId) -> Option<Bounds>
-    ensures { result ≡ bounds_at cables.now port }
+pub(crate) fn bounds_at(cables: &[Cable], port: &PortId) -> Option<Bounds>
+    ensures { result ≡ bounds_at cables.now port.now }
 {
     for cable in cables {
-        if cable.a == port {
+        if cable.a == *port {
             return Some(cable.bounds);
         }
     }
@@ -112,17 +112,17 @@ pub(crate) fn bounds_at(cables: &[Cable], port: PortId) -> Option<Bounds>
 }
 
 /// Whether a link that is up is at a port.
-fn is_up_at(cables: &[Cable], port: PortId) -> bool
-    ensures { result ≡ is_up_at cables.now port }
+fn is_up_at(cables: &[Cable], port: &PortId) -> bool
+    ensures { result ≡ is_up_at cables.now port.now }
 {
-    cables.iter().any(|cable| cable.up && is_at(cable, port))
+    cables.iter().any(|cable| cable.up && is_at(cable, *port))
 }
 
 /// Puts a port after others, where a link that is up is at it.
 fn push_up(ports: &mut Vec<PortId>, cables: &[Cable], port: PortId) -> Result<(), AllocError>
     ensures { OnOk result (ports.new.items ≡ ports.old.items ++ (if is_up_at cables.now port then port ∷ [] else [])) }
 {
-    match is_up_at(cables, port) {
+    match is_up_at(cables, &port) {
         true => {
             ports.push(port)?;
             Ok(())

@@ -84,7 +84,7 @@ impl Model for CaseEvents {
 }
 
 impl CaseEvents {
-    ghost use Rattle.std.specs.Prelude.{◌≡◌, ◌≤◌};
+    ghost use Rattle.std.specs.Prelude.{◌≡◌, ◌≤◌, ◌<◌, ◌^◌};
     ghost use Rattle.std.specs.List.{AllByRecursion};
     ghost use Rattle.gptp_faults.specs.CaseEvents.{IsChangeInRange, count_events};
 
@@ -121,10 +121,11 @@ impl CaseEvents {
     }
 
     /// How many there are.
-    pub(crate) fn count(&self) -> usize
-        ensures { result ≡ count_events self.now }
+    pub(crate) fn count(&self) -> u128
+        ensures is { result ≡ count_events self.now }
+        ensures bound { result < 2 ^ 66 }
     {
-        self.at.len() + self.seen.len() + self.back.len()
+        self.at.len() as u128 + self.seen.len() as u128 + self.back.len() as u128
     }
 }
 
@@ -192,7 +193,7 @@ fn link_events(
     requires detect { IfSome detect (λ delay. delay ≤ 1000000000000000) }
     ensures { IfOk result (λ e. e ≡ link_events cables.now detect port) }
 {
-    match (detect, bounds_at(cables, port)) {
+    match (detect, bounds_at(cables, &port)) {
         (Some(delay), Some(bounds)) => seen_link(alloc, port, bounds, delay),
         _ => plain_link(alloc, port),
     }

@@ -3,7 +3,6 @@
 ghost use Rattle.std.specs.Prelude.{◌≡◌, ◌+◌, ◌++◌, ◌∷◌, [], if◌then◌else◌, IfOk, OnOk, map, filter_map, take};
 ghost use Rattle.gptp_scenario.specs.Change.{live_after};
 ghost use Rattle.gptp_faults.specs.Cases.{AreCases, has_links, has_power, has_systems, link_case, link_cases, live_clock, live_clocks};
-ghost use Rattle.gptp_faults.specs.declared.cases.Case.TheVariants as cases;
 
 use crate::options::Only;
 use gptp_network::{Document, Snapshot};
@@ -140,7 +139,7 @@ fn live_systems(alloc: Global, document: &Document) -> Result<Vec<ClockId>, Allo
 
 /// Puts the cases of systems that hang after others.
 fn push_hangs(cases: &mut Vec<Case>, clocks: &[ClockId]) -> Result<(), AllocError>
-    ensures { OnOk result (cases.new.items ≡ cases.old.items ++ map cases.System clocks.now) }
+    ensures { OnOk result (cases.new.items ≡ cases.old.items ++ map Case.System clocks.now) }
 {
     for clock in clocks {
         cases.push(Case::System { clock: *clock })?;
@@ -150,7 +149,7 @@ fn push_hangs(cases: &mut Vec<Case>, clocks: &[ClockId]) -> Result<(), AllocErro
 
 /// Puts the cases of systems that lose their power after others.
 fn push_powers(cases: &mut Vec<Case>, clocks: &[ClockId]) -> Result<(), AllocError>
-    ensures { OnOk result (cases.new.items ≡ cases.old.items ++ map cases.Power clocks.now) }
+    ensures { OnOk result (cases.new.items ≡ cases.old.items ++ map Case.Power clocks.now) }
 {
     for clock in clocks {
         cases.push(Case::Power { clock: *clock })?;
@@ -160,7 +159,7 @@ fn push_powers(cases: &mut Vec<Case>, clocks: &[ClockId]) -> Result<(), AllocErr
 
 /// Puts the cases of systems that hang after others, where they are cases.
 fn push_hangs_if(cases: &mut Vec<Case>, clocks: &[ClockId], asked: bool) -> Result<(), AllocError>
-    ensures { OnOk result (cases.new.items ≡ cases.old.items ++ (if asked then map cases.System clocks.now else [])) }
+    ensures { OnOk result (cases.new.items ≡ cases.old.items ++ (if asked then map Case.System clocks.now else [])) }
 {
     match asked {
         true => push_hangs(cases, clocks),
@@ -170,7 +169,7 @@ fn push_hangs_if(cases: &mut Vec<Case>, clocks: &[ClockId], asked: bool) -> Resu
 
 /// Puts the cases of systems that lose their power after others, where they are cases.
 fn push_powers_if(cases: &mut Vec<Case>, clocks: &[ClockId], asked: bool) -> Result<(), AllocError>
-    ensures { OnOk result (cases.new.items ≡ cases.old.items ++ (if asked then map cases.Power clocks.now else [])) }
+    ensures { OnOk result (cases.new.items ≡ cases.old.items ++ (if asked then map Case.Power clocks.now else [])) }
 {
     match asked {
         true => push_powers(cases, clocks),

@@ -1,6 +1,6 @@
 //! The greatest of several stretches.
 
-ghost use Rattle.std.specs.Prelude.{◌≡◌, ◌<◌, ◌^◌, IfSome, option_map};
+ghost use Rattle.std.specs.Prelude.{◌≡◌, ◌<◌, ◌^◌, IfSome, None, Some};
 ghost use Rattle.std.specs.Option.{option_or};
 ghost use Rattle.gptp_faults.specs.Extremes.{behind, bounds_of, changed_in, changed_since, counted_before, first_asked, further, greater_counts, greater_if, greatest_of_two, later_bounds, of_back, of_down, of_one, taken_as_one, times_by, times_measured, times_of_two, times_taken, with_parts};
 
@@ -133,7 +133,8 @@ fn times_of(stretch: &Stretch) -> TimeExtremes
 
 /// How soon the choice and the roles stand at most, of all that is told of a time.
 fn bounds_of(settling: Option<Settling>) -> Option<HowSoon>
-    ensures { result ≡ bounds_of settling }
+    ensures is { result ≡ bounds_of settling }
+    ensures bound { IfSome result (λ b. (b.choice < 2 ^ 64) × (b.roles < 2 ^ 64)) }
 {
     match settling {
         Some(settling) => Some(HowSoon {
@@ -271,24 +272,29 @@ fn with_parts(extremes: Extremes, cut: u64, astray: u64, length: u64) -> Extreme
     let mut extremes = extremes;
     extremes.cut = cut;
     extremes.astray = astray;
-    extremes.times.first_asked = first_asked(astray, length, extremes.times.first);
+    let mut times = extremes.times;
+    times.first_asked = first_asked(astray, length, times.first);
+    extremes.times = times;
     extremes
 }
 
-/// Those of a stretch in which a case is down, where so many are cut off, and so many of the others astray at its end;
-/// with that before it, where it was seen that the case failed.
-pub(crate) fn of_down(first: Option<&Stretch>, down: &Stretch, cut: u64, astray: u64) -> Extremes
-    ensures { result ≡ of_down (option_map (λ s. s.now) first) down.now cut astray }
+/// Those of a stretch in which a case is down, where so many are cut off, and so many of the others astray at its end.
+pub(crate) fn of_down(down: &Stretch, cut: u64, astray: u64) -> Extremes
+    ensures { result ≡ of_down None down.now cut astray }
 {
-    match first {
-        Some(first) => with_parts(
-            taken_as_one(first, down),
-            cut,
-            astray,
-            down.to.saturating_sub(first.from),
-        ),
-        None => with_parts(of_one(down), cut, astray, down.to.saturating_sub(down.from)),
-    }
+    with_parts(of_one(down), cut, astray, down.to.saturating_sub(down.from))
+}
+
+/// Those of it and the stretch before, which ends where it is seen that the case failed.
+pub(crate) fn of_down_seen(first: &Stretch, down: &Stretch, cut: u64, astray: u64) -> Extremes
+    ensures { result ≡ of_down (Some first.now) down.now cut astray }
+{
+    with_parts(
+        taken_as_one(first, down),
+        cut,
+        astray,
+        down.to.saturating_sub(first.from),
+    )
 }
 
 /// Those of a stretch in which a case is back, where so many are astray at its end.

@@ -10,7 +10,7 @@ ghost use Rattle.gptp_faults.specs.Times.{AreOptions, TimesAreBounded};
 use crate::astray::astray_of;
 use crate::case_events::{CaseEvents, events_of};
 use crate::cases::Case;
-use crate::extremes::{Extremes, joined, of_back, of_down};
+use crate::extremes::{Extremes, joined, of_back, of_down, of_down_seen};
 use crate::follows::{Follow, follows_of};
 use crate::options::FaultsOptions;
 use crate::parts::{CaseParts, Part, case_parts};
@@ -179,8 +179,8 @@ fn down_in(alloc: Global, parts: &CaseParts, ends: &RunEnds) -> Result<Extremes,
     let cut = parts.cut.len() as u64;
     let astray = astray_of(alloc, &parts.main, ends.down.keepers())?;
     match &ends.first {
-        Some(first) => Ok(of_down(Some(first.stretch()), ends.down.stretch(), cut, astray)),
-        None => Ok(of_down(None, ends.down.stretch(), cut, astray)),
+        Some(first) => Ok(of_down_seen(first.stretch(), ends.down.stretch(), cut, astray)),
+        None => Ok(of_down(ends.down.stretch(), cut, astray)),
     }
 }
 

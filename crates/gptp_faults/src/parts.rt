@@ -1,9 +1,9 @@
 //! What a fault leaves of the components of a network: who is cut off, and the main parts.
 
-ghost use Rattle.std.specs.Prelude.{◌≡◌, ◌≤◌, ◌++◌, ◌∷◌, [], if◌then◌else◌, IfErr, IfOk, OnOk, length};
+ghost use Rattle.std.specs.Prelude.{◌≡◌, ◌≤◌, ◌+◌, ◌++◌, ◌∷◌, [], if◌then◌else◌, IfErr, IfOk, OnOk, length};
 ghost use Rattle.gptp_network.specs.Snapshot.{IsSnapshot};
 ghost use Rattle.gptp_scenario.specs.Calm.{last_change};
-ghost use Rattle.gptp_faults.specs.Parts.{AreCaseParts, AreFew, ArePlaced, AreWhole, IsLeft, IsPlaced, clock_in, clock_of_placed, cut_off, is_cut, is_heavier, is_kept, is_of, kept, leads, part_among, part_of, parts_of, placed_in, size_in, weighed};
+ghost use Rattle.gptp_faults.specs.Parts.{AreCaseParts, AreFew, ArePlaced, ArePlacedBy, AreWhole, IsLeft, IsPlaced, clock_in, clock_of_placed, cut_off, is_cut, is_heavier, is_kept, is_of, kept, leads, part_among, part_of, parts_of, placed_in, size_in, weighed};
 ghost use Rattle.gptp_faults.specs.Stays.{failed_document};
 
 use crate::case_events::CaseEvents;
@@ -137,17 +137,34 @@ fn push_placed(all: &mut Vec<Placed>, one: Placed) -> Result<(), AllocError>
     Ok(())
 }
 
+/// Puts the live system at a place after those of the places before.
+fn push_live(
+    all: &mut Vec<Placed>,
+    before: &Components,
+    after: &Components,
+    place: usize,
+) -> Result<(), Cut>
+    requires { ArePlacedBy before.now after.now place all.old.items }
+    ensures placed { OnOk result (ArePlacedBy before.now after.now (place + 1) all.new.items) }
+    ensures memory { IfErr result (λ e. e ≡ Cut.Memory) }
+{
+    if let Some((identity, _)) = after.snapshot().system_at(place) {
+        let one = place_system(before, after, identity.clock())?;
+        push_placed(all, one)?;
+    }
+    Ok(())
+}
+
 /// The live systems, by rising clock.
 fn placed_all(alloc: Global, before: &Components, after: &Components) -> Result<Vec<Placed>, Cut>
     ensures placed { IfOk result (λ all. ArePlaced before.now after.now all.items) }
+    ensures few { IfOk result (λ all. length all.items ≤ 512) }
     ensures memory { IfErr result (λ e. e ≡ Cut.Memory) }
 {
-    let snapshot = after.snapshot();
+    after.snapshot().well_formed();
     let mut all = Vec::new(alloc);
-    for place in 0..snapshot.systems() {
-        if let Some((identity, _)) = snapshot.system_at(place) {
-            push_placed(&mut all, place_system(before, after, identity.clock())?)?;
-        }
+    for place in 0..after.snapshot().systems() {
+        push_live(&mut all, before, after, place)?;
     }
     Ok(all)
 }

@@ -23,7 +23,7 @@ const LATEST_EVENT: u64 = 800_000_000_000_000;
 const LATEST_END: u64 = 1_000_000_000_000_000;
 
 /// How many events a document may have.
-const MOST_EVENTS: usize = 4096;
+const MOST_EVENTS: u128 = 4096;
 
 /// The test that a document fails with a case that fails at a moment and comes back, if it fails one.
 fn refusal_at(
@@ -66,7 +66,7 @@ fn refusal_of(
     ensures same { OnOk result (document.new ≡ document.old) }
     ensures memory { IfErr result (λ e. e ≡ Cut.Memory) }
 {
-    if MOST_EVENTS < document.events().len() + events.count() {
+    if MOST_EVENTS < document.events().len() as u128 + events.count() {
         return Ok(Some(DocumentFault::TooMany));
     }
     for number in 0..times.moments {

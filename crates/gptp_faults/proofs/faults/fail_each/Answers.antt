@@ -15,7 +15,7 @@ use Rattle.gptp_faults.proofs.faults.fail_each.Goals as goal
 pub returns-clause-answer : goal.returns-clause-answer
 returns-clause-answer g c =
     let d = c.args.document.now in let options = c.args.options.now in let t = c.in_ok-times.times in
-    let cases = c.in_ok-cases.cases.items in let before = c.in_ok-fault_before.ensures in
+    let cases = c.in_ok-cases.cases.items in let before = c.in_ok-fault.ensures in
     let same = c.in_ok-any_late.ensures.same ∙ before.same in
     IfOk-weaker c.table_of.result _ _ (λ answer table.
     answered d options cases t c.in_ok-cases.ensures c.in_ok-times.ensures.times
@@ -31,7 +31,7 @@ returns-clause-answer g c =
 pub returns-clause-told : goal.returns-clause-told
 returns-clause-told g c =
     let d = c.args.document.now in let options = c.args.options.now in let t = c.in_ok-times.times in
-    let cases = c.in_ok-cases.cases.items in let before = c.in_ok-fault_before.ensures in
+    let cases = c.in_ok-cases.cases.items in let before = c.in_ok-fault.ensures in
     let same = c.in_ok-any_late.ensures.same ∙ before.same in
     if_ok_both c.table_of.result _ _ _ (λ answer table told.
     tells d options t cases (g.P.Sink.written c.args.progress.now) (g.P.Sink.written c.table_of.new.progress)

@@ -1,4 +1,4 @@
-use Rattle.std.proofs.Common.{◌≡◌, arith, rules, subst, ◌∙◌}
+use Rattle.std.proofs.Common.{◌≡◌, List, ℕ, arith, rules, subst, ◌∙◌}
 use Rattle.gptp_network.specs.Document.{DocumentState}
 use Rattle.gptp_faults.specs.Extremes.{greatest_of_two}
 use Rattle.gptp_faults.specs.Follows.{AreFollows}
@@ -20,8 +20,10 @@ loop-run-init c =
     record {
       tried = one_tried c.args.options.now d c.args.times.now p.events p.aside.items downs backs first
           c.in_ok-down.down c.in_ok-back.back c.in_ok-follow.follow.items
-          (subst (λ (e : DocumentState). CaseRunEnds c.args.options.now e c.args.times.now p.events p.aside.items 0
-          first) c.in_ok-plan.ensures.same c.in_ok-first.ensures.run) down_is back_is follow_is;
+          (subst (λ (names : List ℕ). CaseRunEnds c.args.options.now d c.args.times.now p.events names 0 first)
+          c.deref.ensures.value
+          (subst (λ (e : DocumentState). CaseRunEnds c.args.options.now e c.args.times.now p.events c.deref.result.now 0
+          first) c.in_ok-plan.ensures.same c.in_ok-first.ensures.run)) down_is back_is follow_is;
       most = omega (arith, count, some);
       same = c.in_ok-first.ensures.same ∙ c.in_ok-plan.ensures.same;
     }
@@ -38,8 +40,10 @@ loop-run-preserved c =
       tried = more_tried c.args.options.now d c.args.times.now p.events p.aside.items downs backs run c.loop-run.down
           c.loop-run.back c.joined-down.result c.joined-back.result c.in_ok-follow.follow.items
           c.loop-run.invariant.tried ends
-          (subst (λ (e : DocumentState). CaseRunEnds c.args.options.now e c.args.times.now p.events p.aside.items run
-          ends) c.loop-run.invariant.same c.in_ok-next.ensures.run) down_is back_is;
+          (subst (λ (names : List ℕ). CaseRunEnds c.args.options.now d c.args.times.now p.events names run ends)
+          c.deref-in-loop-run.ensures.value
+          (subst (λ (e : DocumentState). CaseRunEnds c.args.options.now e c.args.times.now p.events
+          c.deref-in-loop-run.result.now run ends) c.loop-run.invariant.same c.in_ok-next.ensures.run)) down_is back_is;
       most = omega (arith, count, below);
       same = c.in_ok-next.ensures.same ∙ c.loop-run.invariant.same;
     }
