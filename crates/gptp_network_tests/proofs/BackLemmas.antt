@@ -137,7 +137,10 @@ back_bound = (
     between,
     (
       record { links = rest_up; lapses = inl refl },
-      inr (refl, inr (15000000000, down_bound, omega arith, inr (1000002000, inl (inl (inl comes_up, tt), way_up)))),
+      inr (
+        refl,
+        inr (15000000000, down_bound, omega arith, inr (inr (1000002000, inl (inl (inl comes_up, tt), way_up)))),
+      ),
     ),
   ),
 )
