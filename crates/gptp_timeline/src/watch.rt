@@ -16,7 +16,9 @@ use crate::measures::{Greatest, Measures, NOTHING, better_if};
 use crate::receipts::{error_of, received_by, write_offset};
 use crate::shown::{Shown, shown_of, shows_left};
 use crate::time_watch::TimeWatch;
-use crate::watched::{ActView, Watched, error_after, measures_after, since_behind, wait_behind};
+use crate::watched::{
+    ActView, Watched, error_after, measures_after, since_behind, wait_behind, waits_on,
+};
 use gptp_hints::ClockHints;
 use gptp_links::Fate;
 use gptp_report::sink::Sink;
@@ -393,8 +395,26 @@ impl Watch {
         };
     }
 
+    /// Whether no wait of the system at a place begins or ends by an act that left what is shown of it as it was.
+    fn waits_on_at(&self, look: ActView, place: usize) -> bool
+        requires { place < length self.now.systems }
+        ensures { result ≡ true → (x : Watched) → slice_get self.now.systems place ≡ Some x → taken look place x x.shown self.now ≡ self.now }
+    {
+        waits_on(look, &self.systems[place])
+    }
+
     /// An act left what is shown of the system at a place as it was.
     fn take_same(&mut self, look: ActView, place: usize)
+        requires { place < length self.old.systems }
+        ensures { (x : Watched) → slice_get self.old.systems place ≡ Some x → self.new ≡ taken look place x x.shown self.old }
+    {
+        if !self.waits_on_at(look, place) {
+            self.take_wait(look, place);
+        }
+    }
+
+    /// What is kept of a wait of the system at a place, after an act that left what is shown of it as it was.
+    fn take_wait(&mut self, look: ActView, place: usize)
         requires { place < length self.old.systems }
         ensures { (x : Watched) → slice_get self.old.systems place ≡ Some x → self.new ≡ taken look place x x.shown self.old }
     {
