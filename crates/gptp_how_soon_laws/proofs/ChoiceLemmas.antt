@@ -108,7 +108,10 @@ module _ (d : DocumentState) (playable : IsPlayable d) where
         let bound =
         bounds_choice n Sharp (made ++ now) (row_at n v) (gained_at n v) it.calm
         (λ row. let (rest, idle) = unchanged n playable.network all b at late row in
-        sharp 0 rest (elim idle [ inl still ↦ inl (still, refl) | inr wider ↦ inr (inl (wider, refl)) ]))
+        sharp 0 rest (elim idle [
+          | inl nothing ↦ inl (all_still n made now nothing, refl)
+          | inr wider ↦ inr (inl (wider, refl))
+        ]))
         (λ row off. let (rest, gains) = gained n playable.network all b at late row off in
         sharp (gained_at n v) rest (inr (inr (ready_at n v, gains)))) in
         record {

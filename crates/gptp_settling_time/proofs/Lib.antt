@@ -67,4 +67,7 @@ pub mod ReactionStageLemmas
 pub mod ReactsLemmas
 pub mod SettledSeenLemmas
 pub mod PriorityNewsLemmas
+pub mod SameBestLemmas
+pub mod ReselectsLemmas
+pub mod UnmovedLemmas
 pub mod BetterClockLemmas
