@@ -15,6 +15,7 @@ use Rattle.gptp_how_soon.specs.Times.{View, events_at, gained_at, last_set, read
 use Rattle.gptp_how_soon.specs.declared.bounds.Settling.{Settling}
 use Rattle.gptp_how_soon.specs.declared.bounds.SettlingTime.{SettlingTime}
 use Rattle.gptp_settling_time.specs.HowSoon.{BoundsChoice, BoundsEvents, BoundsStart, IsChoiceBoundAfter, NoneBetween}
+use Rattle.gptp_settling_time.proofs.FollowedLemmas.{all_still}
 use Rattle.gptp_settling_time.proofs.MomentLemmas.{parted}
 use Rattle.gptp_how_soon_laws.specs.Choice.{SettlingsAreChoiceBounds}
 use Rattle.gptp_how_soon_laws.proofs.RowLemmas.{HasComeToRest, bounds_choice, gained, never_unchanged, started, tells, unchanged}
