@@ -74,6 +74,24 @@ of_bare f each before after kept = sym (each after) ∙ ap f kept ∙ each befor
 
 -- ---- clocks and links stay
 
+links_stay : (w v : WorldState)
+    → ((number : ℕ) → stations_have_clock (live_stations v.stations) number
+    ≡ stations_have_clock (live_stations w.stations) number)
+    → DifferInFlight w.net.channels v.net.channels → (a b : PortIdentity) → Joins (snapshot_of w) a b
+    → Joins (snapshot_of v) a b
+links_stay w v lives links =
+    links_more w v
+    (λ s member. clock_lives v.stations s.clock (lives s.clock ∙ has_clock (live_stations w.stations) s member))
+    (λ link channel here.
+    let (now, stands, same) = alike bare bare v.net.channels w.net.channels links link channel here in
+    record {
+      new = now;
+      here = stands;
+      a = ap (λ (c : Channel). c.a) same;
+      b = ap (λ (c : Channel). c.b) same;
+      up = λ raised. ap (λ (c : Channel). c.up) same ∙ raised;
+    })
+
 module _ (p : SettlingParams) (w w' : WorldState) (r : Reacts w w') where
   used_alike : (channel : Channel) → channel_is_used (live_stations w'.stations) channel
       ≡ channel_is_used (live_stations w.stations) channel
@@ -101,39 +119,15 @@ module _ (p : SettlingParams) (w w' : WorldState) (r : Reacts w w') where
 
   -- no link is another
   pub links_before : (a b : PortIdentity) → Joins (snapshot_of w') a b → Joins (snapshot_of w) a b
-  links_before =
-      links_more w' w
-      (λ s member. clock_lives w.stations s.clock
-      (sym (r.lives s.clock) ∙ has_clock (live_stations w'.stations) s member))
-      (λ link channel here.
-      let (old, stands, same) = alike bare bare w.net.channels w'.net.channels (sym r.links) link channel here in
-      record {
-        new = old;
-        here = stands;
-        a = ap (λ (c : Channel). c.a) same;
-        b = ap (λ (c : Channel). c.b) same;
-        up = λ raised. ap (λ (c : Channel). c.up) same ∙ raised;
-      })
+  links_before = links_stay w' w (λ number. sym (r.lives number)) (sym r.links)
+
+  pub links_after : (a b : PortIdentity) → Joins (snapshot_of w) a b → Joins (snapshot_of w') a b
+  links_after = links_stay w w' r.lives r.links
 
   pub clocks_after : (number : ℕ) → In number (clocks (snapshot_of w)) → In number (clocks (snapshot_of w'))
   clocks_after number known =
       clock_from (live_stations w'.stations) number
       (r.lives number ∙ clock_there (live_stations w.stations) number known)
-
-  pub links_after : (a b : PortIdentity) → Joins (snapshot_of w) a b → Joins (snapshot_of w') a b
-  links_after =
-      links_more w w'
-      (λ s member. clock_lives w'.stations s.clock
-      (r.lives s.clock ∙ has_clock (live_stations w.stations) s member))
-      (λ link channel here.
-      let (now, stands, same) = alike bare bare w'.net.channels w.net.channels r.links link channel here in
-      record {
-        new = now;
-        here = stands;
-        a = ap (λ (c : Channel). c.a) same;
-        b = ap (λ (c : Channel). c.b) same;
-        up = λ raised. ap (λ (c : Channel). c.up) same ∙ raised;
-      })
 
   -- a network of the world has the wiring of one that it had before
   pub wiring_same : (n n' : Network) → SameWiring n (start_network p 0 0 w) → n.most ≡ delay_in w

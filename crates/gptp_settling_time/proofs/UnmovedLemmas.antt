@@ -15,12 +15,11 @@ use Rattle.gptp_graph.proofs.SystemLemmas.{In-clocks, same_clock, same_identity}
 use Rattle.gptp_links.specs.Fate.{Draw}
 use Rattle.gptp_scenario.specs.Calm.{NothingLapses}
 use Rattle.gptp_scenario.specs.Params.{KeepPace}
-use Rattle.gptp_scenario.specs.SyncWait.{sync_wait}
 use Rattle.gptp_scenario.specs.declared.change.Act.TheVariants.{Change as Changing}
 use Rattle.gptp_scenario.specs.declared.change.Change.TheVariants.{Priority1}
 use Rattle.gptp_roles.specs.Selection.{clock_of}
 use Rattle.gptp_roles.specs.SystemTrace.{system_trace}
-use Rattle.gptp_setup.specs.SettlingParams.{SettlingParams, lapse_span}
+use Rattle.gptp_setup.specs.SettlingParams.{SettlingParams}
 use Rattle.gptp_system.specs.Announcing.{with_priority}
 use Rattle.gptp_system.specs.Input.{Priority}
 use Rattle.gptp_system.specs.Selection.{Selects}
@@ -63,6 +62,7 @@ use Rattle.gptp_settling_time.proofs.ReactsLemmas.{Reacts, answered, identity_is
 use Rattle.gptp_settling_time.proofs.ReselectsLemmas.{chooses_again}
 use Rattle.gptp_settling_time.proofs.SameBestLemmas.{HaveSameBests, leads_back, sound_over}
 use Rattle.gptp_settling_time.proofs.SettledSeenLemmas.{HasSettledSeen, IsSettledSeen, stage_settled, wired_as}
+use Rattle.gptp_settling_time.proofs.StandsLikeLemmas.{none_short}
 use Rattle.gptp_settling_time.proofs.WidenedLemmas.{ready_heard}
 
 -- ---- worlds that differ in what systems are named by alone
@@ -334,11 +334,8 @@ module _ (p : SettlingParams) (next owner value : ℕ) (w : WorldState) (draws :
       settling = λ m bounded calm off.
           last_stages (news_network p m next w') refl (sound_then sound) (settled (quiet_before p w w' r calm) off)
           near;
-      in_turn = λ m bounded calm short. absurd (none m short);
+      in_turn = λ m bounded calm short. absurd (none_short p (paths_with m w') off short);
     }
-      where
-        none : (m : ℕ) → sync_wait p.params (paths_with m w') < lapse_span p.params → ⊥
-        none m short = let nothing : lapse_span p.params ≡ 0 = rw off (omega arith) in omega (arith, nothing, short)
 
     pub unmoved_claimed : IsClaimedAlways p next w'
     unmoved_claimed =
