@@ -307,7 +307,8 @@ module _ (p : SettlingParams) (w : WorldState) (is : IsWorld p w) (owner value :
   pub answered : (answer : Answer) × Calls place (Priority value) v draws answer w'
   answered = by k.so
     where
-      by : CallsIfLive place (Priority value) v draws w' → (answer : Answer) × Calls place (Priority value) v draws answer w'
+      by : CallsIfLive place (Priority value) v draws w'
+          → (answer : Answer) × Calls place (Priority value) v draws answer w'
       by (inl called) = called
       by (inr (failed, none, same)) =
           let it = same_there v.stations place failed.station new failed.here there in

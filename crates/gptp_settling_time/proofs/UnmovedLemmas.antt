@@ -1,5 +1,5 @@
--- A priority1 by which no system is moved, in a world that has settled: all stands as it did but the identity, and claims
--- are made of all links always.
+-- A priority1 by which no system is moved, in a world that has settled: all stands as it did but the identity, and
+-- claims are made of all links always.
 use Rattle.std.proofs.Common.{◌≡◌, ◌≢◌, ◌⊎◌, ◌<◌, ◌≤◌, ◌+◌, ◌*◌, ◌^◌, ◌%◌, ℕ, Bool, List, [], map, Some, slice_get, refl, sym, ap, subst, ◌∙◌, inl, inr, arith}
 use native.Mathlib.Decide.{dec_lt, ℕ_discrete}
 use Rattle.gptp_lists.specs.Members.{In}
