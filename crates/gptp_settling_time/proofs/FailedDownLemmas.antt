@@ -57,7 +57,7 @@ use Rattle.gptp_invariants.proofs.ChoiceSeenLaneLemmas.{lane_from, lane_there}
 use Rattle.gptp_invariants.proofs.DelayClaimedCapableLemmas.{clock_has, used_if}
 use Rattle.gptp_invariants.proofs.FailedUnansweredCallLemmas.{CallStep, call_seen, view_stays}
 use Rattle.gptp_invariants.proofs.WorldWayLemmas.{way_of}
-use Rattle.gptp_settling_time.proofs.AlwaysClaimedLemmas.{IsClaimedAlways, lane_at, same_start, silent_off}
+use Rattle.gptp_settling_time.proofs.AlwaysClaimedLemmas.{IsClaimedAlways, lane_at, same_start, silent_off, standing}
 use Rattle.gptp_settling_time.proofs.FailedUpLemmas.{delay_set, used_set}
 use Rattle.gptp_settling_time.proofs.LinkStoodLemmas.{second_still, stood_in, stood_untold, used_elsewhere}
 use Rattle.gptp_settling_time.proofs.LinkUpLemmas.{lane_set}
@@ -250,7 +250,7 @@ module _ (p : SettlingParams) (start : ℕ) (w : WorldState) (news : IsNews p st
               let places = shown.places in
               let (q, there) = member_there station.system.ports i (omega arith) in
               let (h, holds) = member_there station.system.held i (omega (arith, most, places)) in
-              let off = silent_off p start w news late place_there (record {
+              let off = silent_off p start w (standing news) late place_there (record {
                 channel = channel;
                 here = here;
                 up = up;

@@ -65,7 +65,7 @@ use Rattle.gptp_settling_time.specs.Starts.{DelaysVaryLittle, StartsSettleAtOnce
 use Rattle.gptp_settling_time.proofs.LinkStoodLemmas.{exchange_over}
 use Rattle.gptp_settling_time.proofs.OrderedLemmas.{IsOrderedAt, opposite, turned}
 use Rattle.gptp_settling_time.proofs.SeenSettledLemmas.{seen_settles}
-use Rattle.gptp_settling_time.proofs.AlwaysClaimedLemmas.{AreHeard, IsClaimedAlways, little_back, since_acts, since_later, start_calm, start_net, start_network}
+use Rattle.gptp_settling_time.proofs.AlwaysClaimedLemmas.{AreHeard, IsClaimedAlways, little_back, since_acts, since_later, standing, start_calm, start_net, start_network}
 use Rattle.gptp_settling_time.proofs.UntoldLemmas.{IsUntold, IsUnmeasured, begun_untold, is_answered, unmeasured_off}
 
 -- ---- a network begins
@@ -221,7 +221,7 @@ module _ (p : SettlingParams) (start m : ℕ) (w : WorldState) (is : IsClaimedAl
   net = start_net p m start w is.news.world bounded
 
   state : Calm seen (view w)
-  state = start_calm p start w is.news is.heard quiet m
+  state = start_calm p start w (standing is.news) is.heard quiet m
 
   invariant : Invariant says_announce seen (view w)
   invariant = is.settling m bounded quiet off
