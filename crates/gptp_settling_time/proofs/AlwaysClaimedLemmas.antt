@@ -30,7 +30,6 @@ use Rattle.gptp_bmca_machine.specs.Facts.{StationFacts}
 use Rattle.gptp_bmca_machine.specs.Frame.{Announce, AnnounceFrame as SeenFrame, Lane}
 use Rattle.gptp_bmca_machine.specs.Levels.{Invariant}
 use Rattle.gptp_bmca_machine.specs.Network.{IsSettlingNetwork, Network, network_setting}
-use Rattle.gptp_bmca_machine.specs.SoundLaws.{IsSoundOnLinks}
 use Rattle.gptp_bmca_machine.specs.Station.{Disabled, Port as SeenPort, Station as SeenStation}
 use Rattle.gptp_bmca_machine.proofs.LevelLemmas.{invariant_kept}
 use Rattle.gptp_bmca_machine.proofs.SoundEverywhereLemmas.{on_links}

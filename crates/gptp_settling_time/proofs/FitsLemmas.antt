@@ -1,5 +1,5 @@
 -- What is sound fits its snapshot, and where events move no system, what fits the snapshot before fits the one after.
-use Rattle.std.proofs.Common.{◌≡◌, ◌≤◌, ℕ, suc, true, Some, slice_get, sym, subst, ◌∙◌}
+use Rattle.std.proofs.Common.{◌≡◌, ℕ, suc, sym, subst, ◌∙◌}
 use Rattle.gptp_lists.specs.Members.{In}
 use Rattle.gptp_graph.specs.Best.{IsBest}
 use Rattle.gptp_graph.specs.Distance.{IsDistance}
@@ -7,16 +7,16 @@ use Rattle.gptp_graph.specs.Snapshot.{IsLinked, IsWellFormed, Joins, PortIdentit
 use Rattle.gptp_graph.proofs.BestLemmas.{IsBest-unique}
 use Rattle.gptp_graph.proofs.DistanceLemmas.{IsDistance-unique}
 use Rattle.gptp_graph.proofs.ExistenceLemmas.{best_exists, distance_exists}
-use Rattle.gptp_graph.proofs.LinkLemmas.{Joins-clock, Joins-sym}
+use Rattle.gptp_graph.proofs.LinkLemmas.{Joins-sym}
 use Rattle.gptp_graph.proofs.SystemLemmas.{In-clocks, system_of}
 use Rattle.gptp_bmca_machine.specs.Clean.{CameFits, CameOverLink, CameSound}
-use Rattle.gptp_bmca_machine.specs.Facts.{NetworkSetting, StationFacts}
-use Rattle.gptp_bmca_machine.specs.Frame.{Announce, AnnounceFrame, Lane, Spelling}
+use Rattle.gptp_bmca_machine.specs.Facts.{StationFacts}
+use Rattle.gptp_bmca_machine.specs.Frame.{Announce, Lane, Spelling}
 use Rattle.gptp_bmca_machine.specs.LossLaws.{EverythingFits, FlightFits}
 use Rattle.gptp_bmca_machine.specs.Network.{Network, network_setting}
 use Rattle.gptp_bmca_machine.specs.Sound.{ReceivedFits}
 use Rattle.gptp_bmca_machine.specs.SoundEverywhere.{IsSoundEverywhere, IsSoundSent}
-use Rattle.gptp_bmca_machine.specs.Station.{MachineState, Reception, Station}
+use Rattle.gptp_bmca_machine.specs.Station.{MachineState, Reception}
 use Rattle.gptp_bmca_machine.proofs.NearestLemmas.{came_fits}
 use Rattle.gptp_bmca_machine.proofs.SoundEverywhereLemmas.{on_links}
 use Rattle.gptp_bmca_machine.proofs.SoundLemmas.{received_fits}

@@ -1,5 +1,5 @@
 -- A port goes down that isn't the Slave: the system chooses what it had chosen, and sends nothing.
-use Rattle.std.proofs.Common.{◌≡◌, ◌≢◌, ◌+◌, ℕ, zero, suc, List, [], ◌∷◌, Option, Some, None, sym, ap, subst, ◌∙◌, inl, inr, arith}
+use Rattle.std.proofs.Common.{◌≡◌, ◌≢◌, ◌+◌, ℕ, zero, suc, List, [], ◌∷◌, Option, Some, None, sym, ap, ◌∙◌, inl, inr, arith}
 use Rattle.std.specs.List.{AllByRecursion}
 use Rattle.std.specs.Option.{option_map_or}
 use Rattle.gptp_receipt.specs.Held.{received}
@@ -7,7 +7,7 @@ use Rattle.gptp_receipt.specs.declared.held.Held.{Held}
 use Rattle.gptp_receipt.specs.declared.held.Held.TheVariants as helds
 use Rattle.gptp_receipt.specs.declared.held.Reception.{Reception}
 use Rattle.gptp_roles.specs.Choice.{ArePlaced, IsIn, path_vectors}
-use Rattle.gptp_roles.specs.Role.{each_from, each_port, held_after_selection}
+use Rattle.gptp_roles.specs.Role.{each_from, held_after_selection}
 use Rattle.gptp_roles.proofs.ChoiceLemmas.{from_port}
 use Rattle.gptp_system.specs.Facts.{AreHeld, IsAtRest}
 use Rattle.gptp_system.specs.Measuring.{GoesDown, down}

@@ -1,5 +1,6 @@
--- A world since a loss that moved no system: what it holds fits the snapshot of before. It goes on as one since news does.
-use Rattle.std.proofs.Common.{◌≡◌, ◌≤◌, ◌+◌, ℕ, List, refl, sym, subst, inl, inr}
+-- A world since a loss that moved no system: what it holds fits the snapshot of before. It goes on as one since news
+-- does, and settles.
+use Rattle.std.proofs.Common.{◌≤◌, ◌+◌, ℕ, List, refl, sym, subst, inl, inr, ◌*◌, pred}
 use Rattle.gptp_graph.specs.PathBound.{BoundsPaths}
 use Rattle.gptp_graph.specs.Snapshot.{IsWellFormed, Snapshot}
 use Rattle.gptp_links.specs.Fate.{Draw}
@@ -16,11 +17,11 @@ use Rattle.gptp_bmca_machine.specs.Calm.{Calm}
 use Rattle.gptp_bmca_machine.specs.EarlyPorts.{EarlyPortsHear}
 use Rattle.gptp_bmca_machine.specs.Levels.{Invariant}
 use Rattle.gptp_bmca_machine.specs.LossLaws.{EverythingFits, IsWhatIsLeft}
-use Rattle.gptp_bmca_machine.specs.Network.{Network}
 use Rattle.gptp_bmca_machine.proofs.LossLemmas.{fits_kept}
-use Rattle.gptp_invariants.specs.ChoiceCalm.{HaveQuietLinks}
+use Rattle.gptp_invariants.specs.ChoiceCalm.{HaveQuietLinks, delay_in}
+use Rattle.gptp_invariants.specs.ChoiceSettled.{Settled}
+use Rattle.gptp_invariants.specs.WorldBounded.{IsBoundedWorld}
 use Rattle.gptp_invariants.specs.ChoiceSeenLaws.{IsNoChange}
-use Rattle.gptp_invariants.specs.ChoiceSettlesAsMachine.{IsWorld}
 use Rattle.gptp_invariants.specs.ChoiceView.{says_announce, view}
 use Rattle.gptp_invariants.specs.WorldEncodableLaws.{SetsAnOctet}
 use Rattle.gptp_invariants.specs.WorldStanding.{snapshot_of}
@@ -38,6 +39,7 @@ use Rattle.gptp_settling_time.proofs.AlwaysClaimedLemmas.{AreHeard, IsStanding, 
 use Rattle.gptp_settling_time.proofs.FitsLemmas.{IsLeftUnmoved, received_still}
 use Rattle.gptp_settling_time.proofs.HeardLemmas.{heard_acts, heard_later}
 use Rattle.gptp_settling_time.proofs.LinkStoodLemmas.{stood_in}
+use Rattle.gptp_settling_time.proofs.StartLemmas.{standing_settles}
 
 -- ---- what holds of a world whose ports are capable from a start on
 
@@ -140,3 +142,10 @@ left_acts p g start act w draws done w' none octet acts is =
     (is.heard at (stood p w w' world standing'.world keeps at stands))).after) keeps
     (inr (acts_seen act w draws done w' none world.sound world.encodable acts))
     (λ m quiet. early_acts p start m act w draws done w' none acts is.standing standing' is.heard quiet)
+
+-- it has settled
+pub left_settles : (p : SettlingParams) (g : Snapshot) (start m : ℕ) (w : WorldState) → IsLeftAlways p g start w
+    → HaveQuietLinks p.params w → BoundsPaths (snapshot_of w) m → NothingLapses p.params
+    → start + pred m * delay_in w ≤ w.time → Settled w × IsBoundedWorld w
+left_settles p g start m w is quiet bounded off late =
+    standing_settles p start m w is.standing is.heard (is.settling m bounded quiet off) quiet bounded late
