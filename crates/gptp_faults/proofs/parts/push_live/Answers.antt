@@ -13,7 +13,7 @@ returns-in_ok-push_placed-clause-placed c =
     sym (ap (option_map system_of) c.in-Some.is) ∙ c.system_at.ensures
     ∙ ap (λ (s : Snapshot). slice_get s.systems place) c.snapshot.ensures in
     let clock : c.clock.result ≡ clock_of c.in-Some.identity =
-    let a = c.clock.ensures in let b = c.in-Some.identity-is in cc in
+    c.clock.ensures ∙ ap clock_of c.in-Some.identity-is in
     subst (ArePlacedBy g h (place + 1)) (sym c.in_ok-push_placed.ensures)
     (placed_more g h place c.in-Some.identity c.in-Some.field-0-1 c.in_ok-one.one c.args.all.now.items c.requires at
     (subst (λ n. IsPlaced g h n c.in_ok-one.one) clock c.in_ok-one.ensures.placed))
