@@ -5,7 +5,7 @@ use Rattle.std.proofs.lemmas.List.Sorted.{answers_always}
 use Rattle.gptp_timeline.specs.Watch.{place_from, WatchedRise, WatchState}
 use Rattle.gptp_timeline.specs.declared.watched.Watched.{Watched}
 use Rattle.gptp_timeline.proofs.PlaceLemmas.{clock_of_watched, named_there, searched}
-use Rattle.gptp_timeline.proofs.watch.Watch.place_of.Goals as goal
+use Rattle.gptp_timeline.proofs.watch.Watch.search_place.Goals as goal
 
 pub returns-clause-is : goal.returns-clause-is
 returns-clause-is c =

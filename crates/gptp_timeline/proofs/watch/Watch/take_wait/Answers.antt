@@ -7,7 +7,7 @@ use Rattle.gptp_timeline.specs.Watch.{since_behind, taken, wait_behind, watched_
 use Rattle.gptp_timeline.specs.declared.watched.Watched.{Watched}
 use Rattle.gptp_timeline.proofs.PlaceLemmas.{clock_of_watched}
 use Rattle.gptp_timeline.proofs.StillLemmas.{measures_same}
-use Rattle.gptp_timeline.proofs.watch.Watch.take_same.Goals as goal
+use Rattle.gptp_timeline.proofs.watch.Watch.take_wait.Goals as goal
 
 pub invariant_of-self : goal.invariant_of-self
 invariant_of-self c =
