@@ -6,7 +6,7 @@ use Rattle.gptp_network.specs.Document.{DocumentState}
 use Rattle.gptp_theorem.specs.PlayedLaws.{IsPlayable}
 use Rattle.gptp_timeline.specs.Timeline.{Carried, none_carried, TimelineOf, tracks}
 use Rattle.gptp_timeline.specs.declared.timeline.TimelineOptions.{TimelineOptions}
-use Rattle.gptp_timeline_laws.specs.Age.{AreAlwaysExact, GapsAreShort, ReceiptsAreRecent}
+use Rattle.gptp_timeline_laws.specs.Age.{AlwaysHaveTime, AreAlwaysExact, GapsAreShort, ReceiptsAreRecent}
 use Rattle.gptp_timeline_laws.specs.Exact.{ReadsAreWithin, ReceiptsBoundMoments}
 use Rattle.gptp_timeline_laws.specs.ExactSoon.{AreExactSoon, ReadsAreWithinSoon, ReceiptsBoundSoon}
 use Rattle.gptp_timeline_laws.specs.Moments.{BoundAll}
@@ -35,6 +35,7 @@ pub record TimelineReadsRight {F : Type 0} (answers : Bounds → ℕ → F → O
   pub gaps : GapsAreShort (rising_clocks t.start) t.start
       (first_carried answers d until options fate lines exceeded t) t.passages
   pub always : AreAlwaysExact t.start (first_carried answers d until options fate lines exceeded t) t.passages
+  pub has_time : AlwaysHaveTime t.start (first_carried answers d until options fate lines exceeded t) t.passages
   pub receipts : ReceiptsBoundMoments d t.start (first_carried answers d until options fate lines exceeded t) t.passages
   pub accuracy : ReadsAreWithin d (rising_clocks t.start) t.start
       (first_carried answers d until options fate lines exceeded t) t.passages

@@ -21,7 +21,10 @@ mod right;
 mod soon;
 mod sources;
 
-pub use age::{timelines_are_always_exact, timelines_hear_again_in_time, timelines_hear_in_time};
+pub use age::{
+    timelines_always_have_time, timelines_are_always_exact, timelines_hear_again_in_time,
+    timelines_hear_in_time,
+};
 pub use exact::{timelines_bound_receipts, timelines_read_exactly};
 pub use exact_soon::{
     timelines_are_exact_soon, timelines_bound_receipts_soon, timelines_read_exactly_soon,
