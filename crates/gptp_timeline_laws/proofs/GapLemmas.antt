@@ -334,7 +334,7 @@ events_first answers d playable names before (e ∷ es) to last acts fate fate_a
     }
 
 -- the last of acts from another time on
-last_from : (now from time : ℕ) (us : List ActTrace) → from ≤ time → last_time now us ≤ time → last_time from us ≤ time
+pub last_from : (now from time : ℕ) (us : List ActTrace) → from ≤ time → last_time now us ≤ time → last_time from us ≤ time
 last_from now from time [] since by = since
 last_from now from time (t ∷ us) since by = by
 

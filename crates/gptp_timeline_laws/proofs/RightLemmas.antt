@@ -3,6 +3,7 @@ use Rattle.std.proofs.Common.{ℕ, Option}
 use Rattle.gptp_links.specs.declared.bounds.Bounds.{Bounds}
 use Rattle.gptp_timeline_laws.specs.Right.{TimelinesReadRight}
 use Rattle.gptp_timeline_laws.proofs.AgeLemmas.{timelines_hear_in_time}
+use Rattle.gptp_timeline_laws.proofs.ApartLemmas.{timelines_read_apart}
 use Rattle.gptp_timeline_laws.proofs.BestLemmas.{timelines_read_from_bests}
 use Rattle.gptp_timeline_laws.proofs.ExactLemmas.{timelines_read_exactly}
 use Rattle.gptp_timeline_laws.proofs.ExactSoonLemmas.{timelines_are_exact_soon}
@@ -17,6 +18,7 @@ pub timelines_read_right : {F : Type 0} → (answers : Bounds → ℕ → F → 
     → TimelinesReadRight answers
 timelines_read_right answers d until options fate lines exceeded t playable early = record {
   moments = times_bound_moments answers d until options fate lines exceeded t playable;
+  apart = timelines_read_apart answers d until options fate lines exceeded t playable early;
   sources = timelines_keep_sources answers d until options fate lines exceeded t playable;
   roots = timelines_read_from_roots answers d until options fate lines exceeded t playable early;
   bests = timelines_read_from_bests answers d until options fate lines exceeded t playable early;

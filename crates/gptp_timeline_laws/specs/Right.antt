@@ -7,6 +7,7 @@ use Rattle.gptp_theorem.specs.PlayedLaws.{IsPlayable}
 use Rattle.gptp_timeline.specs.Timeline.{Carried, none_carried, TimelineOf, tracks}
 use Rattle.gptp_timeline.specs.declared.timeline.TimelineOptions.{TimelineOptions}
 use Rattle.gptp_timeline_laws.specs.Age.{AlwaysHaveTime, AreAlwaysExact, GapsAreShort, ReceiptsAreRecent}
+use Rattle.gptp_timeline_laws.specs.Apart.{ReadApart}
 use Rattle.gptp_timeline_laws.specs.Exact.{ReadsAreWithin, ReceiptsBoundMoments}
 use Rattle.gptp_timeline_laws.specs.ExactSoon.{AreExactSoon, ReadsAreWithinSoon, ReceiptsBoundSoon}
 use Rattle.gptp_timeline_laws.specs.Moments.{BoundAll}
@@ -28,6 +29,7 @@ pub record TimelineReadsRight {F : Type 0} (answers : Bounds → ℕ → F → O
     (options : TimelineOptions) (fate : F) (lines : List (List ℕ)) (exceeded : Bool)
     (t : TimelineOf answers d until options fate lines exceeded) : Type 0 where
   pub moments : BoundAll t.start (first_carried answers d until options fate lines exceeded t) t.passages
+  pub apart : ReadApart t.start (first_carried answers d until options fate lines exceeded t) t.passages
   pub sources : SourcesStand t.start (first_carried answers d until options fate lines exceeded t) t.passages
   pub roots : RootsAreSources t.start (first_carried answers d until options fate lines exceeded t) t.passages
   pub bests : BestsAreSources d t.start (first_carried answers d until options fate lines exceeded t) t.passages
