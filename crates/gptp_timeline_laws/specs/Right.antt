@@ -20,10 +20,10 @@ abbrev pub first_carried : {F : Type 0} → (answers : Bounds → ℕ → F → 
 first_carried answers d until options fate lines exceeded t = none_carried (tracks options) (rising_clocks t.start)
 
 -- What a timeline says of the time that systems read is right: its `times` lines bound what is read at every moment,
--- and say when sources stand, which are the roots that systems follow. Its `accuracy` lines bound it from the receipts
--- of each system on; and what these lines say was read off is within their bounds. So it is from the time on that they
--- say, and so are errors of receipts. Receipts are no older than the wait for Sync, and so what is read is always
--- exact.
+-- and say when sources stand, which are the roots that systems follow. Where sources differ, so does what is read. Its
+-- `accuracy` lines bound it from the receipts of each system on; and what these lines say was read off is within their
+-- bounds. So it is from the time on that they say, and so are errors of receipts. Receipts are no older than the wait
+-- for Sync, and so systems have time, and what is read is always exact.
 pub record TimelineReadsRight {F : Type 0} (answers : Bounds → ℕ → F → Option ℕ → F → Type 0) (d : DocumentState)
     (until : ℕ)
     (options : TimelineOptions) (fate : F) (lines : List (List ℕ)) (exceeded : Bool)
