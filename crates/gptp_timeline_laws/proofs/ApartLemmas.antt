@@ -2,7 +2,7 @@
 use Rattle.std.proofs.Common.{◌≡◌, ◌==◌, ◌⊎◌, ◌≤◌, ◌<◌, ◌+◌, ◌*◌, ℕ, zero, suc, ℤ, ◌-ℤ◌, unsigned_abs, Bool, true, false, nat_le, List, [], ◌∷◌, ◌++◌, length, map, Option, Some, None, option_map, slice_get, if◌then◌else◌, refl, sym, ap, subst, ◌∙◌, inl, inr, append_assoc, append-nil, arith}
 use Rattle.std.proofs.lemmas.Bool.Decides.{nat_tests}
 use Rattle.std.proofs.lemmas.Int.{ints}
-use Rattle.std.proofs.lemmas.Option.{same_Some, slice_get_within}
+use Rattle.std.proofs.lemmas.Option.{none-some, same_Some, slice_get_within}
 use Rattle.gptp_graph.specs.Order.{IsRising}
 use Rattle.gptp_invariants.proofs.DelayStartFirstLemmas.{start_time}
 use Rattle.gptp_invariants.proofs.WorldNameLemmas.{clock_of_station, from_rising}
@@ -271,18 +271,16 @@ module _ {F : Type 0} (answers : Bounds → ℕ → F → Option ℕ → F → T
         stand.here stand.named in
         (
           read_by told.kept own,
-          (
-            record {
-              kept = told.kept;
-              has = among_own held rise system told.member ∙ told.has;
-              own = own;
-              shows = own_shows;
-              read_is = refl;
-              source_shows = ap (λ n. clock_time n time (world_after done w)) told.source
-                  ∙ sym (same s.clock time) ∙ told.shows;
-            },
-            told.source,
-          ),
+          record {
+            kept = told.kept;
+            has = among_own held rise system told.member ∙ told.has;
+            own = own;
+            shows = own_shows;
+            read_is = refl;
+            source_shows = ap (λ n. clock_time n time (world_after done w)) told.source
+                ∙ sym (same s.clock time) ∙ told.shows;
+          },
+          told.source,
         )
 
     both_read : (v : WorldState) → SameClocks (world_after done w) v → (difference : DifferenceState)
@@ -314,7 +312,7 @@ module _ {F : Type 0} (answers : Bounds → ℕ → F → Option ℕ → F → T
   -- ---- a difference that is measured
 
   at_act : (difference : DifferenceState) → IsToldAt rs p.acts difference → ReadFromBoth p w rs difference
-  at_act difference k = elim k.told [ | inl (quiet, told) ↦ before quiet told | inr told ↦ after told ]
+  at_act difference k = elim k.told [ inl (quiet, told) ↦ before quiet told | inr told ↦ after told ]
     where
       us : List ActTrace
       us = k.before ++ k.act ∷ []
@@ -382,7 +380,7 @@ module _ {F : Type 0} (answers : Bounds → ℕ → F → Option ℕ → F → T
       let over = (looked_over rs (length p.events) p.acts).differences in
       let last = (looked_all p.to p.after (readings_after p.acts rs)).differences in
       elim (widest_in None (over ++ last) difference (ap (λ (x : TimeMeasures). x.sources) is ∙ sources)) [
-        | inl none ↦ absurd cc
+        | inl none ↦ absurd (none-some difference none)
         | inr member ↦
             elim (In-parts difference over last member) [
               | inl one ↦ at_act difference (over_told rs (length p.events) p.acts difference one)

@@ -1,5 +1,5 @@
 -- A difference of told sources that is measured of a stretch is that of two systems at one of its acts, or at its end.
-use Rattle.std.proofs.Common.{◌≡◌, ◌==◌, ◌⊎◌, ◌<◌, ◌&&◌, ℕ, ℤ, ◌-ℤ◌, int_lt, nat_lt, Bool, true, false, List, [], ◌∷◌, ◌++◌, map, Option, Some, None, option_map, option_and_then, unsigned_abs, if◌then◌else◌, refl, sym, ap, subst, ◌∙◌, inl, inr, arith}
+use Rattle.std.proofs.Common.{◌≡◌, ◌==◌, ◌⊎◌, ◌<◌, ◌&&◌, ℕ, ℤ, ◌-ℤ◌, int_lt, nat_lt, Bool, true, false, List, [], ◌∷◌, ◌++◌, Option, Some, None, option_map, option_and_then, unsigned_abs, if◌then◌else◌, refl, sym, ap, subst, ◌∙◌, inl, inr, arith}
 use Rattle.std.specs.Prelude.{⊤}
 use Rattle.std.proofs.lemmas.Bool.Decides.{nat_tests}
 use Rattle.std.proofs.lemmas.Option.{none-some, same_Some}
@@ -93,7 +93,7 @@ over_told rs left (t ∷ ts) d member =
           }
     ]
   where
-    abbrev act : Act
+    act : Act
     act = t.told.timed.act
 
     by : (new : Option NewReading) → new_in t rs ≡ new
@@ -217,7 +217,7 @@ two_told time w rs d is =
     by (Some ends) both is =
         amount (unsigned_abs (ends.ahead.time -ℤ ends.behind.time) == 0) is
       where
-        abbrev one : DifferenceState
+        one : DifferenceState
         one = record {
           amount = unsigned_abs (ends.ahead.time -ℤ ends.behind.time);
           ahead = ends.ahead.clock;

@@ -668,7 +668,7 @@ module _ {F : Type 0} (answers : Bounds → ℕ → F → Option ℕ → F → T
 
   -- ---- what it reads by the last receipt
 
-  module _ (time : ℕ) (moment : Moment p time) (late : from + age ≤ time) (last : ℕ)
+  module _ (time : ℕ) (moment : Moment p time) (last : ℕ)
       (last_is : last_receipt name None moment.done ≡ Some last) (since : from ≤ last) where
     b_done : BeginsSo first.head first.tail moment.done moment.ahead
     b_done =
@@ -720,7 +720,7 @@ module _ {F : Type 0} (answers : Bounds → ℕ → F → Option ℕ → F → T
     turn_behind = subst (λ now. AreInTurn now behind) act_last turn_then.1
 
     -- the moment at which it is done
-    moment_then : Moment p (at_of act)
+    abbrev moment_then : Moment p (at_of act)
     moment_then =
         let by = over in
         let at = receipt.at_is in
@@ -792,15 +792,15 @@ module _ {F : Type 0} (answers : Bounds → ℕ → F → Option ℕ → F → T
               let at_is = receipt.at_is in
               let so = right act member (omega (arith, at_is, since)) in
               let (u, new, named) = so.reads rs receipt.own in
-              by s lives so u named (origin act.told.timed.act act.told.done act.after rs u new)
+              by u named (λ taken. so.no_takeover u named taken)
+              (origin act.told.timed.act act.told.done act.after rs u new)
             where
-              by : (s : SystemState) → live_system name (world_after done_then w) ≡ Some s
-                  → {B : ℕ → ℕ} → IsRight name B act act.before → (u : NewReading) → u.clock ≡ name
+              by : (u : NewReading) → u.clock ≡ name → (IsTakenOver act.after u → ⊥)
                   → IsReceived act.told.done act.after u ⊎ IsTakenOver act.after u → IsSome s.offset
-              by s lives so u named (inr taken) = absurd (so.no_takeover u named taken)
-              by s lives so u named (inl r) =
-                  let there : live_system name act.after ≡ Some s = subst (λ v. live_system name v ≡ Some s) world_is
-                  lives in
+              by u named none (inr taken) = absurd (none taken)
+              by u named none (inl r) =
+                  let there : live_system name act.after ≡ Some s =
+                  subst (λ v. live_system name v ≡ Some s) world_is lives in
                   let same : r.own ≡ s =
                   same_Some r.own s (sym r.lives ∙ ap (λ n. live_system n act.after) named ∙ there) in
                   subst (λ (x : SystemState). IsSome x.offset) same (held_offset r.own r.reading r.held)
@@ -892,4 +892,4 @@ timelines_always_have_time answers d until options fate lines exceeded t playabl
     let (last, is, since, soon) = last_then answers d until options fate lines exceeded t playable shown p w c errors
     name from bound age says begins are from_is age_so time moment late in
     has_time answers d until options fate lines exceeded t playable shown p w c errors name from bound age says begins
-    are from_is age_so time moment late last is since rs has
+    are from_is age_so time moment last is since rs has
