@@ -1,5 +1,5 @@
 -- Where told sources differ most in a stretch two systems read from them.
-use Rattle.std.proofs.Common.{◌≡◌, ◌==◌, ◌⊎◌, ◌≤◌, ◌<◌, ◌+◌, ◌*◌, ℕ, zero, suc, ℤ, ◌-ℤ◌, unsigned_abs, Bool, true, false, nat_le, List, [], ◌∷◌, ◌++◌, length, map, Option, Some, None, option_map, slice_get, if◌then◌else◌, refl, sym, ap, subst, ◌∙◌, inl, inr, append_assoc, append-nil, arith}
+use Rattle.std.proofs.Common.{◌≡◌, ◌==◌, ◌⊎◌, ◌≤◌, ◌+◌, ◌*◌, ℕ, zero, suc, ℤ, ◌-ℤ◌, unsigned_abs, Bool, true, false, nat_le, List, [], ◌∷◌, ◌++◌, length, map, Option, Some, None, option_map, slice_get, if◌then◌else◌, refl, sym, ap, subst, ◌∙◌, inl, inr, append_assoc, append-nil, arith}
 use Rattle.std.proofs.lemmas.Bool.Decides.{nat_tests}
 use Rattle.std.proofs.lemmas.Int.{ints}
 use Rattle.std.proofs.lemmas.Option.{none-some, same_Some, slice_get_within}
@@ -20,13 +20,12 @@ use Rattle.gptp_model.specs.declared.station.Station.{Station}
 use Rattle.gptp_model.proofs.StayLemmas.{acts_stay}
 use Rattle.gptp_network.specs.Document.{DocumentState}
 use Rattle.gptp_network.specs.Snapshot.{events_by}
-use Rattle.gptp_reading.proofs.RunLemmas.{IsKeptAct}
 use Rattle.gptp_report.specs.Transitions.{Courses}
 use Rattle.gptp_scenario.specs.declared.change.Act.{Act}
 use Rattle.gptp_scenario.specs.declared.change.Timed.{Timed}
 use Rattle.gptp_system.specs.State.{clock, local_time}
 use Rattle.gptp_theorem.specs.PlayedLaws.{IsPlayable}
-use Rattle.gptp_timeline.specs.Looks.{events_left, looked_all, looked_over, measured_times}
+use Rattle.gptp_timeline.specs.Looks.{looked_all, looked_over, measured_times}
 use Rattle.gptp_timeline.specs.Readings.{clock_among, clock_time, no_reading, read_by, readings_after}
 use Rattle.gptp_timeline.specs.Sources.{DifferenceState, told_difference}
 use Rattle.gptp_timeline.specs.Stretch.{at_of, is_change}
@@ -40,10 +39,9 @@ use Rattle.gptp_timeline.proofs.EventLemmas.{Each, filter_each}
 use Rattle.gptp_timeline.proofs.NameLemmas.{acts_named, AreNamed, same_named}
 use Rattle.gptp_timeline.proofs.SettlingLemmas.{IsFitEvent, Keeps, keeps_first, keeps_made}
 use Rattle.gptp_timeline_laws.specs.Apart.{ReadFromBoth, TimelinesReadApart}
-use Rattle.gptp_timeline_laws.specs.Moments.{AreBounds, BeginsWith, greatest_error, last_time, Moment, next_time, ReadsAt, world_after}
-use Rattle.gptp_timeline_laws.proofs.BoundLemmas.{readings_both}
+use Rattle.gptp_timeline_laws.specs.Moments.{BeginsWith, greatest_error, last_time, next_time, ReadsAt, world_after}
 use Rattle.gptp_timeline_laws.proofs.CourseLemmas.{last_on, world_on}
-use Rattle.gptp_timeline_laws.proofs.DifferenceLemmas.{among_own, AreTwo, in_listed, IsToldAt, over_told, ReadsFromTold, two_told, widest_in}
+use Rattle.gptp_timeline_laws.proofs.DifferenceLemmas.{among_own, in_listed, IsToldAt, over_told, ReadsFromTold, two_told, widest_in}
 use Rattle.gptp_timeline_laws.proofs.GapLemmas.{last_from}
 use Rattle.gptp_timeline_laws.proofs.MomentLemmas.{Found, timeline_found, times_bound_moments}
 use Rattle.gptp_timeline_laws.proofs.PartLemmas.{begins_on_time, courses_world, MomentSo, point_so}

@@ -11,7 +11,7 @@ use Rattle.gptp_scenario.specs.declared.change.Act.{Act}
 use Rattle.gptp_scenario.specs.declared.change.Act.TheVariants.{Change as Changing, Deliver, Expire}
 use Rattle.gptp_timeline.specs.Looks.{left_after, listed, looked_by, looked_event, looked_in, looked_over, told_if}
 use Rattle.gptp_timeline.specs.Readings.{changes_source, clock_time, new_in, new_reading, read_after, reading_among, readings_after, readings_by}
-use Rattle.gptp_timeline.specs.Sources.{difference_if, difference_of, DifferenceState, ends_from, ends_with, further_ahead, further_behind, source_at, told_difference, told_time, wider, widest_from}
+use Rattle.gptp_timeline.specs.Sources.{difference_of, DifferenceState, ends_from, ends_with, source_at, told_difference, told_time, wider, widest_from}
 use Rattle.gptp_timeline.specs.Stretch.{at_of, is_change}
 use Rattle.gptp_timeline.specs.ToldSources.{ReadingsRise}
 use Rattle.gptp_timeline.specs.declared.readings.KeptReading.{KeptReading}
