@@ -266,8 +266,7 @@ module _ {F : Type 0} (answers : Bounds → ℕ → F → Option ℕ → F → T
         subst (In system.clock) names_are (In-map (λ (x : SystemReading). x.clock) system held told.member) in
         let stand = stands.so.each system.clock listed in
         let (own, own_shows) = clock_shows system.clock time (world_after done w).stations stand.place stand.station
-        stand.here stand.named in
-        (
+        stand.here stand.named in (
           read_by told.kept own,
           record {
             kept = told.kept;
@@ -395,17 +394,19 @@ timelines_read_apart answers d until options fate lines exceeded t playable show
     same_Some (measured_times rs (length p.events) p.acts p.to p.after) m
     (sym (ap (option_map (λ us. measured_times us (length p.events) p.acts p.to p.after)) has) ∙ is) in
     let both = measured_read answers d until options fate lines exceeded t playable shown p w c rs begins has difference
-    m measured sources in
-    (both, λ none.
-    (let bounds = times_bound_moments answers d until options fate lines exceeded t playable p w c all rs m both.time
-    (record {
-      done = both.done;
-      ahead = both.ahead;
-      are = both.are;
-      no_event_left = none;
-      late = both.late;
-      early = both.early;
-    }) begins has is in
-    far_apart both.read both.source both.other_read both.other_source difference.amount (greatest_error m) both.differ
-    (bounds.error both.name both.read both.source both.reads)
-    (bounds.error both.other both.other_read both.other_source both.other_reads)))
+    m measured sources in (
+      both,
+      λ none.
+          (let bounds = times_bound_moments answers d until options fate lines exceeded t playable p w c all rs m both.time
+          (record {
+            done = both.done;
+            ahead = both.ahead;
+            are = both.are;
+            no_event_left = none;
+            late = both.late;
+            early = both.early;
+          }) begins has is in
+          far_apart both.read both.source both.other_read both.other_source difference.amount (greatest_error m) both.differ
+          (bounds.error both.name both.read both.source both.reads)
+          (bounds.error both.other both.other_read both.other_source both.other_reads)),
+    )

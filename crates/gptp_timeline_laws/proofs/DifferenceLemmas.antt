@@ -37,7 +37,7 @@ pub widest_in : (best : Option DifferenceState) (xs : List DifferenceState) (d :
 widest_in best [] d is = inl is
 widest_in best (x ∷ xs) d is =
     elim (widest_in (wider best x) xs d is) [
-      | inl one ↦ elim (picked_one best x d one) [ | inl old ↦ inl old | inr same ↦ inr (inl same) ]
+      | inl one ↦ elim (picked_one best x d one) [ inl old ↦ inl old | inr same ↦ inr (inl same) ]
       | inr later ↦ inr (inr later)
     ]
 

@@ -678,8 +678,7 @@ module _ {F : Type 0} (answers : Bounds → ℕ → F → Option ℕ → F → T
     receipt : IsLastReceipt name last b_done.more
     receipt =
         elim (last_receipt_is name (last_receipt name None first.head) b_done.more last
-        (sym (last_both name None first.head b_done.more) ∙ ap (last_receipt name None) (sym b_done.done_is) ∙ last_is))
-        [
+        (sym (last_both name None first.head b_done.more) ∙ ap (last_receipt name None) (sym b_done.done_is) ∙ last_is)) [
           | inl (old, none) ↦
               let sooner = last_early name from None first.head
               (less_each (last_change (events_by b.from d.events)) from first.head early first.soon)
