@@ -333,7 +333,8 @@ module _ {F : Type 0} (answers : Bounds → ℕ → F → Option ℕ → F → T
       turn_behind = parts_before.1.1
 
       before : is_change k.act.told.timed.act ≡ false
-          → told_difference (at_of k.act) k.act.after (readings_after k.before rs) ≡ Some difference → ReadFromBoth p w rs difference
+          → told_difference (at_of k.act) k.act.after (readings_after k.before rs) ≡ Some difference
+          → ReadFromBoth p w rs difference
       before quiet told =
           both_read (at_of k.act) k.before (k.act ∷ k.behind) k.are
           (last_from w.time p.from (at_of k.act) k.before since parts_before.1.0) (omega arith) k.act.after
@@ -346,7 +347,8 @@ module _ {F : Type 0} (answers : Bounds → ℕ → F → Option ℕ → F → T
           b.passage.courses) k.are quiet)
           difference told
 
-      after : told_difference (at_of k.act) k.act.after (readings_after us rs) ≡ Some difference → ReadFromBoth p w rs difference
+      after : told_difference (at_of k.act) k.act.after (readings_after us rs) ≡ Some difference
+          → ReadFromBoth p w rs difference
       after told =
           let end = ap (last_time w.time) are ∙ last_on w.time us k.behind in
           let ends = turn.1 in
@@ -372,7 +374,8 @@ module _ {F : Type 0} (answers : Bounds → ℕ → F → Option ℕ → F → T
 
   -- it was looked at at an act, or where the stretch ends
   measured_read : (difference : DifferenceState) (m : TimeMeasures)
-      → measured_times rs (length p.events) p.acts p.to p.after ≡ m → m.sources ≡ Some difference → ReadFromBoth p w rs difference
+      → measured_times rs (length p.events) p.acts p.to p.after ≡ m → m.sources ≡ Some difference
+      → ReadFromBoth p w rs difference
   measured_read difference m is sources =
       let over = (looked_over rs (length p.events) p.acts).differences in
       let last = (looked_all p.to p.after (readings_after p.acts rs)).differences in
@@ -388,8 +391,8 @@ module _ {F : Type 0} (answers : Bounds → ℕ → F → Option ℕ → F → T
 
 pub timelines_read_apart : {F : Type 0} (answers : Bounds → ℕ → F → Option ℕ → F → Type 0)
     → TimelinesReadApart answers
-timelines_read_apart answers d until options fate lines exceeded t playable shown p w c all rs m difference begins has is
-    sources =
+timelines_read_apart answers d until options fate lines exceeded t playable shown p w c all rs m difference begins has
+    is sources =
     let measured : measured_times rs (length p.events) p.acts p.to p.after ≡ m =
     same_Some (measured_times rs (length p.events) p.acts p.to p.after) m
     (sym (ap (option_map (λ us. measured_times us (length p.events) p.acts p.to p.after)) has) ∙ is) in
@@ -397,7 +400,8 @@ timelines_read_apart answers d until options fate lines exceeded t playable show
     m measured sources in (
       both,
       λ none.
-          (let bounds = times_bound_moments answers d until options fate lines exceeded t playable p w c all rs m both.time
+          (let bounds = times_bound_moments answers d until options fate lines exceeded t playable p w c all rs m
+          both.time
           (record {
             done = both.done;
             ahead = both.ahead;
@@ -406,7 +410,8 @@ timelines_read_apart answers d until options fate lines exceeded t playable show
             late = both.late;
             early = both.early;
           }) begins has is in
-          far_apart both.read both.source both.other_read both.other_source difference.amount (greatest_error m) both.differ
+          far_apart both.read both.source both.other_read both.other_source difference.amount (greatest_error m)
+          both.differ
           (bounds.error both.name both.read both.source both.reads)
           (bounds.error both.other both.other_read both.other_source both.other_reads)),
     )

@@ -244,7 +244,8 @@ pub among_own : (rs : List SystemReading) → ReadingsRise rs → (x : SystemRea
     → reading_among rs x.clock ≡ x.reading
 among_own [] rise x member = absurd member
 among_own (y ∷ ys) rise x (inl same) =
-    subst (λ (z : SystemReading). reading_among (y ∷ ys) z.clock ≡ z.reading) (sym same) (own (y.clock == y.clock) itself)
+    subst (λ (z : SystemReading). reading_among (y ∷ ys) z.clock ≡ z.reading) (sym same)
+    (own (y.clock == y.clock) itself)
   where
     itself : y.clock == y.clock ≡ true
     itself = grind (arith, nat_tests)

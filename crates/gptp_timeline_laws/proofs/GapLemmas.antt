@@ -334,7 +334,8 @@ events_first answers d playable names before (e ∷ es) to last acts fate fate_a
     }
 
 -- the last of acts from another time on
-pub last_from : (now from time : ℕ) (us : List ActTrace) → from ≤ time → last_time now us ≤ time → last_time from us ≤ time
+pub last_from : (now from time : ℕ) (us : List ActTrace) → from ≤ time → last_time now us ≤ time
+    → last_time from us ≤ time
 last_from now from time [] since by = since
 last_from now from time (t ∷ us) since by = by
 
@@ -678,7 +679,8 @@ module _ {F : Type 0} (answers : Bounds → ℕ → F → Option ℕ → F → T
     receipt : IsLastReceipt name last b_done.more
     receipt =
         elim (last_receipt_is name (last_receipt name None first.head) b_done.more last
-        (sym (last_both name None first.head b_done.more) ∙ ap (last_receipt name None) (sym b_done.done_is) ∙ last_is)) [
+        (sym (last_both name None first.head b_done.more)
+        ∙ ap (last_receipt name None) (sym b_done.done_is) ∙ last_is)) [
           | inl (old, none) ↦
               let sooner = last_early name from None first.head
               (less_each (last_change (events_by b.from d.events)) from first.head early first.soon)
@@ -728,7 +730,8 @@ module _ {F : Type 0} (answers : Bounds → ℕ → F → Option ℕ → F → T
           done = done_then;
           ahead = behind;
           are = acts_are;
-          no_event_left = ap (λ us. events_left us (length p.events)) (append_assoc first.head receipt.before (act ∷ []))
+          no_event_left = ap (λ us. events_left us (length p.events))
+              (append_assoc first.head receipt.before (act ∷ []))
               ∙ left_both (length p.events) first.head (receipt.before ++ act ∷ [])
               ∙ ap (events_left (receipt.before ++ act ∷ [])) none_first ∙ none_left (receipt.before ++ act ∷ []);
           late = last_from w.time p.from (at_of act) done_then (omega (arith, by, at, since))

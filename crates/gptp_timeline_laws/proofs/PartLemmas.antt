@@ -235,8 +235,8 @@ module _ {F : Type 0} (answers : Bounds → ℕ → F → Option ℕ → F → T
 
 -- a stretch begins at the time of the world in which it does
 pub begins_on_time : {F : Type 0} (answers : Bounds → ℕ → F → Option ℕ → F → Type 0) (d : DocumentState) (until : ℕ)
-    (passages : List StretchTrace) (from : ℕ) (left : List Timed) (fate fate_after : F) (w w' : WorldState) (c : Carried)
-    (p : StretchTrace) (v : WorldState) (e : Carried) → w.time ≡ from
+    (passages : List StretchTrace) (from : ℕ) (left : List Timed) (fate fate_after : F) (w w' : WorldState)
+    (c : Carried) (p : StretchTrace) (v : WorldState) (e : Carried) → w.time ≡ from
     → AllPass answers true d until from left fate fate_after w w' passages → BeginsWith passages w c p v e
     → v.time ≡ p.from
 begins_on_time answers d until [] from left fate fate_after w w' c p v e is pass begins = absurd pass
@@ -250,8 +250,8 @@ begins_on_time answers d until (q ∷ (r ∷ rs)) from left fate fate_after w w'
     ∙ ap (λ (x : StretchTrace). x.from) (sym first.stretch)
 begins_on_time answers d until (q ∷ (r ∷ rs)) from left fate fate_after w w' c p v e is (drawn, passage, some, rest)
     (inr later) =
-    begins_on_time answers d until (r ∷ rs) q.to (later_than from left) drawn fate_after q.after w' (carry q.acts c) p v e
-    (after_time answers q.to q.events q.acts fate drawn w q.after passage.courses) rest later
+    begins_on_time answers d until (r ∷ rs) q.to (later_than from left) drawn fate_after q.after w' (carry q.acts c) p v
+    e (after_time answers q.to q.events q.acts fate drawn w q.after passage.courses) rest later
 
 -- ---- a moment of a stretch
 
@@ -285,8 +285,8 @@ module _ {F : Type 0} (answers : Bounds → ℕ → F → Option ℕ → F → T
   abbrev pub first : Carried
   first = none_carried (tracks options) (rising_clocks t.start)
 
-  pub point_so : Q [] t.start → (p : StretchTrace) (w : WorldState) (c : Carried) (time : ℕ) (done ahead : List ActTrace)
-      → p.acts ≡ done ++ ahead → last_time p.from done ≤ time → time ≤ next_time p.to ahead
+  pub point_so : Q [] t.start → (p : StretchTrace) (w : WorldState) (c : Carried) (time : ℕ)
+      (done ahead : List ActTrace) → p.acts ≡ done ++ ahead → last_time p.from done ≤ time → time ≤ next_time p.to ahead
       → BeginsWith t.passages t.start first p w c → MomentSo Q first p w c time done
   point_so so p w c time done ahead acts_are late early begins =
       let names = rising_clocks t.start in
