@@ -1,5 +1,5 @@
 -- How far apart systems do read. What two systems read differs by no more than `apart` of a stretch, and needn't differ
--- by that: the errors of both count in it. But where told sources differ most, so does what is read, but for the errors.
+-- by that: the errors of both count in it. But where told sources differ most, so does what is read, but for errors.
 -- Times of clocks are in units of 2^-16 ns.
 use Rattle.std.specs.Prelude.{◌≡◌, ◌≤◌, ◌+◌, ◌*◌, ◌^◌, Bool, ℕ, ℤ, ◌-ℤ◌, unsigned_abs, length, List, ◌++◌, Option, Some}
 use Rattle.gptp_links.specs.declared.bounds.Bounds.{Bounds}
