@@ -1,5 +1,5 @@
 -- Where told sources differ most in a stretch two systems read from them.
-use Rattle.std.proofs.Common.{◌≡◌, ◌==◌, ◌⊎◌, ◌≤◌, ◌+◌, ◌*◌, ℕ, zero, suc, ℤ, ◌-ℤ◌, unsigned_abs, Bool, true, false, nat_le, List, [], ◌∷◌, ◌++◌, length, map, Option, Some, None, option_map, slice_get, if◌then◌else◌, refl, sym, ap, subst, ◌∙◌, inl, inr, append_assoc, append-nil, arith}
+use Rattle.std.proofs.Common.{◌≡◌, ◌==◌, ◌⊎◌, ◌≤◌, ◌+◌, ◌*◌, ◌^◌, ℕ, zero, suc, ℤ, ◌-ℤ◌, unsigned_abs, Bool, true, false, nat_le, List, [], ◌∷◌, ◌++◌, length, map, Option, Some, None, option_map, slice_get, if◌then◌else◌, refl, sym, ap, subst, ◌∙◌, inl, inr, append_assoc, append-nil, arith}
 use Rattle.std.proofs.lemmas.Bool.Decides.{nat_tests}
 use Rattle.std.proofs.lemmas.Int.{ints}
 use Rattle.std.proofs.lemmas.Option.{none-some, same_Some, slice_get_within}
@@ -166,7 +166,11 @@ module _ {F : Type 0} (answers : Bounds → ℕ → F → Option ℕ → F → T
       elim (where_in makes.first (one ∷ rest) us vs t (sym along ∙ are)) [
         | inl (more, there) ↦
             passes_same before e.at makes.first us more t fate makes.drawn w makes.between makes.passes keeps there
-        | inr b ↦ behind b.more b.first b.rest
+        | inr b ↦
+            behind b.more b.first b.rest
+            (λ more rest_is. courses_same (before ++ e ∷ []) es until rest more vs t drawn fate_after between w'
+            (λ place. fits (suc place))
+            (keeps_made answers d playable names before e first fate drawn w between fit makes keeps) k rest_is quiet)
       ]
     where
       one : ActTrace
@@ -179,22 +183,20 @@ module _ {F : Type 0} (answers : Bounds → ℕ → F → Option ℕ → F → T
       along = is ∙ ap (λ vs. vs ++ rest) makes.are ∙ append_assoc makes.first (one ∷ []) rest
 
       behind : (more : List ActTrace) → us ≡ makes.first ++ more → one ∷ rest ≡ more ++ t ∷ vs
+          → ((left : List ActTrace) → rest ≡ left ++ t ∷ vs → SameClocks (world_after left between) t.after)
           → SameClocks (world_after us w) t.after
-      behind [] us_is rest_is =
+      behind [] us_is rest_is later =
           absurd (let same : one ≡ t = cc in
           let change : is_change t.told.timed.act ≡ true =
           ap (λ (x : ActTrace). is_change x.told.timed.act) (sym same) ∙ ap is_change fit.act in
           let no : true ≡ false = sym change ∙ quiet in cc)
-      behind (x ∷ more) us_is rest_is =
+      behind (x ∷ more) us_is rest_is later =
           let same : one ≡ x = cc in
           let rest_so : rest ≡ more ++ t ∷ vs = cc in
           let world : world_after us w ≡ world_after more between =
           ap (λ xs. world_after xs w) us_is ∙ world_on makes.first (x ∷ more) w
           ∙ ap (λ (y : ActTrace). world_after more y.after) (sym same) in
-          subst (λ v. SameClocks v t.after) (sym world)
-          (courses_same (before ++ e ∷ []) es until rest more vs t drawn fate_after between w'
-          (λ place. fits (suc place))
-          (keeps_made answers d playable names before e first fate drawn w between fit makes keeps) k rest_so quiet)
+          subst (λ v. SameClocks v t.after) (sym world) (later more rest_so)
 
 -- ---- numbers
 
