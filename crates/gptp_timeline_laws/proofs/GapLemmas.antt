@@ -489,6 +489,9 @@ held_offset s r is = by s.known s.offset is
     by (Some k) None is = absurd (none-some r is)
     by (Some k) (Some o) is = refl
 
+has_slave : (s : SystemState) → (port : ℕ) × (s.slave ≡ Some port) → IsSome s.slave
+has_slave s (port, is) = ap is_some is
+
 -- acts that are no events, and by which a system neither receives time nor takes over, leave what it reads
 stays_on : (name : ℕ) (B : ℕ → ℕ) (ts : List ActTrace) (rs : List SystemReading) → AllByRecursion IsQuiet ts
     → ReceivesNone name ts → ((t : ActTrace) → In t ts → IsRight name B t t.before)
@@ -776,14 +779,14 @@ module _ {F : Type 0} (answers : Bounds → ℕ → F → Option ℕ → F → T
           let long = is_over (at_of act) (omega (arith, at_is, since)) in
           let (s, lives) = lives_then answers d playable names events acts v k.stands k.timed bounds.0 say.snapshot
           say.is name gets.near in
-          let (port, slave) = slave_then answers d playable names events acts v k.stands k.timed bounds.0 say.snapshot
+          let slave = slave_then answers d playable names events acts v k.stands k.timed bounds.0 say.snapshot
           say.is name gets.near long gets.best gets.is_best gets.other s lives in
           let root = root_then answers d playable names events acts v k.stands k.timed bounds.0 say.snapshot say.is
           name gets.near long gets.best gets.is_best s lives in
           let known = offset_known s lives in
           subst (λ r. ReadsFrom (readings_after done_then rs) name (clock_of r)) root
           (timelines_read_from_roots answers d until options fate lines exceeded t playable shown p w c rs (at_of act)
-          moment_then name s begins has lives (ap is_some slave) known)
+          moment_then name s begins has lives (has_slave s slave) known)
         where
           world_is : world_after done_then w ≡ act.after
           world_is = world_on done_before (act ∷ []) w
