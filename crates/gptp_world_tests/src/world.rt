@@ -57,20 +57,10 @@ const STRAY: Act = Act::Deliver {
     direction: Direction::FromA,
 };
 
-/// The document of a text.
-fn read(alloc: Global, document: &str) -> Result<Document, Fail> {
-    Ok(Document::read(alloc, document.as_bytes())?)
-}
-
-/// The world of a document, as it begins.
-fn start(alloc: Global, document: &Document) -> Result<World<PcgFate>, Fail> {
-    Ok(World::new(alloc, document.network(), PcgFate::new(0))?)
-}
-
 /// The world of a document, as it begins.
 pub(crate) fn begun(alloc: Global, document: &str) -> Result<World<PcgFate>, Fail> {
-    let document = read(alloc, document)?;
-    start(alloc, &document)
+    let document = Document::read(alloc, document.as_bytes())?;
+    Ok(World::new(alloc, document.network(), PcgFate::new(0))?)
 }
 
 /// What goes on by itself is done at that time, or refused.
