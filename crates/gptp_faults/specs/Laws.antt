@@ -93,6 +93,10 @@ abbrev pub LinesSettleWithin : Type 0
 LinesSettleWithin = (d : DocumentState) (options : FaultsOptions) (lines : List (List ℕ)) (exceeded : Bool)
     (f : FaultsOf d options lines exceeded) → IsPlayable d → SettleWithin d options f.times f.outcomes
 
+-- what the lines of these outcomes tell of how the network settles holds
+abbrev pub LinesHold : DocumentState → FaultsOptions → Times → List OutcomeState → Type 0
+LinesHold d options t outcomes = FollowSettled d options t.from outcomes × SettleWithin d options t outcomes
+
 -- ---- one table
 
 -- In each document with the network of this one the last stretches of a run end in one way.
