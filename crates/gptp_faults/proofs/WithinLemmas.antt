@@ -218,8 +218,8 @@ module _ (options : FaultsOptions) (d : DocumentState) (t : Times) (e : EventsSt
   all_near p member =
       let b = begins draws whole plays own_names false until is.ends.passages 0 [] (events_by until whole.events)
       is.ends.started is.ends.fate_after is.ends.start is.ends.after p (left_first draws whole plays own_names until)
-      (keeps_first draws whole plays own_names fate is.ends.started is.ends.start refl is.ends.begun) is.ends.pass member
-      in
+      (keeps_first draws whole plays own_names fate is.ends.started is.ends.start refl is.ends.begun) is.ends.pass
+      member in
       let events = b.before ++ now_of b.from b.left in
       let at_end = keeps_one draws whole plays own_names false until b.from b.before b.left b.fate b.fate_after b.w p
       b.is_left b.keeps b.passage in
@@ -341,7 +341,8 @@ module _ (greatest : RunEnds → Extremes) (roles : RunEnds → Option ℕ) (b :
   all_within e [] each below first = (below, first below, tt)
   all_within e (r ∷ rs) each below first =
       let f = greatest r in
-      let run : IsBelow b f.bounds → IfSome f.choice (λ last. last ≤ b.choice) × IfSome (roles r) (λ last. last ≤ b.roles) =
+      let run : IsBelow b f.bounds
+      → IfSome f.choice (λ last. last ≤ b.choice) × IfSome (roles r) (λ last. last ≤ b.roles) =
       within_below b f.bounds f.choice (roles r) each.0 in
       let rest = all_within (greatest_of_two e f) rs each.1 below (λ two.
       let parts = below_two b e.bounds f.bounds two in
