@@ -86,7 +86,7 @@ record IsWithin (bounds : Option HowSoon) (choice roles : Option ℕ) : Type 0 w
   both : (b : HowSoon) → bounds ≡ Some b
       → IfSome choice (λ last. last ≤ b.choice) × IfSome roles (λ last. last ≤ b.roles)
 
-how_soon : Settling → HowSoon
+abbrev how_soon : Settling → HowSoon
 how_soon b = record { choice = b.choice; roles = b.roles }
 
 one_within : (s : Stretch) → IsGood s
