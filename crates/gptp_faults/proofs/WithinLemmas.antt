@@ -4,8 +4,6 @@ use Rattle.std.specs.List.{AllByRecursion, range_with_len}
 use Rattle.std.specs.Option.{option_or}
 use Rattle.std.proofs.Math.Nat.{le-max_left, le-max_right}
 use Rattle.std.proofs.lemmas.Option.{same_Some}
-use Rattle.gptp_graph.specs.Distance.{IsNear}
-use Rattle.gptp_graph.specs.Snapshot.{clocks, Snapshot}
 use Rattle.gptp_how_soon.specs.declared.bounds.Settling.{Settling}
 use Rattle.gptp_invariants.specs.WorldStanding.{snapshot_of}
 use Rattle.gptp_lists.specs.Members.{In}
@@ -13,7 +11,7 @@ use Rattle.gptp_lists.proofs.SystemSpecLemmas.{In-slice_get}
 use Rattle.gptp_model.specs.Views.{rising_clocks}
 use Rattle.gptp_model.specs.World.{WorldState}
 use Rattle.gptp_network.specs.Document.{DocumentState}
-use Rattle.gptp_network.specs.Snapshot.{events_by, IsSnapshot, StandsAfter}
+use Rattle.gptp_network.specs.Snapshot.{events_by, StandsAfter}
 use Rattle.gptp_network.proofs.ExistenceLemmas.{snapshot_exists}
 use Rattle.rand_pcg.specs.Lcg.{Lcg}
 use Rattle.gptp_scenario.specs.declared.change.Timed.{Timed}
@@ -22,7 +20,7 @@ use Rattle.gptp_theorem.proofs.AlikeLemmas.{clock_among, distance, turned}
 use Rattle.gptp_timeline.specs.Aside.{AsideState}
 use Rattle.gptp_timeline.specs.Each.{Each}
 use Rattle.gptp_timeline.specs.Ends.{EndState}
-use Rattle.gptp_timeline.specs.LastStretches.{aside_if, carry_over, CarriedAside, end_in, EndsOf, first_aside, last_behind, none_last, with_end}
+use Rattle.gptp_timeline.specs.LastStretches.{aside_if, carry_over, CarriedAside, end_in, first_aside, last_behind, none_last, with_end}
 use Rattle.gptp_timeline.specs.Laws.{AllNear}
 use Rattle.gptp_timeline.specs.Timeline.{AllPass, later_than, now_of, StretchTrace}
 use Rattle.gptp_timeline.specs.declared.ends.LastStretches.{LastStretches}
