@@ -26,5 +26,5 @@ mod times;
 mod whole;
 
 pub use faults::{Answer, fail_each};
-pub use laws::follow_lines_settle;
+pub use laws::{follow_lines_settle, lines_settle_within};
 pub use options::{FaultsOptions, Only};
