@@ -8,6 +8,7 @@ use Rattle.gptp_faults.specs.Cases.{AreCases}
 use Rattle.gptp_faults.specs.EveryLaws.{EachHasFaults, HasFaults, RunsEnd}
 use Rattle.gptp_faults.specs.Faults.{FaultsOf}
 use Rattle.gptp_faults.specs.FaultsText.{exceeds_limit, table_lines}
+use Rattle.gptp_faults.specs.Laws.{LinesHold}
 use Rattle.gptp_faults.specs.Refusals.{any_late, fault_before}
 use Rattle.gptp_faults.specs.Times.{AreOptions, AreTimes}
 use Rattle.gptp_faults.specs.declared.cases.Case.{Case}
@@ -44,7 +45,7 @@ module _ (d : DocumentState) (options : FaultsOptions) (playable : IsPlayable d)
         are = refl;
         exceeded_is = refl;
       } in
-      let hold = (
+      let hold : LinesHold d options t outcomes = (
         follow_settles d options lines exceeded table playable,
         lines_within d options lines exceeded table playable,
       ) in
