@@ -15,9 +15,9 @@ from .program import NOT_BUILT
 from .refusal import NotBuilt, Refused
 
 _LAUNCHER = Path(__file__).resolve().parents[2] / "gptp_sim"
-# the options that take a time; that of detection is here when the program has it
-TIMES = ("--until", "--at", "--hold", "--reads", "--max-choice", "--max-holdover", "--max-error", "--max-bound",
-         "--max-time", "--max-apart", "--max-step", "--max-first")
+# the options that take a time
+TIMES = ("--until", "--at", "--hold", "--detect", "--reads", "--max-choice", "--max-holdover", "--max-error",
+         "--max-bound", "--max-time", "--max-apart", "--max-step", "--max-first")
 _CLOCK = re.compile(r"[0-9a-fA-F]{16}")
 
 

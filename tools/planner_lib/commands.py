@@ -115,19 +115,22 @@ def _report(arguments: Arguments) -> None:
     judgement = _judged(arguments, octets, document) if arguments.require else None
     table = judgement.faults if judgement else None
     if arguments.faults and table is None:
-        table = faults.in_parts(partial(_asked, arguments, octets), ["faults", "--times"], arguments.jobs)
-    shown = [_shown(arguments, octets, table, *it) for it in cases.worst(document, table)] if table else []
+        table = faults.in_parts(partial(_asked, arguments, octets), ["faults", "--power", "--times"], arguments.jobs)
+    detect = judgement.detect if judgement else None
+    shown = [_shown(arguments, octets, table, detect, *it) for it in cases.worst(document, table)] if table else []
     told = pages.Told(_name(arguments.doc), document, stretches, bounds, table, judgement, shown, arguments.calls,
                       1 if arguments.seed is None else arguments.seed)
     _write(arguments, pages.page(told))
 
 
-def _shown(arguments: Arguments, octets: bytes, table: faults.Faults, case: faults.Case, alike: int) -> cases.Shown:
-    """A fault with what happens in its first run."""
+def _shown(arguments: Arguments, octets: bytes, table: faults.Faults, detect: int | None, case: faults.Case,
+           alike: int) -> cases.Shown:
+    """A fault, seen `detect` ns late where that is given, with what happens in its first run."""
     at = int(table.head["from"])
-    text = octets + b"\n" + "\n".join(event.text() for event in cases.events(case, at)).encode()
+    events = cases.events(documents.parse(octets, arguments.doc), case, at, detect)
+    text = octets + b"\n" + "\n".join(event.text() for event in events).encode()
     told = _asked(arguments, text, "timeline", "--until", str(cases.end(case, at)))
-    return cases.Shown(case, alike, at, documents.parse(text, arguments.doc), timelines.read(told))
+    return cases.Shown(case, alike, at, detect, documents.parse(text, arguments.doc), timelines.read(told))
 
 
 def _judge(arguments: Arguments) -> int:
@@ -330,7 +333,8 @@ def _add_pictures(commands: _Command) -> None:
                       help="leaves of one bridge that are alike as one box, as where there are more than 40 systems")
     draw.add_argument("--plain", action="store_true", help="boxes with offsets, laid out as the network stands")
     report.add_argument("--require", metavar="REQUIREMENTS", help="what is asked: the verdict comes first")
-    report.add_argument("--faults", action="store_true", help="with each link and each system failing and coming back")
+    report.add_argument("--faults", action="store_true",
+                        help="with each link, each system and its power failing and coming back")
     plot.add_argument("system", nargs="*", metavar="NAME", help="systems whose errors are points; by default all")
     plot.add_argument("--over", choices=("steps", "time"), default="time", help="by default time")
 

@@ -132,6 +132,15 @@ class Document:
                 up[self.link_at[End(event.clock, event.port)]] = event.kind == "link_up"
         return up
 
+    def link_keys(self, number: int) -> dict[str, int]:
+        """The delays of a link, in ns, and its loss, after all events."""
+        keys = {"loss": 0} | self.links[number].keys
+        for event in self.events:
+            if event.kind == "link_set" and event.port is not None:
+                if self.link_at[End(event.clock, event.port)] == number:
+                    keys |= event.keys
+        return {key: keys[key] for key in ("min", "max", "loss")}
+
     def text(self) -> str:
         """The document as TOML."""
         parts = ["".join(f"# {line}\n" for line in self.comment.splitlines()) + "version = 1\n"]

@@ -10,7 +10,7 @@ from . import folding
 from .documents import Document, End
 from .folding import Box, Edge
 from .naming import Names, runs
-from .parting import Parting
+from .snapshots import Snapshot
 from .pictures import draw
 from .plain import place, quoted
 from .quantities import short
@@ -76,7 +76,7 @@ class Drawing:
 
     def _laid_out(self) -> dict[str, str]:
         """The places of the boxes: from the best system down over all links, of two at one level the better above."""
-        identity = Parting(self._document).identity
+        identity = Snapshot(self._document).identity
         depth = self._depths(identity)
         lines = [f"  {quoted(box.identity)} [{self._size(box)}];" for box in self._boxes]
         for edge in self._edges:

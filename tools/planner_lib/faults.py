@@ -12,16 +12,21 @@ from .refusal import Refused
 from .texts import Line, read_line
 
 _WORDS = ("choice", "holdover", "error", "without", "roots", "alone")
+_CUT = ("cut", "astray")
 _TIMES = ("time", "apart", "step", "first")
 _BOUNDS = ("bound", "roles_bound")
-# what a verdict may name, in the order in which it looks; cut and astray the program doesn't have yet
-VERDICTS = (*_WORDS, "cut", "astray", "bound", *_TIMES)
-_ORDER = ("without", "roots", "holdover", "choice", "alone")
+# what a verdict may name, in the order in which it looks
+VERDICTS = (*_WORDS, *_CUT, "bound", *_TIMES)
+# what cases are sorted by, and what they are where nothing is said of who is cut off
+_ORDER = ("astray", "holdover", "choice", "cut")
+_ORDER_WITHOUT_CUT = ("without", "roots", "holdover", "choice", "alone")
+_KINDS = ("case link", "case system", "case power")
+_MILLISECOND = 10**6  # ns
 
 
 @dataclass(frozen=True)
 class Case:
-    """A link or a system that fails and comes back: its lines, and of these `down` and `back`.
+    """A link, a system or its power that fails and comes back: its lines, and of these `down` and `back`.
 
     `times` are `down_times` and `back_times`, where they are there.
     """
@@ -42,9 +47,19 @@ class Case:
         part = self.lines[:place] if line is self.down else self.lines[place:]
         return [told for told in part if told.kind == "follow"]
 
+    @property
+    def failed(self) -> str | None:
+        """The system that fails, by clock; None where it is a link."""
+        return None if self.lines[0].kind == "case link" else str(self.lines[0]["clock"])
+
     def rank(self) -> tuple[Any, ...]:
-        """What cases are sorted by: the worst first, of equals by number."""
-        return (*(-max(size(self.down, word), size(self.back, word)) for word in _ORDER), self.number)
+        """What cases are sorted by: the worst first, of equals by number. Waits count in whole ms."""
+        has_cut = "cut" in self.down.fields
+        greatest = {word: max(size(self.down, word), size(self.back, word))
+                    for word in (_ORDER if has_cut else _ORDER_WITHOUT_CUT)}
+        if has_cut:
+            greatest["holdover"] //= _MILLISECOND
+        return (*(-value for value in greatest.values()), self.number)
 
 
 @dataclass(frozen=True)
@@ -88,7 +103,7 @@ def read(lines: Sequence[Line], source: str) -> Faults:
     ends = kinds[-1] == "within" or kinds[-1] == "exceeded" and lines[-1]["word"] in VERDICTS
     if last < 1 or kinds[last] != "worst" or not ends:
         raise Refused(f"{source}: line {len(lines)}: isn't the end of a text of `faults`")
-    begins = [place for place, kind in enumerate(kinds) if kind in ("case link", "case system")]
+    begins = [place for place, kind in enumerate(kinds) if kind in _KINDS]
     if begins[:1] != [1] and last > 1:
         raise Refused(f"{source}: line 2: `{lines[1].text}` is before any case")
     cases = [_case(lines[begin:end], f"{source}: line {begin + 1}") for begin, end in zip(begins, [*begins[1:], last])]
@@ -124,10 +139,14 @@ def merge(parts: Sequence[tuple[str, Faults]], counts: range) -> Faults:
         raise Refused("case 0 is missing")
     if len(heads) != 1:
         raise Refused("the parts differ in moments, seeds or where they begin: " + "; ".join(sorted(heads)))
+    with_cut = {"cut" in part.worst.fields for _, part in parts}
+    if len(with_cut) != 1:
+        raise Refused("some of the parts say who is cut off, some don't: they are of several programs")
     cases = tuple(sorted((case for _, part in parts for case in part.cases), key=Case.rank))
     _whole(sorted(case.number for case in cases), parts, counts)
     head = _line("cases", f"cases {len(cases)} {heads.pop()}")
-    worst = _worst("worst", [part.worst for _, part in parts], _WORDS, _BOUNDS)
+    words = (*_WORDS, *_CUT) if with_cut.pop() else _WORDS
+    worst = _worst("worst", [part.worst for _, part in parts], words, _BOUNDS)
     times = [part.worst_times for _, part in parts if part.worst_times]
     return Faults(head, cases, worst, _verdict([part for _, part in parts]),
                   _worst("worst_times", times, _TIMES) if len(times) == len(parts) else None)

@@ -4,7 +4,7 @@ from dataclasses import dataclass
 from decimal import Decimal
 from typing import Any, Callable, Iterable, Iterator, Sequence
 
-from . import faults, parting
+from . import faults, snapshots
 from .documents import Document, Event
 from .faults import Case, Faults
 from .naming import Names
@@ -44,11 +44,12 @@ class Verdict:
 
 @dataclass(frozen=True)
 class Judgement:
-    """All verdicts, and the faults that were tried, where any were."""
+    """All verdicts, and the faults that were tried, where any were, and in ns the required error, and `detect`."""
 
     lines: Sequence[Verdict]
     faults: Faults | None = None
     asked_error: Decimal | None = None
+    detect: int | None = None
 
     @property
     def kept(self) -> bool:
@@ -72,7 +73,7 @@ class _Judge:
     def __init__(self, document: Document, asked: dict[str, Any]) -> None:
         self._document = document
         self._names = Names(document)
-        self._parting = parting.Parting(document)
+        self._end = snapshots.Snapshot(document)
         self._asked = asked
         self._last = max((event.at for event in document.events), default=0)
 
@@ -88,18 +89,22 @@ class _Judge:
         self._faults = self._tried(ask, jobs, [*times, *limits]) if self._asked["kept_by"] else None
         lines = []
         for key in ANSWERED:
-            if self._asked.get("shared", True) if key == "shared" else key in self._asked:
+            if self._asked.get(key) if key == "shared" else key in self._asked:
                 lines.append(self._worst(key) if key in _LIMITED else getattr(self, f"_{key}")())
         error = self._asked.get("time") if error is None else error
-        return Judgement(lines, self._faults, None if error is None else Decimal(error))
+        return Judgement(lines, self._faults, None if error is None else Decimal(error), self._asked.get("detect"))
 
     def _tried(self, ask: Ask, jobs: int, options: list[str]) -> Faults:
         """What `faults` says, so many parts at a time."""
         kinds = self._asked["kept_by"]
+        others = sorted({*kinds} - {"power"})
         words = ["faults", "--at", str(self._last + self._asked.get("at", _AT)), *options]
-        words += [word for key in ("moments", "seeds", "hold") if key in self._asked
+        words += ["--max-cut", str(self._asked["cut"])] if "cut" in self._asked else []
+        words += ["--max-astray", "0"] if self._asked["shared"] else []
+        words += [word for key in ("detect", "moments", "seeds", "hold") if key in self._asked
                   for word in (f"--{key}", str(self._asked[key]))]
-        words += ["--only", kinds[0]] if len(set(kinds)) == 1 else []
+        words += ["--power"] if "power" in kinds and others else []
+        words += ["--only", *(others or ["power"])] if len(others) < 2 else []
         return faults.in_parts(ask, words, jobs)
 
     def _since(self, key: str) -> int:
@@ -159,7 +164,7 @@ class _Judge:
     def _first(self) -> Verdict:
         """When all have time after power-up: by the stretch in which they have to have it."""
         limit = self._asked["first"]
-        live, told = parting.Parting(self._document, limit).live, in_units(limit)
+        live, told = snapshots.Snapshot(self._document, limit).live, in_units(limit)
         down = next((system.clock for system in self._document.systems if system.clock not in live), None)
         if down is not None:
             return Verdict("first", False, _DOWN, told, f"at {told}", self._name(down))
@@ -177,19 +182,17 @@ class _Judge:
         return Verdict("shared", broken is None, f"{count} astray", "0", where)
 
     def _unshared(self) -> Iterator[tuple[int, str]]:
-        """At least how many systems are astray, where each stretch and each single fault ends."""
+        """How many systems are astray where each single fault ends, and at least how many where each stretch does."""
         for line in self._timeline:
             if line.kind == "after" and line["from"] >= self._since("shared"):
-                components = len(parting.Parting(self._document, line["from"]).components)
+                components = len(snapshots.Snapshot(self._document, line["from"]).components)
                 yield max(line["without"], line["roots"] + line["alone"] - components), self._where(line)
         for case in self._cases():
-            bound, hold = case.down["bound"], self._asked.get("hold")
-            settled = hold is None or bound is not None and bound <= hold
-            yield self._parting.astray(case, settled), self._fault(case)
+            yield max(case.down["astray"], case.back["astray"]), self._fault(case)
 
     def _cut(self) -> Verdict:
-        """How many systems a fault cuts off at most, by the document alone."""
-        cuts = ((self._parting.cut(case).cut_off, self._fault(case)) for case in self._cases())
+        """How many systems a fault cuts off at most."""
+        cuts = ((case.down["cut"], self._fault(case)) for case in self._cases())
         count, where = max([(0, "always"), *cuts], key=lambda it: it[0])
         return Verdict("cut", count <= self._asked["cut"], str(count), str(self._asked["cut"]), where)
 
@@ -208,14 +211,13 @@ class _Judge:
 
         Where none of the list is live nobody ought to.
         """
-        leaders = [clock for clock in self._asked["grandmaster"] if clock in self._parting.live]
+        leaders = [clock for clock in self._asked["grandmaster"] if clock in self._end.live]
         first = next(iter(leaders), None)
         root = next((line["root_id"][12:] for line in self._choice
                      if line.kind == "choice" and line["clock"] == self._asked["grandmaster"][0]), None)
         yield root, self._asked["grandmaster"][0], "always"
         for case in self._cases():
-            failed = case.lines[0]["clock"] if case.lines[0].kind == "case system" else None
-            second = next((clock for clock in leaders if clock != failed), None)
+            second = next((clock for clock in leaders if clock != case.failed), None)
             for line, wanted in ((case.down, second), (case.back, first)):
                 followed = case.followed(line)
                 if wanted is not None and (followed or line is case.down):
@@ -235,8 +237,8 @@ class _Judge:
     def _fault(self, case: Case) -> str:
         """Where a fault is."""
         line = case.lines[0]
-        if line.kind == "case system":
-            return f"fault system {self._name(line['clock'])}"
+        if case.failed:
+            return f"fault {line.kind.removeprefix('case ')} {self._name(case.failed)}"
         return f"fault link {self._port(line['a_clock'], line['a_port'])} {self._port(line['b_clock'], line['b_port'])}"
 
     def _event(self, event: Event) -> str:

@@ -68,28 +68,33 @@ def setting(text: str) -> tuple[str, str, int]:
         raise argparse.ArgumentTypeError(str(why)) from why
 
 
+FAULTS_KINDS = ("links", "systems", "power")
+
+
 def kind(text: str) -> str:
     """Which kind of single faults."""
-    if text not in ("links", "systems"):
-        raise argparse.ArgumentTypeError(f"'{text}' isn't links or systems")
+    if text not in FAULTS_KINDS:
+        raise argparse.ArgumentTypeError(f"'{text}' isn't one of {', '.join(FAULTS_KINDS)}")
     return text
 
 
-_LONGEST = 10**15
-# the options of `faults` that a part takes as the whole does; those of power and of detection are here when the program
-# has them
+_LONGEST = 10**15  # ns
+# the options of `faults` that a part takes as the whole does
 FAULTS_OPTIONS: dict[str, Callable[[str], int | str]] = {
     "--seeds": whole(1, 1000),
     "--moments": whole(1, 1000),
     "--at": time(0, _LONGEST),
     "--hold": time(1, _LONGEST),
     "--only": kind,
+    "--detect": time(1, _LONGEST),
     "--max-choice": time(0, _LONGEST),
     "--max-holdover": time(0, _LONGEST),
     "--max-error": time(0, _LONGEST),
     "--max-without": whole(0, _LONGEST),
     "--max-roots": whole(0, _LONGEST),
     "--max-alone": whole(0, _LONGEST),
+    "--max-cut": whole(0, _LONGEST),
+    "--max-astray": whole(0, _LONGEST),
     "--max-bound": time(0, _LONGEST),
     "--max-time": time(0, _LONGEST),
     "--max-apart": time(0, _LONGEST),
@@ -97,4 +102,4 @@ FAULTS_OPTIONS: dict[str, Callable[[str], int | str]] = {
     "--max-first": time(0, _LONGEST),
 }
 # and those that take no value
-FAULTS_FLAGS = ("--times",)
+FAULTS_FLAGS = ("--power", "--times")

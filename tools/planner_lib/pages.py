@@ -20,7 +20,7 @@ from .quantities import in_seconds, in_units
 from .readable import Readable
 from .strips import Colours, strips
 from .texts import Line
-from .timelines import Stretch, joined
+from .timelines import Stretch, as_one, joined
 
 _NONE = "\u2013"
 _MOST_EVENTS = 6  # that are shown of a stretch
@@ -162,6 +162,8 @@ class _Page:
             head = self._told.faults.head
             rows += [("moments", str(head["moments"])), ("seeds", str(head["seeds"])),
                      ("faults from", f"{in_seconds(head['from'])}s")]
+        if self._told.judgement and self._told.judgement.detect:
+            rows.append(("detect", in_units(self._told.judgement.detect)))
         half = (len(rows) + 1) // 2
         pairs = zip(rows[:half], [*rows[half:], ("", "")])
         return Table((), [[Cell(a, "text"), Cell(b), Cell(c, "text"), Cell(d)] for (a, b), (c, d) in pairs])
@@ -237,14 +239,16 @@ class _Page:
 
     def _case(self, shown: Shown) -> dict[str, object]:
         """One of the worst faults: its line in words, its strips, and the network before and while it is down."""
-        down = next((stretch for stretch in shown.stretches if stretch.begin == shown.at), None)
+        since = [stretch for stretch in shown.stretches if stretch.begin >= shown.at]
+        down = as_one(since) if since else None
         before = next((stretch for stretch in shown.stretches if stretch.end == shown.at), None)
         like = f" ({shown.alike} alike)" if shown.alike > 1 else ""
+        seen = f" It is seen {in_units(shown.detect)} later." if shown.detect and len(since) > 1 else ""
         return {
             "title": f"{self._what(shown.case)}{like}",
             "told": self._in_words(shown.case),
             "strips": _picture(strips(self._document, down, self._colours, self._document.sync)) if down else None,
-            "caption": f"Shown is moment 0, at {in_seconds(shown.at)} s, of those that were tried.",
+            "caption": f"Shown is moment 0, at {in_seconds(shown.at)} s, of those that were tried.{seen}",
             "pictures": [self._case_picture(stretch, shown) for stretch in (before, down) if stretch],
         }
 
@@ -263,9 +267,10 @@ class _Page:
             choice, clock = line["choice"], line["holdover_clock"]
             stands = "no choice changes" if choice is None else f"the choice is made after {_units(choice)}"
             wait = f"{self._whose(clock)} waits {_units(line['holdover'])}" if clock else "nobody waits"
-            none = f"; at its end {line['without']} have no time" if line["without"] else ""
+            cut = f"; {line['cut']} {_are(line['cut'])} cut off" if line["cut"] else ""
+            astray = f"; at its end {line['astray']} {_are(line['astray'])} astray" if line["astray"] else ""
             read = f"; what is read is {self._off(times)}" if times else ""
-            told.append(f"{what} {stands}, and {wait} for time at most{none}{read}.")
+            told.append(f"{what} {stands}, and {wait} for time at most{cut}{astray}{read}.")
         return " ".join(told)
 
     def _off(self, times: Line) -> str:
@@ -309,7 +314,7 @@ class _Page:
     def _faults(self, faults: Faults) -> Table:
         """The cases in the order of the program, two rows each."""
         head = ("case", "what fails", "", "choice", "bound", "longest wait", "greatest error", "without time", "roots",
-                "alone", "who is followed")
+                "alone", "cut off", "astray", "who is followed")
         rows = []
         for case in faults.cases:
             for line in (case.down, case.back):
@@ -317,7 +322,7 @@ class _Page:
                                      for told in case.followed(line))
                 rows.append([Cell(str(case.number)), Cell(self._what(case), "text"), Cell(line.kind, "text"),
                              Cell(_units(line["choice"])), Cell(_units(line["bound"])), *self._measures(line),
-                             Cell(followed, "text")])
+                             *(Cell(str(line[word])) for word in ("cut", "astray")), Cell(followed, "text")])
         return Table(head, rows)
 
     def _read_in(self, faults: Faults) -> Table:
@@ -329,8 +334,8 @@ class _Page:
     def _what(self, case: Case) -> str:
         """The link or the system that fails."""
         line = case.lines[0]
-        if line.kind == "case system":
-            return f"{self._document.name(line['clock'])} hangs"
+        if case.failed:
+            return f"{self._document.name(case.failed)} {'loses power' if line.kind == 'case power' else 'hangs'}"
         ends = ((line["a_clock"], line["a_port"]), (line["b_clock"], line["b_port"]))
         return f"link {' '.join(self._names.number(clock, port) for clock, port in ends)}"
 
@@ -349,6 +354,11 @@ class _Page:
     def _root_name(self, root: str) -> str:
         """What the system of an identity is called."""
         return self._document.name(root[12:])
+
+
+def _are(systems: int) -> str:
+    """What one or several are."""
+    return "is" if systems == 1 else "are"
 
 
 def _units(value: int | Decimal | None) -> str:

@@ -3,24 +3,20 @@
 import re
 from typing import Any
 
-from . import parting
+from . import snapshots
 from .documents import Document, read_text, read_toml
 from .naming import Names, nearest
+from .options import FAULTS_KINDS
 from .quantities import in_units, nanoseconds
 from .refusal import Refused
 
 # the keys in the order in which they are answered
 ANSWERED = ("first", "time", "apart", "step", "after_fault", "settle", "shared", "cut", "grandmaster", "accuracy",
             "bound")
-_HOW = ("kept_by", "moments", "seeds", "hold", "at")
-# the keys that are decided by what the program doesn't print yet; each is decided where the others are once it does
-_LATER = {
-    "detect": "faults --detect",
-}
-_KINDS = ("links", "systems")
+_HOW = ("kept_by", "detect", "moments", "seeds", "hold", "at")
 _TIMES = {  # with the least of each, in ns
-    "first": 0, "time": 0, "apart": 0, "step": 0, "after_fault": 0, "settle": 0, "accuracy": 0, "bound": 0, "hold": 1,
-    "at": 0,
+    "first": 0, "time": 0, "apart": 0, "step": 0, "after_fault": 0, "settle": 0, "accuracy": 0, "bound": 0, "detect": 1,
+    "hold": 1, "at": 0,
 }
 _LONGEST = 10**15  # ns
 _COUNTS = {"cut": (0, 10**15), "moments": (1, 1000), "seeds": (1, 1000)}
@@ -39,11 +35,8 @@ class Requirements:
         table = top.get("require")
         if not isinstance(table, dict):
             raise Refused(f"{path}: line 1: there is no table [require]")
-        self.asked: dict[str, Any] = {"kept_by": [*_KINDS, "power"]}
+        self.asked: dict[str, Any] = {"kept_by": list(FAULTS_KINDS), "shared": True}
         self.asked |= {key: self._read(key, value, document) for key, value in table.items()}
-        if "power" in self.asked["kept_by"]:
-            raise self._at("kept_by", 'kept_by "power" takes faults --power, which the program doesn\'t have: give '
-                                      'kept_by = ["links", "systems"]')
 
     def _at(self, key: str, why: str) -> Refused:
         """A refusal at the line of a key."""
@@ -54,10 +47,8 @@ class Requirements:
 
     def _read(self, key: str, value: object, document: Document) -> object:
         """The value of a key."""
-        if key in _LATER:
-            raise self._at(key, f"{key} takes {_LATER[key]}, which the program doesn't have")
         if key not in (*ANSWERED, *_HOW):
-            near = nearest(key, (*ANSWERED, *_HOW, *_LATER))
+            near = nearest(key, (*ANSWERED, *_HOW))
             raise self._at(key, f"no key {key}" + (f": {near} is near" if near else ""))
         try:
             if key in _TIMES and isinstance(value, str | int) and not isinstance(value, bool):
@@ -94,10 +85,10 @@ class Requirements:
     @staticmethod
     def _leaders(names: list[str], document: Document) -> list[str]:
         """The clocks of those who are to lead."""
-        known, identity = Names(document), parting.Parting(document).identity
+        known, identity = Names(document), snapshots.Snapshot(document).identity
         clocks = [known.clock(name) for name in names]
         for name, clock in zip(names, clocks):
-            if identity[clock][0] == parting.NEVER:
+            if identity[clock][0] == snapshots.NEVER:
                 raise Refused(f"{name} can't be grandmaster: its priority1 is 255")
         if not clocks:
             raise Refused("grandmaster is empty")
@@ -107,6 +98,6 @@ class Requirements:
     def _kept_by(kinds: list[str]) -> list[str]:
         """The kinds of single faults that are tried."""
         for kind in kinds:
-            if kind not in (*_KINDS, "power"):
-                raise Refused(f"kept_by {kind} isn't one of {', '.join((*_KINDS, 'power'))}")
+            if kind not in FAULTS_KINDS:
+                raise Refused(f"kept_by {kind} isn't one of {', '.join(FAULTS_KINDS)}")
         return kinds

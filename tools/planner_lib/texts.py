@@ -14,7 +14,8 @@ Value = str | int | Decimal | bool | None | list[str]
 
 _COUNTS = "without WITHOUT roots ROOTS alone ALONE"
 _BOUNDS = "bound BOUND ROLES_BOUND"
-_MEASURES = f"holdover HOLDOVER HOLDOVER_CLOCK error ERROR ERROR_CLOCK {_COUNTS} {_BOUNDS}"
+_CUT = "[ cut CUT astray ASTRAY]"
+_MEASURES = f"holdover HOLDOVER HOLDOVER_CLOCK error ERROR ERROR_CLOCK {_COUNTS}"
 _LINK = "A_CLOCK A_PORT B_CLOCK B_PORT"
 _SHOWN = "root ROOT_ID steps STEPS gm GM slave SLAVE offset OFFSET"
 _BY = "[ by FIELD FIRST SECOND]"
@@ -51,7 +52,7 @@ _TEMPLATES = (
     ("at port", "at AT port CLOCK PORT ROLE capable CAPABLE"),
     ("offset", "offset AT CLOCK OFFSET error ERROR"),
     ("reading", "reading AT CLOCK from SOURCE_CLOCK before BEFORE after AFTER step STEP"),
-    ("after", f"after FROM to TO choice CHOICE roles ROLES offsets OFFSETS {_MEASURES}"),
+    ("after", f"after FROM to TO choice CHOICE roles ROLES offsets OFFSETS {_MEASURES} {_BOUNDS}"),
     ("times", f"times FROM to TO {_TIMES}"),
     ("accuracy", "accuracy CLOCK error ERROR bound BOUND from FROM[ reads READS bound READS_BOUND]"),
     ("within", "within"),
@@ -60,12 +61,13 @@ _TEMPLATES = (
     ("cases", "cases CASES moments MOMENTS seeds SEEDS from FROM"),
     ("case link", f"case CASE link {_LINK}"),
     ("case system", "case CASE system CLOCK"),
-    ("down", f"down choice CHOICE {_MEASURES}"),
-    ("back", f"back choice CHOICE {_MEASURES}"),
+    ("case power", "case CASE power CLOCK"),
+    ("down", f"down choice CHOICE {_MEASURES}{_CUT} {_BOUNDS}"),
+    ("back", f"back choice CHOICE {_MEASURES}{_CUT} {_BOUNDS}"),
     ("down_times", f"down_times {_TIMES}"),
     ("back_times", f"back_times {_TIMES}"),
     ("follow", "follow ROOT_ID SYSTEMS"),
-    ("worst", f"worst choice CHOICE holdover HOLDOVER error ERROR {_COUNTS} {_BOUNDS}"),
+    ("worst", f"worst choice CHOICE holdover HOLDOVER error ERROR {_COUNTS}{_CUT} {_BOUNDS}"),
     ("worst_times", "worst_times time TIME apart APART step STEP first FIRST"),
     # lint
     ("unknown", "unknown PLACE key KEY[ near NEAR]"),

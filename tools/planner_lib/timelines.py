@@ -111,11 +111,13 @@ def joined(stretches: Sequence[Stretch], apart: int) -> list[Stretch]:
             groups[-1].append(stretch)
         else:
             groups.append([stretch])
-    return [group[0] if len(group) == 1 else _joined(group) for group in groups]
+    return [as_one(group) for group in groups]
 
 
-def _joined(group: Sequence[Stretch]) -> Stretch:
-    """Stretches as one, of which only the times are measured."""
+def as_one(group: Sequence[Stretch]) -> Stretch:
+    """Stretches as one; of several only the times are measured."""
+    if len(group) == 1:
+        return group[0]
     measures = Line("after", {"from": group[0].begin, "to": group[-1].end}, "")
     return Stretch(
         group[0].began,

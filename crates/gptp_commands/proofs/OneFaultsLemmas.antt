@@ -1,5 +1,6 @@
 -- A document and what is asked of its faults have one text, and one status.
-use Rattle.std.proofs.Common.{◌⊎◌, ◌≡◌, ℕ, Bool, false, List, [], ◌∷◌, map, Option, refl, sym, ap, ap₂, subst, ◌∙◌, inl, inr}
+use Rattle.std.proofs.Common.{◌⊎◌, ◌≡◌, ℕ, Bool, false, List, [], ◌∷◌, length, map, Option, Some, None, refl, sym, ap, subst, ◌∙◌, inl, inr}
+use Rattle.std.specs.Option.{option_map}
 use Rattle.gptp_model.specs.Initial.{initial}
 use Rattle.gptp_model.specs.Views.{rising_clocks}
 use Rattle.gptp_model.specs.World.{WorldState}
@@ -13,11 +14,14 @@ use Rattle.gptp_determinism.proofs.CourseLemmas.{begins_once}
 use Rattle.gptp_determinism.proofs.MeantLemmas.{meant_named, meant_names}
 use Rattle.gptp_determinism.proofs.NameLemmas.{begun_named}
 use Rattle.gptp_accuracy.proofs.WayLemmas.{HasOneEach}
-use Rattle.gptp_timeline.specs.Ends.{EndState}
-use Rattle.gptp_timeline.specs.LastTwo.{EndsOf, end_in, ends_in, last_two}
+use Rattle.gptp_timeline.specs.Aside.{AsideState, looked_acts}
+use Rattle.gptp_timeline.specs.Keepers.{keepers_in}
+use Rattle.gptp_timeline.specs.LastStretches.{aside_if, carry_begun, carry_ended, carry_over, CarriedAside, end_begun, end_in, EndsOf, first_aside, last_behind, none_last, with_end}
+use Rattle.gptp_timeline.specs.Looks.{measured_times}
 use Rattle.gptp_timeline.specs.Shown.{shown}
 use Rattle.gptp_timeline.specs.Stretch.{roots_of}
-use Rattle.gptp_timeline.specs.Timeline.{AllPass, Carried, StretchTrace, carry, none_carried}
+use Rattle.gptp_timeline.specs.Timeline.{AllPass, StretchTrace}
+use Rattle.gptp_timeline.specs.declared.ends.LastStretches.{LastStretches}
 use Rattle.gptp_faults.specs.Faults.{FaultsOf}
 use Rattle.gptp_faults.specs.Laws.{RunsEndOnce}
 use Rattle.gptp_faults.specs.Refusals.{RefusesFaults}
@@ -30,34 +34,59 @@ use Rattle.gptp_commands.specs.FaultsText.{FaultsText, TellsFaults}
 use Rattle.gptp_commands.specs.RunText.{draws}
 use Rattle.gptp_commands.proofs.OneRunLemmas.{draws_once}
 use Rattle.gptp_commands.proofs.OneTimelineLemmas.{IsSamePassage, SamePassages, all_pass_once, each_named, same_stretch}
-use Rattle.gptp_commands.proofs.SameActLemmas.{same_carry}
+use Rattle.gptp_commands.proofs.SameActLemmas.{same_carry_ended, same_looked_acts, same_times}
 use Rattle.gptp_commands.proofs.OneAnswerLemmas.{one_answer}
 use Rattle.gptp_commands.proofs.VerdictLemmas.{AreSame, same_refusal}
 
 -- ---- a run
 
-same_end : (names : List ℕ) (carried : Carried) (p q : StretchTrace) → IsSamePassage p q
-    → end_in names carried p ≡ end_in names carried q
-same_end names carried p q k =
-    let stretch = same_stretch names carried p q k in
-    λ i. record { stretch = stretch i; roots = roots_of (map (λ name. shown name (k.after i)) names) }
+module _ (names : List ℕ) where
+  same_times_aside : (c : CarriedAside) (readings : Option _) (p q : StretchTrace) → IsSamePassage p q
+      → option_map (λ rs. measured_times rs (length p.events) (looked_acts c.aside p.acts) p.to p.after) readings
+      ≡ option_map (λ rs. measured_times rs (length q.events) (looked_acts c.aside q.acts) q.to q.after) readings
+  same_times_aside c None p q k = refl
+  same_times_aside c (Some rs) p q k =
+      let acts = same_looked_acts c.aside p.acts q.acts k.acts in
+      ap Some (same_times rs (length p.events) (looked_acts c.aside p.acts) (looked_acts c.aside q.acts) p.to p.after
+      acts ∙ (λ i. measured_times rs (length (k.events i)) (looked_acts c.aside q.acts) (k.to i) (k.after i)))
 
-same_ends : (names : List ℕ) (carried : Carried) (ps qs : List StretchTrace) → SamePassages ps qs
-    → ends_in names carried ps ≡ ends_in names carried qs
-same_ends names carried [] [] k = refl
-same_ends names carried [] (q ∷ qs) k = absurd k
-same_ends names carried (p ∷ ps) [] k = absurd k
-same_ends names carried (p ∷ ps) (q ∷ qs) (first, rest) =
-    let later = ap (λ (begun : Carried). ends_in names begun ps) (same_carry p.acts q.acts carried first.acts)
-    ∙ same_ends names (carry q.acts carried) ps qs rest in
-    ap₂ (λ (e : EndState) (es : List EndState). e ∷ es) (same_end names carried p q first) later
+  same_end_begun : (c : CarriedAside) (p q : StretchTrace) → IsSamePassage p q
+      → end_begun names c p ≡ end_begun names c q
+  same_end_begun c p q k =
+      let stretch = same_stretch names c.carried p q k in
+      let times = same_times_aside c c.carried.readings p q k in
+      λ i. record {
+        stretch = record (stretch i) { times = times i };
+        roots = roots_of (map (λ name. shown name (k.after i)) names);
+        keepers = keepers_in names (k.after i);
+      }
 
--- the last two stretches of a run end in one way
+  same_end : (c : CarriedAside) (p q : StretchTrace) → IsSamePassage p q → end_in names c p ≡ end_in names c q
+  same_end c p q k =
+      (λ i. end_begun names (carry_begun (k.from i) c) p) ∙ same_end_begun (carry_begun q.from c) p q k
+
+  same_over : (c : CarriedAside) (p q : StretchTrace) → IsSamePassage p q → carry_over p c ≡ carry_over q c
+  same_over c p q k =
+      (λ i. carry_ended p.acts (carry_begun (k.from i) c))
+      ∙ same_carry_ended p.acts q.acts (carry_begun q.from c) k.acts
+
+  same_last : (c : CarriedAside) (ends : LastStretches) (ps qs : List StretchTrace) → SamePassages ps qs
+      → last_behind names c ps ends ≡ last_behind names c qs ends
+  same_last c ends [] [] k = refl
+  same_last c ends [] (q ∷ qs) k = absurd k
+  same_last c ends (p ∷ ps) [] k = absurd k
+  same_last c ends (p ∷ ps) (q ∷ qs) (first, rest) =
+      let end = same_end c p q first in
+      let over = same_over c p q first in
+      (λ i. last_behind names (over i) ps (with_end ends (end i)))
+      ∙ same_last (carry_over q c) (with_end ends (end_in names c q)) ps qs rest
+
+-- the last stretches of a run end in one way
 ends_once : {F : Type 0} (answers : Bounds → ℕ → F → Option ℕ → F → Type 0) → AnswersOnce answers
-    → (asked : Bool) (d : DocumentState) (until : ℕ) (fate : F) (two other : Option (EndState × EndState))
-    → HasOneEach d.network → IsNamed (initial d.network) → EndsOf answers asked d until fate two
-    → EndsOf answers asked d until fate other → two ≡ other
-ends_once {F} answers once asked d until fate two other names is k l =
+    → (asked : Bool) (aside : AsideState) (d : DocumentState) (until : ℕ) (fate : F) (last other : LastStretches)
+    → HasOneEach d.network → IsNamed (initial d.network) → EndsOf answers asked aside d until fate last
+    → EndsOf answers asked aside d until fate other → last ≡ other
+ends_once {F} answers once asked aside d until fate last other names is k l =
     let (fates, starts) =
     begins_once answers once d.network fate k.started l.started k.start l.start is k.begun l.begun in
     let events = events_by until d.events in
@@ -69,11 +98,10 @@ ends_once {F} answers once asked d until fate two other names is k l =
     let same = all_pass_once answers once false d names until 0 events l.started k.fate_after l.fate_after l.start
     k.after l.after k.passages l.passages (begun_named answers d.network fate l.started l.start is l.begun) pass
     l.pass in
+    let started : List ℕ → CarriedAside = first_aside asked (aside_if asked aside) in
     k.are
-    ∙ ap (λ (w : WorldState). last_two (ends_in (rising_clocks w) (none_carried asked (rising_clocks w)) k.passages))
-    starts
-    ∙ ap last_two (same_ends (rising_clocks l.start) (none_carried asked (rising_clocks l.start)) k.passages
-    l.passages same)
+    ∙ ap (λ (w : WorldState). last_behind (rising_clocks w) (started (rising_clocks w)) k.passages none_last) starts
+    ∙ same_last (rising_clocks l.start) (started (rising_clocks l.start)) none_last k.passages l.passages same
     ∙ sym l.are
 
 -- ---- a table, or a refusal
@@ -96,8 +124,8 @@ module _ (d : DocumentState) (options : FaultsOptions) where
 
   module _ (names : HasOneEach d.network) (is : IsNamed (initial d.network)) where
     runs_end_once : RunsEndOnce d
-    runs_end_once asked e until fate two other same k l =
-        ends_once draws draws_once asked e until fate two other
+    runs_end_once asked aside e until fate last other same k l =
+        ends_once draws draws_once asked aside e until fate last other
         (subst (λ (n : NetworkState). HasOneEach n) (sym same) names)
         (subst (λ (n : NetworkState). IsNamed (initial n)) (sym same) is) k l
 

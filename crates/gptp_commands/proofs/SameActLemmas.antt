@@ -1,5 +1,5 @@
 -- What a timeline tells of acts follows from their times, the worlds between them, and who received.
-use Rattle.std.proofs.Common.{◌≡◌, ◌==◌, ◌&&◌, ℕ, Bool, true, false, cond, not, nat_le, if◌then◌else◌, List, [], ◌∷◌, ◌++◌, Option, Some, None, refl, sym, ap, ◌∙◌}
+use Rattle.std.proofs.Common.{◌≡◌, ◌==◌, ◌&&◌, ℕ, Bool, true, false, cond, not, nat_le, if◌then◌else◌, List, [], ◌∷◌, ◌++◌, Option, Some, None, refl, sym, ap, subst, ◌∙◌}
 use Rattle.std.specs.Prelude.{unsigned_abs}
 use Rattle.std.specs.List.{cons_option, filter, filter_map, flat_map, list_any}
 use Rattle.std.specs.Option.{option_and_then, option_map, option_map_or, option_or}
@@ -12,7 +12,9 @@ use Rattle.gptp_scenario.specs.declared.change.Timed.{Timed}
 use Rattle.gptp_report.specs.Transitions.{ActTrace, transition}
 use Rattle.gptp_determinism.specs.ActLaws.{SameDone}
 use Rattle.gptp_determinism.specs.ActTraceLaws.{IsSameTransition, SameTransitions}
+use Rattle.gptp_timeline.specs.Aside.{aside_after, aside_behind, aside_over, AsideState, is_aside, is_left_out, is_out, is_returned, is_set_aside, looked_acts, without_clock}
 use Rattle.gptp_timeline.specs.Changes.{change_lines}
+use Rattle.gptp_timeline.specs.LastStretches.{carry_ended, CarriedAside}
 use Rattle.gptp_timeline.specs.Limits.{amount_of}
 use Rattle.gptp_timeline.specs.Measures.{ended_by, greatest, one_at, since_after}
 use Rattle.gptp_timeline.specs.Receipts.{received_by, receiver_clock}
@@ -200,6 +202,72 @@ same_carry ts us c k =
     let since = same_waits ts us c.since k in
     let readings = same_readings_if c.readings ts us k in
     λ i. record { since = since i; readings = readings i }
+
+-- ---- where some systems are set aside
+
+same_left_out : (a : AsideState) (act : Act) (done said : Done) → SameDone done said
+    → is_left_out a act done ≡ is_left_out a act said
+same_left_out a (Deliver link direction) done said k =
+    ap (λ (received : Option ℕ). is_set_aside a && (not (is_returned a) && is_aside a.clocks received))
+    (same_received done said k)
+same_left_out a (Expire name timer) done said k = refl
+same_left_out a (Changing change) done said k = refl
+
+same_out : (a : AsideState) (t u : ActTrace) → IsSameTransition t u → is_out a t ≡ is_out a u
+same_out a t u k =
+    same_left_out a t.told.timed.act t.told.done u.told.done k.done
+    ∙ (λ i. is_left_out a (k.timed i).act u.told.done)
+
+same_aside_after : (a : AsideState) (act : Act) (done said : Done) → SameDone done said
+    → aside_after act done a ≡ aside_after act said a
+same_aside_after a (Deliver link direction) done said k =
+    ap (λ (received : Option ℕ).
+    if is_set_aside a && is_returned a then record a { clocks = without_clock received a.clocks } else a)
+    (same_received done said k)
+same_aside_after a (Expire name timer) done said k = refl
+same_aside_after a (Changing change) done said k = refl
+
+same_aside_behind : (a : AsideState) (t u : ActTrace) → IsSameTransition t u → aside_behind t a ≡ aside_behind u a
+same_aside_behind a t u k =
+    same_aside_after a t.told.timed.act t.told.done u.told.done k.done
+    ∙ (λ i. aside_after (k.timed i).act u.told.done a)
+
+looked_so : (t u : ActTrace) (ts us : List ActTrace) → IsSameTransition t u → SameTransitions ts us → (p q : Bool)
+    → p ≡ q → SameTransitions (if p then ts else t ∷ ts) (if q then us else u ∷ us)
+looked_so t u ts us first rest true true same = rest
+looked_so t u ts us first rest false false same = (first, rest)
+looked_so t u ts us first rest true false same = absurd cc
+looked_so t u ts us first rest false true same = absurd cc
+
+-- the same acts are looked at
+pub same_looked_acts : (a : AsideState) (ts us : List ActTrace) → SameTransitions ts us
+    → SameTransitions (looked_acts a ts) (looked_acts a us)
+same_looked_acts a [] [] k = tt
+same_looked_acts a [] (u ∷ us) k = absurd k
+same_looked_acts a (t ∷ ts) [] k = absurd k
+same_looked_acts a (t ∷ ts) (u ∷ us) (first, rest) =
+    let later : SameTransitions (looked_acts (aside_behind t a) ts) (looked_acts (aside_behind u a) us) =
+    subst (λ (b : AsideState). SameTransitions (looked_acts (aside_behind t a) ts) (looked_acts b us))
+    (same_aside_behind a t u first) (same_looked_acts (aside_behind t a) ts us rest) in
+    looked_so t u (looked_acts (aside_behind t a) ts) (looked_acts (aside_behind u a) us) first later (is_out a t)
+    (is_out a u) (same_out a t u first)
+
+same_aside_over : (a : AsideState) (ts us : List ActTrace) → SameTransitions ts us
+    → aside_over ts a ≡ aside_over us a
+same_aside_over a [] [] k = refl
+same_aside_over a [] (u ∷ us) k = absurd k
+same_aside_over a (t ∷ ts) [] k = absurd k
+same_aside_over a (t ∷ ts) (u ∷ us) (first, rest) =
+    ap (aside_over ts) (same_aside_behind a t u first) ∙ same_aside_over (aside_behind u a) ts us rest
+
+pub same_carry_ended : (ts us : List ActTrace) (c : CarriedAside) → SameTransitions ts us
+    → carry_ended ts c ≡ carry_ended us c
+same_carry_ended ts us c k =
+    let since = same_waits ts us c.carried.since k in
+    let readings = same_readings_if c.carried.readings (looked_acts c.aside ts) (looked_acts c.aside us)
+    (same_looked_acts c.aside ts us k) in
+    let aside = same_aside_over c.aside ts us k in
+    λ i. record { carried = record { since = since i; readings = readings i }; aside = aside i }
 
 all_ended : (names : List ℕ) (ts us : List ActTrace) (since : ℕ → Option ℕ) → SameTransitions ts us
     → ended names since ts ≡ ended names since us

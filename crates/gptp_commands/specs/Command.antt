@@ -9,7 +9,7 @@ use Rattle.gptp_accuracy.specs.declared.options.AccuracyOptions.{AccuracyOptions
 use Rattle.gptp_faults.specs.Times.{AreOptions}
 use Rattle.gptp_faults.specs.declared.options.FaultsOptions.{FaultsOptions}
 use Rattle.gptp_faults.specs.declared.options.Only.{Only}
-use Rattle.gptp_faults.specs.declared.options.Only.TheVariants.{Links, Systems}
+use Rattle.gptp_faults.specs.declared.options.Only.TheVariants.{Links, Power, Systems}
 use Rattle.gptp_network.specs.Values.{clock_of_text}
 use Rattle.gptp_network.specs.declared.fault.DocumentFault.TheVariants.{OutOfRange}
 use Rattle.gptp_commands.specs.declared.command.CheckOptions.{CheckOptions}
@@ -21,7 +21,7 @@ use Rattle.gptp_commands.specs.declared.question.Question.{Question}
 use Rattle.gptp_commands.specs.declared.question.Question.TheVariants.{Accuracy, Choice, Explain, Lint}
 use Rattle.gptp_commands.specs.declared.run.RunOptions.{RunOptions}
 use Rattle.gptp_commands.specs.declared.table.Form.TheVariants.{Number}
-use Rattle.gptp_commands.specs.declared.table.rows.TheConstants.{ALWAYS, AT, CERTIFICATE, CLOCK, FILE, FRAMES, HOLD, MAX_ERROR, MOMENT, MOMENTS, OFFSETS, ONLY, PART, PARTS, PROGRESS, READS, RUN_UNTIL, SEED, SEEDS, STRICT, SUMMARY, TIMELINE_UNTIL, TIMES, WHERE}
+use Rattle.gptp_commands.specs.declared.table.rows.TheConstants.{ALWAYS, AT, CERTIFICATE, CLOCK, DETECT, FILE, FRAMES, HOLD, MAX_ERROR, MOMENT, MOMENTS, OFFSETS, ONLY, PART, PARTS, POWER, PROGRESS, READS, RUN_UNTIL, SEED, SEEDS, STRICT, SUMMARY, TIMELINE_UNTIL, TIMES, WHERE}
 use Rattle.gptp_commands.specs.declared.timeline.TimelineOrder.{TimelineOrder}
 use Rattle.gptp_commands.specs.Options.{flag_of, option_number, place_value, word_of}
 use Rattle.gptp_commands.specs.Table.{Argument, CommandEntry, commands, gptp_sim, the}
@@ -60,6 +60,7 @@ abbrev pub kind_of_text : Text → Option Only
 kind_of_text text =
     if bytes_eq text (codes "links") then Some Links
     else if bytes_eq text (codes "systems") then Some Systems
+    else if bytes_eq text (codes "power") then Some Power
     else None
 
 -- the kind that is left, if the word for it names one
@@ -83,6 +84,8 @@ pub record ReadsFaults (rows : List Row) (options : FaultsOptions) : Type 0 wher
   pub at : options.at ≡ option_number (the AT) rows
   pub hold : options.hold ≡ option_number (the HOLD) rows
   pub only : ReadsKind rows options.only
+  pub power : options.power ≡ flag_of (the POWER) rows
+  pub detect : options.detect ≡ option_number (the DETECT) rows
   pub parts : options.parts ≡ parts_of rows
   pub part : options.part ≡ part_of rows
   pub there : options.part ≤ options.parts

@@ -20,9 +20,9 @@ use crate::question::Question;
 use crate::run::RunOptions;
 use crate::source::{CountedReader, Source};
 use crate::table::rows::{
-    ALWAYS, AT, CERTIFICATE, CLOCK, FILE, FRAMES, HOLD, MAX_ERROR, MOMENT, MOMENTS, NANOSECONDS,
-    OFFSETS, ONLY, PART, PARTS, PROGRESS, READS, RUN_UNTIL, SEED, SEEDS, STRICT, SUMMARY,
-    TIMELINE_UNTIL, TIMES, WHERE,
+    ALWAYS, AT, CERTIFICATE, CLOCK, DETECT, FILE, FRAMES, HOLD, MAX_ERROR, MOMENT, MOMENTS,
+    NANOSECONDS, OFFSETS, ONLY, PART, PARTS, POWER, PROGRESS, READS, RUN_UNTIL, SEED, SEEDS,
+    STRICT, SUMMARY, TIMELINE_UNTIL, TIMES, WHERE,
 };
 use crate::timeline::TimelineOrder;
 use crate::version::is_version;
@@ -95,7 +95,7 @@ enum CommandLineError {
     #[error("error: invalid value '{0}' for '<CLOCK>': a clock is 16 hexadecimal digits\n\nFor more information, try '--help'.\n")]
     NotClock(String),
     /// A word isn't the kind of cases that it ought to be.
-    #[error("error: invalid value '{0}' for '--only <KIND>': it is 'links' or 'systems'\n\nFor more information, try '--help'.\n")]
+    #[error("error: invalid value '{0}' for '--only <KIND>': it is 'links', 'systems' or 'power'\n\nFor more information, try '--help'.\n")]
     NotKind(String),
     /// There is no such part.
     #[error("error: invalid value '{0}' for '--part <K>': there are {1} parts\n\nFor more information, try '--help'.\n")]
@@ -214,6 +214,7 @@ fn kind_of(text: &str) -> Option<Only>
     match text {
         "links" => Some(Only::Links),
         "systems" => Some(Only::Systems),
+        "power" => Some(Only::Power),
         _ => None,
     }
 }
@@ -249,6 +250,8 @@ fn faults_in(alloc: Global, matches: &ArgMatches) -> Result<FaultsOptions, Comma
         at: number(matches, &AT),
         hold: number(matches, &HOLD),
         only,
+        power: flag(matches, &POWER),
+        detect: number(matches, &DETECT),
         parts,
         part,
         progress: flag(matches, &PROGRESS),

@@ -68,7 +68,12 @@ pub(crate) mod rows {
         "The first moment, in ns; by default when the network rests behind the last event");
     pub(crate) const HOLD: Row = ("hold", (Form::Number(1, 1_000_000_000_000_000), &[], "NS"),
         "How long a fault stays, and each run goes on behind it, in ns; by default until the network rests");
-    pub(crate) const ONLY: Row = ("only", (Form::Word, &[], "KIND"), "Let nothing but 'links' fail, or 'systems'");
+    pub(crate) const ONLY: Row = ("only", (Form::Word, &[], "KIND"),
+        "Try nothing but 'links', 'systems' that hang, or 'power' that systems lose");
+    pub(crate) const POWER: Row = ("power", FLAG,
+        "Let each system also lose its power: its links go down, which its neighbours see");
+    pub(crate) const DETECT: Row = ("detect", (Form::Number(1, 1_000_000_000_000_000), &[], "NS"),
+        "How long it takes until a broken link, or one at a system without power, is seen to be down, in ns");
     pub(crate) const PARTS: Row = ("parts", PARTED, "In how many parts the cases are dealt out, one after another");
     pub(crate) const PART: Row = ("part", PARTED, "The part that is tried");
     pub(crate) const PROGRESS: Row = ("progress", FLAG, "Write a line to standard error before each case");
@@ -95,13 +100,16 @@ pub(crate) mod rows {
 
     /// The arguments of `faults`.
     const FAULTS: &[Row] = &[
-        SEEDS, MOMENTS, AT, HOLD, ONLY, PARTS, PART, PROGRESS,
+        SEEDS, MOMENTS, AT, HOLD, ONLY, POWER, DETECT, PARTS, PART, PROGRESS,
         ("max-choice", NANOSECONDS, "Say whether the choice always stands within this, in ns"),
         ("max-holdover", NANOSECONDS, "Say whether no system ever waits longer for time than this, in ns"),
         ("max-error", NANOSECONDS, "Say whether each receipt of time is off by at most this, in ns"),
         ("max-without", MANY, "Say whether at most so many systems go without time in the end"),
         ("max-roots", MANY, "Say whether at most so many roots are followed then by two systems or more"),
         ("max-alone", MANY, "Say whether at most so many systems follow a root then that no other does"),
+        ("max-cut", MANY, "Say whether no fault cuts more systems off than so many"),
+        ("max-astray", MANY,
+            "Say whether at most so many of the others are then without the time that most of them share"),
         ("max-bound", NANOSECONDS,
             "Say whether the choice always stands within this whatever the seed, in ns"),
         ("times", FLAG,
@@ -184,10 +192,11 @@ network is calm, and how long it takes at most to settle, in ns.
 Example: gptp_sim lint --strict < examples/ring.toml",
         _ => "\
 Input: standard input, a document in TOML of at most 32 MiB (33,554,432 octets).
-Output: each link in use and each live system fails at several moments and comes back once the network has
-settled; of each, the worst while it is down ('down') and when it is back ('back'), and how many systems
-follow which root meanwhile; the worst case first. The last line is 'within', or 'exceeded' with the first
-word of 'worst' that is above its --max-.
+Output: each link in use goes down, and each live system hangs, at several moments, and comes back once the
+network has settled; of each, the worst while it is down ('down') and when it is back ('back'), and how many
+systems follow which root meanwhile; the worst case first. 'cut' counts who the fault cuts off, and 'astray'
+who of the others is without the time that most of them share. The last line is 'within', or 'exceeded' with
+the first word of 'worst' that is above its --max-.
 With --times also what systems read at any moment: how far off, how far apart, and by how much it jumps.
 Times are in ns. With --parts cases are dealt out: 'tools/planner merge' makes one text of the parts.
 Example: gptp_sim faults --max-holdover 2500000000 < examples/ring.toml",

@@ -13,8 +13,8 @@ use Rattle.gptp_faults.specs.declared.options.FaultsOptions.{FaultsOptions}
 use Rattle.gptp_faults.specs.declared.times.Times.{Times}
 
 pub answered : (d : DocumentState) (options : FaultsOptions) (cases : List Case) (t : Times)
-    → AreCases d options.only cases → AreTimes d options t → fault_before d t cases ≡ None
-    → any_late d options.hold t cases ≡ false
+    → AreCases d options.only options.power cases → AreTimes d options t → fault_before d options t cases ≡ None
+    → any_late d options t cases ≡ false
     → (answer : Answer) → IsTable d options t cases answer → AnswersFaultsOf d options answer
 answered d options cases t are_cases are_times before in_time (Refused fault) none = absurd none
 answered d options cases t are_cases are_times before in_time (Table text exceeded)

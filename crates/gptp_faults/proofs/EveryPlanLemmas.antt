@@ -1,12 +1,10 @@
--- Each document has cases and times, each fault stays for some time, and none comes before the last event.
-use Rattle.std.proofs.Common.{◌≡◌, ◌≤◌, ◌<◌, ◌+◌, ◌*◌, ℕ, Bool, true, false, nat_lt, List, [], ◌∷◌, ◌++◌, length, max, ◌==◌, Option, Some, None, IfSome, unwrap_or, refl, sym, ◌∙◌, inl, inr, arith}
+-- Each document has cases and times, and a case that fails stays down for some time.
+use Rattle.std.proofs.Common.{◌≡◌, ◌≤◌, ◌<◌, ◌+◌, ℕ, Bool, true, false, if◌then◌else◌, List, [], ◌∷◌, ◌++◌, max, ◌==◌, Option, Some, None, IfSome, unwrap_or, refl, sym, ap, subst, ◌∙◌, inl, inr, append_assoc, arith}
 use Rattle.std.proofs.lemmas.Bool.{eq-eqb, eqb-true}
-use Rattle.std.proofs.lemmas.Bool.Decides.{nat_tests}
 use Rattle.gptp_graph.specs.PathBound.{path_bound}
 use Rattle.gptp_how_soon.specs.Times.{settling_times_from, time_at}
 use Rattle.gptp_how_soon.specs.declared.bounds.SettlingTime.{SettlingTime}
 use Rattle.gptp_lists.specs.Members.{In}
-use Rattle.gptp_network.specs.Adding.{with_event}
 use Rattle.gptp_network.specs.Document.{DocumentState}
 use Rattle.gptp_network.specs.Snapshot.{events_by}
 use Rattle.gptp_network.specs.Span.{IsSpan}
@@ -15,20 +13,22 @@ use Rattle.gptp_scenario.specs.Calm.{last_change}
 use Rattle.gptp_scenario.specs.Network.{IsNetwork, largest_of, pace_of}
 use Rattle.gptp_scenario.specs.SettlingTime.{settling_span_with}
 use Rattle.gptp_scenario.specs.SyncWait.{sync_paths}
-use Rattle.gptp_scenario.specs.declared.change.Act.TheVariants as acts
 use Rattle.gptp_scenario.specs.declared.change.Timed.{Timed}
 use Rattle.gptp_setup.specs.Intervals.{IsLog, interval_of}
 use Rattle.gptp_setup.proofs.IntervalLemmas.{interval_positive}
 use Rattle.gptp_timeline.specs.Each.{Each}
 use Rattle.gptp_topology.specs.Times.{times_from, times_of}
-use Rattle.gptp_faults.specs.Cases.{AreCases, fault_of, link_cases, system_cases}
-use Rattle.gptp_faults.specs.Refusals.{fault_before, latest_event}
-use Rattle.gptp_faults.specs.Stays.{hold_of, watch_among, watch_of}
-use Rattle.gptp_faults.specs.Times.{AreTimes, moment}
+use Rattle.gptp_faults.specs.CaseEvents.{EventsState}
+use Rattle.gptp_faults.specs.Cases.{AreCases, link_cases, power_cases, system_cases}
+use Rattle.gptp_faults.specs.Stays.{failed_document, hold_of, watch_among, watch_of}
+use Rattle.gptp_faults.specs.Times.{AreTimes}
 use Rattle.gptp_faults.specs.declared.cases.Case.{Case}
 use Rattle.gptp_faults.specs.declared.options.FaultsOptions.{FaultsOptions}
 use Rattle.gptp_faults.specs.declared.options.Only.{Only}
 use Rattle.gptp_faults.specs.declared.times.Times.{Times}
+use Rattle.gptp_faults.proofs.EventsLemmas.{HasEvents}
+use Rattle.gptp_faults.proofs.ReturnLemmas.{failing_split}
+use Rattle.gptp_faults.proofs.RunLemmas.{failed_are, failing_events, with_events}
 
 -- ---- two lists, member by member
 
@@ -50,11 +50,13 @@ span_exists d at network =
       record { snapshot = g; stands = stands; is = refl },
     )
 
-pub cases_exist : (d : DocumentState) (kind : Option Only) → IsNetwork d.network
-    → (all : List Case) × AreCases d kind all
-cases_exist d kind network =
-    let (g, stands) = snapshot_exists d (last_change d.events) network in
-    (link_cases kind g ++ system_cases kind d, record { snapshot = g; stands = stands; are = refl })
+pub cases_exist : (d : DocumentState) (kind : Option Only) (power : Bool) → IsNetwork d.network
+    → (all : List Case) × AreCases d kind power all
+cases_exist d kind power network =
+    let (g, stands) = snapshot_exists d (last_change d.events) network in (
+      (link_cases kind g ++ system_cases kind d) ++ power_cases kind power d,
+      record { snapshot = g; stands = stands; are = refl },
+    )
 
 pub times_exist : (d : DocumentState) (options : FaultsOptions) → IsNetwork d.network
     → (t : Times) × AreTimes d options t
@@ -78,17 +80,29 @@ times_exist d options network =
 
 -- ---- a fault stays some time
 
--- the last event of a document has one of its times
-last_time : (from : ℕ) (es : List Timed) (e : Timed) → In e.at (times_from from (es ++ e ∷ []))
-last_time from [] e = by (e.at == from) refl
+-- the time from which on events are looked at is one of their times
+from_is_time : (from : ℕ) (es : List Timed) → In from (times_from from es)
+from_is_time from [] = inl refl
+from_is_time from (e ∷ es) = by (e.at == from) (from_is_time from es)
   where
-    by : (t : Bool) → (e.at == from) ≡ t → In e.at (times_from from (e ∷ []))
-    by true is = rw is (inl (eqb-true e.at from is))
-    by false is = rw is (inr (inl refl))
-last_time from (x ∷ xs) e = by (x.at == from) refl (last_time from xs e) (last_time x.at xs e)
+    by : (t : Bool) → In from (times_from from es)
+        → In from (if t then times_from from es else from ∷ times_from e.at es)
+    by true rest = rest
+    by false rest = inl refl
+
+-- and each event of a document has one of its times
+event_time : (from : ℕ) (es : List Timed) (e : Timed) (rest : List Timed)
+    → In e.at (times_from from (es ++ e ∷ rest))
+event_time from [] e rest = by (e.at == from) refl
   where
-    by : (t : Bool) → (x.at == from) ≡ t → In e.at (times_from from (xs ++ e ∷ []))
-        → In e.at (times_from x.at (xs ++ e ∷ [])) → In e.at (times_from from ((x ∷ xs) ++ e ∷ []))
+    by : (t : Bool) → (e.at == from) ≡ t → In e.at (times_from from (e ∷ rest))
+    by true is = rw is (subst (λ at. In e.at (times_from at rest)) (eqb-true e.at from is) (from_is_time e.at rest))
+    by false is = rw is (inr (from_is_time e.at rest))
+event_time from (x ∷ xs) e rest =
+    by (x.at == from) refl (event_time from xs e rest) (event_time x.at xs e rest)
+  where
+    by : (t : Bool) → (x.at == from) ≡ t → In e.at (times_from from (xs ++ e ∷ rest))
+        → In e.at (times_from x.at (xs ++ e ∷ rest)) → In e.at (times_from from ((x ∷ xs) ++ e ∷ rest))
     by true is same other = rw is same
     by false is same other = rw is (inr other)
 
@@ -108,31 +122,22 @@ watched_some d log before (x ∷ xs) at member =
     by false is (inl same) others = let no : true ≡ false = sym (eq-eqb x at (sym same)) ∙ is in absurd cc
     by false is (inr later) others = rw is (others later)
 
-pub hold_some : (d : DocumentState) (c : Case) (at : ℕ) (asked : Option ℕ) → IsNetwork d.network
-    → IfSome asked (λ least. 1 ≤ least) → 0 < hold_of d asked c at
-hold_some d c at (Some asked) network some = omega (arith, some)
-hold_some d c at None network some =
-    let failed = with_event at (fault_of c) d in
-    watched_some failed network.params.ranges.params.sync None (times_of failed.events) at
-    (last_time 0 d.events (record { at = at; act = acts.Change (fault_of c) }))
+-- so a case that fails stays down for some time by default
+module _ (d : DocumentState) (network : IsNetwork d.network) (least : ℕ) (e : EventsState) (has : HasEvents least e)
+    (at : ℕ) where
+  watched_failed : 0 < watch_of (failed_document at e d) (at + e.delay)
+  watched_failed =
+      let k = failing_split least e has at in
+      let events : List Timed = d.events ++ failing_events at e in
+      let there : In (at + e.delay) (times_of events) =
+      subst (λ time. In time (times_of events)) k.first_at
+      (subst (λ es. In k.first.at (times_of es))
+      (append_assoc d.events k.others (k.first ∷ k.more) ∙ ap (λ fs. d.events ++ fs) (sym k.are))
+      (event_time 0 (d.events ++ k.others) k.first k.more)) in
+      subst (λ (x : DocumentState). 0 < watch_of x (at + e.delay)) (sym (failed_are at e d))
+      (watched_some (with_events d events) network.params.ranges.params.sync None (times_of events) (at + e.delay)
+      there)
 
--- each moment is no earlier than the first
-pub moment_from : (t : Times) (number : ℕ) → t.from ≤ moment t number
-moment_from t number = omega arith
-
--- ---- what isn't refused
-
--- the first moment is no earlier than the last event
-pub from_behind : (d : DocumentState) (t : Times) (all : List Case) (c : Case) → In c all
-    → fault_before d t all ≡ None → last_change d.events ≤ t.from
-from_behind d t [] c member none = absurd member
-from_behind d t (x ∷ xs) c member none =
-    by (nat_lt 4094 (length d.events)) refl (nat_lt latest_event t.from) refl
-    (nat_lt t.from (last_change d.events)) refl
-  where
-    by : (many : Bool) → nat_lt 4094 (length d.events) ≡ many → (late : Bool) → nat_lt latest_event t.from ≡ late
-        → (early : Bool) → nat_lt t.from (last_change d.events) ≡ early → last_change d.events ≤ t.from
-    by true a late b early k = absurd (let no = rw a at none in cc)
-    by false a true b early k = absurd (let no = rw (a, b) at none in cc)
-    by false a false b true k = absurd (let no = rw (a, b, k) at none in cc)
-    by false a false b false k = grind (arith, nat_tests)
+  pub hold_some : (asked : Option ℕ) → IfSome asked (λ hold. 1 ≤ hold) → 0 < hold_of d asked e at
+  hold_some (Some asked) some = omega (arith, some)
+  hold_some None some = watched_failed

@@ -1,4 +1,5 @@
 pub mod EachLemmas
+pub mod KeptLemmas
 pub mod RootLemmas
 pub mod CaseLemmas
 pub mod StayLemmas
@@ -9,9 +10,19 @@ pub mod ProgressLemmas
 pub mod RefusalLemmas
 pub mod TextLemmas
 pub mod AnswerLemmas
+pub mod BoundsLemmas
+pub mod CableLemmas
+pub mod RangeLemmas
+pub mod MostLemmas
+pub mod PlacedLemmas
+mod EventsLemmas
 mod DownLemmas
 mod PlayableLemmas
+mod ReturnLemmas
+mod WellLemmas
+mod LivedLemmas
 mod FollowLemmas
+mod WithinLemmas
 pub mod OrderLemmas
 pub mod OneLemmas
 mod EveryRankingLemmas

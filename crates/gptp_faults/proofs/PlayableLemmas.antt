@@ -1,10 +1,11 @@
 -- A document in which a case fails and comes back can be played.
-use Rattle.std.proofs.Common.{◌≡◌, ◌≤◌, ◌||◌, ◌==◌, ℕ, Bool, true, false, if◌then◌else◌, List, [], ◌∷◌, Option, Some, None, filter_map, map, refl, sym, ap, subst, ◌∙◌, inl, inr, arith}
-use Rattle.std.specs.List.{list_any}
+use Rattle.std.proofs.Common.{◌≡◌, ◌≤◌, ◌+◌, ◌||◌, ◌&&◌, ◌==◌, ℕ, Bool, true, false, if◌then◌else◌, List, [], ◌∷◌, Option, Some, None, filter_map, map, ◌++◌, refl, sym, ap, subst, ◌∙◌, inl, inr, arith}
+use Rattle.std.specs.List.{AllByRecursion, list_any, range_with_len}
 use Rattle.std.proofs.lemmas.Bool.Decides.{nat_tests}
 use Rattle.std.proofs.lemmas.Option.{same_Some}
 use Rattle.gptp_graph.specs.Snapshot.{Snapshot}
 use Rattle.gptp_invariants.specs.WorldEncodableLaws.{SetsAnOctet}
+use Rattle.gptp_links.specs.declared.bounds.Bounds.{Bounds}
 use Rattle.gptp_lists.specs.Members.{In}
 use Rattle.gptp_lists.proofs.SystemSpecLemmas.{from_map, In-parts}
 use Rattle.gptp_lists.proofs.PlaceLemmas.{behind}
@@ -13,10 +14,11 @@ use Rattle.gptp_network.specs.Document.{DocumentState}
 use Rattle.gptp_network.specs.Events.{IsPossibleChange}
 use Rattle.gptp_network.specs.Snapshot.{joins_two, link_of}
 use Rattle.gptp_network.proofs.EventLemmas.{event_added}
+use Rattle.gptp_network.proofs.PassLemmas.{passes}
 use Rattle.gptp_network.proofs.SnapshotLemmas.{clock_after, from_filter, from_filter_map}
 use Rattle.gptp_scenario.specs.Calm.{last_change}
 use Rattle.gptp_scenario.specs.Change.{live_after, system_after}
-use Rattle.gptp_scenario.specs.Network.{members_have_clock, is_taken, same_port}
+use Rattle.gptp_scenario.specs.Network.{members_have_clock, is_taken, NetworkState, same_port}
 use Rattle.gptp_scenario.specs.declared.change.Act.TheVariants as acts
 use Rattle.gptp_scenario.specs.declared.change.Change.{Change}
 use Rattle.gptp_scenario.specs.declared.change.Timed.{Timed}
@@ -25,11 +27,20 @@ use Rattle.gptp_scenario.specs.declared.network.LinkSpec.{LinkSpec}
 use Rattle.gptp_theorem.specs.PlayedLaws.{IsPlayable}
 use Rattle.gptp_theorem.proofs.EventLemmas.{last_behind}
 use Rattle.gptp_roles.specs.Selection.{clock_of}
+use Rattle.gptp_topology.specs.declared.course.Cable.{Cable}
+use Rattle.gptp_topology.proofs.CourseLemmas.{same_a, same_b}
 use Rattle.gptp_vector.specs.declared.port.PortId.{PortId}
-use Rattle.gptp_faults.specs.Cases.{AreCases, fault_of, has_links, has_systems, link_case, link_cases, live_cases, return_of, system_case, system_cases}
+use Rattle.gptp_faults.specs.Cables.{bounds_at, cable_after, cables_after, is_at_port, is_up_at, port_after, up_ports}
+use Rattle.gptp_faults.specs.CaseEvents.{change_of, events_of, EventsState, link_if, power_if, with_changes}
+use Rattle.gptp_faults.specs.Cases.{AreCases, has_links, has_power, has_systems, link_case, link_cases, live_clock, live_clocks, power_cases, system_cases}
+use Rattle.gptp_faults.specs.Stays.{back_at, failed_document, with_case}
+use Rattle.gptp_faults.specs.declared.case_events.CaseChange.{CaseChange}
+use Rattle.gptp_faults.specs.declared.case_events.CaseChange.TheVariants.{Fail, LinkDown, LinkSet, LinkUp, Recover}
 use Rattle.gptp_faults.specs.declared.cases.Case.{Case}
 use Rattle.gptp_faults.specs.declared.cases.Case.TheVariants as cases
 use Rattle.gptp_faults.specs.declared.options.Only.{Only}
+use Rattle.gptp_faults.proofs.BoundsLemmas.{AreWithin, cable_within}
+use Rattle.gptp_faults.proofs.RunLemmas.{changes_are, failed_are}
 
 -- ---- what a case names is there
 
@@ -54,57 +65,162 @@ same_itself n = grind (arith, nat_tests)
 port_itself : (p : PortId) → same_port p p ≡ true
 port_itself p = let one = same_itself p.clock in let other = same_itself p.port in rw (one, other) refl
 
--- the changes by which a case fails and comes back can be made in the network
-abbrev CanFail : DocumentState → Case → Type 0
-CanFail d c = IsPossibleChange d.network (fault_of c) × IsPossibleChange d.network (return_of c)
+-- the changes of a case can be made in the network
+abbrev AllPossible : NetworkState → List CaseChange → Type 0
+AllPossible n = AllByRecursion (λ (c : CaseChange). IsPossibleChange n (change_of c))
 
-module _ (d : DocumentState) (kind : Option Only) (all : List Case) (are : AreCases d kind all) (c : Case) where
-  abbrev g : Snapshot
-  g = are.snapshot
+pub record CanHappen (n : NetworkState) (e : EventsState) : Type 0 where
+  at : AllPossible n e.at
+  seen : AllPossible n e.seen
+  back : AllPossible n e.back
 
-  of_link : In c (map link_case g.links) → CanFail d c
-  of_link member =
-      let (l, given, is) = from_map link_case c g.links member in
-      let kept = subst (In l) are.stands.links given in
-      let (used, both) = from_filter (joins_two g.systems) l _ kept in
-      let (pair, joined, link) = from_map link_of l _ used in
-      let (w, wire, up) = from_filter_map _ pair d.network.links joined in
-      let ends : (w.a, w.b) ≡ pair = given_if _ (w.a, w.b) pair up in
-      let taken : is_taken d.network.links w.a ≡ true =
-      some_passes (λ (x : LinkSpec). same_port x.a w.a || same_port x.b w.a) w d.network.links wire
-      (rw (port_itself w.a) refl) in
-      let whole : link_case (link_of (w.a, w.b)) ≡ c = ap (λ p. link_case (link_of p)) ends ∙ ap link_case link ∙ is in
-      subst (CanFail d) whole (taken, taken)
+-- ---- a link
 
-  of_system : In c (live_cases d) → CanFail d c
-  of_system member =
-      let (pair, given, is) = from_map system_case c (filter_map (live_after d.events) d.network.systems) member in
+module _ (n : NetworkState) (p : PortId) (taken : is_taken n.links p ≡ true) where
+  link_can : (bounds : Option Bounds) (detect : Option ℕ)
+      → ((b : Bounds) → bounds ≡ Some b → AreWithin n b) → CanHappen n (link_if p bounds detect)
+  link_can bounds None within = record { at = (taken, tt); seen = tt; back = (taken, tt) }
+  link_can None (Some delay) within = record { at = (taken, tt); seen = tt; back = (taken, tt) }
+  link_can (Some b) (Some delay) within =
+      let are = within b refl in record {
+        at = (
+          (
+            taken,
+            record { positive = are.positive; ordered = are.ordered; prompt = are.prompt; share = omega arith },
+          ),
+          tt,
+        );
+        seen = (taken, ((taken, are), tt));
+        back = (taken, tt);
+      }
+
+-- ---- a system
+
+module _ (n : NetworkState) (clock : ℕ) (there : members_have_clock n.systems clock ≡ true) where
+  downs_can : (ports : List PortId) → ((p : PortId) → In p ports → is_taken n.links p ≡ true)
+      → AllPossible n (map LinkDown ports)
+  downs_can [] taken = tt
+  downs_can (p ∷ ps) taken = (taken p (inl refl), downs_can ps (λ q member. taken q (inr member)))
+
+  ups_can : (ports : List PortId) → ((p : PortId) → In p ports → is_taken n.links p ≡ true)
+      → AllPossible n (map LinkUp ports)
+  ups_can [] taken = tt
+  ups_can (p ∷ ps) taken = (taken p (inl refl), ups_can ps (λ q member. taken q (inr member)))
+
+  power_can : (detect : Option ℕ) (ports : List PortId) → ((p : PortId) → In p ports → is_taken n.links p ≡ true)
+      → CanHappen n (power_if detect clock ports)
+  power_can None ports taken =
+      record { at = (there, downs_can ports taken); seen = tt; back = (there, ups_can ports taken) }
+  power_can (Some delay) ports taken =
+      record { at = (there, tt); seen = downs_can ports taken; back = (there, ups_can ports taken) }
+
+-- ---- a case
+
+module _ (d : DocumentState) (playable : IsPlayable d) (detect : Option ℕ) where
+  abbrev cables : List Cable
+  cables = cables_after d
+
+  -- the bounds that are found are those of a link
+  bounds_within : (p : PortId) (cs : List Cable) → ((c : Cable) → In c cs → AreWithin d.network c.bounds) → (b : Bounds)
+      → bounds_at cs p ≡ Some b → AreWithin d.network b
+  bounds_within p [] each b is = absurd cc
+  bounds_within p (c ∷ cs) each b is =
+      by (same_port c.a p) is (bounds_within p cs (λ x member. each x (inr member)) b)
+    where
+      by : (t : Bool) → (if t then Some c.bounds else bounds_at cs p) ≡ Some b
+          → (bounds_at cs p ≡ Some b → AreWithin d.network b) → AreWithin d.network b
+      by true here later = subst (AreWithin d.network) (same_Some c.bounds b here) (each c (inl refl))
+      by false there later = later there
+
+  -- a link is at the port of one that is up
+  taken_by : (p : PortId) → is_up_at cables p ≡ true → is_taken d.network.links p ≡ true
+  taken_by p up =
+      let (c, member, both_pass) = passes (λ (x : Cable). x.up && is_at_port x p) cables up in
+      let here : is_at_port c p ≡ true = both c.up (is_at_port c p) both_pass in
+      let (w, wire, is) = from_map (cable_after d.events) c d.network.links member in
+      let a : w.a ≡ c.a = sym (same_a d.events w) ∙ ap (λ (x : Cable). x.a) is in
+      let b : w.b ≡ c.b = sym (same_b d.events w) ∙ ap (λ (x : Cable). x.b) is in
+      let at : (same_port w.a p || same_port w.b p) ≡ true = rw (a, b) here in
+      some_passes (λ (x : LinkSpec). same_port x.a p || same_port x.b p) w d.network.links wire at
+    where
+      both : (t u : Bool) → (t && u) ≡ true → u ≡ true
+      both true u is = is
+      both false u is = absurd cc
+
+  up_taken : (clock : ℕ) (p : PortId) → In p (up_ports cables clock) → is_taken d.network.links p ≡ true
+  up_taken clock p member =
+      let kept = from_filter (is_up_at cables) p (map (port_after clock) (range_with_len 0 16)) member in
+      taken_by p kept.1
+
+  -- a system that lives is one of the network
+  live_there : (clock : ℕ) → In clock (live_clocks d) → members_have_clock d.network.systems clock ≡ true
+  live_there clock member =
+      let (pair, given, is) = from_map live_clock clock (filter_map (live_after d.events) d.network.systems) member in
       let (m, at, lives) = from_filter_map (live_after d.events) pair d.network.systems given in
       let same : ((system_after d.events m).identity, m.ports) ≡ pair =
       given_if (system_after d.events m).live _ pair lives in
-      let clock : clock_of m.identity ≡ clock_of pair.0 =
-      sym (clock_after d.events m) ∙ ap (λ (p : ℕ × ℕ). clock_of p.0) same in
-      let there : members_have_clock d.network.systems (clock_of pair.0) ≡ true =
-      some_passes (λ (x : SystemSpec). clock_of x.identity == clock_of pair.0) m d.network.systems at
-      (rw clock (same_itself (clock_of pair.0))) in
-      subst (CanFail d) is (there, there)
+      let own : clock_of m.identity ≡ clock =
+      sym (clock_after d.events m) ∙ ap (λ (p : ℕ × ℕ). clock_of p.0) same ∙ is in
+      some_passes (λ (x : SystemSpec). clock_of x.identity == clock) m d.network.systems at
+      (rw own (same_itself clock))
 
-  pub can_fail : In c all → CanFail d c
-  can_fail member =
-      elim (In-parts c (link_cases kind g) (system_cases kind d) (subst (In c) are.are member)) [
-        | inl link ↦ of_link (if_any (has_links kind) _ link)
-        | inr system ↦ of_system (if_any (has_systems kind) _ system)
-      ]
-    where
-      if_any : (asked : Bool) (some : List Case) → In c (if asked then some else []) → In c some
-      if_any true some one = one
-      if_any false some one = absurd one
+  module _ (kind : Option Only) (power : Bool) (all : List Case) (are : AreCases d kind power all) (c : Case) where
+    abbrev g : Snapshot
+    g = are.snapshot
 
--- ---- the document with both events
+    of_link : In c (map link_case g.links) → CanHappen d.network (events_of cables detect c)
+    of_link member =
+        let (l, given, is) = from_map link_case c g.links member in
+        let kept = subst (In l) are.stands.links given in
+        let (used, both) = from_filter (joins_two g.systems) l _ kept in
+        let (pair, joined, link) = from_map link_of l _ used in
+        let (w, wire, up) = from_filter_map _ pair d.network.links joined in
+        let ends : (w.a, w.b) ≡ pair = given_if _ (w.a, w.b) pair up in
+        let taken : is_taken d.network.links w.a ≡ true =
+        some_passes (λ (x : LinkSpec). same_port x.a w.a || same_port x.b w.a) w d.network.links wire
+        (rw (port_itself w.a) refl) in
+        let whole : link_case (link_of (w.a, w.b)) ≡ c =
+        ap (λ p. link_case (link_of p)) ends ∙ ap link_case link ∙ is in
+        subst (λ (x : Case). CanHappen d.network (events_of cables detect x)) whole
+        (link_can d.network w.a taken (bounds_at cables w.a) detect
+        (bounds_within w.a cables (cable_within d playable.network playable.events)))
 
-sets_no_octet : (c : Case) → SetsAnOctet (acts.Change (fault_of c)) × SetsAnOctet (acts.Change (return_of c))
-sets_no_octet (cases.Link a b) = (tt, tt)
-sets_no_octet (cases.System clock) = (tt, tt)
+    of_system : In c (map cases.System (live_clocks d)) → CanHappen d.network (events_of cables detect c)
+    of_system member =
+        let (clock, given, is) = from_map cases.System c (live_clocks d) member in
+        let there = live_there clock given in
+        subst (λ (x : Case). CanHappen d.network (events_of cables detect x)) is
+        (record { at = (there, tt); seen = tt; back = (there, tt) })
+
+    of_power : In c (map cases.Power (live_clocks d)) → CanHappen d.network (events_of cables detect c)
+    of_power member =
+        let (clock, given, is) = from_map cases.Power c (live_clocks d) member in
+        subst (λ (x : Case). CanHappen d.network (events_of cables detect x)) is
+        (power_can d.network clock (live_there clock given) detect (up_ports cables clock) (up_taken clock))
+
+    pub can_happen : In c all → CanHappen d.network (events_of cables detect c)
+    can_happen member =
+        elim (In-parts c (link_cases kind g ++ system_cases kind d) (power_cases kind power d)
+        (subst (In c) are.are member)) [
+          | inl others ↦ elim (In-parts c (link_cases kind g) (system_cases kind d) others) [
+            | inl link ↦ of_link (if_any (has_links kind) _ link)
+            | inr system ↦ of_system (if_any (has_systems kind) _ system)
+          ]
+          | inr powered ↦ of_power (if_any (has_power kind power) _ powered)
+        ]
+      where
+        if_any : (asked : Bool) (some : List Case) → In c (if asked then some else []) → In c some
+        if_any true some one = one
+        if_any false some one = absurd one
+
+-- ---- the document with all events
+
+sets_no_octet : (c : CaseChange) → SetsAnOctet (acts.Change (change_of c))
+sets_no_octet (LinkDown p) = tt
+sets_no_octet (LinkUp p) = tt
+sets_no_octet (LinkSet p b) = tt
+sets_no_octet (Fail clock) = tt
+sets_no_octet (Recover clock) = tt
 
 -- one event more can be played
 more_playable : (d : DocumentState) (at : ℕ) (change : Change) → IsPlayable d → IsPossibleChange d.network change
@@ -119,11 +235,47 @@ more_playable d at change playable fits octet later early = record {
   ];
 }
 
-pub case_playable : (d : DocumentState) (kind : Option Only) (all : List Case) (c : Case) (at later : ℕ) → IsPlayable d
-    → AreCases d kind all → In c all → last_change d.events ≤ at → at ≤ later → later ≤ 800000000000000
-    → IsPlayable (with_event later (return_of c) (with_event at (fault_of c) d))
-case_playable d kind all c at later playable are member behind_last on late =
-    let can = can_fail d kind all are c member in let octets = sets_no_octet c in
-    let down = more_playable d at (fault_of c) playable can.0 octets.0 behind_last (omega (arith, on, late)) in
-    let last = last_behind d.events (record { at = at; act = acts.Change (fault_of c) }) in
-    more_playable (with_event at (fault_of c) d) later (return_of c) down can.1 octets.1 (omega (arith, last, on)) late
+-- several at one time, and the last of them is then
+changes_playable : (at : ℕ) (cs : List CaseChange) (d : DocumentState) → IsPlayable d → AllPossible d.network cs
+    → last_change d.events ≤ at → at ≤ 800000000000000 → IsPlayable (with_changes at cs d)
+changes_playable at [] d playable can later early = playable
+changes_playable at (c ∷ cs) d playable can later early =
+    let last = last_behind d.events (record { at = at; act = acts.Change (change_of c) }) in
+    changes_playable at cs (with_event at (change_of c) d)
+    (more_playable d at (change_of c) playable can.0 (sets_no_octet c) later early) can.1 (omega (arith, last)) early
+
+changes_last : (at : ℕ) (cs : List CaseChange) (d : DocumentState) → last_change d.events ≤ at
+    → last_change (with_changes at cs d).events ≤ at
+changes_last at [] d later = later
+changes_last at (c ∷ cs) d later =
+    let last = last_behind d.events (record { at = at; act = acts.Change (change_of c) }) in
+    changes_last at cs (with_event at (change_of c) d) (omega (arith, last))
+
+module _ (d : DocumentState) (e : EventsState) (playable : IsPlayable d) (can : CanHappen d.network e) where
+  network_at : (at : ℕ) → (with_changes at e.at d).network ≡ d.network
+  network_at at = ap (λ (x : DocumentState). x.network) (changes_are at e.at d)
+
+  pub network_failed : (at : ℕ) → (failed_document at e d).network ≡ d.network
+  network_failed at = ap (λ (x : DocumentState). x.network) (failed_are at e d)
+
+  pub failed_playable : (at : ℕ) → last_change d.events ≤ at → at + e.delay ≤ 800000000000000
+      → IsPlayable (failed_document at e d)
+  failed_playable at later early =
+      let last = changes_last at e.at d later in
+      changes_playable (at + e.delay) e.seen (with_changes at e.at d)
+      (changes_playable at e.at d playable can.at later (omega (arith, early)))
+      (subst (λ (n : NetworkState). AllPossible n e.seen) (sym (network_at at)) can.seen) (omega (arith, last)) early
+
+  failed_last : (at : ℕ) → last_change d.events ≤ at → last_change (failed_document at e d).events ≤ at + e.delay
+  failed_last at later =
+      let last = changes_last at e.at d later in
+      changes_last (at + e.delay) e.seen (with_changes at e.at d) (omega (arith, last))
+
+  pub case_playable : (at hold : ℕ) → last_change d.events ≤ at → back_at at e hold ≤ 800000000000000
+      → IsPlayable (with_case at hold e d)
+  case_playable at hold later early =
+      let last = failed_last at later in
+      changes_playable (back_at at e hold) e.back (failed_document at e d)
+      (failed_playable at later (omega (arith, early)))
+      (subst (λ (n : NetworkState). AllPossible n e.back) (sym (network_failed at)) can.back) (omega (arith, last))
+      early

@@ -75,7 +75,7 @@ told_all options cases count told old new count_is told_is so =
     subst (λ ls. Appends old new (text_of ls)) lines so
 
 pub tells : (d : DocumentState) (options : FaultsOptions) (t : Times) (cases : List Case) (old new : Option (List ℕ))
-    → AreCases d options.only cases → (answer : Answer) → IsTable d options t cases answer
+    → AreCases d options.only options.power cases → (answer : Answer) → IsTable d options t cases answer
     → Appends old new (text_of (part_begun options (length cases))) → TellsCases d options old new answer
 tells d options t cases old new are (Refused fault) none told = absurd none
 tells d options t cases old new are (Table text exceeded) table told = (cases, are, told)

@@ -5,7 +5,7 @@ use Rattle.gptp_words.specs.Lines.{text_of}
 use Rattle.gptp_timeline.proofs.LineLemmas.{line_on, lines_on, words_on}
 use Rattle.gptp_timeline.specs.Limits.{amount_of, verdict_line}
 use Rattle.gptp_timeline.specs.declared.limits.Limit.{Limit}
-use Rattle.gptp_faults.specs.FaultsText.{bounds_text, case_line, counts_text, exceeded_by, extremes_lines, follow_line, head_line, outcome_lines, table_lines, worst_line, worst_lines, worst_of_all, worst_words}
+use Rattle.gptp_faults.specs.FaultsText.{case_line, counts_words, exceeded_by, extremes_lines, follow_line, head_line, outcome_lines, table_lines, worst_line, worst_lines, worst_of_all, worst_words}
 use Rattle.gptp_faults.specs.Ranking.{amount_or_0}
 use Rattle.gptp_faults.specs.Outcomes.{OutcomeState}
 use Rattle.gptp_faults.specs.declared.cases.Case.{Case}
@@ -68,7 +68,7 @@ all_text options t os worst exceeded before a b c d worst_is exceeded_is one two
 pub worst_text : (e : Extremes) (holdover error : ℕ) (before mid after : List ℕ)
     → holdover ≡ amount_or_0 (amount_of e.holdover) → error ≡ amount_or_0 (amount_of e.error)
     → mid ≡ before ++ worst_words e.choice holdover error
-    → after ≡ mid ++ ((counts_text e.counts ++ bounds_text e.bounds) ++ 10 ∷ [])
+    → after ≡ mid ++ (counts_words e ++ 10 ∷ [])
     → after ≡ before ++ (worst_line e ++ 10 ∷ [])
 worst_text e holdover error before mid after holdover_is error_is one two =
     words_on before mid after (worst_words e.choice holdover error) (rest ++ 10 ∷ []) one two
@@ -77,4 +77,4 @@ worst_text e holdover error before mid after holdover_is error_is one two =
     ∙ ap (λ x. before ++ ((worst_words e.choice (amount_or_0 (amount_of e.holdover)) x ++ rest) ++ 10 ∷ [])) error_is
   where
     rest : List ℕ
-    rest = counts_text e.counts ++ bounds_text e.bounds
+    rest = counts_words e

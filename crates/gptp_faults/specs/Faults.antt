@@ -19,11 +19,11 @@ use Rattle.gptp_faults.specs.declared.times.Times.{Times}
 pub record FaultsOf (d : DocumentState) (options : FaultsOptions) (lines : List (List ℕ)) (exceeded : Bool) : Type 0
   where
     pub cases : List Case
-    pub are_cases : AreCases d options.only cases
+    pub are_cases : AreCases d options.only options.power cases
     pub times : Times
     pub are_times : AreTimes d options times
-    pub before : fault_before d times cases ≡ None
-    pub in_time : any_late d options.hold times cases ≡ false
+    pub before : fault_before d options times cases ≡ None
+    pub in_time : any_late d options times cases ≡ false
     pub outcomes : List OutcomeState
     pub are_outcomes : AreOutcomes d times options cases outcomes
     pub told : List OutcomeState

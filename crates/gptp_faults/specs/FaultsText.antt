@@ -9,7 +9,7 @@ use Rattle.gptp_timeline.specs.Limits.{all_limits, amount_of, exceeds, first_exc
 use Rattle.gptp_timeline.specs.StretchText.{longest_text, worst_text}
 use Rattle.gptp_timeline.specs.declared.counts.Counts.{Counts}
 use Rattle.gptp_timeline.specs.declared.limits.Limit.{Limit}
-use Rattle.gptp_timeline.specs.declared.limits.Limit.TheVariants.{Alone, Apart, Bound, Choice, Error, First, Holdover, Roots, Step, Time, Without}
+use Rattle.gptp_timeline.specs.declared.limits.Limit.TheVariants.{Alone, Apart, Astray, Bound, Choice, Cut, Error, First, Holdover, Roots, Step, Time, Without}
 use Rattle.gptp_timeline.specs.declared.limits.Limits.{Limits}
 use Rattle.gptp_vector.specs.declared.port.PortId.{PortId}
 use Rattle.gptp_faults.specs.Extremes.{greatest_of_two, of_none}
@@ -40,6 +40,7 @@ case_port_text p = clock_text p.clock ++ codes " " ++ decimal p.port
 abbrev pub case_text : Case → List ℕ
 case_text (cases.Link a b) = codes "link " ++ case_port_text a ++ codes " " ++ case_port_text b
 case_text (cases.System clock) = codes "system " ++ clock_text clock
+case_text (cases.Power clock) = codes "power " ++ clock_text clock
 
 abbrev pub case_line : ℕ → Case → List ℕ
 case_line number c = codes "case " ++ decimal number ++ codes " " ++ case_text c
@@ -55,6 +56,14 @@ abbrev pub bounds_text : Option HowSoon → List ℕ
 bounds_text None = codes " bound none none"
 bounds_text (Some b) = codes " bound " ++ decimal b.choice ++ codes " " ++ decimal b.roles
 
+-- who is cut off, and who of the others is astray, behind that
+abbrev pub counts_words : Extremes → List ℕ
+counts_words e =
+    counts_text e.counts
+    ++ codes " cut " ++ decimal e.cut
+    ++ codes " astray " ++ decimal e.astray
+    ++ bounds_text e.bounds
+
 abbrev pub amounts_words : List ℕ → Extremes → List ℕ
 amounts_words word e =
     word
@@ -65,7 +74,7 @@ amounts_words word e =
 -- the greatest of all runs, with whose they are
 abbrev pub extremes_line : List ℕ → Extremes → List ℕ
 extremes_line word e =
-    amounts_words word e ++ counts_text e.counts ++ bounds_text e.bounds
+    amounts_words word e ++ counts_words e
 
 -- and behind it that of what systems read, where it is asked for
 abbrev pub extremes_lines : Bool → List ℕ → Extremes → List (List ℕ)
@@ -99,7 +108,7 @@ worst_words choice holdover error =
 abbrev pub worst_line : Extremes → List ℕ
 worst_line e =
     worst_words e.choice (amount_or_0 (amount_of e.holdover)) (amount_or_0 (amount_of e.error))
-    ++ (counts_text e.counts ++ bounds_text e.bounds)
+    ++ counts_words e
 
 abbrev pub worst_lines : Bool → Extremes → List (List ℕ)
 worst_lines asked e = worst_line e ∷ worst_times_lines asked (codes "worst") e.times
@@ -115,6 +124,8 @@ worst_amount e Error = amount_of e.error
 worst_amount e Without = Some e.counts.without
 worst_amount e Roots = Some e.counts.roots
 worst_amount e Alone = Some e.counts.alone
+worst_amount e Cut = Some e.cut
+worst_amount e Astray = Some e.astray
 worst_amount e Bound = choice_bound e.bounds
 worst_amount e Time = amount_of e.times.time
 worst_amount e Apart = Some e.times.apart.amount

@@ -36,4 +36,5 @@ part_begun options count = all_begun options.progress (part_count options count)
 abbrev pub TellsCases : DocumentState → FaultsOptions → Option (List ℕ) → Option (List ℕ) → Answer → Type 0
 TellsCases d options old new (Refused fault) = Appends old new []
 TellsCases d options old new (Table text exceeded) =
-    (cases : List Case) × AreCases d options.only cases × Appends old new (text_of (part_begun options (length cases)))
+    (cases : List Case) × AreCases d options.only options.power cases
+    × Appends old new (text_of (part_begun options (length cases)))

@@ -1,5 +1,5 @@
 -- Cases in the order in which they are told (profile).
-use Rattle.std.specs.Prelude.{ℕ, Bool, List, [], ◌∷◌, Option, Some, None}
+use Rattle.std.specs.Prelude.{ℕ, ◌/◌, Bool, List, [], ◌∷◌, Option, Some, None}
 use Rattle.std.specs.List.Sorted.{IsPermutation, IsSortedBy, IsStableBy}
 use Rattle.std.specs.declared.cmp.Ordering.{Ordering}
 use Rattle.std.specs.Cmp.Lexicographic.{slice_cmp}
@@ -18,13 +18,13 @@ abbrev pub amount_or_0 : Option ℕ → ℕ
 amount_or_0 None = 0
 amount_or_0 (Some amount) = amount
 
--- what cases are compared by, the weightiest first: without, roots, holdover, choice, alone
+-- what cases are compared by, the weightiest first: astray, holdover in whole ms, choice, cut
 abbrev pub weight : Extremes → List ℕ
 weight e =
-    e.counts.without ∷ e.counts.roots
-    ∷ there (amount_of e.holdover) ∷ amount_or_0 (amount_of e.holdover)
+    e.astray
+    ∷ there (amount_of e.holdover) ∷ amount_or_0 (amount_of e.holdover) / 1000000
     ∷ there e.choice ∷ amount_or_0 e.choice
-    ∷ e.counts.alone ∷ []
+    ∷ e.cut ∷ []
 
 abbrev pub outcome_order : Extremes → Extremes → Ordering
 outcome_order a b = slice_cmp nat_cmp (weight a) (weight b)

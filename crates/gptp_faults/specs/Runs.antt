@@ -1,17 +1,20 @@
 -- The runs of a case (profile).
-use Rattle.std.specs.Prelude.{◌≡◌, ℕ, ◌+◌, ◌*◌, ◌/◌, ◌%◌, Option, Some}
+use Rattle.std.specs.Prelude.{◌≡◌, ℕ, ◌+◌, ◌*◌, ◌/◌, ◌%◌, Bool, true, false, List, [], ◌∷◌, Option, Some, None, is_some}
 use Rattle.rand_core.specs.Pcg32Seed.{pcg32_seed}
 use Rattle.rand_pcg.specs.Lcg.{Lcg}
 use Rattle.rand_pcg.specs.Pcg.{pcg64_of_seed}
 use Rattle.gptp_links.specs.Draws.{drawn}
 use Rattle.gptp_links.specs.declared.bounds.Bounds.{Bounds}
 use Rattle.gptp_network.specs.Document.{DocumentState}
-use Rattle.gptp_timeline.specs.Ends.{EndState}
-use Rattle.gptp_timeline.specs.LastTwo.{EndsOf}
+use Rattle.gptp_timeline.specs.Aside.{AsideState}
+use Rattle.gptp_timeline.specs.LastStretches.{EndsOf}
+use Rattle.gptp_timeline.specs.declared.ends.LastStretches.{LastStretches}
+use Rattle.gptp_faults.specs.CaseEvents.{EventsState}
 use Rattle.gptp_faults.specs.Options.{tracks}
-use Rattle.gptp_faults.specs.Stays.{document_of, end_at}
+use Rattle.gptp_faults.specs.Stays.{document_of, end_at, return_at}
 use Rattle.gptp_faults.specs.Times.{moment}
-use Rattle.gptp_faults.specs.declared.cases.Case.{Case}
+use Rattle.gptp_faults.specs.declared.case_events.CaseChange.{CaseChange}
+use Rattle.gptp_faults.specs.declared.runs.RunEnds.{RunEnds}
 use Rattle.gptp_faults.specs.declared.options.FaultsOptions.{FaultsOptions}
 use Rattle.gptp_faults.specs.declared.times.Times.{Times}
 
@@ -32,9 +35,32 @@ seed_of t run = run % t.seeds + 1
 abbrev pub runs_of : Times → ℕ
 runs_of t = t.moments * t.seeds
 
--- How the last two stretches of a run end, in which a case is down and is back, where it is asked what systems read,
--- or isn't.
-abbrev pub CaseRunEnds : FaultsOptions → DocumentState → Times → Case → ℕ → EndState × EndState → Type 0
-CaseRunEnds options d t c run ends =
-    EndsOf draws (tracks options) (document_of d options.hold c (run_moment t run))
-    (end_at d options.hold c (run_moment t run)) (generator (seed_of t run)) (Some ends)
+-- who is set aside in a run in which a case fails at a moment and comes back
+abbrev pub set_aside : DocumentState → Option ℕ → EventsState → List ℕ → ℕ → AsideState
+set_aside d asked e names at = record { clocks = names; from = at; back = return_at d asked e at; begun = 0 }
+
+-- the stretches in which a case is down and is back are the last two of a run; the last three, where it is seen later
+-- than at once that it failed
+abbrev pub AreRunEnds : Bool → LastStretches → RunEnds → Type 0
+AreRunEnds false last r =
+    (r.first ≡ None) × (last.before ≡ Some r.down) × (last.last ≡ Some r.back)
+AreRunEnds true last r =
+    (is_some r.first ≡ true) × (last.earlier ≡ r.first) × (last.before ≡ Some r.down) × (last.last ≡ Some r.back)
+
+-- it is seen later than at once that a case failed, where something happens then
+abbrev pub has_changes : List CaseChange → Bool
+has_changes [] = false
+has_changes (c ∷ cs) = true
+
+abbrev pub is_seen : EventsState → Bool
+is_seen e = has_changes e.seen
+
+-- How the stretches of a run end in which a case is down and is back, of which these systems are set aside, where it is
+-- asked what systems read, or isn't.
+pub record CaseRunEnds (options : FaultsOptions) (d : DocumentState) (t : Times) (e : EventsState) (names : List ℕ)
+    (run : ℕ) (r : RunEnds) : Type 0 where
+  pub last : LastStretches
+  pub ends : EndsOf draws (tracks options) (set_aside d options.hold e names (run_moment t run))
+      (document_of d options.hold e (run_moment t run)) (end_at d options.hold e (run_moment t run))
+      (generator (seed_of t run)) last
+  pub are : AreRunEnds (is_seen e) last r

@@ -17,6 +17,8 @@ pub record AreOptions (o : FaultsOptions) : Type 0 where
   pub moments : o.moments ≤ 1000
   pub at : IfSome o.at (λ at. at ≤ 1000000000000000)
   pub hold : IfSome o.hold (λ hold. hold ≤ 1000000000000000)
+  pub some_detect : IfSome o.detect (λ delay. 1 ≤ delay)
+  pub detect : IfSome o.detect (λ delay. delay ≤ 1000000000000000)
   pub some_part : 1 ≤ o.part
   pub part : o.part ≤ o.parts
   pub parts : o.parts ≤ 10000

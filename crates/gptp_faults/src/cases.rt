@@ -1,13 +1,11 @@
 //! Cases: what fails and comes back.
 
-ghost use Rattle.std.specs.Prelude.{◌≡◌, ◌+◌, ◌++◌, ◌∷◌, [], IfOk, OnOk, map, filter_map, take};
-ghost use Rattle.gptp_network.specs.Events.{IsInRange};
+ghost use Rattle.std.specs.Prelude.{◌≡◌, ◌+◌, ◌++◌, ◌∷◌, [], if◌then◌else◌, IfOk, OnOk, map, filter_map, take};
 ghost use Rattle.gptp_scenario.specs.Change.{live_after};
-ghost use Rattle.gptp_faults.specs.Cases.{AreCases, fault_of, has_links, has_systems, link_case, link_cases, live_cases, return_of, system_case, system_cases};
+ghost use Rattle.gptp_faults.specs.Cases.{AreCases, has_links, has_power, has_systems, link_case, link_cases, live_clock, live_clocks};
 
 use crate::options::Only;
 use gptp_network::{Document, Snapshot};
-use gptp_scenario::Change;
 use gptp_vector::{ClockId, Identity, PortId};
 use std::alloc::{AllocError, Global};
 
@@ -16,35 +14,24 @@ use std::alloc::{AllocError, Global};
 pub(crate) enum Case {
     /// A link, by its ends in the order of the document.
     Link { a: PortId, b: PortId },
-    /// A system.
+    /// A system that hangs.
     System { clock: ClockId },
+    /// A system that loses its power.
+    Power { clock: ClockId },
 }
 
-/// What it is that fails.
-pub(crate) fn fault_of(case: &Case) -> Change
-    ensures is { result ≡ fault_of case.now }
-    ensures range { IsInRange result }
-{
-    match case {
-        Case::Link { a, b: _ } => Change::LinkDown {
-            clock: a.clock,
-            port: a.port,
-        },
-        Case::System { clock } => Change::Fail { clock: *clock },
-    }
-}
+impl Case {
+    ghost use Rattle.std.specs.Prelude.{◌≡◌};
+    ghost use Rattle.gptp_faults.specs.Cases.{failing_system};
 
-/// What it is that comes back.
-pub(crate) fn return_of(case: &Case) -> Change
-    ensures is { result ≡ return_of case.now }
-    ensures range { IsInRange result }
-{
-    match case {
-        Case::Link { a, b: _ } => Change::LinkUp {
-            clock: a.clock,
-            port: a.port,
-        },
-        Case::System { clock } => Change::Recover { clock: *clock },
+    /// The system that fails, if one does.
+    pub(crate) fn system(&self) -> Option<ClockId>
+        ensures { result ≡ failing_system self.now }
+    {
+        match *self {
+            Case::Link { .. } => None,
+            Case::System { clock } | Case::Power { clock } => Some(clock),
+        }
     }
 }
 
@@ -53,8 +40,8 @@ fn has_links(only: Option<Only>) -> bool
     ensures { result ≡ has_links only }
 {
     match only {
-        Some(Only::Systems) => false,
-        _ => true,
+        None | Some(Only::Links) => true,
+        _ => false,
     }
 }
 
@@ -63,8 +50,18 @@ fn has_systems(only: Option<Only>) -> bool
     ensures { result ≡ has_systems only }
 {
     match only {
-        Some(Only::Links) => false,
-        _ => true,
+        None | Some(Only::Systems) => true,
+        _ => false,
+    }
+}
+
+/// Whether systems that lose their power are.
+fn has_power(only: Option<Only>, power: bool) -> bool
+    ensures { result ≡ has_power only power }
+{
+    match only {
+        Some(Only::Power) => true,
+        _ => power,
     }
 }
 
@@ -105,64 +102,95 @@ fn link_cases(
 }
 
 /// Puts a live system, which has this identity and so many ports, after others.
-fn push_live(cases: &mut Vec<Case>, live: (Identity, u8)) -> Result<(), AllocError>
-    ensures { OnOk result (cases.new.items ≡ cases.old.items ++ system_case live ∷ []) }
+fn push_live(clocks: &mut Vec<ClockId>, live: (Identity, u8)) -> Result<(), AllocError>
+    ensures { OnOk result (clocks.new.items ≡ clocks.old.items ++ live_clock live ∷ []) }
 {
-    cases.push(Case::System {
-        clock: live.0.clock(),
-    })?;
+    clocks.push(live.0.clock())?;
     Ok(())
 }
 
 /// Puts the system at a place after those of the places before, where it lives after all events.
-fn push_system(cases: &mut Vec<Case>, document: &Document, place: usize) -> Result<(), AllocError>
-    requires { cases.old.items
-        ≡ map system_case (filter_map (live_after document.now.events) (take place document.now.network.systems)) }
-    ensures { OnOk result (cases.new.items
-        ≡ map system_case (filter_map (live_after document.now.events) (take (place + 1) document.now.network.systems))) }
+fn push_system(
+    clocks: &mut Vec<ClockId>,
+    document: &Document,
+    place: usize,
+) -> Result<(), AllocError>
+    requires { clocks.old.items
+        ≡ map live_clock (filter_map (live_after document.now.events) (take place document.now.network.systems)) }
+    ensures { OnOk result (clocks.new.items
+        ≡ map live_clock (filter_map (live_after document.now.events) (take (place + 1) document.now.network.systems))) }
 {
     match document.network().live_after(place, document.events()) {
-        Some(live) => push_live(cases, live),
+        Some(live) => push_live(clocks, live),
         None => Ok(()),
     }
 }
 
 /// The systems that live after all events.
-fn live_systems(alloc: Global, document: &Document) -> Result<Vec<Case>, AllocError>
-    ensures { IfOk result (λ cases. cases.items ≡ live_cases document.now) }
+fn live_systems(alloc: Global, document: &Document) -> Result<Vec<ClockId>, AllocError>
+    ensures { IfOk result (λ clocks. clocks.items ≡ live_clocks document.now) }
 {
-    let mut cases = Vec::new(alloc);
+    let mut clocks = Vec::new(alloc);
     for place in 0..document.network().systems() {
-        push_system(&mut cases, document, place)?;
+        push_system(&mut clocks, document, place)?;
     }
-    Ok(cases)
+    Ok(clocks)
 }
 
-/// The cases of systems, where systems are cases.
-fn system_cases(
-    alloc: Global,
-    document: &Document,
-    only: Option<Only>,
-) -> Result<Vec<Case>, AllocError>
-    ensures { IfOk result (λ cases. cases.items ≡ system_cases only document.now) }
+/// Puts the cases of systems that hang after others.
+fn push_hangs(cases: &mut Vec<Case>, clocks: &[ClockId]) -> Result<(), AllocError>
+    ensures { OnOk result (cases.new.items ≡ cases.old.items ++ map Case.System clocks.now) }
 {
-    match has_systems(only) {
-        true => live_systems(alloc, document),
-        false => Ok(Vec::new(alloc)),
+    for clock in clocks {
+        cases.push(Case::System { clock: *clock })?;
+    }
+    Ok(())
+}
+
+/// Puts the cases of systems that lose their power after others.
+fn push_powers(cases: &mut Vec<Case>, clocks: &[ClockId]) -> Result<(), AllocError>
+    ensures { OnOk result (cases.new.items ≡ cases.old.items ++ map Case.Power clocks.now) }
+{
+    for clock in clocks {
+        cases.push(Case::Power { clock: *clock })?;
+    }
+    Ok(())
+}
+
+/// Puts the cases of systems that hang after others, where they are cases.
+fn push_hangs_if(cases: &mut Vec<Case>, clocks: &[ClockId], asked: bool) -> Result<(), AllocError>
+    ensures { OnOk result (cases.new.items ≡ cases.old.items ++ (if asked then map Case.System clocks.now else [])) }
+{
+    match asked {
+        true => push_hangs(cases, clocks),
+        false => Ok(()),
     }
 }
 
-/// The links in use after all events, then the systems that live then, both in the order of the document.
+/// Puts the cases of systems that lose their power after others, where they are cases.
+fn push_powers_if(cases: &mut Vec<Case>, clocks: &[ClockId], asked: bool) -> Result<(), AllocError>
+    ensures { OnOk result (cases.new.items ≡ cases.old.items ++ (if asked then map Case.Power clocks.now else [])) }
+{
+    match asked {
+        true => push_powers(cases, clocks),
+        false => Ok(()),
+    }
+}
+
+/// The links in use after all events; then the systems that live then, where they hang; and the same where they lose
+/// their power: each in the order of the document, as far as they are cases.
 pub(crate) fn cases_of(
     alloc: Global,
     document: &Document,
     only: Option<Only>,
+    power: bool,
 ) -> Result<Vec<Case>, AllocError>
-    ensures { IfOk result (λ cases. AreCases document.now only cases.items) }
+    ensures { IfOk result (λ cases. AreCases document.now only power cases.items) }
 {
     let snapshot = document.snapshot(alloc, document.last_change())?;
     let mut cases = link_cases(alloc, &snapshot, only)?;
-    let systems = system_cases(alloc, document, only)?;
-    cases.extend_from_slice(&systems)?;
+    let clocks = live_systems(alloc, document)?;
+    push_hangs_if(&mut cases, &clocks, has_systems(only))?;
+    push_powers_if(&mut cases, &clocks, has_power(only, power))?;
     Ok(cases)
 }

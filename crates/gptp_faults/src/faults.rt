@@ -1,12 +1,13 @@
 //! What becomes of a network where something fails and comes back.
 
-ghost use Rattle.std.specs.Prelude.{◌≡◌, ◌≢◌, ◌≤◌, ◌+◌, ◌++◌, ◌∷◌, [], List, Err, IfOk, OnOk, false, length};
+ghost use Rattle.std.specs.Prelude.{◌≡◌, ◌≢◌, ◌≤◌, ◌+◌, ◌++◌, ◌∷◌, [], Err, IfOk, OnOk, false, length};
 ghost use Rattle.std.specs.Io.KnownBytes.{Appends};
 ghost use Rattle.gptp_words.specs.Lines.{text_of};
 ghost use Rattle.gptp_faults.specs.Faults.{AnswersFaultsOf, IsTable};
 ghost use Rattle.gptp_faults.specs.Outcomes.{AreOutcomes, is_of_part, IsOutcome, OutcomeState};
 ghost use Rattle.gptp_faults.specs.Progress.{TellsCases, begun, begun_line, part_begun, part_count};
-ghost use Rattle.gptp_faults.specs.Refusals.{any_late, is_late};
+ghost use Rattle.gptp_faults.specs.Refusals.{any_late, case_events, is_late};
+ghost use Rattle.gptp_faults.specs.Whole.{IsWhole};
 ghost use Rattle.gptp_faults.specs.Times.{TimesAreBounded, AreOptions};
 
 use crate::cases::{Case, cases_of};
@@ -16,6 +17,7 @@ use crate::ranking::rank;
 use crate::refusals::{any_late, fault_before};
 use crate::text::write_table;
 use crate::times::{Times, times_of};
+use crate::whole::{Whole, whole_of};
 use gptp_network::{Document, DocumentFault};
 use gptp_report::sink::Sink;
 use gptp_report::{Cut, write_whole};
@@ -24,7 +26,7 @@ use std::alloc::{AllocError, Global};
 /// What is answered of a document.
 #[derive(Debug, Drop)]
 pub enum Answer {
-    /// It would be refused with the two events of some run, by this fault.
+    /// It would be refused with the events of some run, by this fault.
     Refused(DocumentFault),
     /// The table of its cases, and whether a limit is exceeded.
     Table { text: String, exceeded: bool },
@@ -92,6 +94,7 @@ fn try_next<P: Sink>(
     alloc: Global,
     document: &mut Document,
     options: &FaultsOptions,
+    whole: &Whole,
     times: &Times,
     number: usize,
     failing: &Case,
@@ -101,7 +104,8 @@ fn try_next<P: Sink>(
 ) -> Result<(), Cut>
     requires bounded { TimesAreBounded times.now }
     requires options { AreOptions options.now }
-    requires in_time { is_late document.old options.now.hold times.now failing.now ≡ false }
+    requires whole { IsWhole document.old whole.now }
+    requires in_time { is_late document.old options.now.hold times.now (case_events document.old options.now failing.now) ≡ false }
     ensures tried { OnOk result ((o : OutcomeState) × IsOutcome options.now document.old times.now number failing.now o
         × (outcomes.new.items ≡ outcomes.old.items ++ (o ∷ []))) }
     ensures told { OnOk result (Appends (P.written progress.old) (P.written progress.new)
@@ -111,7 +115,7 @@ fn try_next<P: Sink>(
     ensures fails { result ≡ Err Cut.Write → P.failures progress.new ≢ P.failures progress.old }
 {
     tell(alloc, options.progress, count, outcomes.len() + 1, progress)?;
-    let outcome = try_case(alloc, document, options, times, number, failing)?;
+    let outcome = try_case(alloc, document, whole, options, times, number, failing)?;
     push_outcome(outcomes, outcome)?;
     Ok(())
 }
@@ -121,13 +125,15 @@ fn try_cases<P: Sink>(
     alloc: Global,
     document: &mut Document,
     options: &FaultsOptions,
+    whole: &Whole,
     times: &Times,
     cases: &[Case],
     progress: &mut P,
 ) -> Result<Vec<Outcome>, Cut>
     requires options { AreOptions options.now }
     requires bounded { TimesAreBounded times.now }
-    requires in_time { any_late document.old options.now.hold times.now cases.now ≡ false }
+    requires whole { IsWhole document.old whole.now }
+    requires in_time { any_late document.old options.now times.now cases.now ≡ false }
     ensures outcomes { IfOk result (λ v. AreOutcomes document.old times.now options.now cases.now v.items) }
     ensures told { OnOk result (Appends (P.written progress.old) (P.written progress.new)
         (text_of (part_begun options.now (length cases.now)))) }
@@ -142,6 +148,7 @@ fn try_cases<P: Sink>(
                 alloc,
                 document,
                 options,
+                whole,
                 times,
                 number,
                 &cases[number],
@@ -159,28 +166,30 @@ fn table_of<P: Sink>(
     alloc: Global,
     document: &mut Document,
     options: &FaultsOptions,
+    whole: &Whole,
     times: &Times,
     cases: &[Case],
     progress: &mut P,
 ) -> Result<Answer, Cut>
     requires options { AreOptions options.now }
     requires bounded { TimesAreBounded times.now }
-    requires in_time { any_late document.old options.now.hold times.now cases.now ≡ false }
+    requires whole { IsWhole document.old whole.now }
+    requires in_time { any_late document.old options.now times.now cases.now ≡ false }
     ensures table { IfOk result (IsTable document.old options.now times.now cases.now) }
     ensures told { OnOk result (Appends (P.written progress.old) (P.written progress.new)
         (text_of (part_begun options.now (length cases.now)))) }
     ensures works { result ≢ Err Cut.Write → P.failures progress.new ≡ P.failures progress.old }
     ensures fails { result ≡ Err Cut.Write → P.failures progress.new ≢ P.failures progress.old }
 {
-    let mut outcomes = try_cases(alloc, document, options, times, cases, progress)?;
+    let mut outcomes = try_cases(alloc, document, options, whole, times, cases, progress)?;
     rank(&mut outcomes)?;
     let mut text = String::new(alloc);
     let exceeded = write_table(&mut text, options, times, &outcomes)?;
     Ok(Answer::Table { text, exceeded })
 }
 
-/// Lets each link in use and each live system of a document fail at several moments and come back, as far as they
-/// belong to the part that is asked for, and answers what becomes of the network: for each case the worst of its runs,
+/// Lets each link in use and each live system of a document fail at several moments and come back, as far as they are
+/// asked for and belong to the part that is, and answers what becomes of the network: for each case the worst of its runs,
 /// the worst case first. Where that is asked for, a line `case K of N` is written to `progress` before each case, of
 /// those that belong to the part the Kth of N.
 ///
@@ -198,13 +207,15 @@ pub fn fail_each<P: Sink>(
     ensures works { result ≢ Err Cut.Write → P.failures progress.new ≡ P.failures progress.old }
     ensures fails { result ≡ Err Cut.Write → P.failures progress.new ≢ P.failures progress.old }
 {
-    let cases = cases_of(alloc, document, options.only)?;
+    let cases = cases_of(alloc, document, options.only, options.power)?;
     let times = times_of(alloc, document, options)?;
-    if let Some(fault) = fault_before(document, &times, &cases) {
+    let whole = whole_of(alloc, document)?;
+    let cables = whole.cables();
+    if let Some(fault) = fault_before(alloc, document, cables, options, &times, &cases)? {
         return Ok(Answer::Refused(fault));
     }
-    if any_late(alloc, document, options.hold, &times, &cases)? {
+    if any_late(alloc, document, cables, options, &times, &cases)? {
         return Ok(Answer::Refused(DocumentFault::OutOfRange));
     }
-    table_of(alloc, document, options, &times, &cases, progress)
+    table_of(alloc, document, options, &whole, &times, &cases, progress)
 }

@@ -1,10 +1,13 @@
 //! What becomes of the network of a document where a link or a system fails and comes back (profile).
 //!
-//! [`fail_each`] lets each link in use and each live system fail at several moments, and come back once the network has
-//! settled, and tells of each the worst of its runs: `specs/Faults.antt` says what, by what the timelines of these runs
-//! say (`specs/LastTwo.antt` of gptp_timeline). One run after the other is made, in one world at a time.
+//! [`fail_each`] lets each link in use go down and each live system hang or lose its power, at several moments, and come
+//! back once the network has settled, and tells of each the worst of its runs: `specs/Faults.antt` says what, by what the timelines of these runs
+//! say (`specs/LastStretches.antt` of gptp_timeline). One run after the other is made, in one world at a time.
 #![tactic(auto)]
 
+mod astray;
+mod cables;
+mod case_events;
 mod cases;
 mod extremes;
 mod faults;
@@ -12,6 +15,7 @@ mod follows;
 mod laws;
 mod options;
 mod outcome;
+mod parts;
 mod ranking;
 mod refusals;
 mod runs;
@@ -19,7 +23,9 @@ mod stays;
 mod text;
 mod time_text;
 mod times;
+mod whole;
 
+pub use case_events::CaseChange;
 pub use faults::{Answer, fail_each};
-pub use laws::follow_lines_settle;
+pub use laws::{follow_lines_settle, lines_settle_within};
 pub use options::{FaultsOptions, Only};

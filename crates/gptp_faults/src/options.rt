@@ -2,13 +2,15 @@
 
 use gptp_timeline::Limits;
 
-/// The kind of cases that is left, where one is left out.
+/// The kind of cases that is left, where others are left out.
 #[derive(Clone, Copy, Debug, PartialEq, Eq)]
 pub enum Only {
     /// Links alone.
     Links,
-    /// Systems alone.
+    /// Systems that hang alone.
     Systems,
+    /// Systems that lose their power alone.
+    Power,
 }
 
 /// Which cases are tried, when, and how often.
@@ -26,6 +28,11 @@ pub struct FaultsOptions {
     pub hold: Option<u64>,
     /// Which kind is left.
     pub only: Option<Only>,
+    /// Whether systems that lose their power are cases too, whichever kind is left.
+    pub power: bool,
+    /// After how long a broken link, or one at a system without power, is seen to be down, in ns; at least 1, at most
+    /// 10^15; `None` where that is at once.
+    pub detect: Option<u64>,
     /// In how many parts the cases are dealt out, one after another; at least 1, at most 10,000.
     pub parts: u64,
     /// The part that is tried, from 1 to that.

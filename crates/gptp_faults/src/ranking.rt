@@ -9,6 +9,9 @@ use gptp_timeline::amount_of;
 use std::alloc::AllocError;
 use std::cmp::Reverse;
 
+/// A millisecond, in ns.
+const MILLISECOND: u128 = 1_000_000;
+
 /// An amount that is there is above one that isn't.
 fn there(amount: Option<u128>) -> u8
     ensures { result ≡ there amount }
@@ -29,21 +32,20 @@ pub(crate) fn amount_or_0(amount: Option<u128>) -> u128
     }
 }
 
-/// What cases are compared by, the weightiest first: without, roots, holdover, choice and alone, of each the greater of
+/// What cases are compared by, the weightiest first: astray, holdover in whole ms, choice and cut, of each the greater of
 /// down and back.
-fn weight_of(outcome: &Outcome) -> [u128; 7]
+fn weight_of(outcome: &Outcome) -> [u128; 6]
     ensures { result ≡ weight (worst_of outcome.now) }
 {
     let worst = joined(outcome.down(), outcome.back());
     let holdover = amount_of(worst.holdover);
     [
-        u128::from(worst.counts.without),
-        u128::from(worst.counts.roots),
+        u128::from(worst.astray),
         u128::from(there(holdover)),
-        amount_or_0(holdover),
+        amount_or_0(holdover) / MILLISECOND,
         u128::from(there(worst.choice)),
         amount_or_0(worst.choice),
-        u128::from(worst.counts.alone),
+        u128::from(worst.cut),
     ]
 }
 

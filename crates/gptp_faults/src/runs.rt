@@ -1,18 +1,19 @@
 //! The runs of a case.
 
-ghost use Rattle.std.specs.Prelude.{◌≡◌, ◌≤◌, ◌<◌, IfErr, IfOk, OnOk, Some, false};
+ghost use Rattle.std.specs.Prelude.{◌≡◌, ◌≤◌, ◌<◌, IfErr, IfOk, OnOk, false};
 ghost use Rattle.gptp_faults.specs.Refusals.{is_late};
-ghost use Rattle.gptp_faults.specs.Runs.{CaseRunEnds, run_moment, runs_of, seed_of};
+ghost use Rattle.gptp_faults.specs.Runs.{AreRunEnds, CaseRunEnds, run_moment, runs_of, seed_of};
 ghost use Rattle.gptp_faults.specs.Times.{AreOptions, TimesAreBounded, last_moment};
 
-use crate::cases::{Case, fault_of, return_of};
+use crate::case_events::CaseEvents;
 use crate::options::FaultsOptions;
-use crate::stays::{add, behind_of, hold_of};
+use crate::stays::{behind_of, fail_at, hold_of, return_after};
 use crate::times::{Times, moment};
 use gptp_links::PcgFate;
 use gptp_network::Document;
 use gptp_report::Cut;
-use gptp_timeline::{StretchEnd, last_stretches};
+use gptp_timeline::{LastStretches, SetAside, StretchEnd, last_stretches};
+use gptp_vector::ClockId;
 use std::alloc::Global;
 
 /// In how many runs each case is tried.
@@ -43,45 +44,74 @@ fn seed_of(times: &Times, run: u64) -> u64
     run % times.seeds + 1
 }
 
-/// How the last two stretches ended, of which there are two.
-fn both(ends: Option<(StretchEnd, StretchEnd)>) -> Result<(StretchEnd, StretchEnd), Cut>
-    ensures both { IfOk result (λ both. ends ≡ Some both) }
+/// How the stretches of a run ended in which a case was down and was back.
+#[derive(Drop)]
+pub(crate) struct RunEnds {
+    /// That until it was seen that the case failed, where it is seen later than at once.
+    pub first: Option<StretchEnd>,
+    /// That until the return.
+    pub down: StretchEnd,
+    /// That behind it.
+    pub back: StretchEnd,
+}
+
+/// They, by how the last stretches ended.
+fn ends_of(seen: bool, ends: LastStretches) -> Result<RunEnds, Cut>
+    ensures ends { IfOk result (λ r. AreRunEnds seen ends r) }
     ensures memory { IfErr result (λ e. e ≡ Cut.Memory) }
 {
-    match ends {
-        Some(both) => Ok(both),
-        // an event after time 0 begins the last
-        None => Err(Cut::Memory),
+    match (seen, ends.earlier, ends.before, ends.last) {
+        (false, _, Some(down), Some(back)) => Ok(RunEnds {
+            first: None,
+            down,
+            back,
+        }),
+        (true, Some(first), Some(down), Some(back)) => Ok(RunEnds {
+            first: Some(first),
+            down,
+            back,
+        }),
+        // events after time 0 begin them
+        _ => Err(Cut::Memory),
     }
 }
 
 /// Lets a case fail and come back in a run, and answers how the stretches ended in which it was down and was back: also
-/// what systems read in them, where that is asked.
+/// what systems read in them, where that is asked, but those that are set aside.
 pub(crate) fn run_case(
     alloc: Global,
     document: &mut Document,
     options: &FaultsOptions,
     times: &Times,
-    failing: &Case,
+    events: &CaseEvents,
+    aside: &[ClockId],
     run: u64,
-) -> Result<(StretchEnd, StretchEnd), Cut>
+) -> Result<RunEnds, Cut>
     requires bounded { TimesAreBounded times.now }
     requires run { run < runs_of times.now }
     requires options { AreOptions options.now }
-    requires in_time { is_late document.old options.now.hold times.now failing.now ≡ false }
-    ensures run { IfOk result (CaseRunEnds options.now document.old times.now failing.now run) }
+    requires in_time { is_late document.old options.now.hold times.now events.now ≡ false }
+    ensures run { IfOk result (CaseRunEnds options.now document.old times.now events.now aside.now run) }
     ensures same { OnOk result (document.new ≡ document.old) }
     ensures memory { IfErr result (λ e. e ≡ Cut.Memory) }
 {
     let down = moment_of(times, run);
-    let hold = hold_of(alloc, document, options.hold, failing, down)?;
-    let behind = behind_of(alloc, document, options.hold, failing, down, hold)?;
-    let back = down + hold;
+    let hold = hold_of(alloc, document, options.hold, events, down)?;
+    let behind = behind_of(alloc, document, options.hold, events, down, hold)?;
+    let back = down + events.delay() + hold;
     let count = document.events().len();
-    add(document, down, fault_of(failing))?;
-    add(document, back, return_of(failing))?;
+    fail_at(document, down, events)?;
+    return_after(document, down, events, hold)?;
     let fate = PcgFate::new(seed_of(times, run));
-    let ends = last_stretches(alloc, document, fate, back + behind, options.tracks())?;
+    let aside = SetAside::new(Vec::from_slice(alloc, aside)?, down, back);
+    let ends = last_stretches(
+        alloc,
+        document,
+        fate,
+        back + behind,
+        options.tracks(),
+        aside,
+    )?;
     document.truncate(count);
-    both(ends)
+    ends_of(!events.seen().is_empty(), ends)
 }

@@ -3,15 +3,13 @@
 ghost use Rattle.std.specs.Prelude.{◌≡◌, ◌≤◌, IfErr, IfOk, IfSome, None, OnOk};
 ghost use Rattle.std.specs.List.{AllByRecursion};
 ghost use Rattle.gptp_how_soon.specs.Times.{AreRising, IsWatchedShortly};
-ghost use Rattle.gptp_network.specs.Adding.{with_event};
-ghost use Rattle.gptp_network.specs.Events.{IsInRange};
-ghost use Rattle.gptp_faults.specs.Stays.{behind_of, hold_of, watch_among, watch_of};
+ghost use Rattle.gptp_faults.specs.CaseEvents.{with_changes};
+ghost use Rattle.gptp_faults.specs.Stays.{back_at, behind_of, failed_document, hold_of, watch_among, watch_of};
 
-use crate::cases::{Case, fault_of, return_of};
+use crate::case_events::{CaseEvents, add_all};
 use gptp_how_soon::{SettlingTime, settling_at, settling_times};
 use gptp_network::Document;
 use gptp_report::Cut;
-use gptp_scenario::Change;
 use std::alloc::{AllocError, Global};
 
 /// For how long a network is watched from one of these times on, in ns; 0 from any other moment.
@@ -36,55 +34,70 @@ pub(crate) fn watch_at(alloc: Global, document: &Document, at: u64) -> Result<u6
     Ok(watch_among(&times, at))
 }
 
-/// Puts an event after the others. What it names is there, and it isn't late, so it is refused for want of memory.
-pub(crate) fn add(document: &mut Document, at: u64, change: Change) -> Result<(), Cut>
-    requires { IsInRange change }
-    ensures added { OnOk result (document.new ≡ with_event at change document.old) }
+/// Puts what happens in a case after the events of a document, where it fails at a moment and that is seen.
+pub(crate) fn fail_at(document: &mut Document, at: u64, events: &CaseEvents) -> Result<(), Cut>
+    requires { at ≤ 2000000000000000 }
+    ensures added { OnOk result (document.new ≡ failed_document at events.now document.old) }
     ensures memory { IfErr result (λ e. e ≡ Cut.Memory) }
 {
-    match document.add(at, change) {
-        Ok(()) => Ok(()),
-        Err(_) => Err(Cut::Memory),
-    }
+    add_all(document, at, events.at())?;
+    add_all(document, at + events.delay(), events.seen())
 }
 
-/// For how long the network is watched from the moment on at which a case fails, in ns.
+/// Puts its return after them, where it stays down so long.
+pub(crate) fn return_after(
+    document: &mut Document,
+    at: u64,
+    events: &CaseEvents,
+    hold: u64,
+) -> Result<(), Cut>
+    requires at { at ≤ 2000000000000000 }
+    requires hold { hold ≤ 1000000000000000 }
+    ensures added { OnOk result (document.new ≡ with_changes (back_at at events.now hold) events.now.back document.old) }
+    ensures memory { IfErr result (λ e. e ≡ Cut.Memory) }
+{
+    add_all(document, at + events.delay() + hold, events.back())
+}
+
+/// For how long the network is watched from then on when it is seen that a case failed at a moment, in ns.
 fn watch_after_fault(
     alloc: Global,
     document: &mut Document,
-    failing: &Case,
+    events: &CaseEvents,
     at: u64,
 ) -> Result<u64, Cut>
-    ensures hold { IfOk result (λ hold. hold ≡ hold_of document.old None failing.now at) }
+    requires { at ≤ 2000000000000000 }
+    ensures hold { IfOk result (λ hold. hold ≡ hold_of document.old None events.now at) }
     ensures bound { IfOk result (λ hold. hold ≤ 200000000000000) }
     ensures same { OnOk result (document.new ≡ document.old) }
     ensures memory { IfErr result (λ e. e ≡ Cut.Memory) }
 {
     let count = document.events().len();
-    add(document, at, fault_of(failing))?;
-    let hold = watch_at(alloc, document, at)?;
+    fail_at(document, at, events)?;
+    let hold = watch_at(alloc, document, at + events.delay())?;
     document.truncate(count);
     Ok(hold)
 }
 
-/// How long a case that fails at a moment stays down, in ns: as long as that is asked, or as long as the network is
-/// watched then.
+/// How long a case that fails at a moment stays down after that is seen, in ns: as long as that is asked, or as long as
+/// the network is watched then.
 pub(crate) fn hold_of(
     alloc: Global,
     document: &mut Document,
     asked: Option<u64>,
-    failing: &Case,
+    events: &CaseEvents,
     at: u64,
 ) -> Result<u64, Cut>
-    requires { IfSome asked (λ hold. hold ≤ 1000000000000000) }
-    ensures hold { IfOk result (λ hold. hold ≡ hold_of document.old asked failing.now at) }
+    requires asked { IfSome asked (λ hold. hold ≤ 1000000000000000) }
+    requires at { at ≤ 2000000000000000 }
+    ensures hold { IfOk result (λ hold. hold ≡ hold_of document.old asked events.now at) }
     ensures bound { IfOk result (λ hold. hold ≤ 1000000000000000) }
     ensures same { OnOk result (document.new ≡ document.old) }
     ensures memory { IfErr result (λ e. e ≡ Cut.Memory) }
 {
     match asked {
         Some(hold) => Ok(hold),
-        None => watch_after_fault(alloc, document, failing, at),
+        None => watch_after_fault(alloc, document, events, at),
     }
 }
 
@@ -93,21 +106,21 @@ pub(crate) fn hold_of(
 fn watch_after_return(
     alloc: Global,
     document: &mut Document,
-    failing: &Case,
+    events: &CaseEvents,
     at: u64,
     hold: u64,
 ) -> Result<u64, Cut>
     requires at { at ≤ 2000000000000000 }
     requires hold { hold ≤ 1000000000000000 }
-    ensures behind { IfOk result (λ behind. behind ≡ behind_of document.old None failing.now at hold) }
+    ensures behind { IfOk result (λ behind. behind ≡ behind_of document.old None events.now at hold) }
     ensures bound { IfOk result (λ behind. behind ≤ 200000000000000) }
     ensures same { OnOk result (document.new ≡ document.old) }
     ensures memory { IfErr result (λ e. e ≡ Cut.Memory) }
 {
     let count = document.events().len();
-    add(document, at, fault_of(failing))?;
-    add(document, at + hold, return_of(failing))?;
-    let behind = watch_at(alloc, document, at + hold)?;
+    fail_at(document, at, events)?;
+    return_after(document, at, events, hold)?;
+    let behind = watch_at(alloc, document, at + events.delay() + hold)?;
     document.truncate(count);
     Ok(behind)
 }
@@ -118,20 +131,20 @@ pub(crate) fn behind_of(
     alloc: Global,
     document: &mut Document,
     asked: Option<u64>,
-    failing: &Case,
+    events: &CaseEvents,
     at: u64,
     hold: u64,
 ) -> Result<u64, Cut>
     requires asked { IfSome asked (λ behind. behind ≤ 1000000000000000) }
     requires at { at ≤ 2000000000000000 }
     requires hold { hold ≤ 1000000000000000 }
-    ensures behind { IfOk result (λ behind. behind ≡ behind_of document.old asked failing.now at hold) }
+    ensures behind { IfOk result (λ behind. behind ≡ behind_of document.old asked events.now at hold) }
     ensures bound { IfOk result (λ behind. behind ≤ 1000000000000000) }
     ensures same { OnOk result (document.new ≡ document.old) }
     ensures memory { IfErr result (λ e. e ≡ Cut.Memory) }
 {
     match asked {
         Some(behind) => Ok(behind),
-        None => watch_after_return(alloc, document, failing, at, hold),
+        None => watch_after_return(alloc, document, events, at, hold),
     }
 }

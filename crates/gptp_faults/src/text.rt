@@ -4,7 +4,7 @@ ghost use Rattle.std.specs.Prelude.{◌≡◌, ◌++◌, ◌∷◌, [], IfOk, On
 ghost use Rattle.std.specs.List.{flat_map};
 ghost use Rattle.gptp_words.specs.Lines.{text_of};
 ghost use Rattle.gptp_timeline.specs.Limits.{first_exceeded};
-ghost use Rattle.gptp_faults.specs.FaultsText.{amounts_words, bounds_text, case_line, choice_bound, counts_text, exceeded_by, exceeds_limit, extremes_line, extremes_lines, follow_line, head_line, outcome_lines, table_lines, worst_amount, worst_exceeds, worst_line, worst_lines, worst_of_all, worst_words};
+ghost use Rattle.gptp_faults.specs.FaultsText.{amounts_words, case_line, choice_bound, counts_words, exceeded_by, exceeds_limit, extremes_line, extremes_lines, follow_line, head_line, outcome_lines, table_lines, worst_amount, worst_exceeds, worst_line, worst_lines, worst_of_all, worst_words};
 
 use crate::cases::Case;
 use crate::extremes::{Extremes, HowSoon, OF_NONE, joined};
@@ -49,6 +49,7 @@ impl fmt::Display for CaseText {
         match self.0 {
             Case::Link { a, b } => write!(f, "link {} {}", PortText(a), PortText(b)),
             Case::System { clock } => write!(f, "system {}", ClockDigits(clock)),
+            Case::Power { clock } => write!(f, "power {}", ClockDigits(clock)),
         }
     }
 }
@@ -141,16 +142,19 @@ fn write_amounts(text: &mut String, word: &str, extremes: &Extremes) -> Result<(
     )
 }
 
-/// Appends what was counted, and how soon the choice and the roles stand at most.
-fn write_counts(
-    text: &mut String,
-    counts: Counts,
-    bounds: Option<HowSoon>,
-) -> Result<(), AllocError>
+/// Appends what was counted, who is cut off and astray, and how soon the choice and the roles stand at most.
+fn write_counts(text: &mut String, extremes: &Extremes) -> Result<(), AllocError>
     ensures { OnOk result (string_bytes text.new
-        ≡ string_bytes text.old ++ ((counts_text counts ++ bounds_text bounds) ++ 10 ∷ [])) }
+        ≡ string_bytes text.old ++ (counts_words extremes.now ++ 10 ∷ [])) }
 {
-    writeln!(text, "{}{}", CountsText(counts), BoundsText(bounds))
+    writeln!(
+        text,
+        "{} cut {} astray {}{}",
+        CountsText(extremes.counts),
+        extremes.cut,
+        extremes.astray,
+        BoundsText(extremes.bounds)
+    )
 }
 
 /// Appends the line of the greatest of all runs.
@@ -159,7 +163,7 @@ fn write_extremes(text: &mut String, word: &str, extremes: &Extremes) -> Result<
         ≡ string_bytes text.old ++ (extremes_line word.now extremes.now ++ 10 ∷ [])) }
 {
     write_amounts(text, word, extremes)?;
-    write_counts(text, extremes.counts, extremes.bounds)
+    write_counts(text, extremes)
 }
 
 /// Appends that line, and behind it that of what systems read, where it is asked for.
@@ -255,7 +259,7 @@ fn write_worst(text: &mut String, worst: &Extremes) -> Result<(), AllocError>
     let holdover = amount_or_0(amount_of(worst.holdover));
     let error = amount_or_0(amount_of(worst.error));
     write_worst_amounts(text, worst.choice, holdover, error)?;
-    write_counts(text, worst.counts, worst.bounds)
+    write_counts(text, worst)
 }
 
 /// Appends that line, and behind it that of what systems read, where it is asked for.
@@ -272,7 +276,7 @@ fn choice_bound(bounds: Option<HowSoon>) -> Option<u128>
     ensures { result ≡ choice_bound bounds }
 {
     match bounds {
-        Some(bounds) => Some(u128::from(bounds.choice)),
+        Some(bounds) => Some(bounds.choice),
         None => None,
     }
 }
@@ -289,6 +293,8 @@ fn worst_amount(worst: &Extremes, limit: Limit) -> Option<u128>
         Limit::Without => Some(u128::from(worst.counts.without)),
         Limit::Roots => Some(u128::from(worst.counts.roots)),
         Limit::Alone => Some(u128::from(worst.counts.alone)),
+        Limit::Cut => Some(u128::from(worst.cut)),
+        Limit::Astray => Some(u128::from(worst.astray)),
         Limit::Bound => choice_bound(worst.bounds),
         Limit::Time => amount_of(worst.times.time),
         Limit::Apart => Some(worst.times.apart.amount),

@@ -9,18 +9,23 @@ use Rattle.gptp_scenario.specs.declared.change.Act.{Act}
 use Rattle.gptp_scenario.specs.declared.change.Act.TheVariants.{Change as Changing, Deliver, Expire}
 use Rattle.gptp_system.specs.State.{SystemState}
 use Rattle.gptp_world.specs.Transitions.{ActTrace}
-use Rattle.gptp_timeline.specs.ExactReads.{counts_new, reads_by, reads_next, reads_over, reads_with, unread, without_reads}
+use Rattle.gptp_timeline.specs.ExactReads.{counts_new, ended_reads, reads_by, reads_next, reads_over, reads_with, unread, without_reads}
 use Rattle.gptp_timeline.specs.Jumps.{error_before}
 use Rattle.gptp_timeline.specs.Looks.{events_left, left_after, looked_all, looked_in, looked_over, measured_times, measured_with, nothing_looked, nothing_read}
-use Rattle.gptp_timeline.specs.Passing.{times_before}
+use Rattle.std.specs.Option.{option_map_or}
+use Rattle.gptp_timeline.specs.LastStretches.{aside_if}
+use Rattle.gptp_timeline.specs.Passing.{aside_kept, times_before, watch_at_start, watch_before}
 use Rattle.gptp_timeline.specs.Readings.{new_in, reading_error, no_reading, read_after, readings_after}
 use Rattle.gptp_timeline.specs.Compared.{compared_by_expiry, compared_by_frame}
 use Rattle.gptp_timeline.specs.Receipts.{offset_error, received_by}
 use Rattle.gptp_timeline.specs.Shown.{live_system}
 use Rattle.gptp_timeline.specs.Stretch.{at_of}
-use Rattle.gptp_timeline.specs.TimeWatch.{TimeState, times_after, times_begun}
+use Rattle.gptp_timeline.specs.Aside.{aside_begun, aside_behind, aside_over, AsideState, is_out, looked_acts, nobody_aside, readings_begun}
+use Rattle.gptp_timeline.specs.TimeLines.{reads_words}
+use Rattle.gptp_timeline.specs.TimeWatch.{reading_lines, TimeState, times_after, times_begun, times_looked, times_with}
+use Rattle.gptp_timeline.proofs.AsideLemmas.{looked_more, nobody_acts, nobody_out, nobody_over, over_more}
 use Rattle.gptp_timeline.specs.Timeline.{asks_lines, exact_time, line_of_times, none_carried, reads_if, reads_kept, StretchTrace, stretch_reading_lines, times_ended, tracks}
-use Rattle.gptp_timeline.specs.Watch.{event_look, own_look, place_of, places_of, see_act, see_at, see_delivery, see_each, see_one, see_placed, see_receipt_if, see_receipt_of, see_system, take_error, times_lines_if, WatchState}
+use Rattle.gptp_timeline.specs.Watch.{event_look, own_look, place_of, places_of, see_act, see_all, see_at, see_delivery, see_each, see_one, see_placed, see_receipt_if, see_receipt_of, see_system, take_error, times_lines_if, WatchState}
 use Rattle.gptp_timeline.specs.declared.compared.Compared.{Compared}
 use Rattle.gptp_timeline.specs.declared.exact_reads.ExactReads.{ExactReads}
 use Rattle.gptp_timeline.specs.declared.exact_reads.SystemReads.{SystemReads}
@@ -90,8 +95,28 @@ act_times at (Changing change) done w o = each_times (event_look at) w (places_o
 
 -- ---- the account after acts
 
-abbrev pub account : TimelineOptions → Option ℕ → List ℕ → ℕ → List ActTrace → List SystemReading → TimeState
-account options from names events ts rs = record {
+-- where these were set aside as the stretch began
+abbrev pub account : TimelineOptions → Option ℕ → List ℕ → ℕ → AsideState → List ActTrace → List SystemReading
+    → TimeState
+account options from names events a ts rs = record {
+  lines = options.times;
+  told = options.times && options.offsets;
+  exact_from = from;
+  events_left = events_left (looked_acts a ts) events;
+  systems = readings_after (looked_acts a ts) rs;
+  reads = reads_over from rs (map unread names) (looked_acts a ts);
+  measures = measured_with (looked_over rs events (looked_acts a ts)) nothing_read;
+  aside = aside_over ts a;
+}
+
+abbrev pub account_if : TimelineOptions → Option ℕ → List ℕ → ℕ → AsideState → List ActTrace
+    → Option (List SystemReading) → Option TimeState
+account_if options from names events a ts readings = option_map (account options from names events a ts) readings
+
+-- where these acts were looked at
+abbrev account_of : TimelineOptions → Option ℕ → List ℕ → ℕ → AsideState → List ActTrace → List SystemReading
+    → TimeState
+account_of options from names events a ts rs = record {
   lines = options.times;
   told = options.times && options.offsets;
   exact_from = from;
@@ -99,11 +124,8 @@ account options from names events ts rs = record {
   systems = readings_after ts rs;
   reads = reads_over from rs (map unread names) ts;
   measures = measured_with (looked_over rs events ts) nothing_read;
+  aside = a;
 }
-
-abbrev pub account_if : TimelineOptions → Option ℕ → List ℕ → ℕ → List ActTrace → Option (List SystemReading)
-    → Option TimeState
-account_if options from names events ts readings = option_map (account options from names events ts) readings
 
 -- ---- one act more
 
@@ -137,15 +159,24 @@ measured_more (u ∷ us) t rs left m =
     ∙ ap (measured_with (looked_in (readings_after us next) (events_left us still) t))
     (sym (measured_both (looked_in rs left u) (looked_over next still us) m))
 
-module _ (options : TimelineOptions) (from : Option ℕ) (names : List ℕ) (events : ℕ) (ts : List ActTrace) where
-  pub account_more : (t : ActTrace) (rs : List SystemReading)
-      → times_after (at_of t) t.told.timed.act t.told.done t.after (account options from names events ts rs)
-      ≡ account options from names events (ts ++ t ∷ []) rs
-  account_more t rs =
-      let left = sym (left_more ts t events) in
-      let systems = sym (readings_more ts t rs) in
-      let reads = sym (reads_more from ts t rs (map unread names)) in
-      let measures = sym (measured_more ts t rs events nothing_read) in
+module _ (options : TimelineOptions) (from : Option ℕ) (names : List ℕ) (events : ℕ) (a : AsideState)
+    (ts : List ActTrace) where
+  abbrev looked : List ActTrace
+  looked = looked_acts a ts
+
+  abbrev now : AsideState
+  now = aside_over ts a
+
+  -- an act more is looked at
+  with_more : (t : ActTrace) (rs : List SystemReading)
+      → times_with (at_of t) t.after t.told.timed.act (new_in t (readings_after looked rs))
+      (account_of options from names events now looked rs)
+      ≡ account_of options from names events now (looked ++ t ∷ []) rs
+  with_more t rs =
+      let left = sym (left_more looked t events) in
+      let systems = sym (readings_more looked t rs) in
+      let reads = sym (reads_more from looked t rs (map unread names)) in
+      let measures = sym (measured_more looked t rs events nothing_read) in
       λ i. record {
         lines = options.times;
         told = options.times && options.offsets;
@@ -154,53 +185,84 @@ module _ (options : TimelineOptions) (from : Option ℕ) (names : List ℕ) (eve
         systems = systems i;
         reads = reads i;
         measures = measures i;
+        aside = now;
       }
+
+  -- or isn't
+  looked_or_not : (t : ActTrace) (rs : List SystemReading)
+      → times_looked (at_of t) t.told.timed.act t.told.done t.after (account options from names events a ts rs)
+      ≡ account_of options from names events now (if is_out now t then looked else looked ++ t ∷ []) rs
+  looked_or_not t rs = by (is_out now t)
+    where
+      by : (out : Bool)
+          → (if out then account_of options from names events now looked rs
+          else times_with (at_of t) t.after t.told.timed.act (new_in t (readings_after looked rs))
+          (account_of options from names events now looked rs))
+          ≡ account_of options from names events now (if out then looked else looked ++ t ∷ []) rs
+      by true = refl
+      by false = with_more t rs
+
+  pub account_more : (t : ActTrace) (rs : List SystemReading)
+      → times_after (at_of t) t.told.timed.act t.told.done t.after (account options from names events a ts rs)
+      ≡ account options from names events a (ts ++ t ∷ []) rs
+  account_more t rs =
+      ap (λ (o : TimeState). record o { aside = aside_behind t now }) (looked_or_not t rs
+      ∙ ap (λ us. account_of options from names events now us rs) (sym (looked_more ts t a)))
+      ∙ ap (λ b. account_of options from names events b (looked_acts a (ts ++ t ∷ [])) rs) (sym (over_more ts t a))
 
   pub account_if_more : (t : ActTrace) (readings : Option (List SystemReading))
       → option_map (times_after (at_of t) t.told.timed.act t.told.done t.after)
-      (account_if options from names events ts readings)
-      ≡ account_if options from names events (ts ++ t ∷ []) readings
+      (account_if options from names events a ts readings)
+      ≡ account_if options from names events a (ts ++ t ∷ []) readings
   account_if_more t None = refl
   account_if_more t (Some rs) = ap Some (account_more t rs)
 
-  -- what is told of it
-  pub account_told : (t : ActTrace) (readings : Option (List SystemReading))
-      → times_lines_if (at_of t) t.told.timed.act t.told.done t.after (account_if options from names events ts readings)
+  -- what is told of it, where nobody is set aside
+  pub account_told : a.clocks ≡ [] → (t : ActTrace) (readings : Option (List SystemReading))
+      → times_lines_if (at_of t) t.told.timed.act t.told.done t.after
+      (account_if options from names events a ts readings)
       ≡ stretch_reading_lines options (option_map (readings_after ts) readings) t
-  account_told t None = refl
-  account_told t (Some rs) = refl
+  account_told nobody t None = refl
+  account_told nobody t (Some rs) =
+      ap (λ out. if out then []
+      else reading_lines (options.times && options.offsets) (at_of t) t.after (new_in t (readings_after looked rs)))
+      (nobody_out now (nobody_over ts a nobody) t)
+      ∙ ap (λ us. reading_lines (options.times && options.offsets) (at_of t) t.after (new_in t (readings_after us rs)))
+      (nobody_acts ts a nobody)
 
   -- where the stretch ends
   pub account_ended : (to : ℕ) (w : WorldState) (readings : Option (List SystemReading))
-      → times_ended to w (account_if options from names events ts readings)
-      ≡ option_map (λ rs. measured_times rs events ts to w) readings
+      → times_ended to w (account_if options from names events a ts readings)
+      ≡ option_map (λ rs. measured_times rs events looked to w) readings
   account_ended to w None = refl
   account_ended to w (Some rs) =
-      ap Some (sym (measured_both (looked_over rs events ts) (looked_all to w (readings_after ts rs)) nothing_read))
+      ap Some (sym (measured_both (looked_over rs events looked) (looked_all to w (readings_after looked rs))
+      nothing_read))
 
 -- ---- between stretches
 
-pub record IsAtRest (options : TimelineOptions) (names : List ℕ) (rs : List SystemReading) (o : TimeState) :
-    Type 0 where
+pub record IsAtRest (options : TimelineOptions) (names : List ℕ) (a : AsideState) (rs : List SystemReading)
+    (o : TimeState) : Type 0 where
   pub lines_is : o.lines ≡ options.times
   pub told_is : o.told ≡ (options.times && options.offsets)
   pub systems_are : o.systems ≡ rs
   pub reads_are : map without_reads o.reads ≡ map unread names
+  pub aside_is : o.aside ≡ a
 
 -- where it is asked what systems read, this is kept, and otherwise nothing
-abbrev pub RestTimes : TimelineOptions → List ℕ → Option (List SystemReading) → Option TimeState → Type 0
-RestTimes options names None times = times ≡ None
-RestTimes options names (Some rs) times = (o : TimeState) × (times ≡ Some o) × IsAtRest options names rs o
+abbrev pub RestTimes : TimelineOptions → List ℕ → AsideState → Option (List SystemReading) → Option TimeState → Type 0
+RestTimes options names a None times = times ≡ None
+RestTimes options names a (Some rs) times = (o : TimeState) × (times ≡ Some o) × IsAtRest options names a rs o
 
 none_read : (names : List ℕ) → map without_reads (map unread names) ≡ map unread names
 none_read [] = refl
 none_read (n ∷ ns) = ap (λ rest. unread n ∷ rest) (none_read ns)
 
 -- as systems start
-pub rest_first : (options : TimelineOptions) (w : WorldState)
-    → RestTimes options (rising_clocks w) (none_carried (tracks options) (rising_clocks w)).readings
-    (times_before options w)
-rest_first options w = by (tracks options)
+pub rest_first : (options : TimelineOptions) (a : AsideState) (w : WorldState)
+    → RestTimes options (rising_clocks w) a (none_carried (tracks options) (rising_clocks w)).readings
+    (times_before options a w)
+rest_first options a w = by (tracks options)
   where
     names : List ℕ
     names = rising_clocks w
@@ -214,37 +276,113 @@ rest_first options w = by (tracks options)
       systems = map no_reading (rising_clocks w);
       reads = map unread (rising_clocks w);
       measures = nothing_read;
+      aside = a;
     }
 
-    by : (asked : Bool) → RestTimes options names (if asked then Some (map no_reading names) else None)
+    by : (asked : Bool) → RestTimes options names a (if asked then Some (map no_reading names) else None)
         (if asked then Some kept else None)
     by true = (
       kept,
       refl,
-      record { lines_is = refl; told_is = refl; systems_are = refl; reads_are = none_read (rising_clocks w) },
+      record {
+        lines_is = refl;
+        told_is = refl;
+        systems_are = refl;
+        reads_are = none_read (rising_clocks w);
+        aside_is = refl;
+      },
     )
     by false = refl
 
--- a stretch begins
-begun_is : (options : TimelineOptions) (from : Option ℕ) (names : List ℕ) (events : ℕ) (rs : List SystemReading)
-    (o : TimeState) → IsAtRest options names rs o
-    → times_begun from events o ≡ account options from names events [] rs
-begun_is options from names events rs o rest = λ i. record {
-  lines = rest.lines_is i;
-  told = rest.told_is i;
-  exact_from = from;
-  events_left = events;
-  systems = rest.systems_are i;
-  reads = rest.reads_are i;
-  measures = nothing_read;
-}
+-- who is set aside then
+module _ (options : TimelineOptions) (a : AsideState) (w : WorldState) where
+  times_at_start : (watch_at_start options a w).times ≡ times_before options a w
+  times_at_start = each_times (event_look 0) w (places_of (watch_before options a w)) (watch_before options a w)
 
-pub rest_begun : (options : TimelineOptions) (from : Option ℕ) (names : List ℕ) (events : ℕ)
-    (readings : Option (List SystemReading)) (times : Option TimeState) → RestTimes options names readings times
-    → option_map (times_begun from events) times ≡ account_if options from names events [] readings
-rest_begun options from names events None times is = ap (option_map (times_begun from events)) is
-rest_begun options from names events (Some rs) times (o, is, rest) =
-    ap (option_map (times_begun from events)) is ∙ ap Some (begun_is options from names events rs o rest)
+  kept_before : option_map_or (λ (o : TimeState). o.aside) (times_before options a w) nobody_aside
+      ≡ aside_if (tracks options) a
+  kept_before = by (tracks options)
+    where
+      kept : TimeState
+      kept = record {
+        lines = options.times;
+        told = options.times && options.offsets;
+        exact_from = None;
+        events_left = 0;
+        systems = map no_reading (rising_clocks w);
+        reads = map unread (rising_clocks w);
+        measures = nothing_read;
+        aside = a;
+      }
+
+      by : (asked : Bool) → option_map_or (λ (o : TimeState). o.aside) (if asked then Some kept else None) nobody_aside
+          ≡ aside_if asked a
+      by true = refl
+      by false = refl
+
+  pub kept_at_start : aside_kept (watch_at_start options a w) ≡ aside_if (tracks options) a
+  kept_at_start =
+      ap (λ times. option_map_or (λ (o : TimeState). o.aside) times nobody_aside) times_at_start ∙ kept_before
+
+  same_before : times_before options (aside_if (tracks options) a) w ≡ times_before options a w
+  same_before = by (tracks options)
+    where
+      kept : AsideState → TimeState
+      kept b = record {
+        lines = options.times;
+        told = options.times && options.offsets;
+        exact_from = None;
+        events_left = 0;
+        systems = map no_reading (rising_clocks w);
+        reads = map unread (rising_clocks w);
+        measures = nothing_read;
+        aside = b;
+      }
+
+      by : (asked : Bool) → (if asked then Some (kept (aside_if asked a)) else None)
+          ≡ (if asked then Some (kept a) else None)
+      by true = refl
+      by false = refl
+
+  pub starts_with_kept : (o : WatchState) → o ≡ watch_at_start options a w
+      → o ≡ watch_at_start options (aside_kept o) w
+  starts_with_kept o is =
+      is
+      ∙ ap (λ times. see_all (event_look 0) w (record (watch_before options a w) { times = times })) (sym same_before)
+      ∙ ap (λ b. watch_at_start options b w) (sym kept_at_start ∙ sym (ap aside_kept is))
+
+  pub nobody_kept : a.clocks ≡ [] → (o : WatchState) → o ≡ watch_at_start options a w → (aside_kept o).clocks ≡ []
+  nobody_kept nobody o is =
+      ap (λ (b : AsideState). b.clocks) (ap aside_kept is ∙ kept_at_start) ∙ by (tracks options)
+    where
+      by : (asked : Bool) → (aside_if asked a).clocks ≡ []
+      by true = nobody
+      by false = refl
+
+-- a stretch begins
+module _ (options : TimelineOptions) (at : ℕ) (from : Option ℕ) (names : List ℕ) (events : ℕ) (a : AsideState) where
+  begun_is : (rs : List SystemReading) (o : TimeState) → IsAtRest options names a rs o
+      → times_begun at from events o
+      ≡ account options from names events (aside_begun at a) [] (readings_begun (aside_begun at a) rs)
+  begun_is rs o rest = λ i. record {
+    lines = rest.lines_is i;
+    told = rest.told_is i;
+    exact_from = from;
+    events_left = events;
+    systems = readings_begun (aside_begun at (rest.aside_is i)) (rest.systems_are i);
+    reads = rest.reads_are i;
+    measures = nothing_read;
+    aside = aside_begun at (rest.aside_is i);
+  }
+
+  pub rest_begun : (readings : Option (List SystemReading)) (times : Option TimeState)
+      → RestTimes options names a readings times
+      → option_map (times_begun at from events) times
+      ≡ account_if options from names events (aside_begun at a) []
+      (option_map (readings_begun (aside_begun at a)) readings)
+  rest_begun None times is = ap (option_map (times_begun at from events)) is
+  rest_begun (Some rs) times (o, is, rest) =
+      ap (option_map (times_begun at from events)) is ∙ ap Some (begun_is rs o rest)
 
 -- it ends
 stays_unread : (from : Option ℕ) (at : ℕ) (w : WorldState) (u : NewReading) (x : SystemReads)
@@ -277,39 +415,45 @@ over_unread from rs xs (t ∷ ts) =
     over_unread from (read_after t rs) (reads_by from (at_of t) t.after (new_in t rs) xs) ts
     ∙ by_unread from (at_of t) t.after (new_in t rs) xs
 
-pub rest_after : (options : TimelineOptions) (from : Option ℕ) (names : List ℕ) (events : ℕ) (ts : List ActTrace)
-    (readings : Option (List SystemReading)) (times : Option TimeState)
-    → times ≡ account_if options from names events ts readings
-    → RestTimes options names (option_map (readings_after ts) readings) times
-rest_after options from names events ts None times is = is
-rest_after options from names events ts (Some rs) times is = (
-  account options from names events ts rs,
+pub rest_after : (options : TimelineOptions) (from : Option ℕ) (names : List ℕ) (events : ℕ) (a : AsideState)
+    (ts : List ActTrace) (readings : Option (List SystemReading)) (times : Option TimeState)
+    → times ≡ account_if options from names events a ts readings
+    → RestTimes options names (aside_over ts a) (option_map (readings_after (looked_acts a ts)) readings) times
+rest_after options from names events a ts None times is = is
+rest_after options from names events a ts (Some rs) times is = (
+  account options from names events a ts rs,
   is,
   record {
     lines_is = refl;
     told_is = refl;
     systems_are = refl;
-    reads_are = over_unread from rs (map unread names) ts ∙ none_read names;
+    reads_are = over_unread from rs (map unread names) (looked_acts a ts) ∙ none_read names;
+    aside_is = refl;
   },
 )
 
 -- ---- what is written where a stretch ends
 
-module _ (options : TimelineOptions) (names : List ℕ) (p : StretchTrace) (from : Option ℕ) (events : ℕ) where
-  pub line_kept : (readings : Option (List SystemReading)) (s : Stretch) (measured : List SystemReading → TimeMeasures)
-      → line_of_times (asks_lines (account_if options from names events p.acts readings)) s
-      (option_map measured readings)
-      ≡ line_of_times options.times s (option_map measured readings)
-  line_kept None s measured = refl
-  line_kept (Some rs) s measured = refl
+module _ (options : TimelineOptions) (names : List ℕ) (a : AsideState) (p : StretchTrace) (from : Option ℕ) (events : ℕ)
+  where
+    pub line_kept : (readings : Option (List SystemReading)) (s : Stretch)
+        (measured : List SystemReading → TimeMeasures)
+        → line_of_times (asks_lines (account_if options from names events a p.acts readings)) s
+        (option_map measured readings)
+        ≡ line_of_times options.times s (option_map measured readings)
+    line_kept None s measured = refl
+    line_kept (Some rs) s measured = refl
 
 none_asked : (asked : Bool) → ◌≡◌ {A = List ℕ} [] (if asked then [] else [])
 none_asked true = refl
 none_asked false = refl
 
-pub reads_are : (options : TimelineOptions) (names : List ℕ) (p : StretchTrace) (events : ℕ)
-    (readings : Option (List SystemReading)) (s : SystemError)
-    → reads_kept p.to p.after (account_if options (exact_time p.errors) names events p.acts readings) s
+-- where nobody is set aside
+pub reads_are : (options : TimelineOptions) (names : List ℕ) (a : AsideState) → a.clocks ≡ [] → (p : StretchTrace)
+    (events : ℕ) (readings : Option (List SystemReading)) (s : SystemError)
+    → reads_kept p.to p.after (account_if options (exact_time p.errors) names events a p.acts readings) s
     ≡ reads_if options.times names readings p s
-reads_are options names p events None s = none_asked options.times
-reads_are options names p events (Some rs) s = refl
+reads_are options names a nobody p events None s = none_asked options.times
+reads_are options names a nobody p events (Some rs) s =
+    ap (λ us. if options.times then reads_words s (ended_reads p.to p.after (readings_after us rs)
+    (reads_over (exact_time p.errors) rs (map unread names) us) s.clock) else []) (nobody_acts p.acts a nobody)

@@ -4,11 +4,13 @@ use Rattle.std.specs.List.{filter_map}
 use Rattle.std.proofs.lemmas.Bool.Decides.{nat_tests}
 use Rattle.gptp_model.specs.World.{WorldState}
 use Rattle.gptp_lists.specs.Members.{In}
+use Rattle.gptp_timeline.specs.Keepers.{keeper_of, keepers_among, keepers_in}
 use Rattle.gptp_timeline.specs.Measures.{one_at}
 use Rattle.gptp_timeline.specs.Shown.{shown}
 use Rattle.gptp_timeline.specs.Stretch.{shown_of_all, under_way}
 use Rattle.gptp_timeline.specs.StretchText.{error_among, wait_of}
 use Rattle.gptp_timeline.specs.Watch.{without_error}
+use Rattle.gptp_timeline.specs.declared.keepers.Keeper.{Keeper}
 use Rattle.gptp_timeline.specs.declared.measures.Greatest.{Greatest}
 use Rattle.gptp_timeline.proofs.StandLemmas.{kept}
 
@@ -17,6 +19,17 @@ module _ (since errors : ℕ → Option ℕ) (w : WorldState) where
   pub kept_shown : (names : List ℕ) → shown_of_all (map (kept since errors w) names) ≡ map (λ name. shown name w) names
   kept_shown [] = refl
   kept_shown (n ∷ ns) = ap (λ rest. shown n w ∷ rest) (kept_shown ns)
+
+  -- who keeps time
+  pub kept_keepers : (names : List ℕ) → keepers_among (map (kept since errors w) names) ≡ keepers_in names w
+  kept_keepers [] = refl
+  kept_keepers (n ∷ ns) = by (keeper_of n (shown n w)) refl (kept_keepers ns)
+    where
+      by : (o : Option Keeper) → keeper_of n (shown n w) ≡ o
+          → keepers_among (map (kept since errors w) ns) ≡ keepers_in ns w
+          → keepers_among (map (kept since errors w) (n ∷ ns)) ≡ keepers_in (n ∷ ns) w
+      by None is rest = rw is rest
+      by (Some one) is rest = rw is (ap (λ ks. one ∷ ks) rest)
 
   -- the waits under way
   pub kept_waits : (to : ℕ) (names : List ℕ)

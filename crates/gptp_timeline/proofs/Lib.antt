@@ -35,7 +35,9 @@ mod NewReadingLemmas
 mod PutLemmas
 pub mod SourceLemmas
 mod SourceEndsLemmas
-mod AccountLemmas
+pub mod KeeperLemmas
+pub mod AsideLemmas
+pub mod AccountLemmas
 pub mod ObservedLemmas
 pub mod TimelineLemmas
 pub mod UnfoldLemmas

@@ -16,12 +16,15 @@ use Rattle.gptp_world.proofs.FollowLemmas.{text_append}
 use Rattle.gptp_report.proofs.RunLemmas.{made_if_stays, passed_stays}
 use Rattle.gptp_words.specs.Lines.{text_of}
 use Rattle.gptp_timeline.specs.Ends.{EndState}
-use Rattle.gptp_timeline.specs.LastTwo.{all_kept, end_in, end_of, kept_after, none_kept}
+use Rattle.gptp_timeline.specs.Aside.{AsideState}
+use Rattle.gptp_timeline.specs.Keepers.{keepers_among}
+use Rattle.gptp_timeline.specs.LastStretches.{all_kept, carry_begun, carry_over, CarriedAside, end_in, end_of, kept_after, none_kept}
 use Rattle.gptp_timeline.specs.Passing.{first_time, StretchIsSeen, IsSeenSoFar, StopsSeen}
 use Rattle.gptp_timeline.specs.Stretch.{roots_of, shown_of_all}
 use Rattle.gptp_timeline.specs.StretchText.{after_line, ended_stretch}
-use Rattle.gptp_timeline.specs.Timeline.{acts_lines, all_lines, AllPass, AreErrorsIf, asks_lines, Carried, carry, end_before, end_lines, ended_of, exact_time, is_begun, kept_accuracy, IsPassage, IsTimelinePlan, later_than, line_of_times, none_carried, now_of, passage_lines, reads_kept, SomePass, StretchTrace, times_ended, tracks}
+use Rattle.gptp_timeline.specs.Timeline.{acts_lines, all_lines, AllPass, AreErrorsIf, asks_lines, carry, end_before, end_lines, ended_of, exact_time, is_begun, kept_accuracy, IsPassage, IsTimelinePlan, later_than, line_of_times, none_carried, now_of, passage_lines, reads_kept, SomePass, StretchTrace, times_ended, tracks}
 use Rattle.gptp_timeline.specs.Watch.{watch_begun, tells_changes, WatchState}
+use Rattle.gptp_timeline.specs.declared.keepers.Keeper.{Keeper}
 use Rattle.gptp_timeline.specs.declared.ends.StretchesSoFar.{StretchesSoFar}
 use Rattle.gptp_timeline.specs.declared.looks.TimeMeasures.{TimeMeasures}
 use Rattle.gptp_timeline.specs.declared.measures.Measures.{Measures}
@@ -31,6 +34,7 @@ use Rattle.gptp_timeline.specs.declared.timeline.TimelineOptions.{TimelineOption
 use Rattle.gptp_timeline.specs.declared.watched.Watched.{Watched}
 use Rattle.gptp_timeline.proofs.EventLemmas.{ends_before, some_left}
 use Rattle.gptp_timeline.proofs.LineLemmas.{line_on, lines_on}
+use Rattle.gptp_timeline.proofs.StretchesSoFarLemmas.{nobody_begun, nobody_next, nobody_over_it}
 use Rattle.gptp_timeline.proofs.ObservedLemmas.{broken_told, end_is, end_told, ended_with, IsOfPlan, Observes, Rests, stretch_begins, stretch_passes, stretch_rests, stretch_told}
 
 -- ---- answers
@@ -69,11 +73,15 @@ module _ (plan : Plan) (w : WorldState) (o : WatchState) (s : Stretch) (m : Meas
       ∙ ap (λ ys. ended_by_plan plan o.measures ys times) systems
       ∙ ap (ended_by_plan plan o.measures o.systems) read
 
-  pub end_made : (ys : List Watched) (roots : List ℕ) (e : EndState) → roots ≡ roots_of (shown_of_all ys)
-      → ys ≡ o.systems → e ≡ record { stretch = s; roots = roots } → e ≡ end_of plan w o
-  end_made ys roots e followed also made =
-      made ∙ ap (λ t. ended_with t roots) stretch_is
-      ∙ ap (ended_with (ended_of plan w o)) (followed ∙ ap (λ (zs : List Watched). roots_of (shown_of_all zs)) also)
+  pub end_made : (ys zs : List Watched) (roots : List ℕ) (keepers : List Keeper) (e : EndState)
+      → roots ≡ roots_of (shown_of_all ys) → ys ≡ o.systems → keepers ≡ keepers_among zs → zs ≡ o.systems
+      → e ≡ record { stretch = s; roots = roots; keepers = keepers } → e ≡ end_of plan w o
+  end_made ys zs roots keepers e followed also who too made =
+      made ∙ ap (λ t. ended_with t roots keepers) stretch_is
+      ∙ ap (λ rs. ended_with (ended_of plan w o) rs keepers)
+      (followed ∙ ap (λ (vs : List Watched). roots_of (shown_of_all vs)) also)
+      ∙ ap (ended_with (ended_of plan w o) (roots_of (shown_of_all o.systems)))
+      (who ∙ ap (λ (vs : List Watched). keepers_among vs) too)
 
   -- the lines where a stretch ends
   pub end_text : (asked : Bool) (empty one two after octets : List ℕ) → asked ≡ asks_lines o.times → empty ≡ []
@@ -111,143 +119,159 @@ module _ {F : Type 0} (answers : Bounds → ℕ → F → Option ℕ → F → T
 -- ---- several stretches
 
 module _ {F : Type 0} (answers : Bounds → ℕ → F → Option ℕ → F → Type 0) (exact : Bool) (d : DocumentState) (until : ℕ)
-    (options : TimelineOptions) (names : List ℕ) (events : List Timed) (fate : F) (w : WorldState) where
-  -- as systems start
-  abbrev pub first : Carried
-  first = none_carried (tracks options) names
+    (options : TimelineOptions) (names : List ℕ) (events : List Timed) (fate : F) (w : WorldState) (a : AsideState)
+  where
+    -- as systems start
+    abbrev pub first : CarriedAside
+    first = record { carried = none_carried (tracks options) names; aside = a }
 
-  -- Stretches passed, the first from 0 on with these events; the next begins at a time with those that are left.
-  pub record Gone (from : ℕ) (left : List Timed) (drawn : F) (between : WorldState) (kept : StretchesSoFar)
-      (carried : Carried) (lines : List (List ℕ)) : Type 0 where
-    pub passages : List StretchTrace
-    pub more : (q : StretchTrace) (qs : List StretchTrace) (fate_after : F) (w' : WorldState)
-        → AllPass answers exact d until from left drawn fate_after between w' (q ∷ qs)
-        → AllPass answers exact d until 0 events fate fate_after w w' (passages ++ q ∷ qs)
-    pub some : (qs : List StretchTrace) (ts : List ActTrace)
-        → SomePass answers exact d until from left drawn between qs ts
-        → SomePass answers exact d until 0 events fate w (passages ++ qs) ts
-    pub lines_are : (qs : List StretchTrace) (ts : List ActTrace)
-        → lines ++ all_lines options names carried qs ts ≡ all_lines options names first (passages ++ qs) ts
-    pub kept_is : (qs : List StretchTrace) → all_kept options.limits names carried qs kept
-        ≡ all_kept options.limits names first (passages ++ qs) none_kept
+    -- nobody is set aside
+    abbrev Nobody : Type 0
+    Nobody = a.clocks ≡ []
 
-  pub gone_none : Gone 0 events fate w none_kept first []
-  gone_none = record {
-    passages = [];
-    more = λ q qs fate_after w' all. all;
-    some = λ qs ts some. some;
-    lines_are = λ qs ts. refl;
-    kept_is = λ qs. refl;
-  }
+    -- Stretches passed, the first from 0 on with these events; the next begins at a time with those that are left.
+    pub record Gone (from : ℕ) (left : List Timed) (drawn : F) (between : WorldState) (kept : StretchesSoFar)
+        (c : CarriedAside) (lines : List (List ℕ)) : Type 0 where
+      pub passages : List StretchTrace
+      pub more : (q : StretchTrace) (qs : List StretchTrace) (fate_after : F) (w' : WorldState)
+          → AllPass answers exact d until from left drawn fate_after between w' (q ∷ qs)
+          → AllPass answers exact d until 0 events fate fate_after w w' (passages ++ q ∷ qs)
+      pub some : (qs : List StretchTrace) (ts : List ActTrace)
+          → SomePass answers exact d until from left drawn between qs ts
+          → SomePass answers exact d until 0 events fate w (passages ++ qs) ts
+      pub nobody : Nobody → c.aside.clocks ≡ []
+      pub lines_are : Nobody → (qs : List StretchTrace) (ts : List ActTrace)
+          → lines ++ all_lines options names c.carried qs ts
+          ≡ all_lines options names first.carried (passages ++ qs) ts
+      pub kept_is : (qs : List StretchTrace) → all_kept options.limits names c qs kept
+          ≡ all_kept options.limits names first (passages ++ qs) none_kept
 
-  -- all stretches passed, to these lines
-  pub record AllGone (fate_after : F) (w' : WorldState) (verdict : StretchesSoFar) (all : List (List ℕ)) : Type 0 where
-    pub passages : List StretchTrace
-    pub pass : AllPass answers exact d until 0 events fate fate_after w w' passages
-    pub verdict_is : verdict ≡ all_kept options.limits names first passages none_kept
-    pub are : all ≡ all_lines options names first passages []
+    pub gone_none : Gone 0 events fate w none_kept first []
+    gone_none = record {
+      passages = [];
+      more = λ q qs fate_after w' all. all;
+      some = λ qs ts some. some;
+      nobody = λ none. none;
+      lines_are = λ none qs ts. refl;
+      kept_is = λ qs. refl;
+    }
 
-  -- or some of them did
-  pub record SomeGone (some_lines : List (List ℕ)) : Type 0 where
-    pub passages : List StretchTrace
-    pub acts : List ActTrace
-    pub pass : SomePass answers exact d until 0 events fate w passages acts
-    pub are : some_lines ≡ all_lines options names first passages acts
+    -- all stretches passed, to these lines
+    pub record AllGone (fate_after : F) (w' : WorldState) (verdict : StretchesSoFar) (all : List (List ℕ)) : Type 0
+      where
+        pub passages : List StretchTrace
+        pub pass : AllPass answers exact d until 0 events fate fate_after w w' passages
+        pub verdict_is : verdict ≡ all_kept options.limits names first passages none_kept
+        pub are : Nobody → all ≡ all_lines options names first.carried passages []
 
-  -- one stretch more after which another comes
-  module _ (from to : ℕ) (left : List Timed) (drawn next : F) (between : WorldState) (kept : StretchesSoFar)
-      (carried : Carried) (lines : List (List ℕ)) (gone : Gone from left drawn between kept carried lines)
-      (p : StretchTrace) (passage : IsPassage answers exact d until from left drawn next between p)
-      (is : first_time (later_than from left) ≡ Some to) where
-    to_is : p.to ≡ to
-    to_is = passage.to_is ∙ ends_before until (later_than from left) to is
+    -- or some of them did
+    pub record SomeGone (some_lines : List (List ℕ)) : Type 0 where
+      pub passages : List StretchTrace
+      pub acts : List ActTrace
+      pub pass : SomePass answers exact d until 0 events fate w passages acts
+      pub are : Nobody → some_lines ≡ all_lines options names first.carried passages acts
 
-    behind : (qs : List StretchTrace) → gone.passages ++ p ∷ qs ≡ (gone.passages ++ p ∷ []) ++ qs
-    behind qs = sym (append_assoc gone.passages (p ∷ []) qs)
+    -- one stretch more after which another comes
+    module _ (from to : ℕ) (left : List Timed) (drawn next : F) (between : WorldState) (kept : StretchesSoFar)
+        (c : CarriedAside) (lines : List (List ℕ)) (gone : Gone from left drawn between kept c lines)
+        (p : StretchTrace) (told : List (List ℕ)) (told_is : Nobody → told ≡ passage_lines options names c.carried p)
+        (passage : IsPassage answers exact d until from left drawn next between p)
+        (is : first_time (later_than from left) ≡ Some to) where
+      to_is : p.to ≡ to
+      to_is = passage.to_is ∙ ends_before until (later_than from left) to is
 
-    pub gone_more : Gone to (later_than from left) next p.after
-        (kept_after options.limits (end_in names carried p) kept) (carry p.acts carried)
-        (lines ++ passage_lines options names carried p)
-    gone_more = record {
-      passages = gone.passages ++ p ∷ [];
-      more = λ q qs fate_after w' all.
-          subst (AllPass answers exact d until 0 events fate fate_after w w') (behind (q ∷ qs))
-          (gone.more p (q ∷ qs) fate_after w' (
+      behind : (qs : List StretchTrace) → gone.passages ++ p ∷ qs ≡ (gone.passages ++ p ∷ []) ++ qs
+      behind qs = sym (append_assoc gone.passages (p ∷ []) qs)
+
+      pub gone_more : Gone to (later_than from left) next p.after
+          (kept_after options.limits (end_in names c p) kept) (carry_over p c) (lines ++ told)
+      gone_more = record {
+        passages = gone.passages ++ p ∷ [];
+        more = λ q qs fate_after w' all.
+            subst (AllPass answers exact d until 0 events fate fate_after w w') (behind (q ∷ qs))
+            (gone.more p (q ∷ qs) fate_after w' (
+              next,
+              passage,
+              some_left (later_than from left) to is,
+              subst (λ t. AllPass answers exact d until t (later_than from left) next fate_after p.after w' (q ∷ qs))
+                  (sym to_is)
+                  all,
+            ));
+        some = λ qs ts rest. subst (λ ps. SomePass answers exact d until 0 events fate w ps ts) (behind qs)
+            (gone.some (p ∷ qs) ts (
+              next,
+              passage,
+              subst (λ t. SomePass answers exact d until t (later_than from left) next p.after qs ts) (sym to_is) rest,
+            ));
+        nobody = λ none. nobody_next p c (gone.nobody none);
+        lines_are = λ none qs ts.
+            ap (λ carried. (lines ++ told) ++ all_lines options names carried qs ts)
+            (nobody_over_it p c (gone.nobody none))
+            ∙ ap (λ ls. (lines ++ ls) ++ all_lines options names (carry p.acts c.carried) qs ts) (told_is none)
+            ∙ append_assoc lines (passage_lines options names c.carried p)
+            (all_lines options names (carry p.acts c.carried) qs ts)
+            ∙ gone.lines_are none (p ∷ qs) ts
+            ∙ ap (λ ps. all_lines options names first.carried ps ts) (behind qs);
+        kept_is = λ qs. gone.kept_is (p ∷ qs)
+            ∙ ap (λ ps. all_kept options.limits names first ps none_kept) (behind qs);
+      }
+
+    -- the last of them
+    module _ (from : ℕ) (left : List Timed) (drawn : F) (between : WorldState) (kept : StretchesSoFar)
+        (c : CarriedAside) (lines : List (List ℕ)) (gone : Gone from left drawn between kept c lines) where
+      pub gone_all : (p : StretchTrace) (told : List (List ℕ))
+          → (Nobody → told ≡ passage_lines options names c.carried p) → (next : F)
+          → IsPassage answers exact d until from left drawn next between p → later_than from left ≡ []
+          → AllGone next p.after (kept_after options.limits (end_in names c p) kept) (lines ++ told)
+      gone_all p told told_is next passage none = record {
+        passages = gone.passages ++ p ∷ [];
+        pass = gone.more p [] next p.after (passage, none, refl);
+        verdict_is = gone.kept_is (p ∷ []);
+        are = λ nobody. ap (λ rest. lines ++ rest)
+            (told_is nobody ∙ sym (append-nil (passage_lines options names c.carried p)))
+            ∙ gone.lines_are nobody (p ∷ []) [];
+      }
+
+      lines_of : Nobody → (qs : List StretchTrace) (ts : List ActTrace) (more : List (List ℕ))
+          → more ≡ all_lines options names c.carried qs ts
+          → lines ++ more ≡ all_lines options names first.carried (gone.passages ++ qs) ts
+      lines_of nobody qs ts more are = ap (λ rest. lines ++ rest) are ∙ gone.lines_are nobody qs ts
+
+      some_gone : (qs : List StretchTrace) (ts : List ActTrace) (more : List (List ℕ))
+          → SomePass answers exact d until from left drawn between qs ts
+          → (Nobody → more ≡ all_lines options names c.carried qs ts) → SomeGone (lines ++ more)
+      some_gone qs ts more pass are = record {
+        passages = gone.passages ++ qs;
+        acts = ts;
+        pass = gone.some qs ts pass;
+        are = λ nobody. lines_of nobody qs ts more (are nobody);
+      }
+
+      -- before anything is known of it
+      pub gone_no_further : SomeGone (lines ++ [])
+      gone_no_further =
+          some_gone [] [] [] (none_done answers (end_before until (later_than from left)) (now_of from left) drawn
+          between)
+          (λ nobody. refl)
+
+      -- among its acts
+      pub gone_on : (ts : List ActTrace) (told : List (List ℕ))
+          → CoursesSoFar answers (end_before until (later_than from left)) (now_of from left) ts drawn between
+          → (Nobody → told ≡ acts_lines options names c.carried.readings ts) → SomeGone (lines ++ told)
+      gone_on ts told courses are = some_gone [] ts told courses are
+
+      -- where it ends
+      pub gone_to_end : (p : StretchTrace) (told : List (List ℕ))
+          → (Nobody → told ≡ passage_lines options names c.carried p) → (next : F)
+          → IsPassage answers exact d until from left drawn next between p → SomeGone (lines ++ told)
+      gone_to_end p told told_is next passage =
+          some_gone (p ∷ []) [] told (
             next,
             passage,
-            some_left (later_than from left) to is,
-            subst (λ t. AllPass answers exact d until t (later_than from left) next fate_after p.after w' (q ∷ qs))
-                (sym to_is)
-                all,
-          ));
-      some = λ qs ts rest. subst (λ ps. SomePass answers exact d until 0 events fate w ps ts) (behind qs)
-          (gone.some (p ∷ qs) ts (
-            next,
-            passage,
-            subst (λ t. SomePass answers exact d until t (later_than from left) next p.after qs ts) (sym to_is) rest,
-          ));
-      lines_are = λ qs ts. append_assoc lines (passage_lines options names carried p)
-          (all_lines options names (carry p.acts carried) qs ts)
-          ∙ gone.lines_are (p ∷ qs) ts
-          ∙ ap (λ ps. all_lines options names first ps ts) (behind qs);
-      kept_is = λ qs. gone.kept_is (p ∷ qs)
-          ∙ ap (λ ps. all_kept options.limits names first ps none_kept) (behind qs);
-    }
-
-  -- the last of them
-  module _ (from : ℕ) (left : List Timed) (drawn : F) (between : WorldState) (kept : StretchesSoFar)
-      (carried : Carried) (lines : List (List ℕ)) (gone : Gone from left drawn between kept carried lines) where
-    pub gone_all : (p : StretchTrace) (next : F) → IsPassage answers exact d until from left drawn next between p
-        → later_than from left ≡ []
-        → AllGone next p.after (kept_after options.limits (end_in names carried p) kept)
-        (lines ++ passage_lines options names carried p)
-    gone_all p next passage none = record {
-      passages = gone.passages ++ p ∷ [];
-      pass = gone.more p [] next p.after (passage, none, refl);
-      verdict_is = gone.kept_is (p ∷ []);
-      are = ap (λ rest. lines ++ rest) (sym (append-nil (passage_lines options names carried p)))
-          ∙ gone.lines_are (p ∷ []) [];
-    }
-
-    lines_of : (qs : List StretchTrace) (ts : List ActTrace) (more : List (List ℕ))
-        → more ≡ all_lines options names carried qs ts
-        → lines ++ more ≡ all_lines options names first (gone.passages ++ qs) ts
-    lines_of qs ts more are = ap (λ rest. lines ++ rest) are ∙ gone.lines_are qs ts
-
-    some_gone : (qs : List StretchTrace) (ts : List ActTrace) (more : List (List ℕ))
-        → SomePass answers exact d until from left drawn between qs ts
-        → more ≡ all_lines options names carried qs ts → SomeGone (lines ++ more)
-    some_gone qs ts more pass are = record {
-      passages = gone.passages ++ qs;
-      acts = ts;
-      pass = gone.some qs ts pass;
-      are = lines_of qs ts more are;
-    }
-
-    -- before anything is known of it
-    pub gone_no_further : SomeGone (lines ++ [])
-    gone_no_further =
-        some_gone [] [] [] (none_done answers (end_before until (later_than from left)) (now_of from left) drawn
-        between)
-        refl
-
-    -- among its acts
-    pub gone_on : (ts : List ActTrace) (told : List (List ℕ))
-        → CoursesSoFar answers (end_before until (later_than from left)) (now_of from left) ts drawn between
-        → told ≡ acts_lines options names carried.readings ts → SomeGone (lines ++ told)
-    gone_on ts told courses are = some_gone [] ts told courses are
-
-    -- where it ends
-    pub gone_to_end : (p : StretchTrace) (next : F) → IsPassage answers exact d until from left drawn next between p
-        → SomeGone (lines ++ passage_lines options names carried p)
-    gone_to_end p next passage =
-        some_gone (p ∷ []) [] (passage_lines options names carried p) (
-          next,
-          passage,
-          none_done answers (end_before until (later_than p.to (later_than from left)))
-              (now_of p.to (later_than from left)) next p.after,
-        )
-        (sym (append-nil (passage_lines options names carried p)))
+            none_done answers (end_before until (later_than p.to (later_than from left)))
+                (now_of p.to (later_than from left)) next p.after,
+          )
+          (λ nobody. told_is nobody ∙ sym (append-nil (passage_lines options names c.carried p)))
 
 -- ---- what passed before an observer
 
@@ -286,10 +310,10 @@ module _ {F : Type 0} (answers : Bounds → ℕ → F → Option ℕ → F → T
 
 -- an observer sees them, for which the stretch began
 module _ {F : Type 0} (answers : Bounds → ℕ → F → Option ℕ → F → Type 0) (plan : Plan) (now : List Timed) (fate : F)
-    (w : WorldState) (o mid : WatchState) (mid_is : mid ≡ watch_begun (exact_time plan.errors) (length now) o)
+    (w : WorldState) (o mid : WatchState) (mid_is : mid ≡ watch_begun plan.from (exact_time plan.errors) (length now) o)
     (due : events_by plan.to now ≡ now) (ts : List ActTrace) (o_after : WatchState) (So : List ℕ → Type 0)
     (observed : Observed tells_changes ts mid o_after So) where
-  tells : Tells tells_changes ts (watch_begun (exact_time plan.errors) (length now) o) o_after observed.lines
+  tells : Tells tells_changes ts (watch_begun plan.from (exact_time plan.errors) (length now) o) o_after observed.lines
   tells = subst (λ b. Tells tells_changes ts b o_after observed.lines) mid_is observed.are
 
   pub sees_all : (fate_after : F) (w' : WorldState)
@@ -312,11 +336,20 @@ module _ {F : Type 0} (answers : Bounds → ℕ → F → Option ℕ → F → T
 
 -- what is told of them, and the lines where the stretch ends
 module _ {F : Type 0} (answers : Bounds → ℕ → F → Option ℕ → F → Type 0) (options : TimelineOptions) (names : List ℕ)
-    (carried : Carried) (plan : Plan) (now : List Timed) (fate : F) (w : WorldState) (o : WatchState)
-    (rests : Rests options names carried w o) where
-  begins : Observes options names carried (exact_time plan.errors) (length now) [] w
-      (watch_begun (exact_time plan.errors) (length now) o)
-  begins = stretch_begins options names carried (exact_time plan.errors) (length now) w o rests
+    (c : CarriedAside) (plan : Plan) (now : List Timed) (fate : F) (w : WorldState) (o : WatchState)
+    (rests : Rests options names c w o) where
+  abbrev from : Option ℕ
+  from = exact_time plan.errors
+
+  -- as the stretch begins
+  abbrev begun : CarriedAside
+  begun = carry_begun plan.from c
+
+  abbrev mid : WatchState
+  mid = watch_begun plan.from from (length now) o
+
+  begins : Observes options names begun from (length now) [] w mid
+  begins = stretch_begins options names c plan.from from (length now) w o rests
 
   -- to the end of the stretch
   module _ (fate_after : F) (w' : WorldState) (o_after : WatchState) (told : List (List ℕ))
@@ -328,167 +361,180 @@ module _ {F : Type 0} (answers : Bounds → ℕ → F → Option ℕ → F → T
     of_plan : IsOfPlan plan seen_passage
     of_plan = record { from_is = refl; to_is = refl; begins_is = is_begun_is; settling_is = refl; errors_are = refl }
 
-    observes : Observes options names carried (exact_time plan.errors) (length now) seen.acts w' o_after
+    observes : Observes options names begun from (length now) seen.acts w' o_after
     observes =
-        stretch_passes options names carried answers (exact_time plan.errors) plan.to now seen.acts fate w
-        (watch_begun (exact_time plan.errors) (length now) o) o_after told begins seen.tells fate_after w' seen.courses
+        stretch_passes options names begun answers from plan.to now seen.acts fate w mid o_after told begins seen.tells
+        fate_after w' seen.courses
 
-    pub seen_end : end_of plan w' o_after ≡ end_in names carried (passage_of plan now seen.acts w')
-    seen_end = end_is options names carried plan seen_passage of_plan o_after observes
+    pub seen_end : end_of plan w' o_after ≡ end_in names c (passage_of plan now seen.acts w')
+    seen_end = end_is options names begun plan seen_passage of_plan o_after observes
 
-    pub seen_lines : told ++ end_lines plan w' o_after
-        ≡ passage_lines options names carried (passage_of plan now seen.acts w')
-    seen_lines =
+    pub seen_lines : c.aside.clocks ≡ [] → told ++ end_lines plan w' o_after
+        ≡ passage_lines options names c.carried (passage_of plan now seen.acts w')
+    seen_lines nobody =
         ap (λ front. front ++ end_lines plan w' o_after)
-        (stretch_told options names carried answers (exact_time plan.errors) plan.to now seen.acts fate w
-        (watch_begun (exact_time plan.errors) (length now) o) o_after told begins seen.tells fate_after w' seen.courses)
-        ∙ ap (λ rest. acts_lines options names carried.readings seen.acts ++ rest)
-        (end_told options names carried plan seen_passage of_plan o_after observes)
+        (stretch_told options names begun answers from plan.to now seen.acts fate w mid o_after told begins seen.tells
+        nobody fate_after w' seen.courses)
+        ∙ ap (λ rest. acts_lines options names begun.carried.readings seen.acts ++ rest)
+        (end_told options names begun plan seen_passage of_plan o_after observes nobody)
+        ∙ ap (λ carried. passage_lines options names carried seen_passage) (nobody_begun plan.from c nobody)
 
-    pub seen_rests : Rests options names (carry seen.acts carried) w' o_after
-    seen_rests = stretch_rests options names carried (exact_time plan.errors) (length now) seen.acts w' o_after observes
+    pub seen_rests : Rests options names (carry_over (passage_of plan now seen.acts w') c) w' o_after
+    seen_rests = stretch_rests options names begun from (length now) seen.acts w' o_after observes
 
   -- or so far
-  pub seen_so_far : (told : List (List ℕ)) (some : IsSeenSoFar answers plan now fate w o told)
-      → told ≡ acts_lines options names carried.readings some.acts
-  seen_so_far told some =
-      broken_told options names carried answers (exact_time plan.errors) plan.to now some.acts fate w
-      (watch_begun (exact_time plan.errors) (length now) o) some.o_after told begins some.tells some.courses
+  pub seen_so_far : (told : List (List ℕ)) (some : IsSeenSoFar answers plan now fate w o told) → c.aside.clocks ≡ []
+      → told ≡ acts_lines options names c.carried.readings some.acts
+  seen_so_far told some nobody =
+      broken_told options names begun answers from plan.to now some.acts fate w mid some.o_after told begins some.tells
+      nobody some.courses
+      ∙ ap (λ carried. acts_lines options names carried.readings some.acts) (nobody_begun plan.from c nobody)
 
 -- ---- all stretches before an observer
 
 module _ {F : Type 0} (answers : Bounds → ℕ → F → Option ℕ → F → Type 0) (exact : Bool) (d : DocumentState) (until : ℕ)
-    (options : TimelineOptions) (names : List ℕ) (events : List Timed) (fate : F) (w : WorldState) where
-  -- Stretches passed; the observer is where the next can begin, and this is so of the text of them.
-  pub record GoneSeen (from : ℕ) (left : List Timed) (drawn : F) (between : WorldState) (kept : StretchesSoFar)
-      (o : WatchState) (So : List ℕ → Type 0) : Type 0 where
-    pub carried : Carried
-    pub lines : List (List ℕ)
-    pub gone : Gone answers exact d until options names events fate w from left drawn between kept carried lines
-    pub rests : Rests options names carried between o
-    pub so : So (text_of lines)
+    (options : TimelineOptions) (names : List ℕ) (events : List Timed) (fate : F) (w : WorldState) (a : AsideState)
+  where
+    -- Stretches passed; the observer is where the next can begin, and this is so of the text of them.
+    pub record GoneSeen (from : ℕ) (left : List Timed) (drawn : F) (between : WorldState) (kept : StretchesSoFar)
+        (o : WatchState) (So : List ℕ → Type 0) : Type 0 where
+      pub carried : CarriedAside
+      pub lines : List (List ℕ)
+      pub gone : Gone answers exact d until options names events fate w a from left drawn between kept carried lines
+      pub rests : Rests options names carried between o
+      pub so : So (text_of lines)
 
-  pub seen_none : (o : WatchState) (So : List ℕ → Type 0)
-      → Rests options names (none_carried (tracks options) names) w o → So []
-      → GoneSeen 0 events fate w none_kept o So
-  seen_none o So rests so = record {
-    carried = none_carried (tracks options) names;
-    lines = [];
-    gone = gone_none answers exact d until options names events fate w;
-    rests = rests;
-    so = so;
-  }
+    pub seen_none : (o : WatchState) (So : List ℕ → Type 0)
+        → Rests options names (record { carried = none_carried (tracks options) names; aside = a }) w o → So []
+        → GoneSeen 0 events fate w none_kept o So
+    seen_none o So rests so = record {
+      carried = record { carried = none_carried (tracks options) names; aside = a };
+      lines = [];
+      gone = gone_none answers exact d until options names events fate w a;
+      rests = rests;
+      so = so;
+    }
 
-  module _ (from to : ℕ) (left : List Timed) (drawn : F) (between : WorldState) (kept : StretchesSoFar) (o : WatchState)
-      (First Second Both : List ℕ → Type 0) (both : (one two : List ℕ) → First one → Second two → Both (one ++ two))
-      (so_far : GoneSeen from left drawn between kept o First) where
-    -- what is so of the lines so far and of those of the next is so of both
-    joined : (told : List (List ℕ)) → Second (text_of told) → Both (text_of (so_far.lines ++ told))
-    joined told so =
-        subst Both (sym (text_append so_far.lines told)) (both (text_of so_far.lines) (text_of told) so_far.so so)
+    module _ (from to : ℕ) (left : List Timed) (drawn : F) (between : WorldState) (kept : StretchesSoFar)
+        (o : WatchState) (First Second Both : List ℕ → Type 0)
+        (both : (one two : List ℕ) → First one → Second two → Both (one ++ two))
+        (so_far : GoneSeen from left drawn between kept o First) where
+      -- what is so of the lines so far and of those of the next is so of both
+      joined : (told : List (List ℕ)) → Second (text_of told) → Both (text_of (so_far.lines ++ told))
+      joined told so =
+          subst Both (sym (text_append so_far.lines told)) (both (text_of so_far.lines) (text_of told) so_far.so so)
 
-    -- it passed
-    module _ (plan : Plan) (next : F) (after : WorldState) (o_after : WatchState) (told : List (List ℕ))
-        (verdict : StretchesSoFar) (known : IsTimelinePlan exact d from to (is_begun (now_of from left)) plan)
-        (seen : StretchIsSeen answers plan (now_of from left) drawn next between after o o_after told)
-        (verdict_is : verdict ≡ kept_after options.limits (end_of plan after o_after) kept)
-        (so : Second (text_of (told ++ end_lines plan after o_after))) where
-      abbrev passed : StretchTrace
-      passed = passage_of plan (now_of from left) seen.acts after
+      -- it passed
+      module _ (plan : Plan) (next : F) (after : WorldState) (o_after : WatchState) (told : List (List ℕ))
+          (verdict : StretchesSoFar) (known : IsTimelinePlan exact d from to (is_begun (now_of from left)) plan)
+          (seen : StretchIsSeen answers plan (now_of from left) drawn next between after o o_after told)
+          (verdict_is : verdict ≡ kept_after options.limits (end_of plan after o_after) kept)
+          (so : Second (text_of (told ++ end_lines plan after o_after))) where
+        abbrev passed : StretchTrace
+        passed = passage_of plan (now_of from left) seen.acts after
 
-      lines_are : told ++ end_lines plan after o_after ≡ passage_lines options names so_far.carried passed
-      lines_are =
-          seen_lines answers options names so_far.carried plan (now_of from left) drawn between o so_far.rests next
-          after o_after told seen known.begins_is
+        abbrev written : List (List ℕ)
+        written = told ++ end_lines plan after o_after
 
-      verdict_so : verdict ≡ kept_after options.limits (end_in names so_far.carried passed) kept
-      verdict_so =
-          verdict_is
-          ∙ ap (λ e. kept_after options.limits e kept)
-          (seen_end answers options names so_far.carried plan (now_of from left) drawn between o so_far.rests next
-          after o_after told seen known.begins_is)
+        lines_are : a.clocks ≡ [] → written ≡ passage_lines options names so_far.carried.carried passed
+        lines_are nobody =
+            seen_lines answers options names so_far.carried plan (now_of from left) drawn between o so_far.rests next
+            after o_after told seen known.begins_is (so_far.gone.nobody nobody)
 
-      both_so : Both (text_of (so_far.lines ++ passage_lines options names so_far.carried passed))
-      both_so = joined (passage_lines options names so_far.carried passed)
-          (subst (λ xs. Second (text_of xs)) lines_are so)
+        verdict_so : verdict ≡ kept_after options.limits (end_in names so_far.carried passed) kept
+        verdict_so =
+            verdict_is
+            ∙ ap (λ e. kept_after options.limits e kept)
+            (seen_end answers options names so_far.carried plan (now_of from left) drawn between o so_far.rests next
+            after o_after told seen known.begins_is)
 
-      -- and another comes
-      pub seen_more : first_time (later_than from left) ≡ Some to
-          → GoneSeen to (later_than from left) next after verdict o_after Both
-      seen_more is = record {
-        carried = carry seen.acts so_far.carried;
-        lines = so_far.lines ++ passage_lines options names so_far.carried passed;
-        gone = subst (λ e. Gone answers exact d until options names events fate w to (later_than from left) next after e
-            (carry seen.acts so_far.carried) (so_far.lines ++ passage_lines options names so_far.carried passed))
-            (sym verdict_so)
-            (gone_more answers exact d until options names events fate w from to left drawn next between kept
-            so_far.carried so_far.lines so_far.gone passed
-            (is_passage answers exact d until from to left (sym (ends_before until (later_than from left) to is)) plan
-            known drawn next between after seen.acts seen.courses) is);
-        rests = seen_rests answers options names so_far.carried plan (now_of from left) drawn between o so_far.rests
-            next after o_after told seen known.begins_is;
-        so = both_so;
-      }
+        both_so : Both (text_of (so_far.lines ++ written))
+        both_so = joined written so
 
-      -- and it is the last
-      pub seen_all : later_than from left ≡ [] → to ≡ until
-          → (passages : List StretchTrace) × AllPass answers exact d until 0 events fate next w after passages
-          × (verdict ≡ all_kept options.limits names (none_carried (tracks options) names) passages none_kept)
-          × Both (text_of (all_lines options names (none_carried (tracks options) names) passages []))
-      seen_all none last =
-          let ends : to ≡ end_before until (later_than from left) = last ∙ ap (end_before until) (sym none) in
-          let all = gone_all answers exact d until options names events fate w from left drawn between kept
-          so_far.carried so_far.lines so_far.gone passed next
-          (is_passage answers exact d until from to left ends plan known drawn next between after seen.acts
-          seen.courses) none in (
-            all.passages,
-            all.pass,
-            verdict_so ∙ all.verdict_is,
-            subst (λ xs. Both (text_of xs)) all.are both_so,
+        -- and another comes
+        pub seen_more : first_time (later_than from left) ≡ Some to
+            → GoneSeen to (later_than from left) next after verdict o_after Both
+        seen_more is = record {
+          carried = carry_over passed so_far.carried;
+          lines = so_far.lines ++ written;
+          gone = subst (λ e. Gone answers exact d until options names events fate w a to (later_than from left) next
+              after e (carry_over passed so_far.carried) (so_far.lines ++ written))
+              (sym verdict_so)
+              (gone_more answers exact d until options names events fate w a from to left drawn next between kept
+              so_far.carried so_far.lines so_far.gone passed written lines_are
+              (is_passage answers exact d until from to left (sym (ends_before until (later_than from left) to is)) plan
+              known drawn next between after seen.acts seen.courses) is);
+          rests = seen_rests answers options names so_far.carried plan (now_of from left) drawn between o so_far.rests
+              next after o_after told seen known.begins_is;
+          so = both_so;
+        }
+
+        -- and it is the last
+        pub seen_all : later_than from left ≡ [] → to ≡ until
+            → (passages : List StretchTrace) × AllPass answers exact d until 0 events fate next w after passages
+            × (verdict ≡ all_kept options.limits names
+            (record { carried = none_carried (tracks options) names; aside = a }) passages none_kept)
+            × (a.clocks ≡ []
+            → Both (text_of (all_lines options names (none_carried (tracks options) names) passages [])))
+        seen_all none last =
+            let ends : to ≡ end_before until (later_than from left) = last ∙ ap (end_before until) (sym none) in
+            let all = gone_all answers exact d until options names events fate w a from left drawn between kept
+            so_far.carried so_far.lines so_far.gone passed written lines_are next
+            (is_passage answers exact d until from to left ends plan known drawn next between after seen.acts
+            seen.courses) none in (
+              all.passages,
+              all.pass,
+              verdict_so ∙ all.verdict_is,
+              λ nobody. subst (λ xs. Both (text_of xs)) (all.are nobody) both_so,
+            )
+
+      -- it breaks off
+      pub seen_some : (lines : List (List ℕ)) → to ≡ end_before until (later_than from left)
+          → StopsSeen answers exact d from to (now_of from left) drawn between o lines → Second (text_of lines)
+          → (passages : List StretchTrace) × (acts : List ActTrace)
+          × SomePass answers exact d until 0 events fate w passages acts
+          × (a.clocks ≡ []
+          → Both (text_of (all_lines options names (none_carried (tracks options) names) passages acts)))
+      seen_some lines ends stops so = by stops
+        where
+          some_of : (more : List (List ℕ)) → lines ≡ more
+              → SomeGone answers exact d until options names events fate w a (so_far.lines ++ more)
+              → (passages : List StretchTrace) × (acts : List ActTrace)
+              × SomePass answers exact d until 0 events fate w passages acts
+              × (a.clocks ≡ []
+              → Both (text_of (all_lines options names (none_carried (tracks options) names) passages acts)))
+          some_of more are some = (
+            some.passages,
+            some.acts,
+            some.pass,
+            λ nobody. subst (λ xs. Both (text_of xs)) (ap (λ xs. so_far.lines ++ xs) are ∙ some.are nobody)
+                (joined lines so),
           )
 
-    -- it breaks off
-    pub seen_some : (lines : List (List ℕ)) → to ≡ end_before until (later_than from left)
-        → StopsSeen answers exact d from to (now_of from left) drawn between o lines → Second (text_of lines)
-        → (passages : List StretchTrace) × (acts : List ActTrace)
-        × SomePass answers exact d until 0 events fate w passages acts
-        × Both (text_of (all_lines options names (none_carried (tracks options) names) passages acts))
-    seen_some lines ends stops so = by stops
-      where
-        some_of : (more : List (List ℕ)) → lines ≡ more
-            → SomeGone answers exact d until options names events fate w (so_far.lines ++ more)
-            → (passages : List StretchTrace) × (acts : List ActTrace)
-            × SomePass answers exact d until 0 events fate w passages acts
-            × Both (text_of (all_lines options names (none_carried (tracks options) names) passages acts))
-        some_of more are some = (
-          some.passages,
-          some.acts,
-          some.pass,
-          subst (λ xs. Both (text_of xs)) (ap (λ xs. so_far.lines ++ xs) are ∙ some.are) (joined lines so),
-        )
-
-        by : StopsSeen answers exact d from to (now_of from left) drawn between o lines
-            → (passages : List StretchTrace) × (acts : List ActTrace)
-            × SomePass answers exact d until 0 events fate w passages acts
-            × Both (text_of (all_lines options names (none_carried (tracks options) names) passages acts))
-        by (inl none) =
-            some_of [] none
-            (gone_no_further answers exact d until options names events fate w from left drawn between kept
-            so_far.carried so_far.lines so_far.gone)
-        by (inr (plan, known, inl some)) =
-            some_of lines refl
-            (gone_on answers exact d until options names events fate w from left drawn between kept so_far.carried
-            so_far.lines so_far.gone some.acts lines
-            (some_acts answers exact d until from to left ends plan known drawn between some.acts some.courses)
-            (seen_so_far answers options names so_far.carried plan (now_of from left) drawn between o so_far.rests lines
-            some))
-        by (inr (plan, known, inr whole)) =
-            some_of (passage_lines options names so_far.carried
-            (passage_of plan (now_of from left) whole.seen.acts whole.after))
-            (whole.are
-            ∙ seen_lines answers options names so_far.carried plan (now_of from left) drawn between o so_far.rests
-            whole.fate_after whole.after whole.o_after whole.told whole.seen known.begins_is)
-            (gone_to_end answers exact d until options names events fate w from left drawn between kept so_far.carried
-            so_far.lines so_far.gone (passage_of plan (now_of from left) whole.seen.acts whole.after) whole.fate_after
-            (is_passage answers exact d until from to left ends plan known drawn whole.fate_after between whole.after
-            whole.seen.acts whole.seen.courses))
+          by : StopsSeen answers exact d from to (now_of from left) drawn between o lines
+              → (passages : List StretchTrace) × (acts : List ActTrace)
+              × SomePass answers exact d until 0 events fate w passages acts
+              × (a.clocks ≡ []
+              → Both (text_of (all_lines options names (none_carried (tracks options) names) passages acts)))
+          by (inl none) =
+              some_of [] none
+              (gone_no_further answers exact d until options names events fate w a from left drawn between kept
+              so_far.carried so_far.lines so_far.gone)
+          by (inr (plan, known, inl some)) =
+              some_of lines refl
+              (gone_on answers exact d until options names events fate w a from left drawn between kept so_far.carried
+              so_far.lines so_far.gone some.acts lines
+              (some_acts answers exact d until from to left ends plan known drawn between some.acts some.courses)
+              (λ nobody. seen_so_far answers options names so_far.carried plan (now_of from left) drawn between o
+              so_far.rests lines some (so_far.gone.nobody nobody)))
+          by (inr (plan, known, inr whole)) =
+              some_of lines refl
+              (gone_to_end answers exact d until options names events fate w a from left drawn between kept
+              so_far.carried so_far.lines so_far.gone
+              (passage_of plan (now_of from left) whole.seen.acts whole.after) lines
+              (λ nobody. whole.are
+              ∙ seen_lines answers options names so_far.carried plan (now_of from left) drawn between o so_far.rests
+              whole.fate_after whole.after whole.o_after whole.told whole.seen known.begins_is
+              (so_far.gone.nobody nobody)) whole.fate_after
+              (is_passage answers exact d until from to left ends plan known drawn whole.fate_after between whole.after
+              whole.seen.acts whole.seen.courses))

@@ -13,7 +13,7 @@ use Rattle.gptp_timeline.specs.Measures.{better_if, ended_by, since_after}
 use Rattle.gptp_timeline.specs.Receipts.{received_by}
 use Rattle.gptp_timeline.specs.Shown.{is_expecting, shown, live_system}
 use Rattle.gptp_timeline.specs.Stretch.{at_of, is_change, waits as waits_by}
-use Rattle.gptp_timeline.specs.Watch.{lines_at, measures_after, one_lines, own_look, place_of, placed_lines, see_act, see_at, see_one, see_placed, see_system, seen_lines, unless, wait_behind, watched_after, watched_lines, WatchState, left_at, see_receipt_if, receipt_lines_if, taken}
+use Rattle.gptp_timeline.specs.Watch.{lines_at, measures_after, one_lines, own_look, place_of, placed_lines, see_act, see_at, see_one, see_placed, see_system, seen_lines, unless, wait_behind, waits_on, watched_after, watched_lines, WatchState, left_at, see_receipt_if, receipt_lines_if, taken}
 use Rattle.gptp_timeline.specs.declared.compared.Compared.{Compared}
 use Rattle.gptp_timeline.specs.declared.compared.Compared.TheVariants.{All}
 use Rattle.gptp_timeline.specs.declared.measures.Measures.{Measures}
@@ -35,7 +35,7 @@ measures_same look x m = rw (choice_itself x.shown, roles_itself x.shown, known_
 -- An act leaves all that is kept of a system as it was: none is received, and it goes on to expect time where it waits.
 pub record StaysSo (look : ActView) (w : WorldState) (x : Watched) : Type 0 where
   pub shown_so : left_at look w x ≡ x.shown
-  pub waits_so : not look.received && (is_none x.since || is_expecting x.shown) ≡ true
+  pub waits_so : waits_on look x ≡ true
 
 -- no wait begins or ends
 wait_stays : (at : ℕ) (by_event received expects : Bool) (since : Option ℕ)
@@ -54,33 +54,34 @@ set_same [] place x there = absurd cc
 set_same (y ∷ ys) zero x there = ap (λ z. z ∷ ys) (sym (same_Some y x there))
 set_same (y ∷ ys) (suc place) x there = ap (λ zs. y ∷ zs) (set_same ys place x there)
 
-module _ (look : ActView) (w : WorldState) (x : Watched) (so : StaysSo look w x) where
+module _ (look : ActView) (x : Watched) (so : waits_on look x ≡ true) where
   waits : (since_after look.at look.received (is_expecting x.shown) (is_expecting x.shown) x.since ≡ x.since)
       × (ended_by look.at look.by_event look.received (is_expecting x.shown) x.since ≡ None)
-  waits = wait_stays look.at look.by_event look.received (is_expecting x.shown) x.since so.waits_so
+  waits = wait_stays look.at look.by_event look.received (is_expecting x.shown) x.since so
 
-  watched_stays : watched_after look (left_at look w x) x ≡ x
-  watched_stays =
-      ap (λ (s : Option Shown). watched_after look s x) so.shown_so
-      ∙ ap (λ (since : Option ℕ). record x { since = since }) waits.0
+  watched_stays : watched_after look x.shown x ≡ x
+  watched_stays = ap (λ (since : Option ℕ). record x { since = since }) waits.0
 
-  measures_stay : (m : Measures) → measures_after look x (left_at look w x) m ≡ m
-  measures_stay m =
-      ap (λ (s : Option Shown). measures_after look x s m) so.shown_so ∙ measures_same look x m ∙ rw waits.1 refl
+  measures_stay : (m : Measures) → measures_after look x x.shown m ≡ m
+  measures_stay m = measures_same look x m ∙ rw waits.1 refl
 
   -- nothing that is kept is another
+  pub taken_same : (place : ℕ) (o : WatchState) → slice_get o.systems place ≡ Some x → taken look place x x.shown o ≡ o
+  taken_same place o there =
+      ap (λ (y : Watched). record o {
+        systems = slice_set o.systems place y;
+        measures = measures_after look x x.shown o.measures;
+      }) watched_stays
+      ∙ ap (λ (xs : List Watched). record o { systems = xs; measures = measures_after look x x.shown o.measures })
+      (set_same o.systems place x there)
+      ∙ ap (λ (m : Measures). record o { measures = m }) (measures_stay o.measures)
+
+module _ (look : ActView) (w : WorldState) (x : Watched) (so : StaysSo look w x) where
   sees_same : (place : ℕ) (o : WatchState) → slice_get o.systems place ≡ Some x → see_at look w place o ≡ o
   sees_same place o there =
       ap (λ (y : Option Watched). see_one look w place y o) there
-      ∙ ap (λ (y : Watched). record o {
-        systems = slice_set o.systems place y;
-        measures = measures_after look x (left_at look w x) o.measures;
-      }) watched_stays
-      ∙ ap (λ (xs : List Watched). record o {
-        systems = xs;
-        measures = measures_after look x (left_at look w x) o.measures;
-      }) (set_same o.systems place x there)
-      ∙ ap (λ (m : Measures). record o { measures = m }) (measures_stay o.measures)
+      ∙ ap (λ (s : Option Shown). taken look place x s o) so.shown_so
+      ∙ taken_same look x so.waits_so place o there
 
   no_lines : (left_out : Bool) → unless left_out (change_lines look.at x.clock x.shown (left_at look w x)) ≡ []
   no_lines true = refl

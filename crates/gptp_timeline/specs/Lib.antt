@@ -18,6 +18,7 @@ pub mod Looks
 pub mod ExactReads
 pub mod StretchText
 pub mod TimeLines
+pub mod Aside
 pub mod TimeWatch
 pub mod Limits
 pub mod End
@@ -27,6 +28,7 @@ pub mod NewReading
 pub mod Watch
 pub mod Timeline
 pub mod Ends
-pub mod LastTwo
+pub mod Keepers
+pub mod LastStretches
 pub mod Passing
 pub mod Laws

@@ -3,7 +3,7 @@ use Rattle.std.specs.Prelude.{ℕ, ◌-◌, ◌*◌, ◌==◌, ◌&&◌, ◌||�
 use Rattle.std.specs.Option.{option_and_then, option_map}
 use Rattle.gptp_how_soon.specs.declared.bounds.Settling.{Settling}
 use Rattle.gptp_timeline.specs.declared.limits.Limit.{Limit}
-use Rattle.gptp_timeline.specs.declared.limits.Limit.TheVariants.{Alone, Apart, Bound, Choice, Error, First, Holdover, Roots, Step, Time, Without}
+use Rattle.gptp_timeline.specs.declared.limits.Limit.TheVariants.{Alone, Apart, Astray, Bound, Choice, Cut, Error, First, Holdover, Roots, Step, Time, Without}
 use Rattle.gptp_timeline.specs.declared.limits.Limits.{Limits}
 use Rattle.gptp_timeline.specs.Looks.{apart, changed_after}
 use Rattle.gptp_timeline.specs.declared.looks.TimeMeasures.{TimeMeasures}
@@ -14,7 +14,8 @@ use Rattle.gptp_timeline.specs.declared.stretch.Stretch.{Stretch}
 
 -- in the order in which a verdict names the first that is exceeded
 abbrev pub all_limits : List Limit
-all_limits = Choice ∷ Holdover ∷ Error ∷ Without ∷ Roots ∷ Alone ∷ Bound ∷ Time ∷ Apart ∷ Step ∷ First ∷ []
+all_limits =
+    Choice ∷ Holdover ∷ Error ∷ Without ∷ Roots ∷ Alone ∷ Cut ∷ Astray ∷ Bound ∷ Time ∷ Apart ∷ Step ∷ First ∷ []
 
 -- the place of each among them
 abbrev pub limit_number : Limit → ℕ
@@ -24,11 +25,13 @@ limit_number Error = 2
 limit_number Without = 3
 limit_number Roots = 4
 limit_number Alone = 5
-limit_number Bound = 6
-limit_number Time = 7
-limit_number Apart = 8
-limit_number Step = 9
-limit_number First = 10
+limit_number Cut = 6
+limit_number Astray = 7
+limit_number Bound = 8
+limit_number Time = 9
+limit_number Apart = 10
+limit_number Step = 11
+limit_number First = 12
 
 abbrev pub limit_text : Limit → List ℕ
 limit_text Choice = codes "choice"
@@ -37,6 +40,8 @@ limit_text Error = codes "error"
 limit_text Without = codes "without"
 limit_text Roots = codes "roots"
 limit_text Alone = codes "alone"
+limit_text Cut = codes "cut"
+limit_text Astray = codes "astray"
 limit_text Bound = codes "bound"
 limit_text Time = codes "time"
 limit_text Apart = codes "apart"
@@ -88,7 +93,7 @@ is_asked_of s Holdover = s.begins_with_event
 is_asked_of s Bound = s.begins_with_event
 is_asked_of s limit = true
 
--- what a limit asks for in a stretch
+-- what a limit asks for in a stretch; who is cut off or astray isn't known of one
 abbrev pub amount_in : Stretch → Limit → Option ℕ
 amount_in s Choice = choice_after s
 amount_in s Holdover = amount_of s.measures.holdover
@@ -96,6 +101,8 @@ amount_in s Error = amount_of s.measures.error
 amount_in s Without = Some s.counts.without
 amount_in s Roots = Some s.counts.roots
 amount_in s Alone = Some s.counts.alone
+amount_in s Cut = None
+amount_in s Astray = None
 amount_in s Bound = choice_bound s
 amount_in s Time = option_and_then (λ (m : TimeMeasures). amount_of m.time) s.times
 amount_in s Apart = option_map apart s.times

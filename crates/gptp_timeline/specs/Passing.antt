@@ -1,5 +1,6 @@
 -- What the code keeps of a stretch that passes before an observer: contracts of private functions alone cite this.
 use Rattle.std.specs.Prelude.{◌≡◌, ◌⊎◌, ℕ, List, [], ◌∷◌, ◌++◌, Option, Some, None, map, Bool, ◌&&◌, if◌then◌else◌, length}
+use Rattle.std.specs.Option.{option_map_or}
 use Rattle.gptp_model.specs.Views.{rising_clocks}
 use Rattle.gptp_model.specs.World.{WorldState}
 use Rattle.gptp_links.specs.declared.bounds.Bounds.{Bounds}
@@ -8,6 +9,7 @@ use Rattle.gptp_scenario.specs.declared.change.Timed.{Timed}
 use Rattle.gptp_world.specs.Observing.{Tells}
 use Rattle.gptp_world.specs.Transitions.{ActTrace}
 use Rattle.gptp_report.specs.Transitions.{Courses, CoursesSoFar}
+use Rattle.gptp_timeline.specs.Aside.{AsideState, nobody_aside}
 use Rattle.gptp_timeline.specs.ExactReads.{unread}
 use Rattle.gptp_timeline.specs.Looks.{nothing_read}
 use Rattle.gptp_timeline.specs.Readings.{no_reading}
@@ -22,9 +24,9 @@ abbrev pub first_time : List Timed → Option ℕ
 first_time [] = None
 first_time (e ∷ es) = Some e.at
 
--- what is kept of what systems read before a world starts, where that is asked
-abbrev pub times_before : TimelineOptions → WorldState → Option TimeState
-times_before options w = if tracks options then Some (record {
+-- what is kept of what systems read before a world starts, where that is asked, of which some are set aside
+abbrev pub times_before : TimelineOptions → AsideState → WorldState → Option TimeState
+times_before options aside w = if tracks options then Some (record {
   lines = options.times;
   told = options.times && options.offsets;
   exact_from = None;
@@ -32,21 +34,26 @@ times_before options w = if tracks options then Some (record {
   systems = map no_reading (rising_clocks w);
   reads = map unread (rising_clocks w);
   measures = nothing_read;
+  aside = aside;
 }) else None
 
--- an observer before the systems of a world start, and after that
-abbrev pub watch_before : TimelineOptions → WorldState → WatchState
-watch_before options w = record {
+-- an observer before the systems of a world start, of which some are set aside, and after that
+abbrev pub watch_before : TimelineOptions → AsideState → WorldState → WatchState
+watch_before options aside w = record {
   summary = options.summary;
   offsets = options.offsets;
   exact_from = None;
   systems = map unseen (rising_clocks w);
   measures = nothing;
-  times = times_before options w;
+  times = times_before options aside w;
 }
 
-abbrev pub watch_at_start : TimelineOptions → WorldState → WatchState
-watch_at_start options w = see_all (event_look 0) w (watch_before options w)
+-- who is set aside; nobody, where it isn't asked what systems read
+abbrev pub aside_kept : WatchState → AsideState
+aside_kept o = option_map_or (λ (times : TimeState). times.aside) o.times nobody_aside
+
+abbrev pub watch_at_start : TimelineOptions → AsideState → WorldState → WatchState
+watch_at_start options aside w = see_all (event_look 0) w (watch_before options aside w)
 
 -- The acts of a stretch with these events were done before an observer for which it began, and this is told of them.
 pub record StretchIsSeen {F : Type 0} (answers : Bounds → ℕ → F → Option ℕ → F → Type 0) (plan : Plan)
@@ -54,7 +61,7 @@ pub record StretchIsSeen {F : Type 0} (answers : Bounds → ℕ → F → Option
     (fate fate_after : F) (w w' : WorldState) (o o_after : WatchState) (told : List (List ℕ)) : Type 0 where
   pub acts : List ActTrace
   pub courses : Courses answers plan.to events acts fate fate_after w w'
-  pub tells : Tells tells_changes acts (watch_begun (exact_time plan.errors) (length events) o) o_after told
+  pub tells : Tells tells_changes acts (watch_begun plan.from (exact_time plan.errors) (length events) o) o_after told
 
 -- some of them were
 pub record IsSeenSoFar {F : Type 0} (answers : Bounds → ℕ → F → Option ℕ → F → Type 0) (plan : Plan)
@@ -62,7 +69,7 @@ pub record IsSeenSoFar {F : Type 0} (answers : Bounds → ℕ → F → Option �
   pub acts : List ActTrace
   pub o_after : WatchState
   pub courses : CoursesSoFar answers plan.to events acts fate w
-  pub tells : Tells tells_changes acts (watch_begun (exact_time plan.errors) (length events) o) o_after told
+  pub tells : Tells tells_changes acts (watch_begun plan.from (exact_time plan.errors) (length events) o) o_after told
 
 -- all of them were, and the stretch ended
 pub record IsSeenToEnd {F : Type 0} (answers : Bounds → ℕ → F → Option ℕ → F → Type 0) (plan : Plan)

@@ -1,6 +1,6 @@
 -- What the code keeps of a stretch that passes: what an observer keeps and tells of an act, by what it kept before and
 -- the world after the act. Contracts of private functions alone cite this, but for `WatchState` and `unless`.
-use Rattle.std.specs.Prelude.{◌≡◌, ◌⊎◌, ⊤, ℕ, ◌+◌, ◌==◌, nat_le, nat_lt, not, Bool, true, false, if◌then◌else◌, List, [], ◌∷◌, ◌++◌, length, map, Option, Some, None, is_some, slice_get, slice_set, ℤ, unsigned_abs}
+use Rattle.std.specs.Prelude.{◌≡◌, ◌⊎◌, ⊤, ℕ, ◌+◌, ◌==◌, ◌&&◌, ◌||◌, nat_le, nat_lt, not, Bool, true, false, if◌then◌else◌, List, [], ◌∷◌, ◌++◌, length, map, Option, Some, None, is_none, is_some, slice_get, slice_set, ℤ, unsigned_abs}
 use Rattle.std.specs.List.{range_with_len}
 use Rattle.std.specs.Option.{option_map, option_map_or}
 use Rattle.gptp_model.specs.Advancing.{Told}
@@ -37,6 +37,10 @@ since_behind look x after = since_after look.at look.received (is_expecting x.sh
 abbrev pub wait_behind : ActView → Watched → Option Shown → Option Greatest
 wait_behind look x after =
     option_map (one_at x.clock) (ended_by look.at look.by_event look.received (is_expecting after) x.since)
+
+-- none is received by an act, and it goes on to expect time where it waits
+abbrev pub waits_on : ActView → Watched → Bool
+waits_on look x = not look.received && (is_none x.since || is_expecting x.shown)
 
 abbrev pub measures_after : ActView → Watched → Option Shown → Measures → Measures
 measures_after look x after m = record {
@@ -80,12 +84,12 @@ nothing = record { choice = None; roles = None; offsets = None; holdover = None;
 abbrev pub without_error : Watched → Watched
 without_error x = record x { error = None }
 
-abbrev pub watch_begun : Option ℕ → ℕ → WatchState → WatchState
-watch_begun exact_from events o = record o {
+abbrev pub watch_begun : ℕ → Option ℕ → ℕ → WatchState → WatchState
+watch_begun at exact_from events o = record o {
   exact_from = exact_from;
   systems = map without_error o.systems;
   measures = nothing;
-  times = option_map (times_begun exact_from events) o.times;
+  times = option_map (times_begun at exact_from events) o.times;
 }
 
 -- ---- systems that are looked at

@@ -23,7 +23,7 @@ pub struct Counts {
 }
 
 /// Whether a live system has no time: its root can't be a grandmaster, or it has a Slave port and no offset.
-fn goes_without(shown: &Shown) -> bool
+pub(crate) fn goes_without(shown: &Shown) -> bool
     ensures { result ≡ goes_without shown.now }
 {
     !shown.root.capable() || (shown.slave.is_some() && !shown.known)

@@ -1,19 +1,21 @@
 //! How stretches end, and what is kept of them.
 
 ghost use Rattle.std.specs.Prelude.{◌≡◌};
-ghost use Rattle.gptp_timeline.specs.LastTwo.{both_of, kept_after, none_kept};
+ghost use Rattle.gptp_timeline.specs.LastStretches.{kept_after, none_kept, with_end};
 
+use crate::keepers::Keeper;
 use crate::limits::{Limit, Limits, exceeded_after};
 use crate::stretch::Stretch;
 use gptp_vector::Identity;
 use std::marker::Model;
 
-/// How a stretch ended: what became of it, and the roots that its live systems follow where it ends, by rising clock of
-/// these.
+/// How a stretch ended: what became of it, the roots that its live systems follow where it ends, and those of these
+/// systems that keep time then, both by rising clock.
 #[derive(Drop)]
 pub struct StretchEnd {
     stretch: Stretch,
     roots: Vec<Identity>,
+    keepers: Vec<Keeper>,
 }
 
 impl Model for StretchEnd {
@@ -21,17 +23,21 @@ impl Model for StretchEnd {
 
     ghost Value = { EndState };
 
-    ghost view = { λ e. record { stretch = e.stretch; roots = e.roots.items } };
+    ghost view = { λ e. record { stretch = e.stretch; roots = e.roots.items; keepers = e.keepers.items } };
 }
 
 impl StretchEnd {
     ghost use Rattle.std.specs.Prelude.{◌≡◌};
 
-    /// A stretch that ended, and those roots.
-    pub(crate) fn new(stretch: Stretch, roots: Vec<Identity>) -> Self
-        ensures { result ≡ record { stretch = stretch; roots = roots.items } }
+    /// A stretch that ended, those roots, and those systems.
+    pub(crate) fn new(stretch: Stretch, roots: Vec<Identity>, keepers: Vec<Keeper>) -> Self
+        ensures { result ≡ record { stretch = stretch; roots = roots.items; keepers = keepers.items } }
     {
-        StretchEnd { stretch, roots }
+        StretchEnd {
+            stretch,
+            roots,
+            keepers,
+        }
     }
 
     /// What became of the stretch.
@@ -47,6 +53,13 @@ impl StretchEnd {
     {
         &self.roots
     }
+
+    /// Its live systems that keep time where it ends.
+    pub fn keepers(&self) -> &[Keeper]
+        ensures { result.now ≡ self.now.keepers }
+    {
+        &self.keepers
+    }
 }
 
 /// What is kept of the stretches that ended so far.
@@ -54,10 +67,35 @@ impl StretchEnd {
 pub(crate) struct StretchesSoFar {
     /// The first limit that some of them exceeded.
     pub exceeded: Option<Limit>,
-    /// How the last but one ended.
+    /// How the last ones ended.
+    pub last: LastStretches,
+}
+
+/// How the last three stretches ended, as far as there are so many.
+#[derive(Drop)]
+pub struct LastStretches {
+    /// The last but two.
+    pub earlier: Option<StretchEnd>,
+    /// The last but one.
     pub before: Option<StretchEnd>,
-    /// How the last ended.
+    /// The last.
     pub last: Option<StretchEnd>,
+}
+
+/// With one stretch more.
+fn shifted(end: StretchEnd, ends: LastStretches) -> LastStretches
+    ensures { result ≡ with_end ends end }
+{
+    let LastStretches {
+        earlier: _earlier,
+        before,
+        last,
+    } = ends;
+    LastStretches {
+        earlier: before,
+        before: last,
+        last: Some(end),
+    }
 }
 
 /// Nothing is kept yet.
@@ -66,8 +104,11 @@ pub(crate) fn none_kept() -> StretchesSoFar
 {
     StretchesSoFar {
         exceeded: None,
-        before: None,
-        last: None,
+        last: LastStretches {
+            earlier: None,
+            before: None,
+            last: None,
+        },
     }
 }
 
@@ -75,24 +116,9 @@ pub(crate) fn none_kept() -> StretchesSoFar
 pub(crate) fn keep(limits: &Limits, end: StretchEnd, kept: StretchesSoFar) -> StretchesSoFar
     ensures { result ≡ kept_after limits.now end kept }
 {
-    let StretchesSoFar {
-        exceeded,
-        before: _before,
-        last,
-    } = kept;
+    let StretchesSoFar { exceeded, last } = kept;
     StretchesSoFar {
         exceeded: exceeded_after(limits, end.stretch(), exceeded),
-        before: last,
-        last: Some(end),
-    }
-}
-
-/// The last two stretches of which something is kept.
-pub(crate) fn both_of(kept: StretchesSoFar) -> Option<(StretchEnd, StretchEnd)>
-    ensures { result ≡ both_of kept.before kept.last }
-{
-    match (kept.before, kept.last) {
-        (Some(before), Some(last)) => Some((before, last)),
-        _ => None,
+        last: shifted(end, last),
     }
 }

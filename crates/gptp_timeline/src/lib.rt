@@ -5,11 +5,13 @@
 //! another of what its systems show; then, where a stretch between the times of events ends, how long the choice took
 //! to stand, how long a system went without time, and how far the time that came was off. `specs/Timeline.antt` says
 //! what is written, over the acts of the run (`Courses` of gptp_report). [`last_stretches`] lets it run so and answers
-//! how the last two stretches ended, by `specs/LastTwo.antt`, and writes nothing.
+//! how the last stretches ended, by `specs/LastStretches.antt`, and writes nothing; it can set systems aside, whose time
+//! isn't looked at (`specs/Aside.antt`).
 #![tactic(auto)]
 
 mod all_readings;
 mod amounts;
+mod aside;
 mod changes;
 mod compared;
 mod counts;
@@ -18,6 +20,7 @@ mod ends;
 mod event_line;
 mod exact_reads;
 mod extremes;
+mod keepers;
 mod laws;
 mod leaving;
 mod limits;
@@ -37,10 +40,12 @@ mod watch;
 mod watched;
 
 pub use amounts::Near;
+pub use aside::SetAside;
 pub use counts::{Counts, times};
 pub use end::end_by_default;
-pub use ends::StretchEnd;
+pub use ends::{LastStretches, StretchEnd};
 pub use exact_reads::{ExactReads, SystemReads};
+pub use keepers::Keeper;
 pub use laws::{
     errors_are_within, last_lines_tell, stretches_follow, stretches_settle, timelines_are_right,
     timelines_are_runs,

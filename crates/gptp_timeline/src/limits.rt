@@ -23,6 +23,10 @@ pub enum Limit {
     Roots,
     /// How many systems follow a root that no other does there.
     Alone,
+    /// How many systems a fault cuts off; of no stretch.
+    Cut,
+    /// How many of those that aren't cut off are without the time that most share; of no stretch.
+    Astray,
     /// How long the choice takes at most to stand after an event, in ns.
     Bound,
     /// How far what a system reads is off, in ns.
@@ -37,13 +41,15 @@ pub enum Limit {
 
 impl Limit {
     /// All of them, in the order in which a verdict names the first that is exceeded.
-    pub const ALL: [Limit; 11] = [
+    pub const ALL: [Limit; 13] = [
         Limit::Choice,
         Limit::Holdover,
         Limit::Error,
         Limit::Without,
         Limit::Roots,
         Limit::Alone,
+        Limit::Cut,
+        Limit::Astray,
         Limit::Bound,
         Limit::Time,
         Limit::Apart,
@@ -54,7 +60,7 @@ impl Limit {
     /// Its place among all of them.
     fn place(self) -> usize
         ensures place { result ≡ limit_number self }
-        ensures below { result < 11 }
+        ensures below { result < 13 }
     {
         self as usize
     }
@@ -70,6 +76,8 @@ impl Limit {
             Limit::Without => "max-without",
             Limit::Roots => "max-roots",
             Limit::Alone => "max-alone",
+            Limit::Cut => "max-cut",
+            Limit::Astray => "max-astray",
             Limit::Bound => "max-bound",
             Limit::Time => "max-time",
             Limit::Apart => "max-apart",
@@ -113,6 +121,8 @@ impl fmt::Display for Limit {
             Limit::Without => "without",
             Limit::Roots => "roots",
             Limit::Alone => "alone",
+            Limit::Cut => "cut",
+            Limit::Astray => "astray",
             Limit::Bound => "bound",
             Limit::Time => "time",
             Limit::Apart => "apart",
@@ -126,11 +136,11 @@ impl fmt::Display for Limit {
 #[derive(Clone, Copy, Debug, PartialEq, Eq)]
 pub struct Limits {
     /// By limit, in the order of [`Limit::ALL`]; times and errors in ns.
-    pub most: [Option<u64>; 11],
+    pub most: [Option<u64>; 13],
 }
 
 /// None is given.
-pub(crate) const NO_LIMITS: Limits = Limits { most: [None; 11] };
+pub(crate) const NO_LIMITS: Limits = Limits { most: [None; 13] };
 
 impl Limits {
     /// What is given for a limit.

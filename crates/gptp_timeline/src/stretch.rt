@@ -111,6 +111,7 @@ impl Stretch {
             Limit::Without => Some(u128::from(self.counts.without)),
             Limit::Roots => Some(u128::from(self.counts.roots)),
             Limit::Alone => Some(u128::from(self.counts.alone)),
+            Limit::Cut | Limit::Astray => None,
             Limit::Bound => self.choice_bound(),
             Limit::Time => self.time(),
             Limit::Apart => self.apart(),

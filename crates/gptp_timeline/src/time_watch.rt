@@ -4,9 +4,11 @@ ghost use Rattle.std.specs.Prelude.{◌≡◌, ◌+◌, ◌==◌, ◌&&◌, IfOk
 ghost use Rattle.gptp_model.specs.Views.{rising_clocks};
 ghost use Rattle.gptp_timeline.specs.ExactReads.{unread};
 ghost use Rattle.gptp_timeline.specs.Readings.{no_reading};
+ghost use Rattle.gptp_timeline.specs.Aside.{readings_begun, without_readings};
 ghost use Rattle.gptp_timeline.specs.Stretch.{is_change};
 
 use crate::all_readings::AllReadings;
+use crate::aside::SetAside;
 use crate::exact_reads::{
     ExactReads, SystemReads, amount_of, clear_reads, reads_among, reads_ended, take_reads,
 };
@@ -39,6 +41,8 @@ pub(crate) struct TimeWatch {
     reads: Vec<SystemReads>,
     // What is measured in this stretch so far.
     measures: TimeMeasures,
+    // Who is set aside.
+    aside: SetAside,
 }
 
 impl Model for TimeWatch {
@@ -54,6 +58,7 @@ impl Model for TimeWatch {
       systems = w.systems;
       reads = w.reads.items;
       measures = w.measures;
+      aside = w.aside;
     } };
 
     ghost invariant = { λ w. ReadsRise w.reads.items };
@@ -120,6 +125,24 @@ fn all_unread<F: Fate + Drop>(
     Ok(systems)
 }
 
+/// These systems have no time from now on.
+fn lose_all(systems: &mut AllReadings, clocks: &[ClockId])
+    ensures { systems.new ≡ without_readings clocks.now systems.old }
+{
+    for clock in clocks {
+        systems.lose(*clock);
+    }
+}
+
+/// Those that begin to be set aside have no time from now on.
+fn set_aside(systems: &mut AllReadings, aside: &SetAside)
+    ensures { systems.new ≡ readings_begun aside.now systems.old }
+{
+    if aside.begins() {
+        lose_all(systems, aside.clocks());
+    }
+}
+
 impl TimeWatch {
     ghost use Rattle.std.specs.Prelude.{◌≡◌, ◌≤◌, ◌++◌, None, Some, IfOk, OnOk, true, map, option_and_then, string_bytes};
     ghost use Rattle.gptp_model.specs.Views.{rising_clocks};
@@ -128,7 +151,7 @@ impl TimeWatch {
     ghost use Rattle.gptp_timeline.specs.Looks.{left_after, looked_all, measured_with, nothing_read};
     ghost use Rattle.gptp_timeline.specs.Jumps.{IsSmallJump, jump_of};
     ghost use Rattle.gptp_timeline.specs.Readings.{new_reading, no_reading, reading_among, reading_error, without_failed};
-    ghost use Rattle.gptp_timeline.specs.TimeWatch.{reading_lines, times_after, times_begun, times_lines, times_with};
+    ghost use Rattle.gptp_timeline.specs.TimeWatch.{reading_lines, times_after, times_begun, times_lines, times_looked, times_with};
 
     /// An account of a world whose systems start, whose lines are asked for, and whose readings are told, or aren't.
     pub(crate) fn new<F: Fate + Drop>(
@@ -136,6 +159,7 @@ impl TimeWatch {
         world: &World<F>,
         lines: bool,
         told: bool,
+        aside: SetAside,
     ) -> Result<Self, AllocError>
         ensures { IfOk result (λ w. w ≡ record {
           lines = lines;
@@ -145,6 +169,7 @@ impl TimeWatch {
           systems = map no_reading (rising_clocks world.now.world_core);
           reads = map unread (rising_clocks world.now.world_core);
           measures = nothing_read;
+          aside = aside;
         }) }
     {
         world.well_formed();
@@ -158,6 +183,7 @@ impl TimeWatch {
             systems: AllReadings::new(alloc, systems),
             reads,
             measures: NOTHING_READ,
+            aside,
         })
     }
 
@@ -168,14 +194,17 @@ impl TimeWatch {
         self.lines
     }
 
-    /// A stretch begins with so many events, in which the receipts of each system count by themselves from a time on.
-    pub(crate) fn begin(&mut self, exact_from: Option<u64>, events: usize)
-        ensures { self.new ≡ times_begun exact_from events self.old }
+    /// A stretch begins at a time with so many events, in which the receipts of each system count by themselves from
+    /// another on. Who begins to be set aside has no time from now on.
+    pub(crate) fn begin(&mut self, at: u64, exact_from: Option<u64>, events: usize)
+        ensures { self.new ≡ times_begun at exact_from events self.old }
     {
         self.exact_from = exact_from;
         self.events_left = events;
         self.measures = NOTHING_READ;
         clear_reads(&mut self.reads);
+        self.aside.begin(at);
+        set_aside(&mut self.systems, &self.aside);
     }
 
     /// A system gets a reading at a time, with this jump.
@@ -273,9 +302,11 @@ impl TimeWatch {
         done: &Done,
     ) -> Result<(), AllocError>
         requires { timed.now.at ≤ 1000000000000000 }
-        ensures sees { OnOk result (self.new ≡ times_after timed.now.at timed.now.act done.now world.now.world_core self.old) }
+        ensures sees { OnOk result (self.new ≡ times_with timed.now.at world.now.world_core timed.now.act
+            (new_reading timed.now.act done.now world.now.world_core self.old.systems) self.old) }
         ensures tells { OnOk result (string_bytes text.new
-            ≡ string_bytes text.old ++ text_of (times_lines timed.now.at timed.now.act done.now world.now.world_core self.old)) }
+            ≡ string_bytes text.old ++ text_of (reading_lines self.old.told timed.now.at world.now.world_core
+            (new_reading timed.now.act done.now world.now.world_core self.old.systems))) }
     {
         match new_reading(world, self.systems.systems(), &timed.act, done) {
             Some(new) => {
@@ -286,6 +317,49 @@ impl TimeWatch {
             None => self.take_none(world, timed.at, &timed.act),
         }
         Ok(())
+    }
+
+    /// Sees an act that is looked at.
+    fn see_act<F: Fate + Drop>(
+        &mut self,
+        text: &mut String,
+        world: &World<F>,
+        timed: &Timed,
+        done: &Done,
+    ) -> Result<(), AllocError>
+        requires { timed.now.at ≤ 1000000000000000 }
+        ensures sees { OnOk result (self.new ≡ times_with timed.now.at world.now.world_core timed.now.act
+            (new_reading timed.now.act done.now world.now.world_core self.old.systems) self.old) }
+        ensures tells { OnOk result (string_bytes text.new
+            ≡ string_bytes text.old ++ text_of (reading_lines self.old.told timed.now.at world.now.world_core
+            (new_reading timed.now.act done.now world.now.world_core self.old.systems))) }
+    {
+        match can_give_reading(&timed.act, done) {
+            true => self.see_reading(text, world, timed, done),
+            false => {
+                self.take_none(world, timed.at, &timed.act);
+                Ok(())
+            }
+        }
+    }
+
+    /// Sees an act, unless what it does to what systems read isn't looked at.
+    fn see_looked<F: Fate + Drop>(
+        &mut self,
+        text: &mut String,
+        world: &World<F>,
+        timed: &Timed,
+        done: &Done,
+    ) -> Result<(), AllocError>
+        requires { timed.now.at ≤ 1000000000000000 }
+        ensures sees { OnOk result (self.new ≡ times_looked timed.now.at timed.now.act done.now world.now.world_core self.old) }
+        ensures tells { OnOk result (string_bytes text.new
+            ≡ string_bytes text.old ++ text_of (times_lines timed.now.at timed.now.act done.now world.now.world_core self.old)) }
+    {
+        match self.aside.leaves_out(&timed.act, done) {
+            true => Ok(()),
+            false => self.see_act(text, world, timed, done),
+        }
     }
 
     /// Sees an act that was done.
@@ -301,13 +375,9 @@ impl TimeWatch {
         ensures tells { OnOk result (string_bytes text.new
             ≡ string_bytes text.old ++ text_of (times_lines timed.now.at timed.now.act done.now world.now.world_core self.old)) }
     {
-        match can_give_reading(&timed.act, done) {
-            true => self.see_reading(text, world, timed, done),
-            false => {
-                self.take_none(world, timed.at, &timed.act);
-                Ok(())
-            }
-        }
+        self.see_looked(text, world, timed, done)?;
+        self.aside.release(&timed.act, done);
+        Ok(())
     }
 
     /// What is measured of a stretch that ends at a time.

@@ -12,14 +12,16 @@ ghost use Rattle.gptp_sink.specs.Sink.{AppendsSome};
 ghost use Rattle.gptp_world.specs.Transitions.{ActTrace};
 ghost use Rattle.gptp_words.specs.Lines.{text_of};
 ghost use Rattle.gptp_accuracy.specs.Settlings.{AreTimesOf};
-ghost use Rattle.gptp_timeline.specs.LastTwo.{EndsOf, all_kept, end_of, kept_after, none_kept};
+ghost use Rattle.gptp_timeline.specs.LastStretches.{EndsOf, all_kept, end_of, first_aside, kept_after, none_kept};
 ghost use Rattle.gptp_timeline.specs.Limits.{is_exceeded, verdict_lines};
-ghost use Rattle.gptp_timeline.specs.Passing.{StretchBreaksOff, StretchIsSeen, StopsSeen, first_time, times_before, watch_at_start, watch_before};
+ghost use Rattle.gptp_timeline.specs.Passing.{StretchBreaksOff, StretchIsSeen, StopsSeen, aside_kept, first_time, times_before, watch_at_start, watch_before};
 ghost use Rattle.gptp_timeline.specs.Timeline.{AllPass, AreErrorsBy, AreErrorsIf, BeginsTimeline, IsTimelinePlan, StretchTrace, SomePass, TimelineOf, all_lines, asks_lines, end_lines, exact_time, is_begun, kept_accuracy, later_than, line_of_times, none_carried, now_of, reads_kept, times_ended, tracks};
 ghost use Rattle.gptp_timeline.specs.Watch.{event_look, lines_all, see_all};
 
+use crate::aside::SetAside;
 use crate::counts::roots_of;
-use crate::ends::{StretchEnd, StretchesSoFar, both_of, keep, none_kept};
+use crate::ends::{LastStretches, StretchEnd, StretchesSoFar, keep, none_kept};
+use crate::keepers::keepers_of;
 use crate::limits::{Limit, Limits, NO_LIMITS, write_verdict};
 use crate::looks::TimeMeasures;
 use crate::null_sink::NullSink;
@@ -237,32 +239,34 @@ fn write_times_if(text: &mut String, asked: bool, stretch: &Stretch) -> Result<(
     }
 }
 
-/// What is kept of what systems read before they start, where that is asked.
+/// What is kept of what systems read before they start, where that is asked, of which some are set aside.
 fn times_before<F: Fate + Drop>(
     alloc: Global,
     world: &World<F>,
     options: &TimelineOptions,
+    aside: SetAside,
 ) -> Result<Option<TimeWatch>, AllocError>
-    ensures { IfOk result (λ times. times ≡ times_before options.now world.now.world_core) }
+    ensures { IfOk result (λ times. times ≡ times_before options.now aside world.now.world_core) }
 {
     match options.times || options.limits.asks_times() {
         true => {
             let told = options.times && options.offsets;
-            Ok(Some(TimeWatch::new(alloc, world, options.times, told)?))
+            Ok(Some(TimeWatch::new(alloc, world, options.times, told, aside)?))
         }
         false => Ok(None),
     }
 }
 
-/// An observer of a world whose systems start, before it has seen that.
+/// An observer of a world whose systems start, before it has seen that, of which some are set aside.
 fn watch_before<F: Fate + Drop>(
     alloc: Global,
     world: &World<F>,
     options: &TimelineOptions,
+    aside: SetAside,
 ) -> Result<Watch, AllocError>
-    ensures { IfOk result (λ watch. watch ≡ watch_before options.now world.now.world_core) }
+    ensures { IfOk result (λ watch. watch ≡ watch_before options.now aside world.now.world_core) }
 {
-    let times = times_before(alloc, world, options)?;
+    let times = times_before(alloc, world, options, aside)?;
     Watch::new(alloc, world, options.summary, options.offsets, times)
 }
 
@@ -293,12 +297,13 @@ fn end_stretch<F: Fate + Drop, K: Sink>(
         times_ended(world, plan.to, watch.times()),
     )?;
     let roots = roots_of(alloc, watch.systems())?;
+    let keepers = keepers_of(alloc, watch.systems())?;
     let mut text = String::new(alloc);
     write_after(&mut text, &stretch)?;
     write_times_if(&mut text, asks_lines(watch.times()), &stretch)?;
     write_errors(&mut text, world, plan.to, &plan.errors, watch)?;
     write_whole(sink, text.as_bytes())?;
-    Ok(StretchEnd::new(stretch, roots))
+    Ok(StretchEnd::new(stretch, roots, keepers))
 }
 
 /// Lets a stretch pass with its events, writes its lines, and answers how it ended.
@@ -325,7 +330,7 @@ fn pass_stretch<F: Fate + Drop, K: Sink>(
     ensures works { result ≢ Err Cut.Write → K.failures sink.new ≡ K.failures sink.old }
     ensures fails { result ≡ Err Cut.Write → K.failures sink.new ≢ K.failures sink.old }
 {
-    watch.begin(exact_time(&plan.errors), events.len());
+    watch.begin(plan.from, exact_time(&plan.errors), events.len());
     play(alloc, world, events, plan.to, watch, sink)?;
     end_stretch(alloc, world, plan, watch, sink)
 }
@@ -383,22 +388,22 @@ fn all_stretches<F: Fate + Drop, K: Sink>(
     requires moment { until ≤ 1000000000000000 }
     requires begun { (fate : F) × Begun F.answers document.now.network fate world.old.fate world.old.world_core }
     requires prompt { AllDelaysFitIntervals world.old.world_core document.now.events }
-    requires starts { watch.old ≡ watch_at_start options.now world.old.world_core }
+    requires starts { watch.old ≡ watch_at_start options.now (aside_kept watch.old) world.old.world_core }
     requires times { AreTimesOf document.now times.now }
     ensures passed { IfOk result (λ kept. (passages : List StretchTrace)
         × AllPass F.answers exact document.now until 0 (events_by until document.now.events) world.old.fate world.new.fate
         world.old.world_core world.new.world_core passages
         × (kept ≡ all_kept options.now.limits (rising_clocks world.old.world_core)
-        (none_carried (tracks options.now) (rising_clocks world.old.world_core)) passages none_kept)
-        × Appends (K.written sink.old) (K.written sink.new)
+        (first_aside (tracks options.now) (aside_kept watch.old) (rising_clocks world.old.world_core)) passages none_kept)
+        × ((aside_kept watch.old).clocks ≡ [] → Appends (K.written sink.old) (K.written sink.new)
         (text_of (all_lines options.now (rising_clocks world.old.world_core)
-        (none_carried (tracks options.now) (rising_clocks world.old.world_core)) passages []))) }
+        (none_carried (tracks options.now) (rising_clocks world.old.world_core)) passages [])))) }
     ensures broken { OnErr result ((passages : List StretchTrace) × (acts : List ActTrace)
         × SomePass F.answers exact document.now until 0 (events_by until document.now.events) world.old.fate world.old.world_core
         passages acts
-        × AppendsSome (K.written sink.old) (K.written sink.new)
+        × ((aside_kept watch.old).clocks ≡ [] → AppendsSome (K.written sink.old) (K.written sink.new)
         (text_of (all_lines options.now (rising_clocks world.old.world_core)
-        (none_carried (tracks options.now) (rising_clocks world.old.world_core)) passages acts))) }
+        (none_carried (tracks options.now) (rising_clocks world.old.world_core)) passages acts)))) }
     ensures works { result ≢ Err Cut.Write → K.failures sink.new ≡ K.failures sink.old }
     ensures fails { result ≡ Err Cut.Write → K.failures sink.new ≢ K.failures sink.old }
 {
@@ -489,7 +494,7 @@ pub fn write_timeline<F: Fate + Drop, K: Sink>(
 {
     let settling = settling_times(alloc, document)?;
     let mut world = begin(alloc, document, fate)?;
-    let mut watch = watch_before(alloc, &world, options)?;
+    let mut watch = watch_before(alloc, &world, options, SetAside::nobody(alloc))?;
     write_start(alloc, &world, &mut watch, sink)?;
     let kept = all_stretches(
         alloc, document, &settling, true, &mut world, until, options, &mut watch, sink,
@@ -509,28 +514,29 @@ fn summary_with(times: bool) -> TimelineOptions
     }
 }
 
-/// Lets the world of a document run up to a time, at most 10^15 ns, and answers how the last two stretches between the
-/// times of events ended, where there are two: also what systems read in them, where that is asked. Nothing is written,
-/// and how exact systems are isn't asked. Refused for want of memory alone.
+/// Lets the world of a document run up to a time, at most 10^15 ns, and answers how the last stretches between the times
+/// of events ended, three where there are so many: also what systems read in them, where that is asked, of which some are
+/// set aside. Nothing is written, and how exact systems are isn't asked. Refused for want of memory alone.
 pub fn last_stretches<F: Fate + Drop>(
     alloc: Global,
     document: &Document,
     fate: F,
     until: u64,
     times: bool,
-) -> Result<Option<(StretchEnd, StretchEnd)>, Cut>
+    aside: SetAside,
+) -> Result<LastStretches, Cut>
     requires moment { until ≤ 1000000000000000 }
-    ensures ends { IfOk result (EndsOf F.answers times document.now until fate) }
+    ensures ends { IfOk result (EndsOf F.answers times aside document.now until fate) }
     ensures memory { IfErr result (λ e. e ≡ Cut.Memory) }
 {
     let mut sink = NullSink;
     let options = summary_with(times);
     let settling = settling_times(alloc, document)?;
     let mut world = begin(alloc, document, fate)?;
-    let mut watch = watch_before(alloc, &world, &options)?;
+    let mut watch = watch_before(alloc, &world, &options, aside)?;
     write_start(alloc, &world, &mut watch, &mut sink)?;
     let kept = all_stretches(
         alloc, document, &settling, false, &mut world, until, &options, &mut watch, &mut sink,
     )?;
-    Ok(both_of(kept))
+    Ok(kept.last)
 }

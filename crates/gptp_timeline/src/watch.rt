@@ -16,7 +16,10 @@ use crate::measures::{Greatest, Measures, NOTHING, better_if};
 use crate::receipts::{error_of, received_by, write_offset};
 use crate::shown::{Shown, shown_of, shows_left};
 use crate::time_watch::TimeWatch;
-use crate::watched::{ActView, Watched, error_after, measures_after, since_behind, wait_behind};
+use crate::watched::{
+    ActView, Watched, error_after, measures_after, since_behind, wait_behind, waits_on,
+};
+use gptp_hints::ClockHints;
 use gptp_links::Fate;
 use gptp_report::sink::Sink;
 use gptp_report::{Cut, Observer, write_whole};
@@ -41,6 +44,8 @@ pub(crate) struct Watch {
     exact_from: Option<u64>,
     // What is kept of each system, by rising clock.
     systems: Vec<Watched>,
+    // The place of each, which is tried before they are searched.
+    hints: ClockHints,
     // What is measured in this stretch so far.
     measures: Measures,
     // What systems read, where that is asked.
@@ -104,6 +109,17 @@ fn all_unseen<F: Fate + Drop>(alloc: Global, world: &World<F>) -> Result<Vec<Wat
     Ok(systems)
 }
 
+/// The place of each of these systems, as a hint.
+fn list_hints(alloc: Global, systems: &[Watched]) -> Result<ClockHints, AllocError> {
+    let mut hints = ClockHints::new(alloc)?;
+    let mut place = 0;
+    for system in systems {
+        hints.put(system.clock, place);
+        place = place.wrapping_add(1);
+    }
+    Ok(hints)
+}
+
 /// An amount without its sign, with a clock.
 fn amount_at(clock: ClockId, error: Option<i128>) -> Option<Greatest>
     ensures { result ≡ option_map (λ e. one_at clock (unsigned_abs e)) error }
@@ -163,11 +179,11 @@ fn gets_none<F: Fate + Drop>(
 }
 
 /// A stretch begins in the account, where there is one.
-fn begin_times(times: &mut Option<TimeWatch>, exact_from: Option<u64>, events: usize)
-    ensures { times.new ≡ option_map (times_begun exact_from events) times.old }
+fn begin_times(times: &mut Option<TimeWatch>, at: u64, exact_from: Option<u64>, events: usize)
+    ensures { times.new ≡ option_map (times_begun at exact_from events) times.old }
 {
     match times {
-        Some(times) => times.begin(exact_from, events),
+        Some(times) => times.begin(at, exact_from, events),
         None => {}
     }
 }
@@ -223,11 +239,13 @@ impl Watch {
     {
         world.well_formed();
         let systems = all_unseen(alloc, world)?;
+        let hints = list_hints(alloc, &systems)?;
         Ok(Watch {
             summary,
             offsets,
             exact_from: None,
             systems,
+            hints,
             measures: NOTHING,
             times,
         })
@@ -248,14 +266,14 @@ impl Watch {
         self.measures
     }
 
-    /// A stretch begins, in which the receipts of each system count by themselves from a time on.
-    pub(crate) fn begin(&mut self, exact_from: Option<u64>, events: usize)
-        ensures { self.new ≡ watch_begun exact_from events self.old }
+    /// A stretch begins at a time, in which the receipts of each system count by themselves from another on.
+    pub(crate) fn begin(&mut self, at: u64, exact_from: Option<u64>, events: usize)
+        ensures { self.new ≡ watch_begun at exact_from events self.old }
     {
         self.exact_from = exact_from;
         self.measures = NOTHING;
         clear_errors(&mut self.systems);
-        begin_times(&mut self.times, exact_from, events);
+        begin_times(&mut self.times, at, exact_from, events);
     }
 
     /// What systems read, where that is asked.
@@ -295,8 +313,8 @@ impl Watch {
         self.systems.len()
     }
 
-    /// The place of a system, by its clock.
-    fn place_of(&self, clock: ClockId) -> Option<usize>
+    /// The place of a system, by a search for its clock.
+    fn search_place(&self, clock: ClockId) -> Option<usize>
         ensures is { result ≡ place_of clock self.now }
         ensures within { IfSome result (λ place. place < length self.now.systems) }
         ensures named { IfSome result (λ place. (x : Watched) → slice_get self.now.systems place ≡ Some x → x.clock ≡ clock) }
@@ -304,6 +322,27 @@ impl Watch {
         self.systems
             .binary_search_by_key(&clock, |system| system.clock)
             .ok()
+    }
+
+    /// Whether the system with a clock stands at a place.
+    fn stands_at(&self, clock: ClockId, place: usize) -> bool
+        ensures within { result ≡ true → place < length self.now.systems }
+        ensures named { result ≡ true → (x : Watched) → slice_get self.now.systems place ≡ Some x → x.clock ≡ clock }
+    {
+        place < self.count() && self.clock_at(place) == clock
+    }
+
+    /// The place of a system, by its clock.
+    fn place_of(&self, clock: ClockId) -> Option<usize>
+        ensures is { result ≡ place_of clock self.now }
+        ensures within { IfSome result (λ place. place < length self.now.systems) }
+        ensures named { IfSome result (λ place. (x : Watched) → slice_get self.now.systems place ≡ Some x → x.clock ≡ clock) }
+    {
+        let place = self.hints.place(clock);
+        match self.stands_at(clock, place) {
+            true => Some(place),
+            false => self.search_place(clock),
+        }
     }
 
     /// The clock of the system at a place.
@@ -352,8 +391,26 @@ impl Watch {
         };
     }
 
+    /// Whether no wait of the system at a place begins or ends by an act that left what is shown of it as it was.
+    fn waits_on_at(&self, look: ActView, place: usize) -> bool
+        requires { place < length self.now.systems }
+        ensures { result ≡ true → (x : Watched) → slice_get self.now.systems place ≡ Some x → taken look place x x.shown self.now ≡ self.now }
+    {
+        waits_on(look, &self.systems[place])
+    }
+
     /// An act left what is shown of the system at a place as it was.
     fn take_same(&mut self, look: ActView, place: usize)
+        requires { place < length self.old.systems }
+        ensures { (x : Watched) → slice_get self.old.systems place ≡ Some x → self.new ≡ taken look place x x.shown self.old }
+    {
+        if !self.waits_on_at(look, place) {
+            self.take_wait(look, place);
+        }
+    }
+
+    /// What is kept of a wait of the system at a place, after an act that left what is shown of it as it was.
+    fn take_wait(&mut self, look: ActView, place: usize)
         requires { place < length self.old.systems }
         ensures { (x : Watched) → slice_get self.old.systems place ≡ Some x → self.new ≡ taken look place x x.shown self.old }
     {

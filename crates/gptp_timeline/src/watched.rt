@@ -1,7 +1,7 @@
 //! What is kept of each system while a document runs.
 
 ghost use Rattle.std.specs.Prelude.{◌≡◌};
-ghost use Rattle.gptp_timeline.specs.Watch.{error_after, measures_after, since_behind, wait_behind};
+ghost use Rattle.gptp_timeline.specs.Watch.{error_after, measures_after, since_behind, wait_behind, waits_on};
 
 use crate::compared::Compared;
 use crate::measures::{Greatest, Measures, better_if, ended_by, last_if, since_after};
@@ -70,6 +70,14 @@ pub(crate) fn wait_behind(
         }),
         None => None,
     }
+}
+
+/// Whether no wait of a system begins or ends by an act that left what is shown of it as it was: none was received, and
+/// it goes on to expect time where it waits.
+pub(crate) fn waits_on(look: ActView, system: &Watched) -> bool
+    ensures { result ≡ waits_on look system.now }
+{
+    !look.received && (system.since.is_none() || is_expecting(&system.shown))
 }
 
 /// What is measured so far, after an act that left a system as `after`.

@@ -1,12 +1,13 @@
 //! Who is where.
 
-ghost use Rattle.std.specs.Prelude.{◌≡◌, ℕ, ◌+◌, ◌*◌, ◌<◌, ◌≤◌, None, Some, IfOk, IfSome, IsSome, Contains, length, slice_get};
+ghost use Rattle.std.specs.Prelude.{◌≡◌, ℕ, ◌+◌, ◌*◌, ◌<◌, ◌≤◌, None, Some, true, IfOk, IfSome, IsSome, Contains, length, slice_get};
 ghost use Rattle.std.specs.List.{All};
 ghost use Rattle.std.specs.List.Sorted.{IsNonDecreasing};
 ghost use Rattle.gptp_world.specs.Directory.{directory_clocks, joins_of, direction_end, lanes_entered, BeginsAt, IsPlan, IsDirectory, AreRising, ArePlacesOfClocks, AreEndPlaces, AreOuts, AreNamed};
 ghost use Rattle.gptp_model.specs.Views.{rising};
 
 use crate::joined_link::Lane;
+use gptp_hints::ClockHints;
 use gptp_links::Direction;
 use gptp_model::Network;
 use gptp_vector::{ClockId, PortId};
@@ -43,6 +44,8 @@ pub(crate) struct Directory {
     // The clocks in rising order, and the place of each.
     rising: Vec<ClockId>,
     ranked: Vec<usize>,
+    // The rank of each clock, which is tried before they are searched.
+    hints: ClockHints,
     // The lane that begins at each port, at 17 * place + port.
     outs: Vec<Option<Lane>>,
     ends: Vec<Ends>,
@@ -73,11 +76,13 @@ impl Directory {
         let ranked = places_of(alloc, &clocks, &rising)?;
         let ends = list_ends(alloc, &clocks, &joins)?;
         let outs = list_outs(alloc, &clocks, &joins, &ends)?;
+        let hints = list_hints(alloc, &rising)?;
         Ok(Directory {
             clocks,
             joins,
             rising,
             ranked,
+            hints,
             outs,
             ends,
         })
@@ -109,7 +114,7 @@ impl Directory {
         ensures some { IfSome result (λ place. slice_get self.now.clocks place ≡ Some clock) }
         ensures only { (place : ℕ) → slice_get self.now.clocks place ≡ Some clock → result ≡ Some place }
     {
-        let rank = rank_of(&self.rising, clock)?;
+        let rank = rank_of(&self.rising, &self.hints, clock)?;
         Some(self.ranked[rank])
     }
 
@@ -246,13 +251,47 @@ fn places_of(
     Ok(places)
 }
 
-/// The rank of a clock among those in rising order.
-fn rank_of(rising: &[ClockId], clock: ClockId) -> Option<usize>
+/// The rank of each of these clocks, as a hint.
+fn list_hints(alloc: Global, rising: &[ClockId]) -> Result<ClockHints, AllocError> {
+    let mut hints = ClockHints::new(alloc)?;
+    let mut rank = 0;
+    for clock in rising {
+        hints.put(*clock, rank);
+        rank = rank.wrapping_add(1);
+    }
+    Ok(hints)
+}
+
+/// Whether a clock has a rank among those in rising order.
+fn has_rank(rising: &[ClockId], clock: ClockId, rank: usize) -> bool
+    ensures { result ≡ true → slice_get rising.now rank ≡ Some clock }
+{
+    match rising.get(rank) {
+        Some(here) => *here == clock,
+        None => false,
+    }
+}
+
+/// The rank of a clock among those in rising order, by a search.
+fn search_rank(rising: &[ClockId], clock: ClockId) -> Option<usize>
     requires { IsNonDecreasing rising.now }
     ensures some { IfSome result (λ rank. slice_get rising.now rank ≡ Some clock) }
     ensures only { Contains rising.now clock → IsSome result }
 {
     rising.binary_search(&clock).ok()
+}
+
+/// The rank of a clock among those in rising order.
+fn rank_of(rising: &[ClockId], hints: &ClockHints, clock: ClockId) -> Option<usize>
+    requires { IsNonDecreasing rising.now }
+    ensures some { IfSome result (λ rank. slice_get rising.now rank ≡ Some clock) }
+    ensures only { Contains rising.now clock → IsSome result }
+{
+    let rank = hints.place(clock);
+    match has_rank(rising, clock, rank) {
+        true => Some(rank),
+        false => search_rank(rising, clock),
+    }
 }
 
 /// The places of the systems at the ends of each link.

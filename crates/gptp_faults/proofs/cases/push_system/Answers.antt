@@ -1,8 +1,7 @@
-use Rattle.std.proofs.Common.{◌≡◌, ◌++◌, ◌∷◌, [], List, None, Some, option_and_then, slice_get, sym, ap, ◌∙◌}
+use Rattle.std.proofs.Common.{◌≡◌, ◌++◌, ◌∷◌, [], ℕ, List, None, Some, option_and_then, slice_get, sym, ap, ◌∙◌}
 use Rattle.std.proofs.lemmas.Result.{on_ok_weaker}
 use Rattle.gptp_scenario.specs.Change.{live_after}
-use Rattle.gptp_faults.specs.Cases.{system_case}
-use Rattle.gptp_faults.specs.declared.cases.Case.{Case}
+use Rattle.gptp_faults.specs.Cases.{live_clock}
 use Rattle.gptp_faults.proofs.CaseLemmas.{none_through, some_through}
 use Rattle.gptp_faults.proofs.cases.push_system.Goals as goal
 
@@ -14,8 +13,8 @@ returns-in-Some c =
     let lives : option_and_then (live_after events) (slice_get systems place) ≡ Some live =
     rw (c.events.ensures, c.network.ensures) at raw in
     on_ok_weaker c.push_live.result (λ pushed.
-    pushed ∙ ap (λ (cs : List Case). cs ++ system_case live ∷ []) c.requires
-    ∙ sym (some_through system_case (live_after events) systems place live lives)) c.push_live.ensures
+    pushed ∙ ap (λ (cs : List ℕ). cs ++ live_clock live ∷ []) c.requires
+    ∙ sym (some_through live_clock (live_after events) systems place live lives)) c.push_live.ensures
 
 pub returns-in-None : goal.returns-in-None
 returns-in-None c =
@@ -23,4 +22,4 @@ returns-in-None c =
     let raw = sym c.live_after.ensures ∙ c.in-None.is in
     let fails : option_and_then (live_after events) (slice_get systems c.args.place) ≡ None =
     rw (c.events.ensures, c.network.ensures) at raw in
-    c.requires ∙ sym (none_through system_case (live_after events) systems c.args.place fails)
+    c.requires ∙ sym (none_through live_clock (live_after events) systems c.args.place fails)

@@ -1,4 +1,4 @@
-use Rattle.std.proofs.Common.{◌≡◌, ◌+◌, ◌∙◌, [], ◌∷◌, Some, length, slice_get, ap, subst, sym, arith}
+use Rattle.std.proofs.Common.{◌≡◌, ◌+◌, ◌∙◌, [], ◌∷◌, Some, false, length, slice_get, ap, subst, sym, arith}
 use Rattle.std.specs.Io.KnownBytes.{Appends}
 use Rattle.std.proofs.lemmas.List.{length-append}
 use Rattle.std.proofs.lemmas.Option.{slice_get-get_or}
@@ -6,9 +6,11 @@ use Rattle.gptp_network.specs.Document.{DocumentState}
 use Rattle.gptp_words.specs.Lines.{text_of}
 use Rattle.gptp_faults.specs.Progress.{all_begun, begun, part_count}
 use Rattle.gptp_faults.specs.Outcomes.{IsOutcome, IsOutcomeAt, case_numbers}
+use Rattle.gptp_faults.specs.Refusals.{case_events, is_late}
 use Rattle.gptp_timeline.specs.Each.{Each}
 use Rattle.gptp_faults.specs.declared.cases.Case.{Case}
 use Rattle.gptp_faults.proofs.OutcomeLemmas.{case_passed, case_tried}
+use Rattle.gptp_faults.proofs.RefusalLemmas.{not_late}
 use Rattle.gptp_faults.proofs.ProgressLemmas.{each_length, told_all, told_more, told_still}
 use Rattle.gptp_faults.proofs.faults.try_cases.Goals as goal
 use Rattle.gptp_faults.proofs.faults.try_cases.Goals.{then-belongs+in_ok-try_next, else-belongs}
@@ -70,3 +72,15 @@ returns-clause-told g c =
     (g.P.Sink.written c.args.progress.now) (g.P.Sink.written c.loop-number.progress) c.count_of-count.ensures
     (sym (each_length _ (case_numbers options.parts options.part number) in_order c.loop-number.invariant.tried)
     ∙ ap (part_count options) all) c.loop-number.invariant.told
+
+-- no case is late
+pub try_next-requires-clause-in_time : goal.try_next-requires-clause-in_time
+try_next-requires-clause-in_time g c =
+    let options = c.args.options.now in let t = c.args.times.now in let number = c.loop-number.number in
+    let failing = c.index-cases-number.result in
+    let there : slice_get c.args.cases.now number ≡ Some failing =
+    slice_get-get_or c.args.cases.now number failing c.loop-number-test.true
+    ∙ ap (λ (x : Case). Some x) (sym c.index-cases-number.is) in
+    subst (λ (d : DocumentState). is_late d options.hold t (case_events d options failing) ≡ false)
+    (sym c.loop-number.invariant.same)
+    (not_late c.args.document.now options t c.args.cases.now c.requires.in_time number failing there)

@@ -5,7 +5,7 @@ use Rattle.gptp_faults.proofs.refusals.any_late.Given as goal
 
 abbrev pub invariant-loop-failing : goal.invariant-loop-failing
 invariant-loop-failing l = record {
-  late : any_late l.initial.document l.asked l.times (drop l.failing-index l.cases)
-      ≡ any_late l.initial.document l.asked l.times l.cases;
+  late : any_late l.initial.document l.options l.times (drop l.failing-index l.cases)
+      ≡ any_late l.initial.document l.options l.times l.cases;
   same : l.document ≡ l.initial.document;
 }

@@ -8,7 +8,7 @@ use Rattle.gptp_faults.proofs.refusals.is_late.Goals as goal
 pub returns-then-branch-clause-late : goal.returns-then-branch-clause-late
 returns-then-branch-clause-late c =
     let d = c.args.document.now in let asked = c.args.asked in let t = c.args.times.now in
-    let failing = c.args.failing.now in let number = c.loop-number.number in let so_far = c.loop-number.invariant in
+    let failing = c.args.events.now in let number = c.loop-number.number in let so_far = c.loop-number.invariant in
     let late : c.in_ok-is_late_at.field-0 ≡ is_late_at d asked failing (moment t number) =
     c.in_ok-is_late_at.ensures.late
     ∙ ap (λ (e : DocumentState). is_late_at e asked failing c.moment.result) so_far.same
@@ -19,7 +19,7 @@ returns-then-branch-clause-late c =
 pub loop-number-preserved : goal.loop-number-preserved
 loop-number-preserved c =
     let d = c.args.document.now in let asked = c.args.asked in let t = c.args.times.now in
-    let failing = c.args.failing.now in let number = c.loop-number.number in let so_far = c.loop-number.invariant in
+    let failing = c.args.events.now in let number = c.loop-number.number in let so_far = c.loop-number.invariant in
     let below = c.loop-number-test.true in
     let late : c.in_ok-is_late_at.field-0 ≡ is_late_at d asked failing (moment t number) =
     c.in_ok-is_late_at.ensures.late

@@ -7,9 +7,9 @@ use Rattle.gptp_faults.proofs.refusals.is_late.Given as goal
 
 abbrev pub invariant-loop-number : goal.invariant-loop-number
 invariant-loop-number l = record {
-  late : list_any (λ number. is_late_at l.initial.document l.asked l.failing (moment l.times number))
+  late : list_any (λ number. is_late_at l.initial.document l.asked l.events (moment l.times number))
       (range_with_len l.number (l.times.moments - l.number))
-      ≡ is_late l.initial.document l.asked l.times l.failing;
+      ≡ is_late l.initial.document l.asked l.times l.events;
   most : l.number ≤ l.times.moments;
   same : l.document ≡ l.initial.document;
 }

@@ -1,23 +1,121 @@
-use Rattle.std.proofs.Common.{◌≡◌, ◌≤◌, ◌/◌, ap, sym, subst, ◌∙◌, arith}
+use Rattle.std.proofs.Common.{◌≡◌, ◌≤◌, ◌+◌, ◌/◌, ◌==◌, ℕ, Bool, false, not, List, [], ◌∷◌, length, Result, Ok, Err, refl, ap, sym, subst, ◌∙◌, arith}
+use Rattle.std.specs.Prelude.{IfOk, OnOk}
+use Rattle.std.proofs.lemmas.Bool.Decides.{nat_tests}
+use Rattle.rand_pcg.specs.Lcg.{Lcg}
+use Rattle.gptp_network.specs.Adding.{with_first}
 use Rattle.gptp_network.specs.Document.{DocumentState}
-use Rattle.gptp_faults.specs.Stays.{behind_of, end_at, hold_of}
+use Rattle.gptp_sink.specs.declared.cut.Cut.{Cut}
+use Rattle.gptp_scenario.specs.declared.change.Timed.{Timed}
+use Rattle.gptp_timeline.specs.Aside.{AsideState}
+use Rattle.gptp_timeline.specs.LastStretches.{EndsOf}
+use Rattle.gptp_timeline.specs.declared.ends.LastStretches.{LastStretches}
+use Rattle.gptp_faults.specs.CaseEvents.{with_changes}
+use Rattle.gptp_faults.specs.Options.{tracks}
+use Rattle.gptp_faults.specs.Runs.{AreRunEnds, CaseRunEnds, draws, generator, has_changes, is_seen, seed_of, set_aside}
+use Rattle.gptp_faults.specs.Stays.{back_at, behind_of, document_of, end_at, failed_document, hold_of, with_case}
 use Rattle.gptp_faults.specs.Times.{moment}
+use Rattle.gptp_faults.specs.declared.case_events.CaseChange.{CaseChange}
+use Rattle.gptp_faults.specs.declared.runs.RunEnds.{RunEnds}
 use Rattle.gptp_faults.proofs.RefusalLemmas.{ends_early, not_late_at}
-use Rattle.gptp_faults.proofs.RunLemmas.{moment_below}
+use Rattle.gptp_faults.proofs.RunLemmas.{case_back, moment_below}
 use Rattle.gptp_faults.proofs.runs.run_case.Goals as goal
 
 pub last_stretches-requires : goal.last_stretches-requires
 last_stretches-requires c =
     let d = c.args.document.now in let asked = c.args.options.now.hold in let t = c.args.times.now in
-    let failing = c.args.failing.now in let run = c.args.run in let at = c.moment_of-down.result in
-    let hold : c.in_ok-hold.hold ≡ hold_of d asked failing at = c.in_ok-hold.ensures.hold in
-    let behind : c.in_ok-behind.behind ≡ behind_of d asked failing at (hold_of d asked failing at) =
+    let e = c.args.events.now in let run = c.args.run in let at = c.moment_of-down.result in
+    let hold : c.in_ok-hold.hold ≡ hold_of d asked e at = c.in_ok-hold.ensures.hold in
+    let behind : c.in_ok-behind.behind ≡ behind_of d asked e at (hold_of d asked e at) =
     c.in_ok-behind.ensures.behind
-    ∙ ap (λ (e : DocumentState). behind_of e asked failing at c.in_ok-hold.hold) c.in_ok-hold.ensures.same
-    ∙ ap (behind_of d asked failing at) hold in
+    ∙ ap (λ (x : DocumentState). behind_of x asked e at c.in_ok-hold.hold) c.in_ok-hold.ensures.same
+    ∙ ap (behind_of d asked e at) hold in
+    let delay = c.delay.ensures.is in
     let number = moment_below run t.moments t.seeds c.requires.bounded.some_seed c.requires.run in
-    let late = not_late_at d asked t failing (run / t.seeds) c.requires.in_time number in
-    let end : end_at d asked failing at ≤ 1000000000000000 =
-    subst (λ time. end_at d asked failing time ≤ 1000000000000000) (sym c.moment_of-down.ensures.is)
-    (ends_early d asked failing (moment t (run / t.seeds)) late) in
-    record { moment = omega (arith, end, hold, behind) }
+    let late = not_late_at d asked t e (run / t.seeds) c.requires.in_time number in
+    let end : end_at d asked e at ≤ 1000000000000000 =
+    subst (λ time. end_at d asked e time ≤ 1000000000000000) (sym c.moment_of-down.ensures.is)
+    (ends_early d asked e (moment t (run / t.seeds)) late) in
+    omega (arith, end, hold, behind, delay)
+
+-- where a run's last stretches are those of a case, they are so of it
+ends_are : (result : Result RunEnds Cut) (seen other : Bool) (last : LastStretches) (P : RunEnds → Type 0)
+    → seen ≡ other → ((r : RunEnds) → AreRunEnds other last r → P r) → IfOk result (AreRunEnds seen last) → IfOk result P
+ends_are (Ok r) seen other last P same each are = each r (subst (λ (b : Bool). AreRunEnds b last r) same are)
+ends_are (Err e) seen other last P same each are = tt
+
+on_ok : {P : Type 0} (result : Result RunEnds Cut) → P → OnOk result P
+on_ok (Ok r) p = p
+on_ok (Err e) p = tt
+
+seen_is : (cs : List CaseChange) → not (length cs == 0) ≡ has_changes cs
+seen_is [] = refl
+seen_is (c ∷ cs) = let some : (length (c ∷ cs) == 0) ≡ false = grind (arith, nat_tests) in rw some refl
+
+pub returns-clause-run : goal.returns-clause-run
+returns-clause-run c =
+    let d = c.args.document.now in let asked = c.args.options.now.hold in let t = c.args.times.now in
+    let e = c.args.events.now in let run = c.args.run in let at = c.moment_of-down.result in
+    let names = c.args.aside.now in
+    let last = c.in_ok-ends.ends in
+    let delay : c.delay.result ≡ e.delay = c.delay.ensures.is in
+    let hold : c.in_ok-hold.hold ≡ hold_of d asked e at = c.in_ok-hold.ensures.hold in
+    let behind : c.in_ok-behind.behind ≡ behind_of d asked e at (hold_of d asked e at) =
+    c.in_ok-behind.ensures.behind
+    ∙ ap (λ (x : DocumentState). behind_of x asked e at c.in_ok-hold.hold) c.in_ok-hold.ensures.same
+    ∙ ap (behind_of d asked e at) hold in
+    let document : c.return_after.new.document ≡ document_of d asked e at =
+    c.in_ok-return_after.ensures.added
+    ∙ ap (with_changes (back_at at e c.in_ok-hold.hold) e.back) (c.in_ok-fail_at.ensures.added
+    ∙ ap (failed_document at e) (c.in_ok-behind.ensures.same ∙ c.in_ok-hold.ensures.same))
+    ∙ ap (λ (h : ℕ). with_case at h e d) hold in
+    let until : at + c.delay.result + c.in_ok-hold.hold + c.in_ok-behind.behind ≡ end_at d asked e at =
+    λ i. at + delay i + hold i + behind i in
+    let aside : c.new-aside.result ≡ set_aside d asked e names at =
+    c.new-aside.ensures ∙ (λ i. record {
+      clocks = c.in_ok-from_slice.ensures.items i;
+      from = at;
+      back = at + delay i + hold i;
+      begun = 0;
+    }) in
+    let fate = c.new-fate.ensures ∙ ap generator c.seed_of.ensures in
+    let ends : EndsOf draws (tracks c.args.options.now) (set_aside d asked e names at) (document_of d asked e at)
+    (end_at d asked e at) (generator (seed_of t run)) last =
+    subst (λ (f : Lcg). EndsOf draws (tracks c.args.options.now) (set_aside d asked e names at) (document_of d asked e at)
+    (end_at d asked e at) f last) fate
+    (subst (λ (u : ℕ). EndsOf draws (tracks c.args.options.now) (set_aside d asked e names at) (document_of d asked e at) u
+    c.new-fate.result last) until
+    (subst (λ (x : DocumentState). EndsOf draws (tracks c.args.options.now) (set_aside d asked e names at) x
+    (at + c.delay.result + c.in_ok-hold.hold + c.in_ok-behind.behind) c.new-fate.result last) document
+    (subst (λ (a : AsideState). EndsOf draws (tracks c.args.options.now) a c.return_after.new.document
+    (at + c.delay.result + c.in_ok-hold.hold + c.in_ok-behind.behind) c.new-fate.result last) aside
+    (subst (λ (b : Bool). EndsOf draws b c.new-aside.result c.return_after.new.document
+    (at + c.delay.result + c.in_ok-hold.hold + c.in_ok-behind.behind) c.new-fate.result last) c.tracks.ensures
+    c.in_ok-ends.ensures.ends)))) in
+    let seen : not c.is_empty.result ≡ is_seen e =
+    ap not (c.is_empty.ensures ∙ ap (λ (cs : List CaseChange). length cs == 0) c.seen.ensures.is) ∙ seen_is e.seen in
+    ends_are c.ends_of.result (not c.is_empty.result) (is_seen e) last
+    (CaseRunEnds c.args.options.now d t e names run) seen
+    (λ r are. record {
+      last = last;
+      ends = subst (λ (time : ℕ). EndsOf draws (tracks c.args.options.now) (set_aside d asked e names time)
+          (document_of d asked e time) (end_at d asked e time) (generator (seed_of t run)) last)
+          c.moment_of-down.ensures.is ends;
+      are = are;
+    }) c.ends_of.ensures.ends
+
+pub returns-clause-same : goal.returns-clause-same
+returns-clause-same c =
+    let d = c.args.document.now in let asked = c.args.options.now.hold in let e = c.args.events.now in
+    let at = c.moment_of-down.result in let hold = c.in_ok-hold.hold in
+    let before = c.in_ok-behind.ensures.same ∙ c.in_ok-hold.ensures.same in
+    let document : c.return_after.new.document ≡ with_case at hold e d =
+    c.in_ok-return_after.ensures.added
+    ∙ ap (with_changes (back_at at e hold) e.back) (c.in_ok-fail_at.ensures.added
+    ∙ ap (failed_document at e) before) in
+    let same : c.truncate.new.self ≡ d =
+    c.truncate.ensures
+    ∙ ap (λ (es : List Timed). with_first (length es) c.return_after.new.document)
+    (c.events-count.ensures ∙ ap (λ (x : DocumentState). x.events) before)
+    ∙ ap (with_first (length d.events)) document
+    ∙ case_back d at hold e in
+    on_ok c.ends_of.result same

@@ -8,7 +8,7 @@ use Rattle.gptp_scenario.specs.Allowed.{AreAllowed, IsAllowed}
 use Rattle.gptp_scenario.specs.declared.change.Timed.{Timed}
 use Rattle.gptp_sink.specs.Sink.{AppendsSome}
 use Rattle.gptp_sink.proofs.SinkLemmas.{after_error, appends_both, appends_none, some_behind}
-use Rattle.gptp_timeline.specs.Passing.{first_time, StretchIsSeen, StopsSeen, watch_before}
+use Rattle.gptp_timeline.specs.Passing.{aside_kept, first_time, StretchIsSeen, StopsSeen, watch_before}
 use Rattle.gptp_timeline.specs.Timeline.{end_before, is_begun, IsTimelinePlan, later_than, none_carried, tracks}
 use Rattle.gptp_timeline.proofs.EventLemmas.{all_now, ends_before, ends_in_time, ends_later, fewer_later, filter_each, may_begin, may_next, none_left, now_by}
 use Rattle.gptp_timeline.proofs.ObservedLemmas.{Rests, start_rests}
@@ -20,12 +20,14 @@ loop-to-init g c =
     let d = c.args.document.now in let w = c.args.world.now.world_core in let options = c.args.options.now in
     let exact = c.args.exact in
     let old = g.K.Sink.written c.args.sink.now in let names = rising_clocks w in
-    let rests = subst (Rests options names (none_carried (tracks options) names) w) (sym c.requires.starts)
-    (start_rests g.F.Fate.answers d.network c.requires.begun.0 c.args.world.now.fate options w (watch_before options w)
-    c.requires.begun.1 c.well_formed-3.ensures.sound refl) in
+    let a = aside_kept c.args.watch.now in
+    let rests = subst (Rests options names (record { carried = none_carried (tracks options) names; aside = a }) w)
+    (sym c.requires.starts)
+    (start_rests g.F.Fate.answers d.network c.requires.begun.0 c.args.world.now.fate options a w
+    (watch_before options a w) c.requires.begun.1 c.well_formed-3.ensures.sound refl) in
     rw (c.none_kept-kept.ensures, c.events_by-left.ensures, c.events.ensures) (record {
       gone = seen_none g.F.Fate.answers exact d c.args.until options names (events_by c.args.until d.events)
-          c.args.world.now.fate w c.args.watch.now (Appends old old) rests (appends_none old);
+          c.args.world.now.fate w a c.args.watch.now (Appends old old) rests (appends_none old);
       may = may_begin c.args.until d.events w c.well_formed-2.ensures.events.in_order c.well_formed-2.ensures.allowed
           c.requires.prompt;
       works = refl;
@@ -83,7 +85,7 @@ loop-to-preserved g c =
     let stays = courses_stay answers passed.0.to (events_by from left) seen.acts drawn next between after
     i.gone.rests.named.setups seen.courses in
     rw c.events_after-left.ensures (record {
-      gone = seen_more answers exact d until options names events fate w from to left drawn between c.loop-to.kept o
+      gone = seen_more answers exact d until options names events fate w (aside_kept c.args.watch.now) from to left drawn between c.loop-to.kept o
           (Appends old mid) (Appends mid new) (Appends old new) (appends_both old mid new) i.gone passed.0 next after
           o_after passed.1 c.in_ok-kept.kept known seen passed.4 passed.5 is;
       may = may_next until from to left between after i.may stays is;
@@ -111,7 +113,7 @@ returns-in_err-kept-clause-broken g c =
     broken.1 in
     after_error c.from_residual.result
     (seen_some answers exact d until c.args.options.now names (events_by until d.events) c.args.world.now.fate
-    c.args.world.now.world_core from to left drawn between c.loop-to.kept o (Appends old mid) (AppendsSome mid new)
+    c.args.world.now.world_core (aside_kept c.args.watch.now) from to left drawn between c.loop-to.kept o (Appends old mid) (AppendsSome mid new)
     (AppendsSome old new) (some_behind old mid new) c.loop-to.invariant.gone broken.0
     (sym (ends_before until (later_than from left) to is)) stops broken.2)
 
@@ -140,7 +142,7 @@ returns-clause-passed g c =
     let all = sym (all_now from left none) in
     IfOk-weaker c.next_stretch-2.result _ _ (λ kept passed.
     seen_all answers exact d until c.args.options.now names (events_by until d.events) c.args.world.now.fate
-    c.args.world.now.world_core from until left drawn between c.loop-to.kept o (Appends old mid) (Appends mid new)
+    c.args.world.now.world_core (aside_kept c.args.watch.now) from until left drawn between c.loop-to.kept o (Appends old mid) (Appends mid new)
     (Appends old new) (appends_both old mid new) c.loop-to.invariant.gone passed.0 next after o_after passed.1 kept
     (subst (λ es. IsTimelinePlan exact d from until (is_begun es) passed.0) all passed.2)
     (subst (λ es. StretchIsSeen answers passed.0 es drawn next between after o o_after passed.1) all passed.3) passed.4
@@ -159,7 +161,7 @@ returns-clause-broken g c =
     (sym c.next_time.ensures ∙ none_there c.next_time.result c.in_default.not-Some) in
     on_err_weaker c.next_stretch-2.result (λ broken.
     seen_some answers exact d until c.args.options.now names (events_by until d.events) c.args.world.now.fate
-    c.args.world.now.world_core from until left drawn between c.loop-to.kept o (Appends old mid) (AppendsSome mid new)
+    c.args.world.now.world_core (aside_kept c.args.watch.now) from until left drawn between c.loop-to.kept o (Appends old mid) (AppendsSome mid new)
     (AppendsSome old new) (some_behind old mid new) c.loop-to.invariant.gone broken.0
     (sym (ap (end_before until) none))
     (subst (λ es. StopsSeen answers exact d from until es drawn between o broken.0) (sym (all_now from left none))

@@ -42,8 +42,8 @@ returns-clause-end g c =
     end_made c.args.plan.now c.args.world.now.world_core c.args.watch.now c.in_ok-stretch.stretch c.measures.result
     c.systems.result.now c.times_ended.result c.in_ok-stretch.ensures c.measures.ensures c.systems.ensures.are
     (times_are c.args.plan.now.to c.args.world.now.world_core _ _ _ c.times_ended.ensures c.times.ensures)
-    c.systems-2.result.now c.in_ok-roots.roots.items c.new.result c.in_ok-roots.ensures c.systems-2.ensures.are
-    c.new.ensures
+    c.systems-2.result.now c.systems-3.result.now c.in_ok-roots.roots.items c.in_ok-keepers.keepers.items c.new.result
+    c.in_ok-roots.ensures c.systems-2.ensures.are c.in_ok-keepers.ensures c.systems-3.ensures.are c.new.ensures
 
 pub returns-clause-whole : goal.returns-clause-whole
 returns-clause-whole g c =

@@ -1,12 +1,14 @@
-use Rattle.std.proofs.Common.{◌≡◌, Err, ap, ◌∙◌, false, refl}
+use Rattle.std.proofs.Common.{◌≡◌, Err, ap, ◌∙◌, refl}
 use Rattle.std.proofs.lemmas.Result.{err_from_is_err_and}
 use Rattle.gptp_sink.specs.declared.cut.Cut.{Cut}
 use Rattle.gptp_sink.specs.declared.cut.Cut.TheVariants.{Memory, Write}
 use Rattle.gptp_model.specs.Views.{rising_clocks}
-use Rattle.gptp_timeline.specs.LastTwo.{ends_in, last_two}
-use Rattle.gptp_timeline.specs.Timeline.{none_carried, tracks}
+use Rattle.gptp_timeline.specs.LastStretches.{aside_if, first_aside, last_behind, none_last}
+use Rattle.gptp_timeline.specs.Timeline.{tracks}
 use Rattle.gptp_timeline.specs.Watch.{event_look, see_all}
-use Rattle.gptp_timeline.proofs.StretchesSoFarLemmas.{last_two_are}
+use Rattle.gptp_timeline.specs.Passing.{aside_kept}
+use Rattle.gptp_timeline.proofs.AccountLemmas.{kept_at_start, starts_with_kept}
+use Rattle.gptp_timeline.proofs.StretchesSoFarLemmas.{last_are}
 use Rattle.gptp_timeline.proofs.timeline.last_stretches.Goals as goal
 
 pub all_stretches-requires-clause-begun : goal.all_stretches-requires-clause-begun
@@ -14,7 +16,9 @@ all_stretches-requires-clause-begun g c = (c.args.fate, c.in_ok-world.ensures.be
 
 pub all_stretches-requires-clause-starts : goal.all_stretches-requires-clause-starts
 all_stretches-requires-clause-starts g c =
-    c.in_ok-write_start.ensures.sees ∙ ap (see_all (event_look 0) c.in_ok-world.world.world_core) c.in_ok-watch.ensures
+    let w = c.in_ok-world.world.world_core in
+    starts_with_kept c.summary_with-options.result c.args.aside w c.write_start.new.watch
+    (c.in_ok-write_start.ensures.sees ∙ ap (see_all (event_look 0) w) c.in_ok-watch.ensures)
 
 -- a call that breaks off otherwise than by a write had no memory
 memory_alone : (e : Cut) → (e ≡ Write → ⊥) → e ≡ Memory
@@ -42,7 +46,7 @@ returns-in_err-kept-clause-memory g c =
 pub returns-clause-ends : goal.returns-clause-ends
 returns-clause-ends g c =
     let passed = c.in_ok-kept.ensures.passed in let options = c.summary_with-options.result in
-    let names = rising_clocks c.in_ok-world.world.world_core in
+    let start = c.in_ok-world.world.world_core in let names = rising_clocks start in
     record {
       started = c.in_ok-world.world.fate;
       start = c.in_ok-world.world.world_core;
@@ -51,7 +55,11 @@ returns-clause-ends g c =
       fate_after = c.all_stretches.new.world.fate;
       after = c.all_stretches.new.world.world_core;
       pass = passed.1;
-      are = c.both_of.ensures
-          ∙ last_two_are options.limits names passed.0 (none_carried (tracks options) names) c.in_ok-kept.kept passed.2
-          ∙ ap (λ asked. last_two (ends_in names (none_carried asked names) passed.0)) c.summary_with-options.ensures;
+      are = last_are options.limits names passed.0
+          (first_aside (tracks options) (aside_kept c.write_start.new.watch) names) c.in_ok-kept.kept passed.2
+          ∙ ap (λ aside. last_behind names (first_aside (tracks options) aside names) passed.0 none_last)
+          (ap aside_kept (c.in_ok-write_start.ensures.sees ∙ ap (see_all (event_look 0) start) c.in_ok-watch.ensures)
+          ∙ kept_at_start options c.args.aside start)
+          ∙ ap (λ asked. last_behind names (first_aside asked (aside_if asked c.args.aside) names) passed.0 none_last)
+          c.summary_with-options.ensures;
     }

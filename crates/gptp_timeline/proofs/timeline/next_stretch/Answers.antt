@@ -1,6 +1,6 @@
 use Rattle.std.proofs.Common.{[], ap, ◌∙◌, inl, inr, refl, subst}
 use Rattle.gptp_sink.proofs.SinkLemmas.{after_error, none_of}
-use Rattle.gptp_timeline.specs.LastTwo.{kept_after}
+use Rattle.gptp_timeline.specs.LastStretches.{kept_after}
 use Rattle.gptp_timeline.specs.Timeline.{IsTimelinePlan}
 use Rattle.gptp_timeline.proofs.PassLemmas.{begun_is}
 use Rattle.gptp_timeline.proofs.timeline.next_stretch.Goals as goal

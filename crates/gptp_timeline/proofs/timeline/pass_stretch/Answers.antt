@@ -15,7 +15,7 @@ returns-in_err-play-clause-broken g c =
     let broken = c.in_err-play.ensures.broken in
     let old = g.K.Sink.written c.args.sink.now in let new = g.K.Sink.written c.play.new.sink in
     let began = c.begin.ensures
-    ∙ ap (λ from. watch_begun from (length c.args.events.now) c.args.watch.now) c.exact_time.ensures in
+    ∙ ap (λ from. watch_begun c.args.plan.now.from from (length c.args.events.now) c.args.watch.now) c.exact_time.ensures in
     after_error c.from_residual.result (
       broken.3.lines,
       inl (sees_some g.F.Fate.answers c.args.plan.now c.args.events.now c.args.world.now.fate
@@ -32,7 +32,7 @@ returns-clause-broken g c =
     let old = g.K.Sink.written c.args.sink.now in let between = g.K.Sink.written c.play.new.sink in
     let new = g.K.Sink.written c.end_stretch.new.sink in
     let began = c.begin.ensures
-    ∙ ap (λ from. watch_begun from (length c.args.events.now) c.args.watch.now) c.exact_time.ensures in
+    ∙ ap (λ from. watch_begun c.args.plan.now.from from (length c.args.events.now) c.args.watch.now) c.exact_time.ensures in
     let told = played.2.lines in let ends = end_lines c.args.plan.now c.play.new.world.world_core c.play.new.observer in
     after_error c.end_stretch.result (
       told ++ ends,
@@ -58,7 +58,7 @@ returns-clause-passed g c =
     let old = g.K.Sink.written c.args.sink.now in let between = g.K.Sink.written c.play.new.sink in
     let new = g.K.Sink.written c.end_stretch.new.sink in
     let began = c.begin.ensures
-    ∙ ap (λ from. watch_begun from (length c.args.events.now) c.args.watch.now) c.exact_time.ensures in
+    ∙ ap (λ from. watch_begun c.args.plan.now.from from (length c.args.events.now) c.args.watch.now) c.exact_time.ensures in
     let told = played.2.lines in
     let ends = end_lines c.args.plan.now c.play.new.world.world_core c.play.new.observer in (
       told,

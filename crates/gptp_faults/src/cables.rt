@@ -1,0 +1,151 @@
+//! Links as they stand after all events.
+
+ghost use Rattle.std.specs.Prelude.{◌≡◌, ◌+◌, ◌++◌, ◌∷◌, [], if◌then◌else◌, IfOk, OnOk, map, take};
+ghost use Rattle.std.specs.List.{AllByRecursion};
+ghost use Rattle.gptp_faults.specs.Cables.{HasBounds, acted_cable, bounds_at, cable_after, cables_after, changed_cable, is_at_port, is_up_at, stood_cable, up_ports};
+
+use gptp_links::Bounds;
+use gptp_network::Document;
+use gptp_scenario::{Act, Change, Timed};
+use gptp_topology::Cable;
+use gptp_vector::{ClockId, PortId};
+use std::alloc::{AllocError, Global};
+
+/// Whether a link is at a port.
+fn is_at(cable: &Cable, port: PortId) -> bool
+    ensures { result ≡ is_at_port cable.now port }
+{
+    cable.a == port || cable.b == port
+}
+
+/// A link after a change.
+fn changed(change: &Change, cable: Cable) -> Cable
+    ensures { result ≡ changed_cable change.now cable }
+{
+    let mut cable = cable;
+    match *change {
+        Change::LinkDown { clock, port } => {
+            if is_at(&cable, PortId { clock, port }) {
+                cable.up = false;
+            }
+        }
+        Change::LinkUp { clock, port } => {
+            if is_at(&cable, PortId { clock, port }) {
+                cable.up = true;
+            }
+        }
+        Change::LinkSet {
+            clock,
+            port,
+            min,
+            max,
+            loss,
+        } => {
+            if is_at(&cable, PortId { clock, port }) {
+                cable.bounds.min = min;
+                cable.bounds.max = max;
+                cable.bounds.loss = loss;
+            }
+        }
+        _ => {}
+    }
+    cable
+}
+
+/// A link after an act.
+fn acted(act: &Act, cable: Cable) -> Cable
+    ensures { result ≡ acted_cable act.now cable }
+{
+    match act {
+        Act::Change(change) => changed(change, cable),
+        _ => cable,
+    }
+}
+
+/// A link after events.
+fn stood(events: &[Timed], cable: Cable) -> Cable
+    ensures { result ≡ stood_cable events.now cable }
+{
+    let mut cable = cable;
+    for event in events {
+        cable = acted(&event.act, cable);
+    }
+    cable
+}
+
+/// Puts the link at a place after those of the places before.
+fn push_cable(cables: &mut Vec<Cable>, document: &Document, place: usize) -> Result<(), AllocError>
+    requires { cables.old.items ≡ map (cable_after document.now.events) (take place document.now.network.links) }
+    ensures { OnOk result (cables.new.items
+        ≡ map (cable_after document.now.events) (take (place + 1) document.now.network.links)) }
+{
+    if let Some((a, b, bounds, up)) = document.network().link_at(place) {
+        cables.push(stood(document.events(), Cable { a, b, bounds, up }))?;
+    }
+    Ok(())
+}
+
+/// All links after all events, in the order of the document.
+pub(crate) fn cables_after(alloc: Global, document: &Document) -> Result<Vec<Cable>, AllocError>
+    ensures are { IfOk result (λ cables. cables.items ≡ cables_after document.now) }
+    ensures bounds { IfOk result (λ cables. AllByRecursion HasBounds cables.items) }
+{
+    document.well_formed();
+    document.network().well_formed();
+    let mut cables = Vec::new(alloc);
+    for place in 0..document.network().links() {
+        push_cable(&mut cables, document, place)?;
+    }
+    Ok(cables)
+}
+
+/// The bounds of the link that has this port as its first end, if there is one.
+pub(crate) fn bounds_at(cables: &[Cable], port: &PortId) -> Option<Bounds>
+    ensures { result ≡ bounds_at cables.now port.now }
+{
+    for cable in cables {
+        if cable.a == *port {
+            return Some(cable.bounds);
+        }
+    }
+    None
+}
+
+/// Whether a link that is up is at a port.
+fn is_up_at(cables: &[Cable], port: &PortId) -> bool
+    ensures { result ≡ is_up_at cables.now port.now }
+{
+    cables.iter().any(|cable| cable.up && is_at(cable, *port))
+}
+
+/// Puts a port after others, where a link that is up is at it.
+fn push_up(ports: &mut Vec<PortId>, cables: &[Cable], port: PortId) -> Result<(), AllocError>
+    ensures { OnOk result (ports.new.items ≡ ports.old.items ++ (if is_up_at cables.now port then port ∷ [] else [])) }
+{
+    match is_up_at(cables, &port) {
+        true => {
+            ports.push(port)?;
+            Ok(())
+        }
+        false => Ok(()),
+    }
+}
+
+/// The ports of a system at which a link is that is up, by rising number.
+pub(crate) fn up_ports(
+    alloc: Global,
+    cables: &[Cable],
+    clock: ClockId,
+) -> Result<Vec<PortId>, AllocError>
+    ensures { IfOk result (λ ports. ports.items ≡ up_ports cables.now clock) }
+{
+    let mut ports = Vec::new(alloc);
+    for number in 0..16u16 {
+        let port = PortId {
+            clock,
+            port: number + 1,
+        };
+        push_up(&mut ports, cables, port)?;
+    }
+    Ok(ports)
+}
