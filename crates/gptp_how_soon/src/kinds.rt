@@ -512,7 +512,7 @@ pub(crate) fn any_recovery(told: &[Told]) -> bool
 fn is_heard_too(heard: bool, told: &Told) -> bool
     ensures { result ≡ is_heard_too heard told.now }
 {
-    is_gain(told) && (is_link_up(told) || (is_priority1(told) && !heard))
+    is_gain(told) && (is_link_up(told) || is_recover(told) || (is_priority1(told) && !heard))
 }
 
 /// Whether what these events tell is heard at once.

@@ -3,7 +3,7 @@
 use Rattle.std.proofs.Common.{◌≡◌, ◌<◌, ◌≤◌, ◌⊎◌, inl, inr, ◌+◌, ◌*◌, ℕ, Bool, true, false, cond, suc, List, [], ◌∷◌, ◌++◌, length, filter, refl, sym, ap, ap₂, subst, ◌∙◌, append-nil, append_assoc, arith}
 use Rattle.std.specs.Prelude.{◌==◌, ◌&&◌, ◌||◌, not}
 use Rattle.std.specs.List.{AllByRecursion, list_all, list_any}
-use Rattle.std.proofs.lemmas.Bool.{and_from, and_parts, eq-eqb, false_from_ne_true, ne_eqb, not-true, or_cases, or_parts}
+use Rattle.std.proofs.lemmas.Bool.{and_from, and_parts, eq-eqb, false_from_ne_true, ne_eqb, not-true, or_cases, or_from, or_parts}
 use Rattle.std.proofs.lemmas.Bool.Decides.{nat_tests}
 use Rattle.gptp_lists.specs.Members.{In}
 use Rattle.gptp_lists.proofs.SystemSpecLemmas.{In-map, In-slice_get}
@@ -31,13 +31,13 @@ use Rattle.gptp_network.proofs.PassLemmas.{kept, passes_at}
 use Rattle.gptp_topology.specs.Course.{cable_is_used, cable_of, named}
 use Rattle.gptp_topology.specs.declared.course.Cable.{Cable}
 use Rattle.gptp_how_soon.specs.Bounds.{asked_again, is_again, is_hard_to_hear, ready, two_exchanges}
-use Rattle.gptp_how_soon.specs.Kinds.{are_heard, is_better, is_gain, is_heard_too, is_idle, is_link_up, is_loss, is_other, is_priority1, is_recovery, is_recovery_of, is_unused, lowers_unused, makes_nothing, raises_unused, recovers, what_of, begins_wider, first_wider_by, is_wider, wider_by}
+use Rattle.gptp_how_soon.specs.Kinds.{are_heard, is_better, is_gain, is_heard_too, is_idle, is_link_up, is_loss, is_other, is_priority1, is_recover, is_recovery, is_recovery_of, is_unused, lowers_unused, makes_nothing, raises_unused, recovers, what_of, begins_wider, first_wider_by, is_wider, wider_by}
 use Rattle.gptp_how_soon.specs.Links.{is_new, new_links, standing_then, varies}
 use Rattle.gptp_how_soon.specs.Times.{told_at, told_of}
 use Rattle.gptp_how_soon.specs.declared.kinds.Told.{Told}
 use Rattle.gptp_settling_time.specs.Gains.{AreSparedBy, ChangesNothing, IsNoWorse, IsSparedBy, JoinsLive, LeavesCapable, SparesFailed, TakesNothing, UsesNoLink, exchanged_again_from}
 use Rattle.gptp_settling_time.specs.HowSoon.{AfterIdleEvents, AreGainEvents, AreHeardEvents, EachEvent, IsGainEvent, IsGainToo, IsHeardEvent, IsHeardToo, IsIdleEvent, TurnsUnused, way_span, AreWiderEvents}
-use Rattle.gptp_settling_time.specs.InTurn.{BettersClock, BringsUp, MakesNothing, TurnsInVain}
+use Rattle.gptp_settling_time.specs.InTurn.{AddsHeard, BettersClock, BringsUp, MakesNothing, RecoversAlone, TurnsInVain}
 use Rattle.gptp_settling_time.proofs.SamePathsLemmas.{idle_paths, turned_paths}
 use Rattle.gptp_how_soon_laws.proofs.CalmLemmas.{lives_to, three_from, three_parts, used_cable}
 use Rattle.gptp_how_soon_laws.proofs.KindLemmas.{Gains, RaisesLink, TurnsBroken, gain_gains, gain_is_not_idle, idle_changes, nothing_or_gain, unused_turns, wider_widens}
@@ -98,6 +98,15 @@ ready_again p paths told [] again = absurd cc
 ready_again p paths told (c ∷ cs) again =
     ap₂ (λ none test. cond none 0 (cond test (asked_again p paths) (two_exchanges p paths)))
     (not_none c (c ∷ cs) (inl refl)) again
+
+-- none is again that is easy to hear
+none_again : (told : List Told) (cs : List Cable) → list_any (is_hard_to_hear told) cs ≡ false
+    → list_any (is_again told) cs ≡ false
+none_again told [] soft = refl
+none_again told (c ∷ cs) soft =
+    let (one, rest) = or_parts (is_hard_to_hear told c) (list_any (is_hard_to_hear told) cs) soft in
+    or_from (is_again told c) (list_any (is_again told) cs) (or_parts (is_again told c) (varies c) one).0
+    (none_again told cs rest)
 
 -- ---- the events of a time
 
@@ -440,6 +449,15 @@ module _ (n : NetworkState) (network : IsNetwork n) (time : ℕ) (first events :
             ),
           )
 
+      -- where what is told over new links is heard at once it uses none
+      pub returns : list_any (is_hard_to_hear tolds) news ≡ false → RecoversAlone n made event next
+      returns soft = record {
+        number = number;
+        act = act;
+        alone = uses_none (none_again tolds news soft);
+        capable = subst (LeavesCapable n made event next) act gains_system.1;
+      }
+
     -- a priority1 gets better
     module _ (number value : ℕ) (act : event.act ≡ acts.Change (changes.Priority1 number value))
         (no_worse : IsNoWorse n made number value) where
@@ -458,6 +476,15 @@ module _ (n : NetworkState) (network : IsNetwork n) (time : ℕ) (first events :
         later = omega (arith, here);
       }
 
+    -- who recovers had failed
+    recovery_so : (number : ℕ) → event.act ≡ acts.Change (changes.Recover number)
+        → is_gain (told_at n made (acts.Change (changes.Recover number))) ≡ true
+        → is_recovery (told_at n made event.act) ≡ true
+    recovery_so number same gain =
+        ap (λ a. is_recovery (told_at n made a)) same
+        ∙ ap not (gain_is_not_idle number (what_of (acts.Change (changes.Recover number)))
+        (told_at n made (acts.Change (changes.Recover number))).kind gain)
+
     gains_so : (act : Act) → event.act ≡ act → is_gain (told_at n made act) ≡ true → Gains n network made act
         → IsGainEvent n next made event
     gains_so (acts.Deliver link direction) same gain gains = absurd gains
@@ -467,10 +494,7 @@ module _ (n : NetworkState) (network : IsNetwork n) (time : ℕ) (first events :
     gains_so (acts.Change (changes.LinkSet clock port least greatest loss)) same gain gains = absurd gains
     gains_so (acts.Change (changes.Fail number)) same gain gains = absurd gains
     gains_so (acts.Change (changes.Recover number)) same gain gains =
-        gains_system number same gains
-        (ap (λ a. is_recovery (told_at n made a)) same
-        ∙ ap not (gain_is_not_idle number (what_of (acts.Change (changes.Recover number)))
-        (told_at n made (acts.Change (changes.Recover number))).kind gain))
+        gains_system number same gains (recovery_so number same gain)
     gains_so (acts.Change (changes.Priority1 number value)) same gain gains = gains_clock number value same gains
     gains_so (acts.Change (changes.Inject clock port octets)) same gain gains = absurd gains
 
@@ -539,30 +563,33 @@ module _ (n : NetworkState) (network : IsNetwork n) (time : ℕ) (first events :
 
     -- ---- what is heard at once
 
-    -- a link comes up; or a priority1 gets better, where nothing was heard before
+    -- a link comes up, or a system recovers; or a priority1 gets better, where nothing was heard before
     heard_so : (heard : Bool) (act : Act) → event.act ≡ act → is_heard_too heard (told_at n made act) ≡ true
         → list_any (is_hard_to_hear tolds) news ≡ false
-        → BringsUp n made event next
+        → AddsHeard n made event next
         ⊎ ((heard ≡ false) × (list_any is_better tolds ≡ true)
         × ((sync_paths n made).systems ≤ 255 → BettersClock n made event next))
     heard_so heard act same too soft =
         let e = told_at n made act in
-        let (gain, rest) = and_parts (is_gain e) (is_link_up e || (is_priority1 e && not heard)) too in
+        let (gain, rest) = and_parts (is_gain e) (is_link_up e || is_recover e || (is_priority1 e && not heard)) too in
         by act same gain rest (gain_gains n network made act gain)
       where
         by : (act : Act) → event.act ≡ act → is_gain (told_at n made act) ≡ true
-            → (is_link_up (told_at n made act) || (is_priority1 (told_at n made act) && not heard)) ≡ true
+            → (is_link_up (told_at n made act) || is_recover (told_at n made act)
+            || (is_priority1 (told_at n made act) && not heard)) ≡ true
             → Gains n network made act
-            → BringsUp n made event next
+            → AddsHeard n made event next
             ⊎ ((heard ≡ false) × (list_any is_better tolds ≡ true)
             × ((sync_paths n made).systems ≤ 255 → BettersClock n made event next))
         by (acts.Deliver link direction) same gain rest gains = absurd gains
         by (acts.Expire clock timer) same gain rest gains = absurd gains
         by (acts.Change (changes.LinkDown clock port)) same gain rest gains = absurd gains
-        by (acts.Change (changes.LinkUp clock port)) same gain rest gains = inl (brings clock port same gains soft)
+        by (acts.Change (changes.LinkUp clock port)) same gain rest gains =
+            inl (inl (brings clock port same gains soft))
         by (acts.Change (changes.LinkSet clock port least greatest loss)) same gain rest gains = absurd gains
         by (acts.Change (changes.Fail number)) same gain rest gains = absurd gains
-        by (acts.Change (changes.Recover number)) same gain rest gains = absurd cc
+        by (acts.Change (changes.Recover number)) same gain rest gains =
+            inl (inr (returns number same gains (recovery_so number same gain) soft))
         by (acts.Change (changes.Priority1 number value)) same gain rest gains =
             let better : is_better (told_at n made event.act) ≡ true =
             ap (λ a. is_better (told_at n made a)) same ∙ ap (λ test. test && true) gain in
@@ -577,14 +604,14 @@ module _ (n : NetworkState) (network : IsNetwork n) (time : ℕ) (first events :
         → list_any (is_hard_to_hear tolds) news ≡ false
         → (list_any is_better tolds ≡ true → (sync_paths n made).systems ≤ 255) → IsHeardEvent n next made event
     heard_first too soft few = elim (heard_so false event.act refl too soft) [
-      | inl up ↦ inl up
+      | inl adds ↦ inl adds
       | inr (none, better, by) ↦ inr (by (few better))
     ]
 
     pub heard_then : is_heard_too true (told_at n made event.act) ≡ true
-        → list_any (is_hard_to_hear tolds) news ≡ false → BringsUp n made event next
+        → list_any (is_hard_to_hear tolds) news ≡ false → AddsHeard n made event next
     heard_then too soft = elim (heard_so true event.act refl too soft) [
-      | inl up ↦ up
+      | inl adds ↦ adds
       | inr (none, better, by) ↦ absurd cc
     ]
 
@@ -685,7 +712,7 @@ module _ (n : NetworkState) (network : IsNetwork n) (time : ℕ) (first events :
         ]
 
     module _ (soft : list_any (is_hard_to_hear tolds) news ≡ false) where
-      -- behind what was heard links come up
+      -- behind what was heard links come up, and systems recover
       each_heard : list_any is_gain tolds ≡ true → (made left : List Timed) → made ++ left ≡ all
           → AllByRecursion (λ (t : Timed). t.at ≡ time) left → IsSoFar made
           → AllByRecursion IsTold (told_of n made left) → are_heard true (told_of n made left) ≡ true
@@ -704,7 +731,7 @@ module _ (n : NetworkState) (network : IsNetwork n) (time : ℕ) (first events :
               ≡ true
               → (are_heard true (told_of n (made ++ event ∷ []) left) ≡ true
               → EachEvent (IsHeardToo n next) (made ++ event ∷ []) left)
-              → (is_heard_too true (told_at n made event.act) ≡ true → BringsUp n made event next)
+              → (is_heard_too true (told_at n made event.act) ≡ true → AddsHeard n made event next)
               → IsHeardToo n next made event × EachEvent (IsHeardToo n next) (made ++ event ∷ []) left
           by true is heard rest one =
               (inr (idles_late turns made event now.0 each.0.among off gained is), rest heard)
@@ -748,7 +775,8 @@ module _ (n : NetworkState) (network : IsNetwork n) (time : ℕ) (first events :
               let e = told_at n made event.act in
               let (too, more) =
               and_parts (is_heard_too false e) (are_heard true (told_of n (made ++ event ∷ []) left)) heard in
-              let (gain, which) = and_parts (is_gain e) (is_link_up e || (is_priority1 e && not false)) too in
+              let (gain, which) =
+              and_parts (is_gain e) (is_link_up e || is_recover e || (is_priority1 e && not false)) too in
               inl (one too, others gain more)
 
   -- ---- the bound

@@ -20,6 +20,7 @@ use Rattle.gptp_network.specs.Snapshot.{events_by}
 use Rattle.gptp_settling_time.specs.HowSoon.{AfterIdleEvents, AreGainEvents, AreHeardEvents, AreReadyAtStart, AreStartEvents, BoundsEvents, BoundsStart, EachEvent, IsChoiceBound, IsChoiceBoundAfter, IsGainEvent, IsGainToo, IsHeardEvent, IsHeardToo, IsIdleEvent, TurnsUnused, events_at, way_span, AreWiderEvents}
 use Rattle.gptp_settling_time.specs.InTurn.{AnyPast, AreCapableSoon, BeginsBy, EventLeads, Gained, HasSettledAnyhow, HasSettledHeard, HasSettledSince, Heard, LeadOn, LeavesSettled, MakesNothing, NoneUnanswered, Past, SettlesAfter, SettlesByEvents, Starting, StartsWith, TellsNothing, TurnsInVain, UsedVaryLittle, WidensLink}
 use Rattle.gptp_settling_time.proofs.CutLemmas.{IsBy, all_by}
+use Rattle.gptp_settling_time.proofs.MadeLemmas.{adds_later}
 use Rattle.gptp_settling_time.proofs.MomentLemmas.{all_at, last_by, parted}
 use Rattle.gptp_settling_time.proofs.SamePathsLemmas.{idle_paths, turned_paths}
 
@@ -100,13 +101,13 @@ module _ (n : NetworkState) (made : List Timed) (event : Timed) where
 
   heard_leads : (past : Past) (next : ℕ) → HasSettled n made past event.at → IsHeardEvent n next made event
       → EventLeads n made past event (Heard next)
-  heard_leads AnyPast next settled (inl up) = (settled, inl up)
+  heard_leads AnyPast next settled (inl adds) = (settled, inl adds)
   heard_leads AnyPast next settled (inr better) = (settled, inr (inl better))
   heard_leads Starting next settled heard = absurd settled
-  heard_leads (Gained start) next settled (inl up) = (settled, inl up)
+  heard_leads (Gained start) next settled (inl adds) = (settled, inl adds)
   heard_leads (Gained start) next settled (inr better) = (settled, inr (inl better))
-  heard_leads (Heard start) next settled (inl up) =
-      let capable = up.capable in inl (omega (arith, settled, capable), up)
+  heard_leads (Heard start) next settled (inl adds) =
+      let later = adds_later n made event next adds in inl (omega (arith, settled, later), adds)
   heard_leads (Heard start) next settled (inr better) = inr (inl (settled, inl better))
 
   -- what makes nothing of what stands leads from a network that has settled to one that has settled by then, as if its
@@ -183,8 +184,8 @@ module _ (n : NetworkState) (network : IsNetwork n) where
   heard_lead : (next : ℕ) (made now : List Timed) → EachEvent (IsHeardToo n next) made now
       → LeadOn n made (Heard next) now (Heard next)
   heard_lead next made [] each = refl
-  heard_lead next made (event ∷ now) (inl up, each) =
-      (Heard next, inl (omega arith, up), heard_lead next (made ++ event ∷ []) now each)
+  heard_lead next made (event ∷ now) (inl adds, each) =
+      (Heard next, inl (omega arith, adds), heard_lead next (made ++ event ∷ []) now each)
   heard_lead next made (event ∷ now) (inr nothing, each) =
       (Heard next, inr (inr (nothing, refl)), heard_lead next (made ++ event ∷ []) now each)
 

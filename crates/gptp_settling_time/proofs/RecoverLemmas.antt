@@ -43,7 +43,7 @@ use Rattle.gptp_invariants.specs.ChoiceSettlesAsMachine.{IsWorld}
 use Rattle.gptp_invariants.specs.DelayLinkView.{IsEndOf, IsLinkOf, LinkPlace, asked_at, asker_view, link_setting, other_direction, pair, reads_as_request, waits_by}
 use Rattle.gptp_invariants.specs.DelayMeasured.{IsStationMeasured, LinkIsMeasured, LinkStandsAt, StationIsLiveAt}
 use Rattle.gptp_invariants.specs.FailedUnanswered.{IsFailedAmong, IsSilent, IsUnansweredAt, StandsUnanswered, silent_setting, silent_view}
-use Rattle.gptp_invariants.specs.WorldNews.{AreSilentBy, IsSilentBy}
+use Rattle.gptp_invariants.specs.WorldNews.{AreReadyBy, AreSilentBy, IsNews, IsSilentBy}
 use Rattle.gptp_invariants.specs.WorldSound.{IsSoundWorld}
 use Rattle.gptp_invariants.proofs.ChoiceCalmKeptLemmas.{KeepsNetwork, calls_keep, keeps_on, net_keeps}
 use Rattle.gptp_invariants.proofs.DelayCapableKeptLemmas.{HaveParams, known_params, stood_among}
@@ -54,6 +54,7 @@ use Rattle.gptp_invariants.proofs.DelayLinkLemmas.{IsOrderly, sender_opposite, s
 use Rattle.gptp_invariants.proofs.DelayLinkStandLemmas.{end_is}
 use Rattle.gptp_invariants.proofs.FailedUnansweredCallLemmas.{asker_is, call_seen, view_stays}
 use Rattle.gptp_invariants.proofs.WorldBeforeLemmas.{calls_before, stood}
+use Rattle.gptp_invariants.proofs.WorldNewsLemmas.{news_begin, ready_goes_through}
 use Rattle.gptp_invariants.proofs.WorldSoundLemmas.{sound_gains}
 use Rattle.gptp_settling_time.proofs.AskedElsewhereLemmas.{all_in_time, still_in_time}
 use Rattle.gptp_settling_time.proofs.AskedInTimeLemmas.{AreAskedInTime, IsAskedInTime}
@@ -161,6 +162,11 @@ module _ (p : SettlingParams) (by next number : ℕ) (w : WorldState) (draws : L
   abbrev k : AtSystem number now (λ place station. RecoversIf station.live place now draws w')
   k = acts.1
 
+  -- no link stands at the system that recovers
+  abbrev UsesNone : Type 0
+  UsesNone = (at : LinkPlace) → (s : LinkStandsAt at w')
+      → (clock s.asking.station.system ≡ number) ⊎ (clock s.answering.station.system ≡ number) → ⊥
+
   module _ (dead : k.station.live ≡ false) where
     starts : Starts k.place now draws w'
     starts = subst (λ b. RecoversIf b k.place now draws w') dead k.so
@@ -177,7 +183,7 @@ module _ (p : SettlingParams) (by next number : ℕ) (w : WorldState) (draws : L
     stays : Stays now begun
     stays = refreshed_stays k.place starts.station now starts.here is.sound.wired.setups
 
-    orderly : IsOrderly begun
+    pub orderly : IsOrderly begun
     orderly =
         let old = sound_orderly w is.sound in
         record {
@@ -227,12 +233,12 @@ module _ (p : SettlingParams) (by next number : ℕ) (w : WorldState) (draws : L
       named = x.named;
     }
 
-    has : HasAll k.place ports begun
+    pub has : HasAll k.place ports begun
     has q member station there =
         subst (λ (x : Station). HasPortNumber x.system q) (same_Some new station (sym here_new ∙ there))
         (brought_ports new w.net q member)
 
-    keeps : KeepsNetwork begun w'
+    pub keeps : KeepsNetwork begun w'
     keeps = (all_keep k.place ports begun draws w' starts.calls).0
 
     same_time : w'.time ≡ w.time
@@ -423,17 +429,31 @@ module _ (p : SettlingParams) (by next number : ℕ) (w : WorldState) (draws : L
       good = s.good;
     }
 
-    -- where none stands at the system, links are as they were
-    others_coming : ((at : LinkPlace) → LinkStandsAt at w' → (at.asking ≡ k.place) ⊎ (at.answering ≡ k.place) → ⊥)
-        → AreComing p by next w → AreComing p by next w'
-    others_coming unused coming at stands = elim (same_place at.asking k.place) [
-      | inl here ↦ absurd (unused at stands (inl here))
+    -- what stands at its place is the system that recovers
+    is_own : (place : ℕ) (station : Station) → slice_get w'.stations place ≡ Some station → place ≡ k.place
+        → clock station.system ≡ number
+    is_own place station here same =
+        let near = (starts_stays k.place now draws w' is.sound.wired.setups starts).stations place station here in
+        let one : near.old ≡ k.station =
+        same_there w.stations k.place near.old k.station (ap (slice_get w.stations) (sym same) ∙ near.here) k.is.here in
+        near.same.named ∙ ap (λ (x : Station). clock x.system) one ∙ k.is.named
+
+    -- where it uses none each stood
+    pub stood_alone : UsesNone → (at : LinkPlace) → LinkStandsAt at w' → LinkStandsAt at w
+    stood_alone unused at stands = elim (same_place at.asking k.place) [
+      | inl here ↦
+          absurd (unused at stands (inl (is_own at.asking stands.asking.station stands.asking.here here)))
       | inr asking ↦ elim (same_place at.answering k.place) [
-        | inl here ↦ absurd (unused at stands (inr here))
-        | inr answering ↦ coming_goes_through p by next at (Changing (Recover number)) w w' draws done is.sound
-            measured tt acts (coming at (stood_there at asking answering (before at stands)))
+        | inl here ↦
+            absurd (unused at stands (inr (is_own at.answering stands.answering.station stands.answering.here here)))
+        | inr answering ↦ stood_there at asking answering (before at stands)
       ]
     ]
+
+    others_coming : UsesNone → AreComing p by next w → AreComing p by next w'
+    others_coming unused coming at stands =
+        coming_goes_through p by next at (Changing (Recover number)) w w' draws done is.sound measured tt acts
+        (coming at (stood_alone unused at stands))
 
     module _ (gone : ℕ) (past : gone < w.time) (asked : AreAskedInTime gone w)
         (reach : w.time + interval_of p.params.pdelay ≤ by)
@@ -694,15 +714,6 @@ module _ (p : SettlingParams) (by next number : ℕ) (w : WorldState) (draws : L
           named = e.named;
         }
 
-    -- what stands at its place is the system that recovers
-    is_own : (place : ℕ) (station : Station) → slice_get w'.stations place ≡ Some station → place ≡ k.place
-        → clock station.system ≡ number
-    is_own place station here same =
-        let near = (starts_stays k.place now draws w' is.sound.wired.setups starts).stations place station here in
-        let one : near.old ≡ k.station =
-        same_there w.stations k.place near.old k.station (ap (slice_get w.stations) (sym same) ∙ near.here) k.is.here in
-        near.same.named ∙ ap (λ (x : Station). clock x.system) one ∙ k.is.named
-
   -- ---- it is one since news soon
 
   pub recover_soon : k.station.live ≡ false → IsSoundWorld w → (gone : ℕ) → gone < w.time → AreAskedInTime gone w
@@ -712,9 +723,7 @@ module _ (p : SettlingParams) (by next number : ℕ) (w : WorldState) (draws : L
       → w.time ≤ by → by < next
       → ((w.time + interval_of p.params.pdelay ≤ by)
       × (w.time + 2 * interval_of p.params.pdelay + (delay_in w' + p.params.turnaround + delay_in w') < next))
-      ⊎ ((at : LinkPlace) → (s : LinkStandsAt at w')
-      → (clock s.asking.station.system ≡ number) ⊎ (clock s.answering.station.system ≡ number)
-      → ⊥)
+      ⊎ UsesNone
       → AreSilentBy p next w → AreComing p by next w → IsNewsSoon p next w'
   recover_soon dead sound gone past asked all led early soon_by how silent coming =
       let time = same_time dead in
@@ -730,13 +739,25 @@ module _ (p : SettlingParams) (by next number : ℕ) (w : WorldState) (draws : L
         sound = sound_gains p (Recover number) w draws done w' tt tt acts is is' sound;
         coming = elim how [
           | inl (reach, soon) ↦ recovers_coming dead gone past asked reach soon coming
-          | inr unused ↦ others_coming dead
-              (λ at s place. unused at s (elim place [
-                | inl here ↦ inl (is_own dead at.asking s.asking.station s.asking.here here)
-                | inr here ↦ inr (is_own dead at.answering s.answering.station s.answering.here here)
-              ])) coming
+          | inr unused ↦ others_coming dead unused coming
         ];
       }
+
+  -- where it uses no link the others are capable as before
+  pub recover_alone : k.station.live ≡ false → IsSoundWorld w → (gone : ℕ) → gone < w.time → AreGoneBetween gone w
+      → ((at : LinkPlace) → (s : StandsUnanswered at w') → clock s.asking.station.system ≡ number
+      → capability_span p ≤ next)
+      → w.time < next → UsesNone → AreSilentBy p next w → AreReadyBy p next w → IsNews p next w'
+  recover_alone dead sound gone past all led early unused silent ready =
+      let time = same_time dead in
+      news_begin p next w' pace is' measured'
+      (recovers_silent dead gone past all
+      (λ at s here. led at s (is_own dead at.asking s.asking.station s.asking.here here)) silent)
+      (sound_gains p (Recover number) w draws done w' tt tt acts is is' sound)
+      (λ at stands.
+      ready_goes_through p next at (Changing (Recover number)) w w' draws done is.sound measured tt acts
+      (ready at (stood_alone dead unused at stands)))
+      (omega (arith, time, early))
 
   -- and beside failed systems requests are in time still
   pub recover_in_time : (gone : ℕ) → AreAskedInTime gone w → AreGoneBetween gone w

@@ -128,7 +128,7 @@ part_stays s now (Expires timers.Lapse) n x x' nothing is un =
     subst (λ (y : Part). IsUnmeasured y.peer) (sym is) un
 part_stays s now (Priority value) n x x' nothing is un = subst (λ (y : Part). IsUnmeasured y.peer) (sym is) un
 
-started_unmeasured : (setup : Setup) (now : ℕ) (live : Bool)
+pub started_unmeasured : (setup : Setup) (now : ℕ) (live : Bool)
     → HasMeasuredNothing (record { setup = setup; system = started setup now; live = live })
 started_unmeasured setup now live i q there =
     let (log, here, is) = new_port_at (clock_of setup.identity) setup.params setup.intervals.items i q there in
@@ -143,23 +143,22 @@ pub record IsUntold (w : WorldState) : Type 0 where
       → In f l.frames → says_announce f.octets a → ⊥
 
 module _ (place : ℕ) (input : Input) (w : WorldState) (draws : List Draw) (answer : Answer) (w' : WorldState)
-    (k : Calls place input w draws answer w') (nothing : MeasuresNothing input)
-    (unmeasured : (other : ℕ) (station : Station) → slice_get w.stations other ≡ Some station
-    → HasMeasuredNothing station) where
+    (k : Calls place input w draws answer w') (nothing : MeasuresNothing input) where
   abbrev called : Station
   called = in_state k.after k.station
 
-  called_unmeasured : HasMeasuredNothing called
-  called_unmeasured i q' there =
+  pub called_unmeasured : HasMeasuredNothing k.station → HasMeasuredNothing called
+  called_unmeasured unmeasured i q' there =
       let (q, here, part) = steps_measure input w.time k.station.system k.after k.sends answer k.steps i q' there in
       part_stays k.station.system w.time input (suc i) (measure_at q) (measure_at q') nothing part
-      (unmeasured place k.station k.here i q here)
+      (unmeasured i q here)
 
-  pub call_unmeasured : (other : ℕ) (station : Station) → slice_get w'.stations other ≡ Some station
+  pub call_unmeasured : ((other : ℕ) (station : Station) → slice_get w.stations other ≡ Some station
+      → HasMeasuredNothing station) → (other : ℕ) (station : Station) → slice_get w'.stations other ≡ Some station
       → HasMeasuredNothing station
-  call_unmeasured other station there =
-      get-set_all HasMeasuredNothing w.stations place k.station called k.here called_unmeasured unmeasured other
-      station
+  call_unmeasured unmeasured other station there =
+      get-set_all HasMeasuredNothing w.stations place k.station called k.here
+      (called_unmeasured (unmeasured place k.station k.here)) unmeasured other station
       (ap (λ (v : WorldState). slice_get v.stations other) (sym k.is) ∙ there)
 
 -- what begins at a master port is told where something was measured

@@ -6,13 +6,13 @@
 -- has sharper ones, by its events. It is 0 where they make nothing of what stands. Where they are gains it is what
 -- ports take to become capable, an announce interval, and the greatest delay for each system of a path but one. No
 -- announce interval has to pass where what the first gain tells is heard at once, and after it links alone come up
--- whose delay varies little. Nor has one at the start where all delays vary little.
+-- whose delay varies little, and systems recover that use no link. Nor has one at the start where all delays vary little.
 --
 -- Events that make nothing of what stands ask for no time: such that change nothing, and a link with a failed end that
 -- comes up or goes down. Nor does a link in use whose delays are set so that they get wider, if that comes first.
 -- These gains are followed, at a time behind events that make nothing: a link that comes up between live systems, a
 -- system that recovers, and a priority1 of a live system that gets better. The first is heard at once where its delay
--- varies little, the last where no path has more than 255 systems. At time 0 links may go down and come up, systems
+-- varies little, the second where it uses no link, the last where no path has more than 255 systems. At time 0 links may go down and come up, systems
 -- fail and a priority1 be set, where no live system is then linked to one that has failed. Not followed yet are other
 -- delays that are set, and events that take something away at a later time. There the span stands.
 use Rattle.std.specs.Prelude.{◌≡◌, ◌<◌, ◌≤◌, ◌⊎◌, ◌+◌, ◌*◌, ◌==◌, ℕ, ⊤, pred, suc, List, [], ◌∷◌, ◌++◌, filter}
@@ -33,7 +33,7 @@ use Rattle.gptp_model.specs.World.{port_id}
 use Rattle.gptp_network.specs.Document.{DocumentState}
 use Rattle.gptp_network.specs.Snapshot.{events_by}
 use Rattle.gptp_settling_time.specs.Gains.{ChangesNothing, EndHasFailed, LeavesCapable, TakesNothing}
-use Rattle.gptp_settling_time.specs.InTurn.{BettersClock, BringsUp, MakesNothing, NoneUnanswered, NoneUsed, TellsNothing, UsedVaryLittle, WidensLink}
+use Rattle.gptp_settling_time.specs.InTurn.{AddsHeard, BettersClock, MakesNothing, NoneUnanswered, NoneUsed, TellsNothing, UsedVaryLittle, WidensLink}
 
 -- ---- times
 
@@ -68,13 +68,15 @@ IsIdleEvent n made event = ChangesNothing n made event.act ⊎ TurnsUnused n mad
 abbrev pub IsGainEvent : NetworkState → ℕ → List Timed → Timed → Type 0
 IsGainEvent n next made event = TakesNothing n made event.act × LeavesCapable n made event next event.act
 
--- what it tells is heard at once: a link comes up whose delay varies little, or a priority1 gets better
+-- what it tells is heard at once: a link comes up whose delay varies little, a system recovers that uses none, or a
+-- priority1 gets better
 abbrev pub IsHeardEvent : NetworkState → ℕ → List Timed → Timed → Type 0
-IsHeardEvent n next made event = BringsUp n made event next ⊎ BettersClock n made event next
+IsHeardEvent n next made event = AddsHeard n made event next ⊎ BettersClock n made event next
 
--- behind such a one of the same time: a link that comes up so, or what makes nothing of what then stands
+-- behind such a one of the same time: a link that comes up so, a system that recovers so, or what makes nothing of what
+-- then stands
 abbrev pub IsHeardToo : NetworkState → ℕ → List Timed → Timed → Type 0
-IsHeardToo n next made event = BringsUp n made event next ⊎ MakesNothing n made event next
+IsHeardToo n next made event = AddsHeard n made event next ⊎ MakesNothing n made event next
 
 -- behind a gain of the same time: another, or what makes nothing of what then stands
 abbrev pub IsGainToo : NetworkState → ℕ → List Timed → Timed → Type 0

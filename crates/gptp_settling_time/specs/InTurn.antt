@@ -5,12 +5,12 @@
 -- so and all that is told over its links is *heard*, so that no announce interval has to pass. An event leads from one
 -- to another (`EventLeads`). It may always lead to any past. At time 0, as the network starts, it may take something
 -- away, since nothing is told yet. To a gain it leads where it takes nothing away, or changes nothing. To what is heard
--- it leads where the network has settled and it changes nothing, brings up a link between live systems, or sets a
--- better priority1. Where the delay of that link varies little the first Announce over it comes to a port that is
--- capable already, and a system that gets better tells so at once. What makes nothing of what stands leaves a network
+-- it leads where the network has settled and it changes nothing, brings up a link between live systems, lets a system
+-- recover that uses none, or sets a better priority1. Where the delay of that link varies little the first Announce over
+-- it comes to a port that is capable already, and a system that gets better tells so at once. What makes nothing of what stands leaves a network
 -- settled that had settled, whatever it came from, and so does what widens the delays of a link in use. Where all was
--- heard before, links may also come up one after another at any time, as several at once; and what changes nothing asks
--- for no time at all.
+-- heard before, such links may also come up, and such systems recover, one after another at any time, as several at
+-- once; and what changes nothing asks for no time at all.
 use Rattle.std.specs.Prelude.{◌≡◌, ◌<◌, ◌≤◌, ◌⊎◌, ◌+◌, ◌*◌, ℕ, ⊤, pred, true, List, [], ◌∷◌, ◌++◌, Option, Some, slice_get}
 use Rattle.gptp_lists.specs.Members.{In}
 use Rattle.gptp_vector.specs.declared.port.PortId.{PortId}
@@ -24,7 +24,7 @@ use Rattle.gptp_scenario.specs.SettlingTime.{capability_span, settling_span_with
 use Rattle.gptp_scenario.specs.SyncWait.{sync_paths}
 use Rattle.gptp_scenario.specs.declared.change.Act.{Act}
 use Rattle.gptp_scenario.specs.declared.change.Act.TheVariants.{Change as Changing}
-use Rattle.gptp_scenario.specs.declared.change.Change.TheVariants.{Fail, LinkDown, LinkSet, LinkUp, Priority1}
+use Rattle.gptp_scenario.specs.declared.change.Change.TheVariants.{Fail, LinkDown, LinkSet, LinkUp, Priority1, Recover}
 use Rattle.gptp_scenario.specs.declared.change.Timed.{Timed}
 use Rattle.gptp_scenario.specs.declared.network.LinkSpec.{LinkSpec}
 use Rattle.gptp_model.specs.World.{WorldState, port_id}
@@ -34,7 +34,7 @@ use Rattle.gptp_report.specs.Transitions.{ActTrace, Unfolds}
 use Rattle.gptp_theorem.specs.PlayedLaws.{IsPlayable}
 use Rattle.gptp_settling_time.specs.Documents.{IsSettledAs}
 use Rattle.gptp_settling_time.specs.Exactly.{SettlesBy}
-use Rattle.gptp_settling_time.specs.Gains.{AreCapableAnyway, AreCapableNext, AreCapableStill, ChangesNothing, EndHasFailed, HasRested, IsDownAfter, IsNoWorse, JoinsLive, TakesNothing, exchanged_from}
+use Rattle.gptp_settling_time.specs.Gains.{AreCapableAnyway, AreCapableNext, AreCapableStill, ChangesNothing, EndHasFailed, HasRested, IsDownAfter, IsNoWorse, JoinsLive, LeavesCapable, TakesNothing, UsesNoLink, exchanged_from}
 
 -- what a network came from, and from when on its ports are capable
 pub data Past : Type 0 where
@@ -116,6 +116,14 @@ pub record BettersClock (n : NetworkState) (before : List Timed) (event : Timed)
   pub few : (sync_paths n before).systems ≤ 255
   pub later : event.at < next
 
+-- After these events this one lets a failed system recover that uses no link then. The other ports are as capable as they
+-- were.
+pub record RecoversAlone (n : NetworkState) (before : List Timed) (event : Timed) (next : ℕ) : Type 0 where
+  pub number : ℕ
+  pub act : event.act ≡ Changing (Recover number)
+  pub alone : UsesNoLink n (before ++ event ∷ []) number
+  pub capable : LeavesCapable n before event next (Changing (Recover number))
+
 -- After these events a link comes up or goes down of which an end has failed. The port at its other end takes no part:
 -- unanswered it isn't capable from the start on, and one that comes up isn't capable before it is answered.
 abbrev pub TurnsInVain : NetworkState → List Timed → Timed → ℕ → Act → Type 0
@@ -181,6 +189,10 @@ abbrev pub HasSettledHeard : NetworkState → List Timed → ℕ → ℕ → Typ
 HasSettledHeard n events start time =
     start + pred (sync_paths n events).systems * (sync_paths n events).delay ≤ time
 
+-- it brings up a link, or lets a system recover that uses none
+abbrev pub AddsHeard : NetworkState → List Timed → Timed → ℕ → Type 0
+AddsHeard n before event next = BringsUp n before event next ⊎ RecoversAlone n before event next
+
 -- from rest ports are capable whatever came before; from a gain or a start they were so from another start on
 abbrev pub LeadsToGain : NetworkState → List Timed → Past → Timed → ℕ → Type 0
 LeadsToGain n before AnyPast event next =
@@ -193,7 +205,7 @@ LeadsToGain n before (Heard start) event next = AreCapableStill n before start e
 abbrev pub LeadsToHeard : NetworkState → List Timed → Past → Timed → ℕ → Type 0
 LeadsToHeard n before AnyPast event next =
     HasSettledAnyhow n before event.at
-    × (BringsUp n before event next
+    × (AddsHeard n before event next
     ⊎ (BettersClock n before event next
     ⊎ (LeavesSettled n before event next
     ⊎ WidensFrom n before event (last_change before + capability_span (pace_of n)) next)))
@@ -201,10 +213,10 @@ LeadsToHeard n before Starting event next =
     StartsWith n before event next × UsedVaryLittle n (before ++ event ∷ [])
 LeadsToHeard n before (Gained start) event next =
     HasSettledSince n before start event.at
-    × (BringsUp n before event next
+    × (AddsHeard n before event next
     ⊎ (BettersClock n before event next ⊎ (LeavesSettled n before event next ⊎ WidensFrom n before event start next)))
 LeadsToHeard n before (Heard start) event next =
-    ((start ≤ next) × BringsUp n before event next)
+    ((start ≤ next) × AddsHeard n before event next)
     ⊎ ((HasSettledHeard n before start event.at
     × (BettersClock n before event next ⊎ (LeavesSettled n before event next ⊎ WidensFrom n before event start next)))
     ⊎ (MakesNothing n before event start × (next ≡ start)))
