@@ -12,7 +12,7 @@ use Rattle.gptp_model.specs.World.{Channel, WorldState, world_queue}
 use Rattle.gptp_pdelay_machine.specs.Lanes.{LaneFrame}
 use Rattle.gptp_bmca_machine.specs.Frame.{AnnounceFrame, Lane}
 use Rattle.gptp_invariants.specs.ChoiceSettlesAsMachine.{IsWorld}
-use Rattle.gptp_invariants.specs.ChoiceView.{frame_view, lane_place, lane_view, port_identity_number}
+use Rattle.gptp_invariants.specs.ChoiceView.{frame_view, lane_place, lane_view, port_identity_number, view}
 use Rattle.gptp_invariants.specs.DelayLinkView.{IsLinkOf, LinkPlace, asker_view, link_frame_view, link_lane_view, other_direction, waits_view}
 use Rattle.gptp_invariants.proofs.ChoiceSeenLaneLemmas.{lane_there}
 use Rattle.gptp_invariants.proofs.WorldWayLemmas.{one_way}

@@ -168,7 +168,7 @@ module _ (p : SettlingParams) (by next number : ℕ) (w : WorldState) (draws : L
       → (clock s.asking.station.system ≡ number) ⊎ (clock s.answering.station.system ≡ number) → ⊥
 
   module _ (dead : k.station.live ≡ false) where
-    starts : Starts k.place now draws w'
+    abbrev starts : Starts k.place now draws w'
     starts = subst (λ b. RecoversIf b k.place now draws w') dead k.so
 
     abbrev new : Station
