@@ -207,6 +207,16 @@ fn a_system_recovers_behind_its_links(rt: HostRuntime) -> Result<(), Fail> {
 }
 
 #[test]
+fn a_system_that_recovers_without_links_is_heard_at_once(rt: HostRuntime) -> Result<(), Fail> {
+    let times = ring(
+        rt.alloc(),
+        "[[event]]\nat = 30000000000\nkind = \"fail\"\nclock = \"000000000000000d\"\n[[event]]\nat = 30000000000\nkind = \"link_down\"\nclock = \"000000000000000d\"\nport = 1\n[[event]]\nat = 30000000000\nkind = \"link_down\"\nclock = \"000000000000000d\"\nport = 2\n[[event]]\nat = 60000000000\nkind = \"recover\"\nclock = \"000000000000000d\"\n",
+    )?;
+    assert_eq!(rt; soon(&times, 60_000_000_000), Some((820, 60_000_006_220)));
+    Ok(())
+}
+
+#[test]
 fn offsets_are_exact_an_announce_interval_after_the_start(rt: HostRuntime) -> Result<(), Fail> {
     // Eight exchanges each second.
     assert_eq!(rt;
