@@ -1,5 +1,5 @@
 -- An event of a document is made: what the world keeps, and from when on it is one since news.
-use Rattle.std.proofs.Common.{◌≡◌, ◌≢◌, ◌⊎◌, ◌∙◌, ◌<◌, ◌≤◌, ◌+◌, ◌*◌, max, ℕ, List, [], ◌∷◌, ◌++◌, append_assoc, append-nil, Option, Some, slice_get, refl, inl, inr, sym, ap, subst, arith}
+use Rattle.std.proofs.Common.{◌≡◌, ◌≢◌, ◌⊎◌, ◌∙◌, ◌<◌, ◌≤◌, ◌+◌, ◌*◌, max, ℕ, false, List, [], ◌∷◌, ◌++◌, append_assoc, append-nil, Option, Some, slice_get, refl, inl, inr, sym, ap, subst, arith}
 use Rattle.gptp_lists.proofs.MappedLemmas.{alike, same_there}
 use Rattle.gptp_links.specs.declared.bounds.Bounds.{Bounds}
 use Rattle.gptp_links.specs.declared.link.Direction.{Direction}
@@ -10,6 +10,7 @@ use Rattle.gptp_setup.proofs.IntervalLemmas.{interval_positive}
 use Rattle.gptp_scenario.specs.Calm.{IsLive, IsUsed, last_change}
 use Rattle.gptp_scenario.specs.Change.{link_after}
 use Rattle.gptp_scenario.specs.Network.{IsEnd, NetworkState, pace_of}
+use Rattle.gptp_scenario.specs.SettlingTime.{capability_span}
 use Rattle.gptp_scenario.specs.SyncWait.{sync_paths}
 use Rattle.gptp_scenario.specs.declared.change.Act.TheVariants.{Change as Changing}
 use Rattle.gptp_scenario.specs.declared.change.Change.{Change}
@@ -424,7 +425,8 @@ module _ {F : Type 0} (answers : Bounds → ℕ → F → Option ℕ → F → T
               recovers asks (omega arith) (omega (arith, before, late))
               (inl (omega arith, omega (arith, late, delay))) silent
               (λ at stands. coming_later p by next at asks next then (omega arith) (omega arith) (coming at stands))
-          | inr (unused, some) ↦ recovers by early before (inr (none_stands number w' (uses_none keeps number unused))) silent coming
+          | inr (unused, some) ↦
+              recovers by early before (inr (none_stands number w' (uses_none keeps number unused))) silent coming
         ]
     soon_change next by silent early before coming (LinkDown number port) same none = absurd none
     soon_change next by silent early before coming (LinkSet number port min max loss) same none = absurd none

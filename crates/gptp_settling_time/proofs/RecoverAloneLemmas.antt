@@ -29,7 +29,7 @@ use Rattle.gptp_model.specs.declared.done.Done.{Done}
 use Rattle.gptp_model.specs.declared.station.Station.{Station}
 use Rattle.gptp_model.specs.World.{Channel, WorldState, receiver, sender}
 use Rattle.gptp_model.proofs.BareLemmas.{bare}
-use Rattle.gptp_model.proofs.StayLemmas.{calls_stay, fresh_same}
+use Rattle.gptp_model.proofs.StayLemmas.{calls_stay, fresh_same, sender_same}
 use Rattle.gptp_model.proofs.SteadyLemmas.{same_clock}
 use Rattle.gptp_bmca_machine.specs.Calm.{Calm}
 use Rattle.gptp_bmca_machine.specs.Frame.{Lane}
@@ -436,7 +436,9 @@ module _ (p : SettlingParams) (start next number : ℕ) (w : WorldState) (draws 
         let used_then : channel_is_used (live_stations w'.stations) x ≡ true =
         ap (channel_is_used (live_stations w'.stations)) bares ∙ ap (λ s. channel_is_used s channel) kept.systems
         ∙ used in
-        unused link x there used_then direction (ap (λ (c : Channel). (sender direction c).clock) bares ∙ same)
+        unused link x there used_then direction
+        (ap (λ (q : PortId). q.clock)
+        (sender_same direction channel x (ap (λ (c : Channel). c.a) bares) (ap (λ (c : Channel). c.b) bares)) ∙ same)
 
     used_back : (link : ℕ) (channel : Channel) → slice_get w.net.channels link ≡ Some channel
         → channel_is_used (live_stations begun.stations) channel ≡ true
@@ -449,7 +451,8 @@ module _ (p : SettlingParams) (start next number : ℕ) (w : WorldState) (draws 
     news_of = record {
       systems = λ s member.
           let (t, there, same) = still s member in
-          (t, there, ap clock_in same, (let identity = ap (λ (x : System). x.identity) same in omega (arith, identity)));
+          let identity = ap (λ (x : System). x.identity) same in
+          (t, there, ap clock_in same, omega (arith, identity));
       links = links_more w begun (λ s member. let (t, there, same) = still s member in (t, there, ap clock_in same))
           (λ link channel here. record { new = channel; here = here; a = refl; b = refl; up = λ on. on });
     }

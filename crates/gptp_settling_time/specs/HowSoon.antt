@@ -6,15 +6,17 @@
 -- has sharper ones, by its events. It is 0 where they make nothing of what stands. Where they are gains it is what
 -- ports take to become capable, an announce interval, and the greatest delay for each system of a path but one. No
 -- announce interval has to pass where what the first gain tells is heard at once, and after it links alone come up
--- whose delay varies little, and systems recover that use no link. Nor has one at the start where all delays vary little.
+-- whose delay varies little, and systems recover that use no link. Nor has one at the start where all delays vary
+-- little.
 --
 -- Events that make nothing of what stands ask for no time: such that change nothing, and a link with a failed end that
 -- comes up or goes down. Nor does a link in use whose delays are set so that they get wider, if that comes first.
 -- These gains are followed, at a time behind events that make nothing: a link that comes up between live systems, a
 -- system that recovers, and a priority1 of a live system that gets better. The first is heard at once where its delay
--- varies little, the second where it uses no link, the last where no path has more than 255 systems. At time 0 links may go down and come up, systems
--- fail and a priority1 be set, where no live system is then linked to one that has failed. Not followed yet are other
--- delays that are set, and events that take something away at a later time. There the span stands.
+-- varies little, the second where it uses no link, the last where no path has more than 255 systems. At time 0 links
+-- may go down and come up, systems fail and a priority1 be set, where no live system is then linked to one that has
+-- failed. Not followed yet are other delays that are set, and events that take something away at a later time. There
+-- the span stands.
 use Rattle.std.specs.Prelude.{◌≡◌, ◌<◌, ◌≤◌, ◌⊎◌, ◌+◌, ◌*◌, ◌==◌, ℕ, ⊤, pred, suc, List, [], ◌∷◌, ◌++◌, filter}
 use Rattle.gptp_lists.specs.Members.{In}
 use Rattle.gptp_setup.specs.Intervals.{interval_of}

@@ -6,11 +6,11 @@
 -- to another (`EventLeads`). It may always lead to any past. At time 0, as the network starts, it may take something
 -- away, since nothing is told yet. To a gain it leads where it takes nothing away, or changes nothing. To what is heard
 -- it leads where the network has settled and it changes nothing, brings up a link between live systems, lets a system
--- recover that uses none, or sets a better priority1. Where the delay of that link varies little the first Announce over
--- it comes to a port that is capable already, and a system that gets better tells so at once. What makes nothing of what stands leaves a network
--- settled that had settled, whatever it came from, and so does what widens the delays of a link in use. Where all was
--- heard before, such links may also come up, and such systems recover, one after another at any time, as several at
--- once; and what changes nothing asks for no time at all.
+-- recover that uses none, or sets a better priority1. Where the delay of that link varies little the first Announce
+-- over it comes to a port that is capable already, and a system that gets better tells so at once. What makes nothing
+-- of what stands leaves a network settled that had settled, whatever it came from, and so does what widens the delays
+-- of a link in use. Where all was heard before, such links may also come up, and such systems recover, one after
+-- another at any time, as several at once; and what changes nothing asks for no time at all.
 use Rattle.std.specs.Prelude.{◌≡◌, ◌<◌, ◌≤◌, ◌⊎◌, ◌+◌, ◌*◌, ℕ, ⊤, pred, true, List, [], ◌∷◌, ◌++◌, Option, Some, slice_get}
 use Rattle.gptp_lists.specs.Members.{In}
 use Rattle.gptp_vector.specs.declared.port.PortId.{PortId}
@@ -116,8 +116,8 @@ pub record BettersClock (n : NetworkState) (before : List Timed) (event : Timed)
   pub few : (sync_paths n before).systems ≤ 255
   pub later : event.at < next
 
--- After these events this one lets a failed system recover that uses no link then. The other ports are as capable as they
--- were.
+-- After these events this one lets a failed system recover that uses no link then. The other ports are as capable as
+-- they were.
 pub record RecoversAlone (n : NetworkState) (before : List Timed) (event : Timed) (next : ℕ) : Type 0 where
   pub number : ℕ
   pub act : event.act ≡ Changing (Recover number)
