@@ -152,9 +152,6 @@ makes_nothing e = is_idle e || is_unused e
 abbrev pub lowers_unused : Told → Bool
 lowers_unused e = is_unused e && is_link_down e
 
-abbrev pub raises_unused : Told → Bool
-raises_unused e = is_unused e && is_link_up e
-
 -- an act sets the bounds of a link, idly or not
 abbrev pub sets_bounds : Act → Bool
 sets_bounds act = elim (what_of act) [ whats.LinkSet ↦ true | _ ↦ false ]

@@ -25,10 +25,6 @@ standings_after n events = map (standing_then n events) n.links
 abbrev pub varies : Cable → Bool
 varies c = nat_le (2 * c.bounds.min) c.bounds.max
 
--- a link that is up joins a live system to one that has failed
-abbrev pub is_unanswered : Standing → Bool
-is_unanswered s = s.cable.up && (s.a_lives || s.b_lives) && not (s.a_lives && s.b_lives)
-
 -- A link is new that is in use after the events of a time and wasn't before; at the first time each in use is.
 abbrev pub is_new : NetworkState → List Timed → List Timed → Bool → LinkSpec → Bool
 is_new n made events first w =

@@ -16,7 +16,6 @@ use Rattle.gptp_scenario.specs.Calm.{IsLive, NothingLapses}
 use Rattle.gptp_scenario.specs.Change.{link_acted, link_after, with_up}
 use Rattle.gptp_scenario.specs.InUse.{lives}
 use Rattle.gptp_scenario.specs.Network.{IsNetwork, NetworkState, pace_of}
-use Rattle.gptp_scenario.specs.SettlingTime.{capability_span}
 use Rattle.gptp_scenario.specs.SyncWait.{sync_paths}
 use Rattle.gptp_scenario.specs.declared.change.Act.{Act}
 use Rattle.gptp_scenario.specs.declared.change.Act.TheVariants as acts
@@ -31,7 +30,7 @@ use Rattle.gptp_network.proofs.PassLemmas.{kept, passes_at}
 use Rattle.gptp_topology.specs.Course.{cable_is_used, cable_of, named}
 use Rattle.gptp_topology.specs.declared.course.Cable.{Cable}
 use Rattle.gptp_how_soon.specs.Bounds.{asked_again, is_again, is_hard_to_hear, ready, two_exchanges}
-use Rattle.gptp_how_soon.specs.Kinds.{are_heard, is_better, is_gain, is_heard_too, is_idle, is_link_up, is_loss, is_other, is_priority1, is_recover, is_recovery, is_recovery_of, is_unused, lowers_unused, makes_nothing, raises_unused, recovers, what_of, begins_wider, first_wider_by, is_wider, wider_by}
+use Rattle.gptp_how_soon.specs.Kinds.{are_heard, is_better, is_gain, is_heard_too, is_idle, is_link_up, is_loss, is_other, is_priority1, is_recover, is_recovery, is_recovery_of, is_unused, lowers_unused, makes_nothing, recovers, what_of, begins_wider, first_wider_by, is_wider, wider_by}
 use Rattle.gptp_how_soon.specs.Links.{is_new, new_links, standing_then, varies}
 use Rattle.gptp_how_soon.specs.Times.{told_at, told_of}
 use Rattle.gptp_how_soon.specs.declared.kinds.Told.{Told}
@@ -40,7 +39,7 @@ use Rattle.gptp_settling_time.specs.HowSoon.{AfterIdleEvents, AreGainEvents, Are
 use Rattle.gptp_settling_time.specs.InTurn.{AddsHeard, BettersClock, BringsUp, MakesNothing, RecoversAlone, TurnsInVain}
 use Rattle.gptp_settling_time.proofs.SamePathsLemmas.{idle_paths, turned_paths}
 use Rattle.gptp_how_soon_laws.proofs.CalmLemmas.{lives_to, three_from, three_parts, used_cable}
-use Rattle.gptp_how_soon_laws.proofs.KindLemmas.{Gains, RaisesLink, TurnsBroken, gain_gains, gain_is_not_idle, idle_changes, nothing_or_gain, unused_turns, wider_widens}
+use Rattle.gptp_how_soon_laws.proofs.KindLemmas.{Gains, RaisesLink, gain_gains, gain_is_not_idle, idle_changes, nothing_or_gain, unused_turns, wider_widens}
 use Rattle.gptp_how_soon_laws.proofs.MoreLemmas.{IsMore, Leaves, more_delay, more_live, more_lives, more_on, one_more, same_more}
 use Rattle.gptp_how_soon_laws.proofs.NamedLemmas.{end_first}
 
@@ -133,14 +132,11 @@ module _ (n : NetworkState) (network : IsNetwork n) (time : ℕ) (first events :
   -- where a system recovers
   pub record AreFollowed : Type 0 where
     pub past : AllByRecursion (λ (t : Timed). t.at + largest_interval (pace_of n) < time) first
-    pub capable : capability_span (pace_of n) ≤ time + start
     pub turns : list_any lowers_unused tolds ≡ false
 
   -- where a link turns that isn't used
-  pub record AreTurnsFollowed : Type 0 where
-    pub raised : list_any raises_unused tolds ≡ true
-        → capability_span (pace_of n) + way_span (sync_paths n first) ≤ time
-    pub lowered : list_any lowers_unused tolds ≡ true → list_any is_gain tolds ≡ false
+  abbrev pub AreTurnsFollowed : Type 0
+  AreTurnsFollowed = list_any lowers_unused tolds ≡ true → list_any is_gain tolds ≡ false
 
   -- an event of the time that takes nothing away
   pub record IsTold (e : Told) : Type 0 where
@@ -179,7 +175,7 @@ module _ (n : NetworkState) (network : IsNetwork n) (time : ℕ) (first events :
   leaves_gain made (acts.Change (changes.Priority1 number value)) gains = tt
   leaves_gain made (acts.Change (changes.Inject clock port octets)) gains = tt
 
-  leaves_turned : (made : List Timed) (act : Act) → TurnsBroken n network made act → Leaves n made act
+  leaves_turned : (made : List Timed) (act : Act) → TurnsUnused n made act → Leaves n made act
   leaves_turned made (acts.Deliver link direction) broken = tt
   leaves_turned made (acts.Expire clock timer) broken = tt
   leaves_turned made (acts.Change (changes.LinkDown clock port)) broken = inr broken
@@ -212,49 +208,24 @@ module _ (n : NetworkState) (network : IsNetwork n) (time : ℕ) (first events :
 
   module _ (turns : AreTurnsFollowed) (made : List Timed) (event : Timed) (here : event.at ≡ time)
       (among : In (told_at n made event.act) tolds) where
-    -- a link turns that isn't used, before any gain
-    turned : sync_paths n made ≡ sync_paths n first → (act : Act) → event.act ≡ act
-        → is_unused (told_at n made act) ≡ true → TurnsBroken n network made act → TurnsUnused n made event act
-    turned same (acts.Deliver link direction) e is broken = absurd broken
-    turned same (acts.Expire clock timer) e is broken = absurd broken
-    turned same (acts.Change (changes.LinkDown clock port)) e is broken = broken
-    turned same (acts.Change (changes.LinkUp clock port)) e is broken =
-        let raised : raises_unused (told_at n made event.act) ≡ true =
-        ap (λ a. raises_unused (told_at n made a)) e ∙ ap (λ test. test && true) is in
-        let shown = turns.raised (passes_at raises_unused tolds (told_at n made event.act) among raised) in (
-          broken,
-          subst (λ (p : SyncPaths). capability_span (pace_of n) + way_span p ≤ event.at) (sym same)
-              (subst (λ at. capability_span (pace_of n) + way_span (sync_paths n first) ≤ at) (sym here) shown),
-        )
-    turned same (acts.Change (changes.LinkSet clock port least greatest loss)) e is broken = absurd broken
-    turned same (acts.Change (changes.Fail number)) e is broken = absurd broken
-    turned same (acts.Change (changes.Recover number)) e is broken = absurd broken
-    turned same (acts.Change (changes.Priority1 number value)) e is broken = absurd broken
-    turned same (acts.Change (changes.Inject clock port octets)) e is broken = absurd broken
-
-    idles : sync_paths n made ≡ sync_paths n first → makes_nothing (told_at n made event.act) ≡ true
-        → IsIdleEvent n made event
-    idles same nothing =
+    idles : makes_nothing (told_at n made event.act) ≡ true → IsIdleEvent n made event
+    idles nothing =
         elim (or_cases (is_idle (told_at n made event.act)) (is_unused (told_at n made event.act)) nothing) [
           | inl idle ↦ inl (idle_changes n network made event.act idle)
-          | inr unused ↦ inr (turned same event.act refl unused (unused_turns n network made event.act unused))
+          | inr unused ↦ inr (unused_turns n network made event.act unused)
         ]
 
     -- behind a gain
     turned_late : list_any is_gain tolds ≡ true → (act : Act) → event.act ≡ act
-        → is_unused (told_at n made act) ≡ true → TurnsBroken n network made act → TurnsInVain n made event next act
+        → is_unused (told_at n made act) ≡ true → TurnsUnused n made act → TurnsInVain n made event next act
     turned_late gained (acts.Deliver link direction) e is broken = absurd broken
     turned_late gained (acts.Expire clock timer) e is broken = absurd broken
     turned_late gained (acts.Change (changes.LinkDown clock port)) e is broken =
         let lowered : lowers_unused (told_at n made event.act) ≡ true =
         ap (λ a. lowers_unused (told_at n made a)) e ∙ ap (λ test. test && true) is in
-        let none = turns.lowered (passes_at lowers_unused tolds (told_at n made event.act) among lowered) in
+        let none = turns (passes_at lowers_unused tolds (told_at n made event.act) among lowered) in
         let no : true ≡ false = sym gained ∙ none in absurd cc
-    turned_late gained (acts.Change (changes.LinkUp clock port)) e is broken =
-        let raised : raises_unused (told_at n made event.act) ≡ true =
-        ap (λ a. raises_unused (told_at n made a)) e ∙ ap (λ test. test && true) is in
-        let shown = turns.raised (passes_at raises_unused tolds (told_at n made event.act) among raised) in
-        (broken, omega (arith, shown))
+    turned_late gained (acts.Change (changes.LinkUp clock port)) e is broken = broken
     turned_late gained (acts.Change (changes.LinkSet clock port least greatest loss)) e is broken = absurd broken
     turned_late gained (acts.Change (changes.Fail number)) e is broken = absurd broken
     turned_late gained (acts.Change (changes.Recover number)) e is broken = absurd broken
@@ -437,13 +408,10 @@ module _ (n : NetworkState) (network : IsNetwork n) (time : ℕ) (first events :
       gains_system : IsGainEvent n next made event
       gains_system =
           let some = passes_at is_recovery tolds (told_at n made event.act) is.among recovery in
-          let facts = followed some in
-          let soon = facts.capable in
           subst (λ a. TakesNothing n made a × LeavesCapable n made event next a) (sym act) (
             tt,
             (
               failed,
-              inr (omega (arith, soon)),
               subst (AreSparedBy n [] made) (sym here) (so_far.spared some),
               asks_again (list_any (is_again tolds) news) refl,
             ),
@@ -526,7 +494,7 @@ module _ (n : NetworkState) (network : IsNetwork n) (time : ℕ) (first events :
 
     -- a link that isn't used comes up, and none goes down
     spares_turn : list_any lowers_unused tolds ≡ false → (act : Act) → event.act ≡ act
-        → is_unused (told_at n made act) ≡ true → TurnsBroken n network made act → IsSparedBy n made event time
+        → is_unused (told_at n made act) ≡ true → TurnsUnused n made act → IsSparedBy n made event time
     spares_turn none (acts.Deliver link direction) same turns broken = absurd broken
     spares_turn none (acts.Expire clock timer) same turns broken = absurd broken
     spares_turn none (acts.Change (changes.LinkDown clock port)) same turns broken =
@@ -619,15 +587,14 @@ module _ (n : NetworkState) (network : IsNetwork n) (time : ℕ) (first events :
 
   -- each makes nothing of what stands
   pub each_idle : AreTurnsFollowed → (made left : List Timed) → AllByRecursion (λ (t : Timed). t.at ≡ time) left
-      → AllByRecursion (λ (e : Told). In e tolds) (told_of n made left) → sync_paths n made ≡ sync_paths n first
+      → AllByRecursion (λ (e : Told). In e tolds) (told_of n made left)
       → list_all makes_nothing (told_of n made left) ≡ true → EachEvent (IsIdleEvent n) made left
-  each_idle turns made [] now among same nothing = tt
-  each_idle turns made (event ∷ left) now among same nothing =
+  each_idle turns made [] now among nothing = tt
+  each_idle turns made (event ∷ left) now among nothing =
       let (one, rest) =
       and_parts (makes_nothing (told_at n made event.act))
       (list_all makes_nothing (told_of n (made ++ event ∷ []) left)) nothing in
-      let idle = idles turns made event now.0 among.0 same one in
-      (idle, each_idle turns (made ++ event ∷ []) left now.1 among.1 (idle_ways made event idle ∙ same) rest)
+      (idles turns made event now.0 among.0 one, each_idle turns (made ++ event ∷ []) left now.1 among.1 rest)
 
   -- each changes nothing
   each_still : (made left : List Timed) → list_all is_idle (told_of n made left) ≡ true
@@ -663,7 +630,7 @@ module _ (n : NetworkState) (network : IsNetwork n) (time : ℕ) (first events :
   pub all_idle : AreTurnsFollowed → AllByRecursion (λ (t : Timed). t.at ≡ time) events
       → list_all makes_nothing tolds ≡ true → EachEvent (IsIdleEvent n) first events
   all_idle turns now nothing =
-      each_idle turns first events now (all_from (λ (e : Told). In e tolds) tolds (λ e member. member)) refl nothing
+      each_idle turns first events now (all_from (λ (e : Told). In e tolds) tolds (λ e member. member)) nothing
 
   module _ (off : NothingLapses n.params) (turns : AreTurnsFollowed)
       (followed : list_any is_recovery tolds ≡ true → AreFollowed) where
@@ -688,19 +655,18 @@ module _ (n : NetworkState) (network : IsNetwork n) (time : ℕ) (first events :
     -- the first that makes something of what stands is a gain, if there is one
     after_idle : (made left : List Timed) → made ++ left ≡ all
         → AllByRecursion (λ (t : Timed). t.at ≡ time) left → IsSoFar made
-        → AllByRecursion IsTold (told_of n made left) → sync_paths n made ≡ sync_paths n first
+        → AllByRecursion IsTold (told_of n made left)
         → list_all makes_nothing (told_of n made left) ≡ false → AfterIdleEvents n (AreGainEvents n next) made left
-    after_idle made [] are now so_far each same some = absurd cc
-    after_idle made (event ∷ left) are now so_far each same some =
+    after_idle made [] are now so_far each some = absurd cc
+    after_idle made (event ∷ left) are now so_far each some =
         let later = later_than made event left are each.1 in
         let on = so_on followed made event now.0 so_far each.0 later in
         let more = append_assoc made (event ∷ []) left ∙ are in
         elim each.0.kind [
           | inl nothing ↦
-              let idle = idles turns made event now.0 each.0.among same nothing in
               inr (
-                idle,
-                after_idle (made ++ event ∷ []) left more now.1 on each.1 (idle_ways made event idle ∙ same)
+                idles turns made event now.0 each.0.among nothing,
+                after_idle (made ++ event ∷ []) left more now.1 on each.1
                     (ap (λ test. test && list_all makes_nothing (told_of n (made ++ event ∷ []) left)) (sym nothing)
                     ∙ some),
               )
@@ -770,7 +736,7 @@ module _ (n : NetworkState) (network : IsNetwork n) (time : ℕ) (first events :
               → (IsHeardEvent n next made event × EachEvent (IsHeardToo n next) (made ++ event ∷ []) left)
               ⊎ (IsIdleEvent n made event × AfterIdleEvents n (AreHeardEvents n next) (made ++ event ∷ []) left)
           by true is heard rest others one =
-              let idle = idles turns made event now.0 each.0.among same is in inr (idle, rest idle heard)
+              let idle = idles turns made event now.0 each.0.among is in inr (idle, rest idle heard)
           by false is heard rest others one =
               let e = told_at n made event.act in
               let (too, more) =
@@ -793,7 +759,7 @@ module _ (n : NetworkState) (network : IsNetwork n) (time : ℕ) (first events :
 
     pub all_gained : list_all makes_nothing tolds ≡ false → AfterIdleEvents n (AreGainEvents n next) first events
     all_gained some =
-        after_idle off turns followed first events refl now begins (all_told no_loss no_wider no_other) refl some
+        after_idle off turns followed first events refl now begins (all_told no_loss no_wider no_other) some
 
     pub all_heard : list_any (is_hard_to_hear tolds) news ≡ false
         → (list_any is_better tolds ≡ true → (sync_paths n first).systems ≤ 255) → are_heard false tolds ≡ true

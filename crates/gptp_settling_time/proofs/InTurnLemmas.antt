@@ -256,8 +256,8 @@ module _ {F : Type 0} (answers : Bounds → ℕ → F → Option ℕ → F → T
   module _ (start : ℕ) (off : NothingLapses n.params) where
     turned_news : (change : Change) → is.change ≡ change → TurnsInVain n made event start (Changing change)
         → IsNewsFrom p start then → IsNewsFrom p start w'
-    turned_news (LinkUp number port) same (failed, late) news =
-        raised_from p start number port then k.draws done w' keeps_then.claim.world after.claim off late
+    turned_news (LinkUp number port) same failed news =
+        raised_from p start number port then k.draws done w' keeps_then.claim.world after.claim off
         (unused_so n made then keeps_then.stands keeps_then.claim.world.sound (port_id number port) failed)
         (came_so (LinkUp number port) same) news
     turned_news (LinkDown number port) same (failed, late) news =
@@ -272,8 +272,8 @@ module _ {F : Type 0} (answers : Bounds → ℕ → F → Option ℕ → F → T
 
     turned_claimed : (change : Change) → is.change ≡ change → TurnsInVain n made event start (Changing change)
         → IsClaimedAlways p start then → IsClaimedAlways p start w'
-    turned_claimed (LinkUp number port) same (failed, late) =
-        raised_claimed p start number port then k.draws done w' keeps_then.claim.world after.claim off late
+    turned_claimed (LinkUp number port) same failed =
+        raised_claimed p start number port then k.draws done w' keeps_then.claim.world after.claim off
         (unused_so n made then keeps_then.stands keeps_then.claim.world.sound (port_id number port) failed)
         (came_so (LinkUp number port) same)
     turned_claimed (LinkDown number port) same (failed, late) =

@@ -36,7 +36,7 @@ use Rattle.gptp_invariants.specs.WorldSound.{IsGain, IsSoundWorld}
 use Rattle.gptp_invariants.specs.FailedUnanswered.{StandsUnanswered}
 use Rattle.gptp_invariants.proofs.WorldClaimLemmas.{claim_kept, claim_later}
 use Rattle.gptp_invariants.proofs.WorldLinkUpNewsLemmas.{link_up_news}
-use Rattle.gptp_invariants.proofs.WorldNewsActLemmas.{gain_news, ready_later, unanswered_silent, watched_ready}
+use Rattle.gptp_invariants.proofs.WorldNewsActLemmas.{gain_news, ready_later, silent_by_later, unanswered_silent, watched_ready}
 use Rattle.gptp_invariants.proofs.WorldNewsLemmas.{none_silent}
 use Rattle.gptp_invariants.proofs.WorldOutlineLemmas.{change_is_last, change_time}
 use Rattle.gptp_invariants.proofs.WorldSoundLemmas.{sound_later}
@@ -82,8 +82,8 @@ pub leaves_later : (n : NetworkState) (before : List Timed) (event : Timed) (nex
     → LeavesCapable n before event next (Changing change) → event.at < next
 leaves_later n before event next (LinkUp number port) (live, late) = omega (arith, late)
 leaves_later n before event next (Priority1 number value) late = late
-leaves_later n before event next (Recover number) (failed, live, alone, inl late) = omega (arith, late)
-leaves_later n before event next (Recover number) (failed, live, alone, inr (unused, late)) = late
+leaves_later n before event next (Recover number) (failed, alone, inl late) = omega (arith, late)
+leaves_later n before event next (Recover number) (failed, alone, inr (unused, late)) = late
 leaves_later n before event next (LinkDown number port) none = absurd none
 leaves_later n before event next (LinkSet number port min max loss) none = absurd none
 leaves_later n before event next (Fail number) none = absurd none
@@ -189,25 +189,6 @@ module _ {F : Type 0} (answers : Bounds → ℕ → F → Option ℕ → F → T
     delay_is =
         ap (λ (x : SyncPaths). x.delay)
         (paths_stand n more w' playable.network stands_after claim_after.world.sound)
-
-    -- a system whose links lead to live ones is beside no failed one
-    beside_live : (number : ℕ) → LeadsToLive n more number → (place : LinkPlace) → (s : StandsUnanswered place w')
-        → clock s.asking.station.system ≢ number
-    beside_live number live place s same =
-        let (v, there, wire) = alike (link_after more) channel_wire n.links w'.net.channels (sym stands_after.links)
-        place.link s.channel s.here in
-        let ends = live place.link v there (ap (λ (x : LinkSpec). x.up) wire ∙ s.up)
-        (subst (λ (x : LinkSpec). (x.a.clock ≡ number) ⊎ (x.b.clock ≡ number)) (sym wire)
-        (end_is number place.direction s.channel (sym s.asking.named ∙ same))) in
-        let lives : IsLive n.systems more (receiver place.direction s.channel).clock =
-        end_so (IsLive n.systems more) place.direction s.channel
-        (subst (λ (x : LinkSpec). IsLive n.systems more x.a.clock) wire ends.0)
-        (subst (λ (x : LinkSpec). IsLive n.systems more x.b.clock) wire ends.1) in
-        let on = lives_so n more w' stands_after claim_after.world.sound (receiver place.direction s.channel).clock
-        lives place.answering s.answering.station
-        (record { here = s.answering.here; named = s.answering.named }) in
-        let both = sym on ∙ s.answering.failed in
-        cc
 
     -- no link in use ends at a system that uses none
     pub uses_none : (number : ℕ) → UsesNoLink n more number → UsesNone number w'
@@ -389,12 +370,6 @@ module _ {F : Type 0} (answers : Bounds → ℕ → F → Option ℕ → F → T
         failed_so n made then stands_then claim_then.world.sound number failed came.1.place came.1.station
         (record { here = came.1.is.here; named = came.1.is.named })
 
-    -- its ports don't become capable beside failed systems
-    led : (next number : ℕ) → LeadsToLive n more number ⊎ (capability_span p ≤ next) → (place : LinkPlace)
-        → (s : StandsUnanswered place w') → clock s.asking.station.system ≡ number → capability_span p ≤ next
-    led next number (inl leads) place s same = absurd (beside_live keeps number leads place s same)
-    led next number (inr long) place s same = long
-
     -- or some of them ask soon
     soon_change : (next by : ℕ) → AreSilentBy p next then → event.at ≤ by → by < next → AreComing p by next then
         → (change : Change) → is.change ≡ change → LeavesCapable n made event next (Changing change)
@@ -411,13 +386,13 @@ module _ {F : Type 0} (answers : Bounds → ℕ → F → Option ℕ → F → T
         (subst (λ change. IsGain change then) same gain)
         (subst (λ change. SetsAnOctet (Changing change)) same octet) (acts_as keeps (Priority1 number value) same) by
         coming early before
-    soon_change next by silent early before coming (Recover number) same (failed, live, alone, ready) =
+    soon_change next by silent early before coming (Recover number) same (failed, alone, ready) =
         let (gone, past, asked, all) = keeps.asked event.at alone in
         let came = acts_as keeps (Recover number) same in
         let recovers = λ (asks : ℕ). recover_soon p asks next number then k.draws done w' claim_then.pace
         claim_then.world after.claim.world claim_then.measured after.claim.measured came
         (had_failed number failed came) sound_then gone past (asked_now keeps gone asked)
-        (gone_later gone event.at w all) (led next number live) in
+        (gone_later gone event.at w all) in
         elim ready [
           | inl late ↦
               let delay = delay_is keeps in
@@ -438,13 +413,13 @@ module _ {F : Type 0} (answers : Bounds → ℕ → F → Option ℕ → F → T
         → LeavesCapable n made event next (Changing (Recover number)) → AreReadyBy p start then
         → AreSilentBy p start then → IsNews p next w'
     made_alone start next number same more_than unused leaves ready silent =
-        let (failed, live, alone, when) = leaves in
+        let (failed, alone, when) = leaves in
         let (gone, past, asked, all) = keeps.asked event.at alone in
         let came = acts_as keeps (Recover number) same in
         let (ready_then, silent_then) = ready_later p start next then more_than ready silent in
         recover_alone p event.at next number then k.draws done w' claim_then.pace claim_then.world after.claim.world
         claim_then.measured after.claim.measured came (had_failed number failed came) sound_then gone past
-        (gone_later gone event.at w all) (led next number live) (leaves_later n made event next (Recover number) leaves)
+        (gone_later gone event.at w all) (leaves_later n made event next (Recover number) leaves)
         (none_stands number w' (uses_none keeps number unused)) silent_then ready_then
 
     leaves_so : (next : ℕ) → LeavesCapable n made event next event.act
@@ -468,15 +443,7 @@ module _ {F : Type 0} (answers : Bounds → ℕ → F → Option ℕ → F → T
           | inl less ↦ omega (arith, less, more_than)
           | inr same ↦ omega (arith, same, after_event)
         ] in
-        soon_change next how.by (λ place s. let (change, one, from) = silent place s in (
-          change,
-          one,
-          omega (
-            arith,
-            from,
-            more_than,
-          ),
-        ))
+        soon_change next how.by (silent_by_later p start next then more_than silent)
         early before
         (λ place stands.
         coming_later p how.by start place how.by next then (omega arith) more_than (how.coming place stands))

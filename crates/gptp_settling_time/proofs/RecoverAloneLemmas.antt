@@ -108,7 +108,7 @@ module _ (number place p : ℕ) (w : WorldState) (draws : List Draw) (answer : A
           let (q, there) = member_there k.station.system.ports i (omega arith) in (
             q,
             ap (port_number k.station.system.ports) same ∙ there,
-            (is_fresh.unmeasured k.station k.here i q there).0,
+            (is_fresh.unmeasured k.station k.here i q there).0.0,
           )
 
   alone : RaisesAlone (port_of (clock k.station.system) p) w w'

@@ -54,13 +54,6 @@ TellsNothing (Changing (Fail number)) = ⊤
 TellsNothing (Changing (Priority1 number value)) = ⊤
 TellsNothing act = ⊥
 
--- after these events no link that is up joins a live system to one that has failed
-abbrev pub NoneUnanswered : NetworkState → List Timed → Type 0
-NoneUnanswered n events = (place : ℕ) (v : LinkSpec) → slice_get n.links place ≡ Some v
-    → (link_after events v).up ≡ true
-    → (IsLive n.systems events (link_after events v).a.clock → IsLive n.systems events (link_after events v).b.clock)
-    × (IsLive n.systems events (link_after events v).b.clock → IsLive n.systems events (link_after events v).a.clock)
-
 -- after these events the greatest delay is below twice the least over each link in use
 abbrev pub UsedVaryLittle : NetworkState → List Timed → Type 0
 UsedVaryLittle n events = (place : ℕ) (v : LinkSpec) → slice_get n.links place ≡ Some v
@@ -79,12 +72,10 @@ abbrev pub AreCapableSoon : NetworkState → List Timed → ℕ → Type 0
 AreCapableSoon n events start =
     (exchanged_from (pace_of n) (sync_paths n events) 0 ≤ start) ⊎ (NoneUsed n events × (0 < start))
 
--- This is the last of such events of time 0: nothing is told yet after it, and no system waits for one that has failed.
--- Ports are capable from the next time on.
+-- This is the last of such events of time 0: nothing is told yet after it. Ports are capable from the next time on.
 pub record StartsWith (n : NetworkState) (before : List Timed) (event : Timed) (next : ℕ) : Type 0 where
   pub now : event.at ≡ 0
   pub tells : TellsNothing event.act
-  pub answered : NoneUnanswered n (before ++ event ∷ [])
   pub capable : AreCapableSoon n (before ++ event ∷ []) next
 
 -- ---- events
@@ -125,10 +116,9 @@ pub record RecoversAlone (n : NetworkState) (before : List Timed) (event : Timed
   pub capable : LeavesCapable n before event next (Changing (Recover number))
 
 -- After these events a link comes up or goes down of which an end has failed. The port at its other end takes no part:
--- unanswered it isn't capable from the start on, and one that comes up isn't capable before it is answered.
+-- unanswered it isn't capable from the start on where it goes down, nor ever where it comes up.
 abbrev pub TurnsInVain : NetworkState → List Timed → Timed → ℕ → Act → Type 0
-TurnsInVain n before event start (Changing (LinkUp number port)) =
-    EndHasFailed n before (port_id number port) × (capability_span (pace_of n) ≤ start)
+TurnsInVain n before event start (Changing (LinkUp number port)) = EndHasFailed n before (port_id number port)
 TurnsInVain n before event start (Changing (LinkDown number port)) =
     EndHasFailed n before (port_id number port) × (start ≤ event.at)
 TurnsInVain n before event start act = ⊥
