@@ -8,14 +8,11 @@ use Rattle.gptp_lists.specs.Members.{In}
 use Rattle.gptp_lists.proofs.MappedLemmas.{some_same}
 use Rattle.gptp_lists.proofs.SystemSpecLemmas.{In-map, In-slice_get}
 use Rattle.gptp_setup.specs.SettlingParams.{largest_interval}
-use Rattle.gptp_vector.specs.declared.port.PortId.{PortId}
-use Rattle.gptp_scenario.specs.Calm.{IsLive, IsUsed, NothingLapses}
+use Rattle.gptp_scenario.specs.Calm.{IsUsed, NothingLapses}
 use Rattle.gptp_scenario.specs.Change.{link_after}
-use Rattle.gptp_scenario.specs.InUse.{lives}
-use Rattle.gptp_scenario.proofs.AfterLemmas.{after_keeps}
 use Rattle.gptp_scenario.specs.Network.{IsNetwork, NetworkState, pace_of}
 use Rattle.gptp_scenario.specs.SettlingAtOnce.{settling_span_at_once}
-use Rattle.gptp_scenario.specs.SettlingTime.{capability_span, settling_span_with}
+use Rattle.gptp_scenario.specs.SettlingTime.{settling_span_with}
 use Rattle.gptp_scenario.specs.SyncWait.{sync_paths}
 use Rattle.gptp_scenario.specs.declared.change.Act.{Act}
 use Rattle.gptp_scenario.specs.declared.change.Act.TheVariants as acts
@@ -28,7 +25,7 @@ use Rattle.gptp_topology.specs.Course.{cable_of}
 use Rattle.gptp_topology.specs.declared.course.Cable.{Cable}
 use Rattle.gptp_how_soon.specs.Bounds.{asked_again, choice_by, choice_of_row, is_again, is_hard_to_hear, ready, settled, two_exchanges}
 use Rattle.gptp_how_soon.specs.Kinds.{are_heard, fails_and_recovers, is_better, is_gain, is_idle, is_loss, is_other, is_recover, is_recovery, is_recovery_of, lowers_unused, makes_nothing, recovers, sets_link, tells_nothing, begins_wider, first_wider_by, is_wider}
-use Rattle.gptp_how_soon.specs.Links.{is_new, new_links, standing_then, standings_after, varies}
+use Rattle.gptp_how_soon.specs.Links.{is_new, new_links, varies}
 use Rattle.gptp_how_soon.specs.Rest.{are_events_followed, are_recoveries_followed, are_turns_followed, heard_at_once, is_from_rest, rested, rested_by, is_wider_followed, settles_wider_by}
 use Rattle.gptp_how_soon.specs.Times.{View, events_at, gained_at, is_calm, ready_at, row_at, settling_time, told_at, told_of, view_at}
 use Rattle.gptp_how_soon.specs.declared.bounds.Row.{Row}
@@ -43,7 +40,7 @@ use Rattle.gptp_settling_time.specs.HowSoon.{AreReadyAtStart, AreStartEvents, Bo
 use Rattle.gptp_settling_time.specs.InTurn.{NoneUsed, TellsNothing, UsedVaryLittle}
 use Rattle.gptp_settling_time.proofs.CutLemmas.{IsBy, all_by}
 use Rattle.gptp_settling_time.proofs.MomentLemmas.{all_at}
-use Rattle.gptp_how_soon_laws.proofs.CalmLemmas.{calm_so, lives_from, lives_to, used_cable}
+use Rattle.gptp_how_soon_laws.proofs.CalmLemmas.{calm_so, used_cable}
 use Rattle.gptp_how_soon_laws.proofs.GainedLemmas.{AreFollowed, AreTurnsFollowed, all_gained, all_heard, all_idle, all_wider, none_any, not_none}
 use Rattle.gptp_how_soon_laws.proofs.KindLemmas.{told}
 

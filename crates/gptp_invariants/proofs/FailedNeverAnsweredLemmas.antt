@@ -1,12 +1,11 @@
 -- A port beside a failed system that has never been answered: nothing answers it, whatever is done.
-use Rattle.std.proofs.Common.{◌≡◌, ◌≢◌, ◌≤◌, ℕ, false, List, [], ◌∷◌, Option, Some, None, refl, sym, subst, ◌∙◌, inl, inr, arith}
+use Rattle.std.proofs.Common.{◌≡◌, ◌≤◌, ℕ, false, List, [], ◌∷◌, Option, Some, None, sym, subst, ◌∙◌, inl, inr, arith}
 use Rattle.std.specs.Prelude.{max}
 use Rattle.gptp_lists.specs.Members.{In}
 use Rattle.gptp_links.specs.declared.link.Direction.{Direction}
 use Rattle.gptp_links.specs.Fate.{Draw}
 use Rattle.gptp_links.specs.Queue.{Frame, frame}
 use Rattle.gptp_pdelay.specs.Peer.{is_capable}
-use Rattle.gptp_pdelay_machine.specs.Messages.{Reply}
 use Rattle.gptp_scenario.specs.declared.change.Act.{Act}
 use Rattle.gptp_scenario.specs.declared.change.Act.TheVariants.{Deliver, Expire, Change as Changing}
 use Rattle.gptp_setup.specs.declared.timer.Timer.{Timer}
@@ -20,7 +19,7 @@ use Rattle.gptp_model.specs.declared.done.Done.{Done}
 use Rattle.gptp_model.specs.Sound.{HaveOwnClocks, IsSound}
 use Rattle.gptp_model.specs.World.{WorldState, receiver, sender, world_queue}
 use Rattle.gptp_invariants.specs.ChoiceSeenLaws.{IsNoChange}
-use Rattle.gptp_invariants.specs.DelayLinkView.{LinkPlace, other_direction, reads_as_reply}
+use Rattle.gptp_invariants.specs.DelayLinkView.{LinkPlace, other_direction}
 use Rattle.gptp_invariants.specs.DelayMeasured.{LinkIsMeasured}
 use Rattle.gptp_invariants.specs.FailedUnanswered.{IsNeverAnswered, IsOldBy, IsUnansweredAt, IsUnmeasured}
 use Rattle.gptp_invariants.proofs.DelayEndLemmas.{HearsWhatFits}

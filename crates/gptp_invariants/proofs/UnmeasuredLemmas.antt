@@ -1,6 +1,6 @@
 -- A port that has measured nothing measures nothing where it hears no reply.
 use Rattle.std.specs.Prelude.{if◌then◌else◌, ⊤}
-use Rattle.std.proofs.Common.{◌≡◌, ◌==◌, ◌+◌, ℕ, Bool, true, false, List, Option, Some, None, refl, sym, subst, inl, inr, eqb-true}
+use Rattle.std.proofs.Common.{◌≡◌, ◌==◌, ◌+◌, ℕ, Bool, true, false, List, None, refl, sym, subst, inl, inr, eqb-true}
 use Rattle.gptp_messages.specs.Grammar.{Reads}
 use Rattle.gptp_messages.specs.declared.message.Message.{Message}
 use Rattle.gptp_messages.specs.declared.message.Message.TheVariants as messages

@@ -64,11 +64,9 @@ use Rattle.gptp_links.specs.declared.bounds.Bounds.{Bounds}
 use Rattle.gptp_system.specs.State.{own}
 use Rattle.gptp_pdelay_machine.specs.Setting.{Setting}
 use Rattle.gptp_invariants.specs.ChoiceCalm.{AreCapableFrom, network_with}
-use Rattle.gptp_invariants.specs.FailedUnanswered.{StandsUnanswered}
 use Rattle.gptp_invariants.proofs.ChoiceCalmFactLemmas.{facts, frame_from}
 use Rattle.gptp_invariants.proofs.ChoicePlaceLemmas.{IsPortAt, IsStationAt}
 use Rattle.gptp_invariants.proofs.DelayClaimedCapableLemmas.{linked_or_off}
-use Rattle.gptp_invariants.proofs.FailedSilentLemmas.{become_incapable}
 use Rattle.gptp_invariants.proofs.WorldStandsLemmas.{used_up}
 use Rattle.gptp_model.proofs.BareLemmas.{bare}
 use Rattle.gptp_setup.specs.SettlingParams.{largest_interval}

@@ -10,7 +10,6 @@ use Rattle.gptp_setup.proofs.IntervalLemmas.{interval_positive}
 use Rattle.gptp_scenario.specs.Calm.{IsLive, IsUsed, last_change}
 use Rattle.gptp_scenario.specs.Change.{link_after}
 use Rattle.gptp_scenario.specs.Network.{IsEnd, NetworkState, pace_of}
-use Rattle.gptp_scenario.specs.SettlingTime.{capability_span}
 use Rattle.gptp_scenario.specs.SyncWait.{sync_paths}
 use Rattle.gptp_scenario.specs.declared.change.Act.TheVariants.{Change as Changing}
 use Rattle.gptp_scenario.specs.declared.change.Change.{Change}
@@ -47,7 +46,7 @@ use Rattle.gptp_theorem.proofs.SettlingInvariantLemmas.{IsFitEvent, least_of}
 use Rattle.gptp_theorem.proofs.KeptLemmas.{time_stands}
 use Rattle.gptp_theorem.proofs.SyncPathLemmas.{paths_stand}
 use Rattle.gptp_settling_time.specs.ExactInTurn.{last_set}
-use Rattle.gptp_settling_time.specs.Gains.{AreCapableAnyway, AreCapableNext, AreCapableStill, AreSparedBy, ChangesNothing, IsGainAfter, IsIdleAfter, IsSparedBy, JoinsLive, LeadsToLive, LeavesCapable, SparesFailed, TakesNothing, UsesNoLink}
+use Rattle.gptp_settling_time.specs.Gains.{AreCapableAnyway, AreCapableNext, AreCapableStill, AreSparedBy, ChangesNothing, IsGainAfter, IsIdleAfter, IsSparedBy, JoinsLive, LeavesCapable, SparesFailed, TakesNothing, UsesNoLink}
 use Rattle.gptp_settling_time.specs.Idle.{Lives}
 use Rattle.gptp_settling_time.specs.InTurn.{AddsHeard}
 use Rattle.gptp_settling_time.proofs.GainLemmas.{all_live, better_lives, failed_so, gain_so, idle_so, lives_so, used_as}

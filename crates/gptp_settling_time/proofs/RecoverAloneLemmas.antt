@@ -62,7 +62,7 @@ use Rattle.gptp_invariants.proofs.SyncFollowWorldLemmas.{used_within}
 use Rattle.gptp_invariants.proofs.WorldGreatestDelayLemmas.{delay_of_used}
 use Rattle.gptp_invariants.proofs.WorldSoundCallLemmas.{links_more}
 use Rattle.gptp_invariants.proofs.WorldStandsLemmas.{sender_lives, used_up}
-use Rattle.gptp_invariants.proofs.WorldSystemLemmas.{IsLiveAt, clock_in, clock_lives, live_from, live_there}
+use Rattle.gptp_invariants.proofs.WorldSystemLemmas.{clock_in, clock_lives, live_from, live_there}
 use Rattle.gptp_invariants.proofs.WorldWayLemmas.{IsWay, used_joins, way_of}
 use Rattle.gptp_settling_time.proofs.AlwaysClaimedLemmas.{AreHeard, IsClaimedAlways, same_start, start_calm, start_net, start_network}
 use Rattle.gptp_settling_time.proofs.AsksSoonLemmas.{both_ways}

@@ -33,6 +33,7 @@ use Rattle.gptp_invariants.specs.FailedUnanswered.{IsFailedAmong, IsNeverAnswere
 use Rattle.gptp_invariants.specs.WorldNews.{AreSilentBy, IsNews, turn_network}
 use Rattle.gptp_invariants.specs.WorldSound.{IsSoundWorld}
 use Rattle.gptp_invariants.specs.WorldStanding.{channel_is_used, live_stations, snapshot_of, standing_system, used_channels}
+use Rattle.gptp_system.specs.declared.port.Port.{Port}
 use Rattle.gptp_settling_time.proofs.AskedInTimeLemmas.{AreAskedInTime}
 use Rattle.gptp_settling_time.proofs.BetweenFailedLemmas.{AreGoneBetween}
 use Rattle.gptp_settling_time.proofs.AlwaysClaimedLemmas.{IsClaimedAlways}

@@ -1,8 +1,8 @@
 -- What is called at time 0, as a network starts: nothing is measured or told, and nothing in flight is due.
 use Rattle.std.specs.Prelude.{⊤}
-use Rattle.std.proofs.Common.{◌≡◌, ◌≢◌, inl, inr, ◌<◌, ◌≤◌, ◌+◌, max, ℕ, Bool, true, false, List, [], ◌∷◌, ◌++◌, length, Option, Some, None, slice_get, slice_set, refl, sym, ap, subst, ◌∙◌, arith}
+use Rattle.std.proofs.Common.{◌≡◌, ◌≢◌, inl, inr, ◌<◌, ◌≤◌, ◌+◌, max, ℕ, Bool, true, false, List, [], ◌∷◌, ◌++◌, length, Option, Some, None, slice_get, slice_set, refl, sym, ap, subst, ◌∙◌, arith, zero, suc, map}
 use Rattle.std.proofs.Math.Nat.{le-max_left}
-use Rattle.std.proofs.lemmas.Option.{same_Some}
+use Rattle.std.proofs.lemmas.Option.{same_Some, none-some}
 use Rattle.gptp_lists.specs.Members.{In}
 use Rattle.gptp_lists.proofs.MappedLemmas.{same_there}
 use Rattle.gptp_lists.proofs.PlaceLemmas.{get-set_all, get-set_other, get-set_same, same_place}
@@ -17,7 +17,7 @@ use Rattle.gptp_links.specs.Queue.{Frame, due_after, frame, newest_due}
 use Rattle.gptp_system.specs.declared.answer.Answer.{Answer}
 use Rattle.gptp_system.specs.declared.sending.Sending.{Sending}
 use Rattle.gptp_system.specs.Input.{Expires, Frame as FrameHeard, Input, IsTimely, PortDown, PortUp, Priority}
-use Rattle.gptp_system.specs.State.{SystemState, clock, own, trace}
+use Rattle.gptp_system.specs.State.{SystemState, clock, own, trace, number, due}
 use Rattle.gptp_system.proofs.SentLemmas.{steps_send}
 use Rattle.gptp_setup.specs.declared.timer.Timer.TheVariants as timers
 use Rattle.gptp_pdelay_machine.specs.Messages.{Reply}
@@ -28,17 +28,17 @@ use Rattle.gptp_setup.specs.SettlingParams.{SettlingParams}
 use Rattle.gptp_model.specs.Act.{Calls, all_timers, in_state}
 use Rattle.gptp_model.specs.Acts.{Changes}
 use Rattle.gptp_model.specs.Ahead.{IsPortAmong}
-use Rattle.gptp_model.specs.Changing.{CallsIfLive, ComesUpIf, FailsIf, GoesDownIf, TellsEnds, brought_up, lost, taken_down, with_setup, with_station}
+use Rattle.gptp_model.specs.Changing.{CallsIfLive, ComesUpIf, FailsIf, GoesDownIf, TellsEnds, brought_up, lost, taken_down, with_setup, with_station, CallsAll, Starts, StartsAll, fresh, up_ports}
 use Rattle.gptp_model.specs.declared.station.Station.{Station}
 use Rattle.gptp_model.specs.Sends.{SendsAll, SendsOne, entered, written}
-use Rattle.gptp_model.specs.Sound.{AreApart}
+use Rattle.gptp_model.specs.Sound.{AreApart, HaveTheirSetups}
 use Rattle.gptp_model.specs.World.{Channel, Net, WorldState, sender, with_queue, world_queue}
 use Rattle.gptp_model.proofs.ChangeOnTimeLemmas.{IsOfPort, calls_if_live_ports}
-use Rattle.gptp_model.proofs.StayLemmas.{Stays, calls_stay, stays_apart, stays_setups, taken_down_stays, brought_up_stays, with_setup_stays}
+use Rattle.gptp_model.proofs.StayLemmas.{Stays, calls_stay, stays_apart, stays_setups, taken_down_stays, brought_up_stays, with_setup_stays, refreshed_stays, starts_stays}
 use Rattle.gptp_bmca_machine.specs.Frame.{Announce, AnnounceFrame, Lane}
 use Rattle.gptp_invariants.specs.ChoiceSettlesAsMachine.{IsWorld}
 use Rattle.gptp_invariants.specs.ChoiceView.{lane_place, lane_view, says_announce, view}
-use Rattle.gptp_invariants.specs.DelayLinkView.{reads_as_reply}
+use Rattle.gptp_invariants.specs.DelayLinkView.{reads_as_reply, LinkPlace, other_direction}
 use Rattle.gptp_invariants.specs.WorldEncodable.{ChannelFits, StationFits}
 use Rattle.gptp_invariants.specs.WorldEncodableLaws.{SetsAnOctet}
 use Rattle.gptp_invariants.proofs.ChoiceSeenLaneLemmas.{lane_from, lane_there}
@@ -48,6 +48,13 @@ use Rattle.gptp_invariants.proofs.DelaySentLemmas.{answering_input}
 use Rattle.gptp_invariants.proofs.WorldAnsweringLemmas.{CanAnswer, IsAnswering, sound_answers}
 use Rattle.gptp_invariants.proofs.WorldChangeEncodableLemmas.{link_encodable, up_fits}
 use Rattle.gptp_invariants.proofs.WorldSoundCallLemmas.{setups_of}
+use Rattle.gptp_invariants.proofs.DelayLinkKeptLemmas.{HasAll, all_stay}
+use Rattle.gptp_system.specs.Steps.{HasPortNumber}
+use Rattle.gptp_invariants.specs.FailedUnanswered.{IsNeverAnswered, IsUnansweredAt, IsUnmeasured}
+use Rattle.gptp_system.specs.declared.port.Port.{Port}
+use Rattle.gptp_model.proofs.UpLemmas.{brought_ports}
+use Rattle.std.specs.Option.{option_and_then}
+use Rattle.gptp_setup.specs.declared.timer.Timer.{Timer}
 use Rattle.gptp_settling_time.specs.InTurn.{TellsNothing}
 use Rattle.gptp_settling_time.proofs.UntoldLemmas.{HasMeasuredNothing, IsUntold, MeasuresNothing, answering, call_untold}
 

@@ -15,8 +15,8 @@ use Rattle.gptp_pdelay.specs.GoodLink.{IsGoodLink}
 use Rattle.gptp_roles.specs.Selection.{clock_of}
 use Rattle.gptp_setup.specs.declared.setup.Params.{Params}
 use Rattle.gptp_setup.specs.SettlingParams.{SettlingParams}
-use Rattle.gptp_system.specs.Input.{Input}
-use Rattle.gptp_scenario.specs.Calm.{IsLive, IsUsed}
+use Rattle.gptp_setup.specs.declared.timer.Timer.TheVariants as timers
+use Rattle.gptp_scenario.specs.Calm.{IsUsed}
 use Rattle.gptp_scenario.specs.Change.{link_acted, link_after, link_changed, standing, system_acted, system_after, system_changed}
 use Rattle.gptp_scenario.specs.Network.{IsEnd, IsNetwork, NetworkState, pace_of}
 use Rattle.gptp_scenario.specs.SyncWait.{sync_paths}
@@ -29,7 +29,7 @@ use Rattle.gptp_scenario.specs.declared.network.LinkSpec.{LinkSpec}
 use Rattle.gptp_scenario.specs.declared.network.SystemSpec.{SystemSpec}
 use Rattle.gptp_scenario.specs.declared.sync_wait.SyncPaths.{SyncPaths}
 use Rattle.gptp_model.specs.Acts.{Acts, at as at_time}
-use Rattle.gptp_model.specs.Changing.{CallsAll, ComesUpIf, IsStation, StartsAll, brought_up}
+use Rattle.gptp_model.specs.Changing.{ComesUpIf, IsStation, brought_up}
 use Rattle.gptp_model.specs.Course.{Begun, WasDone}
 use Rattle.gptp_model.specs.declared.done.Done.{Done}
 use Rattle.gptp_model.specs.declared.station.Station.{Station}
@@ -65,12 +65,14 @@ use Rattle.gptp_theorem.proofs.EventLemmas.{link_behind, system_behind}
 use Rattle.gptp_theorem.proofs.PlayedLemmas.{no_change}
 use Rattle.gptp_theorem.proofs.SettlingInvariantLemmas.{IsFitEvent, least_of}
 use Rattle.gptp_theorem.proofs.SyncPathLemmas.{paths_stand}
+use Rattle.gptp_invariants.proofs.DelayLinkExpiryLemmas.{expires_due, expires_timely}
+use Rattle.gptp_system.specs.State.{due}
 use Rattle.gptp_settling_time.specs.InTurn.{AreCapableSoon, StartsWith, TellsNothing, UsedVaryLittle}
 use Rattle.gptp_settling_time.proofs.AlwaysClaimedLemmas.{IsClaimedAlways}
 use Rattle.gptp_settling_time.proofs.BegunLemmas.{begun_keeps}
 use Rattle.gptp_settling_time.proofs.ClaimedToLemmas.{varies_little}
 use Rattle.gptp_settling_time.proofs.EventStillLemmas.{at_end, down_still, fail_still, set_still}
-use Rattle.gptp_settling_time.proofs.GainLemmas.{live_named, lives_as, lives_so, member_at, named_as, used_as}
+use Rattle.gptp_settling_time.proofs.GainLemmas.{lives_as, member_at, named_as, used_as}
 use Rattle.gptp_settling_time.proofs.KeptToLemmas.{KeepsTo, keeps_act, keeps_later}
 use Rattle.gptp_settling_time.proofs.LinkStoodLemmas.{stood_in, stood_untold, up_first}
 use Rattle.gptp_settling_time.proofs.MadeLemmas.{made_keeps, made_time}
