@@ -295,8 +295,8 @@ module _ (p : SettlingParams) (start : ℕ) (w : WorldState) (news : IsNews p st
             (shown.each i h q stands there).on
             (linked_capable late place station here i q to there joins
             (way_of w (port_identity_number (own station.system (suc i))) to joins));
-        unlinked = λ none. elim (linked_or_off p w world (silent_off p start w news.pace world news.silent late) place station here lives
-            i q there) [
+        unlinked = λ none. elim (linked_or_off p w world
+            (silent_off p start w news.pace world news.silent late) place station here lives i q there) [
               | inl linked ↦ absurd (none linked)
               | inr off ↦ (shown.each i h q stands there).off off
             ];

@@ -104,7 +104,8 @@ queued_ahead direction g channel late mute is = record {
 
 entered_ahead : (place : ℕ) (direction : Direction) (channel : Channel) (now : ℕ) (octets : List ℕ)
     (answer : Option ℕ) (net : Net) → slice_get net.channels place ≡ Some channel → IsLawful channel.bounds answer
-    → SaysNoReply octets → AreAhead net.channels → AreAhead (entered place direction channel now octets answer net).channels
+    → SaysNoReply octets → AreAhead net.channels
+    → AreAhead (entered place direction channel now octets answer net).channels
 entered_ahead place direction channel now octets None net here lawful mute ahead = ahead
 entered_ahead place direction channel now octets (Some delay) net here lawful mute ahead =
     let queue : List Frame = world_queue direction channel in
@@ -210,16 +211,18 @@ called_on place input w draws answer w' k nothing silent timely fits can = recor
 }
 
 live_on : (place : ℕ) (input : Input) (w : WorldState) (draws : List Draw) (w' : WorldState) → MeasuresNothing input
-    → AnswersNothing input → ((station : Station) → slice_get w.stations place ≡ Some station → IsTimely station.system w.time input)
+    → AnswersNothing input
+    → ((station : Station) → slice_get w.stations place ≡ Some station → IsTimely station.system w.time input)
     → InputFits input → CanBeCalled w → CallsIfLive place input w draws w' → CanBeCalled w'
 live_on place input w draws w' nothing silent timely fits can (inl (answer, k)) =
     called_on place input w draws answer w' k nothing silent (timely k.station k.here) fits can
-live_on place input w draws w' nothing silent timely fits can (inr (failed, none, same)) = subst CanBeCalled (sym same) can
+live_on place input w draws w' nothing silent timely fits can (inr (failed, none, same)) =
+    subst CanBeCalled (sym same) can
 
 ends_on : (input : ℕ → Input) (channel : Channel) (w : WorldState) (draws : List Draw) (w' : WorldState)
-    → ((p : ℕ) → MeasuresNothing (input p)) → ((p : ℕ) → AnswersNothing (input p)) → IsOfPort input → ((p : ℕ) → InputFits (input p))
-    → IsPortAmong channel.a w.stations → IsPortAmong channel.b w.stations → CanBeCalled w
-    → TellsEnds input channel w draws w' → CanBeCalled w'
+    → ((p : ℕ) → MeasuresNothing (input p)) → ((p : ℕ) → AnswersNothing (input p)) → IsOfPort input
+    → ((p : ℕ) → InputFits (input p)) → IsPortAmong channel.a w.stations → IsPortAmong channel.b w.stations
+    → CanBeCalled w → TellsEnds input channel w draws w' → CanBeCalled w'
 ends_on input channel w draws w' nothing silent timely fits port_a port_b can k =
     live_on k.place_b (input channel.b.port) k.between k.second w' (nothing channel.b.port) (silent channel.b.port) at_b
     (fits channel.b.port) first k.at_b
@@ -233,8 +236,8 @@ ends_on input channel w draws w' nothing silent timely fits port_a port_b can k 
 
     first : CanBeCalled k.between
     first =
-        live_on k.place_a (input channel.a.port) w k.first k.between (nothing channel.a.port) (silent channel.a.port) at_a
-        (fits channel.a.port) can k.at_a
+        live_on k.place_a (input channel.a.port) w k.first k.between (nothing channel.a.port)
+        (silent channel.a.port) at_a (fits channel.a.port) can k.at_a
 
     at_b : (station : Station) → slice_get k.between.stations k.place_b ≡ Some station
         → IsTimely station.system k.between.time (input channel.b.port)
@@ -349,8 +352,8 @@ module _ (w : WorldState) (draws : List Draw) (w' : WorldState) (can : CanBeCall
     down_quiet false (none, same) = quiet_same same
     down_quiet true k =
         let net = taken_down place channel w.net in
-        let then = ends_on PortDown channel (record w { net = net }) draws w' (λ p. tt) (λ p. tt) (λ s now p of. of) (λ p. tt)
-        port_a port_b
+        let then = ends_on PortDown channel (record w { net = net }) draws w' (λ p. tt) (λ p. tt)
+        (λ s now p of. of) (λ p. tt) port_a port_b
         (relinked w can place channel (lost channel) here net refl (lost_fits channel fits)
         (λ direction f member. absurd (none_in_flight direction channel f member))
         (λ direction f member. absurd (none_seen direction channel f member))
@@ -363,8 +366,8 @@ module _ (w : WorldState) (draws : List Draw) (w' : WorldState) (can : CanBeCall
     up_quiet true (none, same) = quiet_same same
     up_quiet false k =
         let net = brought_up place channel w.net in
-        let then = ends_on PortUp channel (record w { net = net }) draws w' (λ p. tt) (λ p. tt) (λ s now p of. of) (λ p. tt)
-        port_a port_b
+        let then = ends_on PortUp channel (record w { net = net }) draws w' (λ p. tt) (λ p. tt)
+        (λ s now p of. of) (λ p. tt) port_a port_b
         (relinked w can place channel (record channel { up = true }) here net refl (up_fits channel fits)
         (λ direction f member. same_queue direction channel f member)
         (λ direction f member. same_seen direction channel f member)
