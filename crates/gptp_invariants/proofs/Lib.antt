@@ -97,7 +97,6 @@ pub mod UnmeasuredLemmas
 pub mod FailedUnansweredCallLemmas
 pub mod FailedUnansweredExpiryLemmas
 pub mod FailedUnansweredDeliveryLemmas
-pub mod UnmeasuredLemmas
 pub mod FailedNeverAnsweredLemmas
 pub mod FailedUnansweredActLemmas
 pub mod FailedSilentLemmas
