@@ -95,8 +95,8 @@ pub(crate) fn pair_with(alloc: Global, params: Params) -> Result<Network, Networ
     ensures { IfOk result (λ network. network ≡ record pair_network { params = params }) }
 {
     let mut network = Network::new(alloc, params)?;
-    network.add_system(identity(1), 1, 0, 0, intervals())?;
-    network.add_system(identity(2), 1, 0, 0, intervals())?;
+    network.add_system(identity(1), 1, 0, 0, false, intervals())?;
+    network.add_system(identity(2), 1, 0, 0, false, intervals())?;
     network.add_link(port(1), port(2), 500, 500, 0, true)?;
     Ok(network)
 }

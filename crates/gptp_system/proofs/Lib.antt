@@ -3,6 +3,7 @@ pub mod ChangedLemmas
 pub mod WrittenLemmas
 pub mod AnnouncementLemmas
 pub mod StartLemmas
+pub mod TakeoverLemmas
 pub mod ReadyLemmas
 pub mod SelectionLemmas
 pub mod MeasuringLemmas

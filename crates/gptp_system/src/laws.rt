@@ -27,8 +27,8 @@ pub fn holds_what_qualified()
     ensures placed { PlacedLaw }
 {}
 
-/// No step changes the parameters, the local clock, the clockIdentity, how many ports there are or their announce
-/// intervals; none but a change of priority1 changes the identity.
+/// No step changes the parameters, the local clock, whether the system goes on with the time that it read, the
+/// clockIdentity, how many ports there are or their announce intervals; none but a change of priority1 changes the identity.
 pub fn keeps_its_setup()
     ensures keeps { KeepsLaw }
     ensures identity { IdentityLaw }
