@@ -45,7 +45,7 @@ fn second_reads<F: Fate + Drop>(world: &World<F>, at: u64, done: &Done) -> Optio
     held_is_read();
     let later = at + 100_000_000;
     let system = world.system(ClockId::from(2))?;
-    let reading = system.reading()?;
+    let reading = system.held_reading()?;
     Some((reading.at(system.local(later)), later))
 }
 

@@ -8,8 +8,9 @@ use Rattle.gptp_scaled.specs.Rate.{scaled_by}
 use Rattle.gptp_correction.specs.declared.sync_in.SyncInfo.{SyncInfo}
 use Rattle.gptp_correction.specs.Correction.{sync_received}
 use Rattle.gptp_setup.specs.declared.setup.Params.{Params}
-use Rattle.gptp_system.specs.Reading.{read_at, reading_by}
+use Rattle.gptp_system.specs.Reading.{read_at}
 use Rattle.gptp_system.specs.State.{SystemState, local_time}
+use Rattle.gptp_system.specs.Syncing.{reading_by}
 use Rattle.gptp_error_laws.specs.TimeError.{Way, reading_error_at}
 use Rattle.gptp_model.specs.Views.{ShowsLive}
 use Rattle.gptp_model.specs.World.{WorldState}

@@ -15,9 +15,10 @@ use Rattle.gptp_sync_machine.specs.Invariant.{FollowerInvariant}
 use Rattle.gptp_sync_machine.specs.Messages.{Message, FollowUp, IsOneMessage}
 use Rattle.gptp_sync_machine.specs.Right.{IsHeldAt, IsMeasuredAt, at_rate, info_of}
 use Rattle.gptp_sync_machine.specs.RightLaws.{IsOnWay}
-use Rattle.gptp_system.specs.Reading.{held_reading, read_at}
+use Rattle.gptp_system.specs.Reading.{read_at}
 use Rattle.gptp_system.specs.State.{SystemState, local_time}
 use Rattle.gptp_system.specs.declared.reading.Reading.{Reading}
+use Rattle.gptp_system.specs.Syncing.{held_reading}
 use Rattle.gptp_reading.specs.Reading.{read_after, reading}
 
 -- What is read so long after a Sync came over a link is the root's time then: within the link's part of the time error,

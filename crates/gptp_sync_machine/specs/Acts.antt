@@ -100,7 +100,7 @@ module _ (k : FollowerSetting) (says : List ℕ → Message → Type 0) (s s' : 
     pub lane : s'.lane ≡ s.lane ++ news
     pub sent : SendsTime says k.parent sequence told news
     pub in_time : AreSentInTime k s.time news
-    pub right : from k ≤ s.time + (parent_link k).most → FollowUpIsRight k.way k.phase k.place told s.time
+    pub right : from k ≤ s.time + (parent_link k).most → FollowUpIsRight k.way k.phase k.base k.place told s.time
 
   -- the Relay timer of the system expires: what is known is sent on to those that follow it, or something doesn't fit
   pub record RelayTimerExpires : Type 0 where

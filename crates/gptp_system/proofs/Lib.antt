@@ -25,6 +25,7 @@ pub mod MeasureLemmas
 pub mod SentLemmas
 pub mod SystemLemmas
 pub mod TimeLemmas
+pub mod TimeKeptLemmas
 pub mod InTimeLemmas
 pub mod StartedLemmas
 pub mod SyncLemmas

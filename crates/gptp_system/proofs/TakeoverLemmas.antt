@@ -1,11 +1,12 @@
 -- What a system tells is a timestamp as long as a simulation lasts.
 use Rattle.std.proofs.Common.{◌≡◌, ℕ, ◌+◌, ◌-◌, ◌*◌, ◌≤◌, ℤ, pos, ◌+ℤ◌, ◌-ℤ◌, ◌*ℤ◌, ◌≤ℤ◌, ◌<ℤ◌, Bool, true, false, ◌&&◌, if◌then◌else◌, Option, Some, None, refl, subst, arith}
 use Rattle.std.proofs.lemmas.Int.{ints}
-use Rattle.std.proofs.lemmas.Bool.{nat_tests}
+use Rattle.std.proofs.lemmas.Bool.Decides.{nat_tests}
 use Rattle.gptp_scaled.specs.Rate.{unit}
+use Rattle.gptp_scaled.specs.Stamp.{FitsStamp}
 use Rattle.gptp_pdelay.specs.Clock.{IsDrift, drift_limit, local_clock}
 use Rattle.gptp_pdelay.proofs.ClockLemmas.{clock_elapses, clock_shows_time}
-use Rattle.gptp_setup.specs.Intervals.{interval_of}
+use Rattle.gptp_setup.specs.Intervals.{interval_of, IsMoment}
 use Rattle.gptp_system.specs.Ready.{IsReady}
 use Rattle.gptp_system.specs.State.{SystemState, local_time}
 use Rattle.gptp_system.specs.Syncing.{restarted}
@@ -86,6 +87,15 @@ led_high s now ready = go (takes_over s && s.continues)
     go : (b : Bool) → (if b then base_to (reading s now) (local_time s now) else s.base) <ℤ time_limit
     go true = base_high (reading s now) (local_time s now) (shown_from_zero s now ready)
     go false = ready.based
+
+-- what it tells now is a timestamp
+pub led_fits : (s : SystemState) (now : ℕ) → IsReady s → IsMoment now → s.sync ≤ now
+    → FitsStamp (told_time (leading now s) now)
+led_fits s now ready moment due =
+    let shown = clock_shows_time s.phase s.drift now ready.phase (omega (arith, moment)) ready.drift in
+    let soon = shown.high in
+    let base = led_high s now ready in
+    record { low = led_low s now now ready due (omega arith); high = omega (arith, ints, soon, base) }
 
 pub led_ready : (s : SystemState) (now : ℕ) → IsReady s → s.sync ≤ now → IsReady (restarted now (leading now s))
 led_ready s now ready due = record {

@@ -1,5 +1,5 @@
 -- Laws on the steps of a system.
-use Rattle.std.specs.Prelude.{◌≡◌, ◌≢◌, ◌⊎◌, ◌≤◌, ℕ, List, [], ◌+◌, ◌<◌, length, Some, slice_get}
+use Rattle.std.specs.Prelude.{◌≡◌, ◌≢◌, ◌⊎◌, ◌≤◌, ℕ, List, [], ◌+◌, ◌<◌, length, None, true, Some, slice_get}
 use Rattle.gptp_roles.specs.Choice.{ArePlaced}
 use Rattle.gptp_roles.specs.SystemTrace.{SlaveReceived}
 use Rattle.gptp_system.specs.declared.answer.Answer.{Answer}
@@ -7,6 +7,7 @@ use Rattle.gptp_system.specs.declared.port.Port.{Port}
 use Rattle.gptp_system.specs.declared.sending.Sending.{Sending}
 use Rattle.gptp_setup.specs.declared.setup.Setup.{Setup}
 use Rattle.gptp_setup.specs.declared.timer.Timer.{Timer}
+use Rattle.gptp_setup.specs.declared.timer.Timer.TheVariants as timers
 use Rattle.gptp_setup.specs.Intervals.{AreParams, IsLog}
 use Rattle.gptp_system.specs.State.{SystemState, due}
 use Rattle.gptp_system.specs.Selection.{Selects}
@@ -21,6 +22,8 @@ use Rattle.gptp_system.specs.Counters.{AreCounted}
 use Rattle.gptp_system.specs.Reach.{SendsWithin, Leaves, is_touched, reach}
 use Rattle.gptp_system.specs.Ready.{IsReady}
 use Rattle.gptp_system.specs.Start.{started}
+use Rattle.gptp_system.specs.Syncing.{is_leading}
+use Rattle.gptp_system.specs.TimeKept.{HasMaster, MakesOfTime, coming_base}
 use Rattle.gptp_system.specs.Facts.{AreHeld, AreShown, IsAtRest, IsNew, Keeps}
 
 -- a new system is at rest, and what it holds is as it must be
@@ -156,3 +159,17 @@ abbrev pub CountersLaw : Type 0
 CountersLaw = (input : Input) (now : ℕ) (s s' : SystemState) (sends : List Sending) (answer : Answer)
     → Steps input now s s' sends answer
     → AreCounted s s' sends
+
+-- every step leaves what a system reads time by, or receives time, or is an expiry of the Sync timer
+abbrev pub TimeKeptLaw : Type 0
+TimeKeptLaw = (input : Input) (now : ℕ) (s s' : SystemState) (sends : List Sending) (answer : Answer)
+    → Steps input now s s' sends answer
+    → MakesOfTime input now s s'
+
+-- While a system leads that has no Slave port and has a Master port, the base stays that it has behind its next Sync.
+abbrev pub BaseStaysLaw : Type 0
+BaseStaysLaw = (input : Input) (now : ℕ) (s s' : SystemState) (sends : List Sending) (answer : Answer)
+    → s.slave ≡ None → HasMaster s → HasMaster s'
+    → (input ≡ Expires timers.Sync → (is_leading s ≡ true) × (now ≡ s.sync))
+    → Steps input now s s' sends answer
+    → coming_base s' ≡ coming_base s

@@ -22,3 +22,4 @@ pub mod TimersChanged
 pub mod Counters
 pub mod Reading
 pub mod Takeover
+pub mod TimeKept

@@ -15,9 +15,10 @@ use Rattle.gptp_scenario.specs.declared.change.Change.{Change}
 use Rattle.gptp_scenario.specs.declared.change.Change.TheVariants.{Fail}
 use Rattle.gptp_setup.specs.declared.timer.Timer.{Timer}
 use Rattle.gptp_setup.specs.declared.timer.Timer.TheVariants.{Sync}
-use Rattle.gptp_system.specs.Reading.{held_reading, read_at}
+use Rattle.gptp_system.specs.Reading.{read_at}
 use Rattle.gptp_system.specs.State.{SystemState, clock, local_time}
 use Rattle.gptp_system.specs.declared.reading.Reading.{Reading}
+use Rattle.gptp_system.specs.Syncing.{held_reading}
 use Rattle.gptp_world.specs.Transitions.{ActTrace}
 use Rattle.gptp_timeline.specs.Ports.{shown_ports}
 use Rattle.gptp_timeline.specs.Receipts.{received_by}

@@ -121,7 +121,7 @@ fn received_reading(system: &System) -> Option<KeptReading>
     ensures { result ≡ received_reading system.now }
 {
     let (root, _, _) = system.follows();
-    match system.reading() {
+    match system.held_reading() {
         Some(reading) => Some(KeptReading {
             source: root.clock(),
             received: Some(reading),

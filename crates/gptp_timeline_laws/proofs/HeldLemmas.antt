@@ -38,9 +38,10 @@ use Rattle.gptp_scenario.specs.declared.change.Timed.{Timed}
 use Rattle.gptp_setup.specs.SettlingParams.{SettlingParams}
 use Rattle.gptp_sync_machine.specs.Tree.{IsWayTo}
 use Rattle.gptp_correction.specs.declared.sync_in.SyncInfo.{SyncInfo}
-use Rattle.gptp_system.specs.Reading.{held_reading, read_at, reading_by}
+use Rattle.gptp_system.specs.Reading.{read_at}
 use Rattle.gptp_system.specs.State.{clock, local_time, SystemState}
 use Rattle.gptp_system.specs.declared.reading.Reading.{Reading}
+use Rattle.gptp_system.specs.Syncing.{held_reading, reading_by}
 use Rattle.gptp_theorem.specs.Headline.{HasComeDown, UsesFollowUp, WorldIsCalm}
 use Rattle.gptp_theorem.specs.PlayedLaws.{IsPlayable}
 use Rattle.gptp_reading.specs.Reading.{IsBestsTime, reading}

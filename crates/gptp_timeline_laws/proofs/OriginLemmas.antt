@@ -9,9 +9,9 @@ use Rattle.gptp_roles.specs.Selection.{clock_of}
 use Rattle.gptp_scenario.specs.declared.change.Act.{Act}
 use Rattle.gptp_scenario.specs.declared.change.Act.TheVariants.{Change as Changing, Deliver, Expire}
 use Rattle.gptp_setup.specs.declared.timer.Timer.TheVariants as timers
-use Rattle.gptp_system.specs.Reading.{held_reading}
 use Rattle.gptp_system.specs.State.{clock, local_time, SystemState}
 use Rattle.gptp_system.specs.declared.reading.Reading.{Reading}
+use Rattle.gptp_system.specs.Syncing.{held_reading}
 use Rattle.gptp_timeline.specs.Readings.{by_receipt, by_takeover, clock_among, gets, is_leading, new_reading, own_reading, reading_among, reads_own, received_from, received_reading}
 use Rattle.gptp_timeline.specs.Receipts.{received_by}
 use Rattle.gptp_timeline.specs.Shown.{live_among, live_system}

@@ -13,9 +13,8 @@ use Rattle.gptp_scaled.specs.Rate.{FitsRate}
 use Rattle.gptp_scenario.specs.declared.change.Act.{Act}
 use Rattle.gptp_scenario.specs.declared.change.Act.TheVariants.{Change as Changing, Deliver, Expire}
 use Rattle.gptp_setup.specs.declared.timer.Timer.TheVariants as timers
-use Rattle.gptp_system.specs.Reading.{reading_by}
 use Rattle.gptp_system.specs.State.{SystemState}
-use Rattle.gptp_system.specs.Syncing.{slave_rate}
+use Rattle.gptp_system.specs.Syncing.{reading_by, slave_rate}
 use Rattle.gptp_system.specs.declared.reading.Reading.{Reading}
 use Rattle.gptp_timeline.specs.Readings.{by_receipt, by_takeover, gets, is_leading, new_in, new_reading, no_reading, own_reading, put_reading, read_after, reading_among, readings_after, readings_by, reads_own, received_from, received_reading, failed_by}
 use Rattle.gptp_timeline.specs.Receipts.{received_by}

@@ -27,10 +27,10 @@ use Rattle.gptp_scenario.specs.declared.change.Act.TheVariants.{Change as Changi
 use Rattle.gptp_scenario.specs.declared.change.Change.{Change}
 use Rattle.gptp_scenario.specs.declared.change.Change.TheVariants.{Fail, Inject, LinkDown, LinkSet, LinkUp, Priority1, Recover}
 use Rattle.gptp_scenario.specs.declared.change.Timed.{Timed}
-use Rattle.gptp_system.specs.Reading.{held_reading, reading_by}
 use Rattle.gptp_system.specs.State.{clock, SystemState}
 use Rattle.gptp_system.proofs.TypeLemmas.{type_is}
 use Rattle.gptp_system.specs.declared.reading.Reading.{Reading}
+use Rattle.gptp_system.specs.Syncing.{held_reading, reading_by}
 use Rattle.gptp_theorem.specs.Headline.{UsesFollowUp}
 use Rattle.gptp_reading.proofs.KnownLemmas.{acts_hold, EachHolds, HasLearned, holds_begin}
 use Rattle.gptp_reading.proofs.RunLemmas.{IsKeptAct}
