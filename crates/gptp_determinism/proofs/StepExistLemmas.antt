@@ -14,13 +14,13 @@ use Rattle.gptp_system.specs.declared.answer.Answer.{Answer}
 use Rattle.gptp_system.specs.declared.answer.Answer.TheVariants as answers
 use Rattle.gptp_system.specs.declared.sending.Sending.{Sending}
 use Rattle.gptp_system.specs.Announcing.{aged_at, announced_at, announcement_at, answer_to_heard, answer_to_why, compared, replaces_held, with_priority}
-use Rattle.gptp_system.specs.Input.{Input, PortUp, PortDown, Frame, Priority, Steps}
+use Rattle.gptp_system.specs.Input.{Input, IsTimely, PortUp, PortDown, Frame, Priority, Steps}
 use Rattle.gptp_system.specs.Input.{Expires as TimerExpires}
 use Rattle.gptp_system.specs.Lapse.{lapsed}
 use Rattle.gptp_system.specs.Measuring.{measuring_answer, down, owes, responded, step_at}
 use Rattle.gptp_system.specs.Ready.{IsReady}
 use Rattle.gptp_system.specs.State.{SystemState, clock, held_at, is_capable_at, local_time, number, own, with_peer}
-use Rattle.gptp_system.specs.Steps.{Expires, HearsFrame, HearsMessage}
+use Rattle.gptp_system.specs.Steps.{Expires, HearsFrame, HearsMessage, IsDue}
 use Rattle.gptp_system.specs.Syncing.{is_leading}
 use Rattle.gptp_system.proofs.SystemLemmas.{stays_system}
 use Rattle.gptp_determinism.specs.ExistenceLaws.{StepsExist}

@@ -20,14 +20,14 @@ use Rattle.gptp_system.specs.declared.port.Port.{Port}
 use Rattle.gptp_system.specs.declared.sending.Sending.{Sending}
 use Rattle.gptp_system.specs.Announcing.{aged_at, aged_by, compared, replaces_held, with_priority}
 use Rattle.gptp_system.specs.Facts.{IsSystem}
-use Rattle.gptp_system.specs.Input.{Input, PortUp, PortDown, Frame, Priority, Steps}
+use Rattle.gptp_system.specs.Input.{Input, IsTimely, PortUp, PortDown, Frame, Priority, Steps}
 use Rattle.gptp_system.specs.Input.{Expires as TimerExpires}
 use Rattle.gptp_system.specs.Lapse.{lapsed}
 use Rattle.gptp_system.specs.Measuring.{answering_done, asking, down, held_if, held_turned, is_turned, owes, owing, turned, Turns, TurnsAndAsks, TurnsIf}
 use Rattle.gptp_system.specs.Ready.{IsReady}
 use Rattle.gptp_system.specs.Selection.{announced_again, SelectsIf}
 use Rattle.gptp_system.specs.State.{SystemState, change, held_at, is_capable_at, local_time, number, own, with_peer}
-use Rattle.gptp_system.specs.Steps.{Expires, HearsFrame, HearsMessage}
+use Rattle.gptp_system.specs.Steps.{Expires, HearsFrame, HearsMessage, IsDue}
 use Rattle.gptp_system.specs.Syncing.{is_leading}
 use Rattle.gptp_system.proofs.FactLemmas.{are_placed}
 use Rattle.gptp_system.proofs.MeasuringLemmas.{down_ready, follow_up_keeps, interval_keeps, response_keeps, step_ready}

@@ -240,13 +240,13 @@ fn reads_with(
     info: &SyncInfo,
     offset: Option<ScaledNs>,
     rate: Rate,
-    before: Option<TimeRead>,
+    before: &Option<TimeRead>,
 ) -> Option<TimeRead>
-    ensures { result ≡ reads_with info.now offset rate before }
+    ensures { result ≡ reads_with info.now offset rate before.now }
 {
     match offset {
         Some(offset) => Some(TimeRead::Received(reading_of(info, offset, rate))),
-        None => before,
+        None => *before,
     }
 }
 
@@ -355,9 +355,9 @@ impl State {
     {
         match offset_of(&info, delay, rate) {
             Ok(offset) => {
+                self.reads = Some(TimeRead::Received(reading_of(&info, offset, rate)));
                 self.known = Some(info);
                 self.offset = Some(offset);
-                self.reads = Some(TimeRead::Received(reading_of(&info, offset, rate)));
                 self.relay = Some(now + self.params.residence);
                 Answer::Used
             }
@@ -379,9 +379,10 @@ impl State {
         ensures ready { IsReady (state_of self.new) }
     {
         let offset = held_offset(&info, delay, rate);
+        let reads = reads_with(&info, offset, rate, &self.reads);
+        self.reads = reads;
         self.known = Some(info);
         self.offset = offset;
-        self.reads = reads_with(&info, offset, rate, self.reads);
         self.relay = Some(self.relay.unwrap_or(now + self.params.residence));
         self.lapse = lapse_of(&self.params, self.root, self.slave, now);
         Answer::Used
