@@ -210,7 +210,7 @@ bridge_comes : IsFollowerRun at_bridge says (ready at_bridge from_root)
     (coming at_bridge from_root ++ going_on at_bridge from_root)
 bridge_comes = comes at_bridge says from_root (omega arith) (says_one (0 ∷ []) _ refl) (says_one (1 ∷ []) _ refl)
     (going_on at_bridge from_root) (λ late.
-    root_tells at_bridge (record { seconds = 2; nanos = 0 }) 0 from_root.sent refl
+    root_tells at_bridge (pos 0) (record { seconds = 2; nanos = 0 }) 0 from_root.sent refl refl
     (record { stamp = record { seconds = omega arith; nanos = omega arith }; small = omega arith; whole = refl }))
     (goes_on at_bridge says from_root (omega arith) (says_one (0 ∷ []) _ refl) (says_one (1 ∷ []) _ refl))
 

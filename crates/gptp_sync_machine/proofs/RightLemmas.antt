@@ -1,5 +1,5 @@
 -- What is told and known on a way, hop by hop.
-use Rattle.std.proofs.Common.{◌≡◌, ℕ, zero, suc, ◌*◌, ◌+◌, ◌-◌, ◌<◌, ◌≤◌, ℤ, pos, negsuc, ◌^◌, ◌⊎◌, inl, inr, ◌+ℤ◌, ◌-ℤ◌, ◌≤ℤ◌, length, ap, ◌∙◌, sym, refl, arith}
+use Rattle.std.proofs.Common.{◌≡◌, ℕ, zero, suc, ◌*◌, ◌+◌, ◌-◌, ◌<◌, ◌≤◌, ℤ, pos, negsuc, ◌^◌, ◌⊎◌, inl, inr, ◌+ℤ◌, ◌-ℤ◌, ◌≤ℤ◌, length, Option, Some, ap, ◌∙◌, sym, refl, arith}
 use Rattle.std.specs.Prelude.{min}
 use Rattle.std.proofs.lemmas.Int.{ints}
 use Rattle.gptp_scaled.specs.Rate.{FitsRate, IsNeighborRate, unit}
@@ -26,10 +26,13 @@ use Rattle.gptp_sync_machine.specs.Right.{IsHeldAt, IsMeasuredAt, IsModest, Foll
 use Rattle.gptp_sync_machine.specs.RightLaws.{BridgeNumbersFit, BridgeTellsRight, ExchangesMeasureRight, HeldIsRight, IsOnWay, OffsetIsRight, RightStays, RootTellsRight}
 
 pub root_tells_right : RootTellsRight
-root_tells_right w phase base stamp rest sent split =
+root_tells_right w phase ahead stamp rest sent split =
     let whole = split.whole in
     let small = split.small in
     record {
+      ahead = ahead;
+      base_is = refl;
+      origin = split.stamp;
       time = record { low = omega (arith, ints, whole); high = omega (arith, ints, whole) };
       later = omega (arith, ints);
       small = omega (arith, ints, small);
@@ -49,6 +52,9 @@ held_is_right w phase base i told sent neighbour held limited at right = by_case
     other : AreWithin (total_below i (measured_error_at w)) held (sum_below i (steady_rate_at w)) → FitsRate held
         → FollowUpIsRight w phase base i (at_rate told held) sent
     other within fits' = record {
+      ahead = right.ahead;
+      base_is = right.base_is;
+      origin = right.origin;
       time = right.time;
       later = right.later;
       small = right.small;
@@ -98,7 +104,7 @@ rate_is w k n h sum near fits rate e =
     (record { low = omega (arith, ints, near.low, errors); high = omega (arith, ints, near.high, errors) }) fits rate e
 
 -- what is known of the hop over the link
-pub over_link : (w : Way) (phase : ℕ → ℕ) (base : ℤ) (i : ℕ) (told : Relayed) (sent came : ℕ) (rate delay : ℤ) →
+pub over_link : (w : Way) (phase : ℕ → ℕ) (base : Option ℤ) (i : ℕ) (told : Relayed) (sent came : ℕ) (rate delay : ℤ) →
     IsOnWay w phase base i told sent came → IsMeasuredAt w i rate delay → let l = link_at w i in
     IsOverLink l.least l.most w.turnaround (clock_at w 0) (clock_at w i) (error_before w i) told.rate rate delay
 over_link w phase base i told sent came rate delay on measured =
@@ -119,7 +125,7 @@ over_link w phase base i told sent came rate delay on measured =
     }
 
 -- the sum of the rates after it is right
-rates_add : (w : Way) (phase : ℕ → ℕ) (base : ℤ) (i : ℕ) (told : Relayed) (sent : ℕ) (rate delay : ℤ) →
+rates_add : (w : Way) (phase : ℕ → ℕ) (base : Option ℤ) (i : ℕ) (told : Relayed) (sent : ℕ) (rate delay : ℤ) →
     FollowUpIsRight w phase base i told sent → IsMeasuredAt w i rate delay →
     AreWithin (total_below (suc i) (measured_error_at w)) (told.rate +ℤ rate) (sum_below (suc i) (steady_rate_at w))
 rates_add w phase base i told sent rate delay right measured =
@@ -131,7 +137,7 @@ rates_add w phase base i told sent rate delay right measured =
     }
 
 -- and of the rate after it
-pub rate_behind : (w : Way) (phase : ℕ → ℕ) (base : ℤ) (i : ℕ) (told : Relayed) (sent came : ℕ) (rate delay : ℤ) →
+pub rate_behind : (w : Way) (phase : ℕ → ℕ) (base : Option ℤ) (i : ℕ) (told : Relayed) (sent came : ℕ) (rate delay : ℤ) →
     IsOnWay w phase base i told sent came → IsMeasuredAt w i rate delay → FitsRate (told.rate +ℤ rate) →
     IsRateBehind (clock_at w 0) (clock_at w (suc i)) (rates_error_at w i) (told.rate +ℤ rate)
 rate_behind w phase base i told sent came rate delay on measured fits =
@@ -144,7 +150,7 @@ rate_behind w phase base i told sent came rate delay on measured fits =
     }
 
 -- what was told on the way, at the rate that is held
-pub held_on_way : (w : Way) (phase : ℕ → ℕ) (base : ℤ) (i : ℕ) (told : Relayed) (sent came : ℕ) (rate delay held : ℤ) →
+pub held_on_way : (w : Way) (phase : ℕ → ℕ) (base : Option ℤ) (i : ℕ) (told : Relayed) (sent came : ℕ) (rate delay held : ℤ) →
     IsOnWay w phase base i told sent came → IsMeasuredAt w i rate delay → IsHeldAt w i told.rate rate held →
     IsOnWay w phase base i (at_rate told held) sent came
 held_on_way w phase base i told sent came rate delay held on measured at = record {
@@ -160,7 +166,7 @@ both_moved : (a b base : ℤ) (passed : ℕ) → b -ℤ a ≡ pos passed → (b 
 both_moved a b base passed is = omega (arith, ints, is)
 
 -- what a bridge adds to the correction isn't negative, and is small
-added_small : (w : Way) (phase : ℕ → ℕ) (base : ℤ) (i : ℕ) (told : Relayed) (sent came due : ℕ) (rate delay : ℤ) →
+added_small : (w : Way) (phase : ℕ → ℕ) (base : Option ℤ) (i : ℕ) (told : Relayed) (sent came due : ℕ) (rate delay : ℤ) →
     IsOnWay w phase base i told sent came → IsMeasuredAt w i rate delay →
     IsByMost came due (w.residence + jitter_at w i) → FitsRate (told.rate +ℤ rate) →
     let info = info_of told (shown_at w phase (suc i) came) in
@@ -177,7 +183,7 @@ added_small w phase base i told sent came due rate delay on measured (later, soo
     (clock_counts.rate (drift_at w (suc i)) drifts) measured.limited measured.delay_within fits count.is count.counted
     (omega (arith, soon, later))
 
-right_behind : (w : Way) (phase : ℕ → ℕ) (base : ℤ) (i : ℕ) (told : Relayed) (sent came due : ℕ) (rate delay : ℤ) →
+right_behind : (w : Way) (phase : ℕ → ℕ) (base : Option ℤ) (i : ℕ) (told : Relayed) (sent came due : ℕ) (rate delay : ℤ) →
     IsOnWay w phase base i told sent came → IsMeasuredAt w i rate delay →
     IsByMost came due (w.residence + jitter_at w i) → FitsRate (told.rate +ℤ rate) →
     let info = info_of told (shown_at w phase (suc i) came) in
@@ -202,12 +208,16 @@ right_behind w phase base i told sent came due rate delay on measured (later, so
     (clock_counts.rate (drift_at w (suc i)) drifts) (omega (arith, on.long)) (omega (arith, on.short, on.long))
     count.counted count.is (rw parts at passed.counted) in
     let sum = adds (sent_error_at w i) _ (sent_error_at w (suc i)) (scaled_of told.origin) told.correction
-    ((relayed info hop).correction -ℤ told.correction) (told_at w phase base sent) (told_at w phase base due)
-    passed.count
+    ((relayed info hop).correction -ℤ told.correction) (told_at w phase on.right.ahead sent)
+    (told_at w phase on.right.ahead due) passed.count
     (omega (arith, sent_error_is w i, sent_error_is w (suc i), stay_grows w i stay (omega (arith, later, soon))))
-    (both_moved (shown_at w phase 0 sent) (shown_at w phase 0 due) base passed.count passed.is) on.right.time added in
+    (both_moved (shown_at w phase 0 sent) (shown_at w phase 0 due) on.right.ahead passed.count passed.is) on.right.time
+    added in
     let more = added_small w phase base i told sent came due rate delay on measured (later, soon) fits in
     record {
+      ahead = on.right.ahead;
+      base_is = on.right.base_is;
+      origin = on.right.origin;
       time = record { low = omega (arith, ints, sum.low); high = omega (arith, ints, sum.high) };
       later = omega (arith, ints, on.right.later, more.later);
       small = omega (arith, ints, on.right.small, more.small);
@@ -221,7 +231,7 @@ bridge_tells_right w phase base i told sent came due rate delay held on measured
     (held_on_way w phase base i told sent came rate delay held on measured at) measured in_time at.fits
 
 -- the numbers fit
-numbers_fit : (w : Way) (phase : ℕ → ℕ) (base : ℤ) (i : ℕ) (told : Relayed) (sent came due : ℕ) (rate delay : ℤ) →
+numbers_fit : (w : Way) (phase : ℕ → ℕ) (base : Option ℤ) (i : ℕ) (told : Relayed) (sent came due : ℕ) (rate delay : ℤ) →
     IsOnWay w phase base i told sent came → IsMeasuredAt w i rate delay →
     IsByMost came due (w.residence + jitter_at w i) → FitsRate (told.rate +ℤ rate) →
     most_correction_at w (suc i) < 2 ^ 63 → IsTime (shown_at w phase (suc i) came) →
@@ -256,11 +266,12 @@ bridge_numbers_fit w phase base i told sent came due rate delay held on measured
     (held_on_way w phase base i told sent came rate delay held on measured at) measured in_time at.fits short ingress egress
 
 -- the offset that is computed from what was told
-offset_within : (w : Way) (phase : ℕ → ℕ) (base : ℤ) (i : ℕ) (told : Relayed) (sent came now : ℕ) (rate delay : ℤ) →
+offset_within : (w : Way) (phase : ℕ → ℕ) (base : Option ℤ) (i : ℕ) (told : Relayed) (sent came now : ℕ) (rate delay : ℤ) →
     IsOnWay w phase base i told sent came → IsMeasuredAt w i rate delay → came ≤ now → now ≤ sent + (link_at w i).most →
     let ingress = shown_at w phase (suc i) came in
-    AreWithin (time_error_at w (suc i)) (ingress -ℤ sync_received (info_of told ingress) delay rate)
-    (shown_at w phase (suc i) now -ℤ told_at w phase base now)
+    (ahead : ℤ) × (base ≡ Some ahead)
+    × AreWithin (time_error_at w (suc i)) (ingress -ℤ sync_received (info_of told ingress) delay rate)
+    (shown_at w phase (suc i) now -ℤ told_at w phase ahead now)
 offset_within w phase base i told sent came now rate delay on measured later soon =
     let l = link_at w i in
     let ingress = shown_at w phase (suc i) came in
@@ -279,13 +290,14 @@ offset_within w phase base i told sent came now rate delay on measured later soo
     (omega (arith, on.long)) (omega (arith, on.short, on.long)) (omega (arith, on.long, soon)) count.counted
     (rw parts at passed.counted) in
     let sum = adds (sent_error_at w i) _ (33550000 * time_error_at w (suc i)) (scaled_of told.origin) told.correction
-    added (told_at w phase base sent) (told_at w phase base now) passed.count
+    added (told_at w phase on.right.ahead sent) (told_at w phase on.right.ahead now) passed.count
     (omega (arith, sent_error_is w i, error_behind w i, link_grows w i))
-    (both_moved (shown_at w phase 0 sent) (shown_at w phase 0 now) base passed.count passed.is) on.right.time within in
-    record {
-      low = omega (arith, ints, sum.high, count.is);
-      high = omega (arith, ints, sum.low, count.is);
-    }
+    (both_moved (shown_at w phase 0 sent) (shown_at w phase 0 now) on.right.ahead passed.count passed.is) on.right.time
+    within in (
+      on.right.ahead,
+      on.right.base_is,
+      record { low = omega (arith, ints, sum.high, count.is); high = omega (arith, ints, sum.low, count.is) },
+    )
 
 pub offset_is_right : OffsetIsRight
 offset_is_right w phase base i told sent came now rate delay held on measured at later soon =
@@ -325,6 +337,9 @@ right_stays w l phase phase' base i told sent h root right =
     (link_same w l j (omega (arith, h, m)))) in
     let small = right.small in
     record {
+      ahead = right.ahead;
+      base_is = right.base_is;
+      origin = right.origin;
       time = rw (sent_same w l i h, root) right.time;
       later = right.later;
       small = omega (arith, ints, most, small);

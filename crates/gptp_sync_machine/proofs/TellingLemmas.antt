@@ -20,9 +20,10 @@ use Rattle.gptp_sync_machine.specs.FollowerLaws.{IsParentOf, RootTells}
 use Rattle.gptp_sync_machine.proofs.RightLemmas.{bridge_numbers_fit, bridge_tells_right, offset_is_right, right_stays, root_tells_right}
 
 pub root_tells : RootTells
-root_tells k stamp rest sent first split =
+root_tells k ahead stamp rest sent first told split =
     subst (λ i. FollowUpIsRight k.way k.phase k.base i (root_time stamp rest) sent) (sym first)
-    (root_tells_right k.way k.phase k.base stamp rest sent split)
+    (subst (λ base. FollowUpIsRight k.way k.phase base 0 (root_time stamp rest) sent) (sym told)
+    (root_tells_right k.way k.phase ahead stamp rest sent split))
 
 -- what comes to those that follow the system when it is right there was heard when what comes is right here
 parents_time : (k k' : FollowerSetting) (time : ℕ) → IsSetting k' → IsParentOf k k'
@@ -113,17 +114,17 @@ module _ (k : FollowerSetting) (says : List ℕ → Message → Type 0) where
       → IsOneMessage says front.octets (FollowUp source sequence told)
       → s.kept ≡ Some (kept_at_ingress source sequence ingress) → IsMeasuredAt k.way k.place rate delay
       → IsHeldAt k.way k.place told.rate rate held
-      → AreWithin (time_error_at k.way (suc k.place))
+      → (ahead : ℤ) × (k.base ≡ Some ahead) × AreWithin (time_error_at k.way (suc k.place))
       (ingress -ℤ sync_received (info_of (at_rate told held) ingress) delay rate)
-      (own_clock k s.time -ℤ root_told k s.time)
+      (own_clock k s.time -ℤ root_told k ahead s.time)
   offset_is_exact s front rest source sequence told ingress rate delay held is inv was now late one keeps measured
       held_at =
       by_frame inv.arrival inv.is_kept (subst (λ fs. FramesFlow k says inv.arrival fs) was inv.flows)
     where
       Claim : Type 0
-      Claim = AreWithin (time_error_at k.way (suc k.place))
+      Claim = (ahead : ℤ) × (k.base ≡ Some ahead) × AreWithin (time_error_at k.way (suc k.place))
           (ingress -ℤ sync_received (info_of (at_rate told held) ingress) delay rate)
-          (own_clock k s.time -ℤ root_told k s.time)
+          (own_clock k s.time -ℤ root_told k ahead s.time)
 
       -- of what was told as it was sent
       exact : (told' : Relayed) (a : Arrival) → told' ≡ told → ingress ≡ own_clock k a.came
@@ -137,9 +138,9 @@ module _ (k : FollowerSetting) (says : List ℕ → Message → Type 0) where
           (subst (λ (m : Relayed). FollowUpIsRight k.way k.phase k.base k.place m t.sent) e t.right)) measured held_at
           carried.behind
           carried.short in
-          subst (λ x. AreWithin (time_error_at k.way (suc k.place))
+          (right.0, right.1, subst (λ x. AreWithin (time_error_at k.way (suc k.place))
           (x -ℤ sync_received (info_of (at_rate told held) x) delay rate)
-          (own_clock k s.time -ℤ root_told k s.time)) then right
+          (own_clock k s.time -ℤ root_told k right.0 s.time)) then right.2)
         where
           came_is : {c : Arrival} → Some a ≡ Some c → a.came ≡ c.came
           came_is e = cc

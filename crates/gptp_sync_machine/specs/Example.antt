@@ -85,7 +85,7 @@ abbrev pub ring_setting : Way → ℕ → ℕ → FollowerSetting
 ring_setting w place parent = record {
   way = w;
   phase = λ i. 0;
-  base = pos 0;
+  base = Some (pos 0);
   place = place;
   parent = port_of parent 2;
   settled = 1999990000;

@@ -40,8 +40,7 @@ pub fn bridge_numbers_fit()
     ensures { BridgeNumbersFit }
 {}
 
-/// The offset that a system computes from what is right is within its time error of its clock less what
-    /// the root tells.
+/// The offset that a system computes from what is right is within its time error of its clock less what the root tells.
 pub fn offset_is_right()
     ensures { OffsetIsRight }
 {}

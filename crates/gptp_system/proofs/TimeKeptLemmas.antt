@@ -1,8 +1,8 @@
--- What every step makes of what a system reads time by, case by case; and the base of one that leads stays.
+-- What every step makes of what a system reads time by, case by case; and one that has taken over goes on.
 use Rattle.std.proofs.Common.{◌≡◌, ◌⊎◌, ℕ, ◌+◌, ℤ, Bool, true, false, ◌&&◌, if◌then◌else◌, List, Option, Some, None, refl, sym, ap, subst, ◌∙◌, inl, inr}
 use Rattle.std.specs.Prelude.{◌==◌, not}
 use Rattle.std.specs.List.{list_any}
-use Rattle.std.specs.Option.{option_map, option_map_or}
+use Rattle.std.specs.Option.{option_map_or}
 use Rattle.std.proofs.lemmas.Option.{none-some}
 use Rattle.gptp_messages.specs.declared.announce.AnnounceView.{AnnounceView}
 use Rattle.gptp_messages.specs.declared.follow_up.FollowUp.{FollowUp}
@@ -12,7 +12,6 @@ use Rattle.gptp_messages.specs.declared.message.Message.TheVariants as messages
 use Rattle.gptp_receipt.specs.Held.{comparison}
 use Rattle.gptp_correction.specs.declared.sync_in.SyncInfo.{SyncInfo}
 use Rattle.gptp_correction.specs.SyncIn.{information}
-use Rattle.gptp_pdelay.specs.Clock.{local_clock}
 use Rattle.gptp_pdelay.specs.Peer.{PeerState, after_follow_up, after_interval, reset_peer}
 use Rattle.gptp_system.specs.declared.answer.Answer.{Answer}
 use Rattle.gptp_system.specs.declared.reading.TimeRead.{TimeRead}
@@ -22,18 +21,16 @@ use Rattle.gptp_setup.specs.declared.timer.Timer.{Timer}
 use Rattle.gptp_setup.specs.declared.timer.Timer.TheVariants as timers
 use Rattle.gptp_setup.specs.SettlingParams.{has_sync_timeout}
 use Rattle.gptp_system.specs.State.{SystemState, held_at, is_capable_at, is_mine, local_time, number, own}
-use Rattle.gptp_system.specs.Reading.{read_by}
 use Rattle.gptp_system.specs.Selection.{Becomes, Selects, SelectsIf}
 use Rattle.gptp_system.specs.Measuring.{Turns, TurnsAndAsks, TurnsIf, down, is_turned, turned}
 use Rattle.gptp_system.specs.Announcing.{aged_at, compared, replaces_held, with_priority}
 use Rattle.gptp_system.specs.Lapse.{lapsed}
-use Rattle.gptp_system.specs.Laws.{BaseStaysLaw, TimeKeptLaw}
+use Rattle.gptp_system.specs.Laws.{GoesOnLaw, TimeKeptLaw}
 use Rattle.gptp_system.specs.Syncing.{HearsFollowUpIf, HearsSyncIf, KeepsIf, KnowsBy, KnowsIf, RelaysBy, RelaysIf, SyncsIf, delay_at, is_followed, is_leading, offset_of, reads_with, root_rate_at, said_on}
 use Rattle.gptp_system.specs.Steps.{Expires as TimerExpires, HearsFrame, HearsMessage}
 use Rattle.gptp_system.specs.Input.{Input, Steps, PortUp, PortDown, Frame, Expires, Priority}
-use Rattle.gptp_system.specs.Takeover.{base_after, base_to, reads_after, reads_own, takes_over}
-use Rattle.gptp_system.specs.TimeKept.{HasMaster, KeepsTime, MakesOfTime, ReceivesTime, SyncRestarts, coming_base}
-use Rattle.gptp_system.proofs.StepLemmas.{steps_sound}
+use Rattle.gptp_system.specs.Takeover.{base_after, base_to, reading, reads_after, reads_own}
+use Rattle.gptp_system.specs.TimeKept.{GoesOnTelling, KeepsTime, MakesOfTime, ReceivesTime, SyncRestarts}
 
 -- ---- what a step makes of it
 
@@ -210,51 +207,27 @@ steps_make_of_time (Expires timer) now s s' sends answer k = expires timer now s
 steps_make_of_time (Priority value) now s s' sends answer k =
     inl (selects now s (with_priority value s) s' sends (same s _ refl refl refl) k)
 
--- ---- the base of one that leads
+-- ---- a system that has taken over
 
--- the base behind a Sync at this time, by the parts of the state that it depends on
-abbrev base_by : Bool → Bool → Option TimeRead → ℤ → ℤ → ℤ
-base_by masters continues reads base shown =
-    if (not (reads_own reads) && masters) && continues then base_to (option_map (λ by. read_by by base shown) reads) shown
-    else base
-
--- one that has taken over keeps it
-taken_over : (masters continues : Bool) (o : Option TimeRead) (base shown : ℤ) → reads_own o ≡ true
-    → base_by masters continues o base shown ≡ base
-taken_over masters continues o base shown own =
-    ap (λ b. if (not b && masters) && continues then base_to (option_map (λ by. read_by by base shown) o) shown else base)
-    own
-
-owns : (s : SystemState) → HasMaster s → reads_own (reads_after s) ≡ true
-owns s master = by (reads_own s.reads) refl
+pub goes_on : GoesOnLaw
+goes_on input now s s' sends answer alone own steps = by (steps_make_of_time input now s s' sends answer steps)
   where
-    by : (b : Bool) → reads_own s.reads ≡ b → reads_own (reads_after s) ≡ true
-    by true own =
+    -- it doesn't take over again
+    reads_still : (leads : Bool) → reads_own (if leads then reads_after s else s.reads) ≡ true
+    reads_still false = own
+    reads_still true =
         ap (λ b. reads_own (if not b && list_any is_mine s.held then Some reads.Own else s.reads)) own ∙ own
-    by false other =
-        ap (λ b. reads_own (if not b && list_any is_mine s.held then Some reads.Own else s.reads)) other
-        ∙ ap (λ b. reads_own (if b then Some reads.Own else s.reads)) master
 
-pub base_stays : BaseStaysLaw
-base_stays input now s s' sends answer alone master master' leads steps =
-    let kept = (steps_sound input now s s' sends answer steps).kept in
-    let phase = kept.phase in
-    let drift = kept.drift in
-    let continues = kept.continues in
-    elim (steps_make_of_time input now s s' sends answer steps) [
-      | inl k ↦
-          (let reads = k.reads in
-          let base = k.base in
-          let sync = k.sync in
-          ap (λ b. base_by b s'.continues s'.reads s'.base (local_time s' s'.sync)) (master' ∙ sym master)
-          ∙ (λ i. base_by (list_any is_mine s.held) (continues i) (reads i) (base i)
-          (local_clock (phase i) (drift i) (sync i))))
-      | inr (inl received) ↦ absurd (none-some received.slave (sym alone ∙ received.slave_is))
-      | inr (inr (sync, restarts)) ↦
-          (let (leading, now_is) = leads sync in
-          let own : reads_own s'.reads ≡ true =
-          ap reads_own (restarts.reads ∙ ap (λ b. if b then reads_after s else s.reads) leading) ∙ owns s master in
-          taken_over (list_any is_mine s'.held) s'.continues s'.reads s'.base (local_time s' s'.sync) own
-          ∙ restarts.base ∙ ap (λ b. if b then base_after now s else s.base) leading
-          ∙ ap (λ t. base_after t s) now_is)
-    ]
+    base_still : (leads : Bool) → (if leads then base_after now s else s.base) ≡ s.base
+    base_still false = refl
+    base_still true =
+        ap (λ b. if (not b && list_any is_mine s.held) && s.continues
+        then base_to (reading s now) (local_time s now) else s.base) own
+
+    by : MakesOfTime input now s s' → GoesOnTelling s s'
+    by (inl k) = record { reads = ap reads_own k.reads ∙ own; base = k.base }
+    by (inr (inl received)) = absurd (none-some received.slave (sym alone ∙ received.slave_is))
+    by (inr (inr (sync, restarts))) = record {
+      reads = ap reads_own restarts.reads ∙ reads_still (is_leading s);
+      base = restarts.base ∙ base_still (is_leading s);
+    }

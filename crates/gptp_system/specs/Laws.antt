@@ -7,7 +7,6 @@ use Rattle.gptp_system.specs.declared.port.Port.{Port}
 use Rattle.gptp_system.specs.declared.sending.Sending.{Sending}
 use Rattle.gptp_setup.specs.declared.setup.Setup.{Setup}
 use Rattle.gptp_setup.specs.declared.timer.Timer.{Timer}
-use Rattle.gptp_setup.specs.declared.timer.Timer.TheVariants as timers
 use Rattle.gptp_setup.specs.Intervals.{AreParams, IsLog}
 use Rattle.gptp_system.specs.State.{SystemState, due}
 use Rattle.gptp_system.specs.Selection.{Selects}
@@ -22,8 +21,8 @@ use Rattle.gptp_system.specs.Counters.{AreCounted}
 use Rattle.gptp_system.specs.Reach.{SendsWithin, Leaves, is_touched, reach}
 use Rattle.gptp_system.specs.Ready.{IsReady}
 use Rattle.gptp_system.specs.Start.{started}
-use Rattle.gptp_system.specs.Syncing.{is_leading}
-use Rattle.gptp_system.specs.TimeKept.{HasMaster, MakesOfTime, coming_base}
+use Rattle.gptp_system.specs.Takeover.{reads_own}
+use Rattle.gptp_system.specs.TimeKept.{GoesOnTelling, MakesOfTime}
 use Rattle.gptp_system.specs.Facts.{AreHeld, AreShown, IsAtRest, IsNew, Keeps}
 
 -- a new system is at rest, and what it holds is as it must be
@@ -166,10 +165,8 @@ TimeKeptLaw = (input : Input) (now : ℕ) (s s' : SystemState) (sends : List Sen
     → Steps input now s s' sends answer
     → MakesOfTime input now s s'
 
--- While a system leads that has no Slave port and has a Master port, the base stays that it has behind its next Sync.
-abbrev pub BaseStaysLaw : Type 0
-BaseStaysLaw = (input : Input) (now : ℕ) (s s' : SystemState) (sends : List Sending) (answer : Answer)
-    → s.slave ≡ None → HasMaster s → HasMaster s'
-    → (input ≡ Expires timers.Sync → (is_leading s ≡ true) × (now ≡ s.sync))
-    → Steps input now s s' sends answer
-    → coming_base s' ≡ coming_base s
+-- a system that has taken over goes on to tell the same, as long as it has no Slave port
+abbrev pub GoesOnLaw : Type 0
+GoesOnLaw = (input : Input) (now : ℕ) (s s' : SystemState) (sends : List Sending) (answer : Answer)
+    → s.slave ≡ None → reads_own s.reads ≡ true → Steps input now s s' sends answer
+    → GoesOnTelling s s'

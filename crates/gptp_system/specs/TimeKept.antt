@@ -1,14 +1,13 @@
 -- What a step makes of what a system reads time by, and of the time that it tells.
-use Rattle.std.specs.Prelude.{◌≡◌, ◌⊎◌, ◌+◌, ℕ, true, ℤ, if◌then◌else◌, Some}
-use Rattle.std.specs.List.{list_any}
+use Rattle.std.specs.Prelude.{◌≡◌, ◌⊎◌, ◌+◌, ℕ, true, if◌then◌else◌, Some}
 use Rattle.gptp_setup.specs.declared.timer.Timer.TheVariants as timers
 use Rattle.gptp_setup.specs.Intervals.{interval_of}
 use Rattle.gptp_system.specs.declared.reading.Reading.{Reading}
 use Rattle.gptp_system.specs.declared.reading.TimeRead.TheVariants as reads
 use Rattle.gptp_system.specs.Input.{Input, Expires}
-use Rattle.gptp_system.specs.State.{SystemState, is_mine}
+use Rattle.gptp_system.specs.State.{SystemState}
 use Rattle.gptp_system.specs.Syncing.{is_leading}
-use Rattle.gptp_system.specs.Takeover.{base_after, reads_after}
+use Rattle.gptp_system.specs.Takeover.{base_after, reads_after, reads_own}
 
 -- it is read as before, and the Sync timer runs on
 pub record KeepsTime (s s' : SystemState) : Type 0 where
@@ -36,10 +35,7 @@ abbrev pub MakesOfTime : Input → ℕ → SystemState → SystemState → Type 
 MakesOfTime input now s s' =
     KeepsTime s s' ⊎ (ReceivesTime s s' ⊎ ((input ≡ Expires timers.Sync) × SyncRestarts now s s'))
 
--- the base that a system has behind the next Sync that it sends, where it leads until then
-abbrev pub coming_base : SystemState → ℤ
-coming_base s = base_after s.sync s
-
--- a port is a Master port
-abbrev pub HasMaster : SystemState → Type 0
-HasMaster s = list_any is_mine s.held ≡ true
+-- it has taken over, and goes on to tell the same
+pub record GoesOnTelling (s s' : SystemState) : Type 0 where
+  pub reads : reads_own s'.reads ≡ true
+  pub base : s'.base ≡ s.base

@@ -1,6 +1,6 @@
 //! What holds of a system between its calls, whatever it is given.
 
-ghost use Rattle.gptp_system.specs.Laws.{AgainLaw, BaseStaysLaw, CountersLaw, FollowsLaw, HeldLaw, IdentityLaw, InTimeLaw, KeepsLaw, LaterLaw, LeavesLaw, MeasuresLaw};
+ghost use Rattle.gptp_system.specs.Laws.{AgainLaw, CountersLaw, FollowsLaw, GoesOnLaw, HeldLaw, IdentityLaw, InTimeLaw, KeepsLaw, LaterLaw, LeavesLaw, MeasuresLaw};
 ghost use Rattle.gptp_system.specs.Laws.{PlacedLaw, RanOutLaw, ReachLaw, ReactsLaw, RestLaw, RunsOnLaw, SelectsLaw, SendsLaw, ShownLaw, SpanLaw, StartLaw, StartedLaw, StartsInTimeLaw, TimeKeptLaw, TraceLaw};
 
 /// A new system, all ports of which are disabled, is at rest and its own root.
@@ -91,9 +91,9 @@ pub fn counts_what_it_sends()
 {}
 
 /// Every step leaves what the system reads time by and its base, but for a receipt at its Slave port, and for the expiry
-/// of its Sync timer: then one that leads takes over, where it didn't yet. While it leads the base stays that it has
-/// behind its next Sync.
+/// of its Sync timer: then one that leads takes over, where it didn't yet. As long as it has no Slave port it goes on to
+/// tell the same then.
 pub fn goes_on_with_time()
     ensures kept { TimeKeptLaw }
-    ensures base { BaseStaysLaw }
+    ensures tells { GoesOnLaw }
 {}

@@ -238,14 +238,14 @@ fn held_offset(info: &SyncInfo, delay: ScaledNs, rate: Rate) -> Option<ScaledNs>
 /// What is read by with a Follow_Up; without an offset what was read by before.
 fn reads_with(
     info: &SyncInfo,
-    offset: Option<ScaledNs>,
+    offset: &Option<ScaledNs>,
     rate: Rate,
     before: &Option<TimeRead>,
 ) -> Option<TimeRead>
-    ensures { result ≡ reads_with info.now offset rate before.now }
+    ensures { result ≡ reads_with info.now offset.now rate before.now }
 {
     match offset {
-        Some(offset) => Some(TimeRead::Received(reading_of(info, offset, rate))),
+        Some(offset) => Some(TimeRead::Received(reading_of(info, *offset, rate))),
         None => *before,
     }
 }
@@ -379,7 +379,7 @@ impl State {
         ensures ready { IsReady (state_of self.new) }
     {
         let offset = held_offset(&info, delay, rate);
-        let reads = reads_with(&info, offset, rate, &self.reads);
+        let reads = reads_with(&info, &offset, rate, &self.reads);
         self.reads = reads;
         self.known = Some(info);
         self.offset = offset;

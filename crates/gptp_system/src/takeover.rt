@@ -40,12 +40,7 @@ fn is_mine(held: &Held) -> bool
 fn has_master(held: &[Held]) -> bool
     ensures { result ≡ list_any is_mine held.now }
 {
-    for one in held {
-        if is_mine(one) {
-            return true;
-        }
-    }
-    false
+    held.iter().any(|one| is_mine(one))
 }
 
 /// Whether a system can go on with this time, in units of 2^-16 ns: it is from 0 on, and below 2^47 s.
