@@ -123,6 +123,7 @@ pub mod SyncFollowHeardLemmas
 pub mod SyncFollowSettingLemmas
 pub mod SyncFollowCallLemmas
 pub mod SyncFollowSizeLemmas
+pub mod SyncFollowBaseLemmas
 pub mod SyncFollowWayLemmas
 pub mod SyncFollowRightLemmas
 pub mod SyncFollowStepLemmas

@@ -228,9 +228,9 @@ module _ (p : SettlingParams) (settled longest : ℕ) (w : WorldState) (is : IsS
             (follower at emptied left)
         kept_by (inr elsewhere) =
             let g = f at left in
-            inv_on p settled longest w emptied is is_left takes_keeps refl at g left (was at left).a (was at left).b
+            inv_on p settled longest w emptied is is_left takes_keeps refl (λ number best is_best. inl refl) at g left (was at left).a (was at left).b
             (was at left).bounds steps h' carries
-            (others p settled longest w emptied is is_left takes_keeps refl at g left (was at left).a (was at left).b
+            (others p settled longest w emptied is is_left takes_keeps refl (λ number best is_best. inl refl) at g left (was at left).a (was at left).b
             (was at left).bounds steps h' []
             (elsewhere.lane ∙ sym (append-nil (world_queue at.direction g.channel))) (λ x none. absurd none)
             (record {
@@ -320,10 +320,10 @@ module _ (p : SettlingParams) (settled longest : ℕ) (w : WorldState) (is : IsS
       from_is = sender_same at.direction g.channel left.channel (was at left).a (was at left).b
 
       abbrev h : HasWay p.params at w g steps
-      h = way_was p settled longest w w' is is' keeps time at g f' a b bounds steps h'
+      h = way_was p settled longest w w' is is' keeps time goes at g f' a b bounds steps h'
 
       abbrev k : FollowerSetting
-      k = follower_setting p.params settled longest at w g steps h
+      k = next_setting p settled longest w w' is is' keeps time goes at g f' a b bounds steps h'
 
       own_is : ((at.answering ≡ d.place) × (x ≡ s) × (x' ≡ s')) ⊎ ((at.answering ≢ d.place) × (x' ≡ x))
       own_is = elim seen.own [
@@ -362,7 +362,7 @@ module _ (p : SettlingParams) (settled longest : ℕ) (w : WorldState) (is : IsS
       elsewhere_acts : CameElsewhere at left
           → FollowerActs k tells (follower at w g) (follower_view w.time at.direction f'.channel x')
       elsewhere_acts elsewhere =
-          step_seen p settled longest w w' is is' keeps time at g f' a b bounds steps h' d.place s s' c.sends seen.news
+          step_seen p settled longest w w' is is' keeps time goes at g f' a b bounds steps h' d.place s s' c.sends seen.news
           (seen.queue_is ∙ ap (λ q. q ++ seen.news) elsewhere.lane)
           (λ y member. subst (λ (z : Bounds). w.time + z.min ≤ y.due) (was at left).bounds (seen.late y member))
           (seen.said ∙ ap (λ q. said_at s' q c.sends) from_is) seen.quiet same own_is
@@ -377,7 +377,7 @@ module _ (p : SettlingParams) (settled longest : ℕ) (w : WorldState) (is : IsS
           nothing : seen.news ≡ []
           nothing =
               seen.quiet
-              (λ there. apart p settled longest w w' is is' keeps time at g f' a b bounds
+              (λ there. apart p settled longest w w' is is' keeps time goes at g f' a b bounds
               (there ∙ sym (place_is at left came)))
 
           on_time : (due : ℕ) → x.relay ≡ Some due → (w.time ≤ due) × (due ≤ w.time + x.params.residence)
@@ -408,8 +408,8 @@ module _ (p : SettlingParams) (settled longest : ℕ) (w : WorldState) (is : IsS
                     (subst (λ n. Steps (FrameHeard n octets) w.time x x' c.sends told) number
                     (subst (λ y. Steps (FrameHeard port octets) w.time y x' c.sends told) (sym before)
                     (subst (λ y. Steps (FrameHeard port octets) w.time s y c.sends told) (sym now) c.steps)))
-                    (root_stays p settled longest w w' is is' keeps time at g f' a b bounds)
-                    (slave_stays p settled longest w w' is is' keeps time at g f' a b bounds)
+                    (root_stays p settled longest w w' is is' keeps time goes at g f' a b bounds)
+                    (slave_stays p settled longest w w' is is' keeps time goes at g f' a b bounds)
                     (own_shown p settled longest w is at g steps h w.time)
                     (ap (λ (y : Params). y.residence) (is.world.known.set at.answering g.own.station g.own.here).params
                     ∙ sym (residence_is p settled longest w is at g steps h))
@@ -419,7 +419,7 @@ module _ (p : SettlingParams) (settled longest : ℕ) (w : WorldState) (is : IsS
       follows_on : FollowerInvariant (follower_setting p.params settled longest at w' f' steps h') tells
           (follower at w' f')
       follows_on =
-          inv_on p settled longest w w' is is' keeps time at g f' a b bounds steps h' carries (by (which at left))
+          inv_on p settled longest w w' is is' keeps time goes at g f' a b bounds steps h' carries (by (which at left))
         where
           by : CameHere at left ⊎ CameElsewhere at left
               → FollowerActs k tells (follower at w g) (follower_view w.time at.direction f'.channel x')
