@@ -122,7 +122,6 @@ pub mod SyncFollowTreeLemmas
 pub mod SyncFollowHeardLemmas
 pub mod SyncFollowSettingLemmas
 pub mod SyncFollowCallLemmas
-pub mod SyncFollowSizeLemmas
 pub mod SyncFollowBaseLemmas
 pub mod SyncFollowWayLemmas
 pub mod SyncFollowRightLemmas

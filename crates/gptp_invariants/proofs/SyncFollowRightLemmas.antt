@@ -43,7 +43,7 @@ use Rattle.gptp_invariants.proofs.SyncFollowSayLemmas.{SendsOn}
 use Rattle.gptp_invariants.proofs.SyncFollowSettingLemmas.{is_setting, own_shown, residence_is}
 use Rattle.gptp_invariants.proofs.SyncFollowBaseLemmas.{GoesOn, right_goes_on, root_above, taken_over}
 use Rattle.gptp_invariants.proofs.SyncFollowTreeLemmas.{well_formed}
-use Rattle.gptp_invariants.proofs.SyncFollowWayLemmas.{Follows, correction_small, documented, few, follows_parent, long, own_time_fits, root_time_fits, short_way}
+use Rattle.gptp_invariants.proofs.SyncFollowWayLemmas.{Follows, correction_small, documented, few, follows_parent, long, own_time_fits}
 use Rattle.gptp_invariants.proofs.WorldSystemLemmas.{live_there}
 
 -- ---- what is sent on

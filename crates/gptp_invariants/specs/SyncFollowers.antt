@@ -115,4 +115,5 @@ pub record HasWay (p : Params) (at : LinkPlace) (w : WorldState) (f : IsFollower
 abbrev pub follower_setting : (p : Params) (settled longest : ℕ) (at : LinkPlace) (w : WorldState)
     (f : IsFollower at w) (steps : ℕ) → HasWay p at w f steps → FollowerSetting
 follower_setting p settled longest at w f steps h =
-    follower_of h.way h.phase (root_base w (follower_state at w f)) steps (port_identity_number (sender at.direction f.channel)) settled longest
+    follower_of h.way h.phase (root_base w (follower_state at w f)) steps
+    (port_identity_number (sender at.direction f.channel)) settled longest
