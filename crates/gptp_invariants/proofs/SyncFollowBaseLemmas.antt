@@ -8,7 +8,7 @@ use Rattle.gptp_graph.specs.Best.{IsBest}
 use Rattle.gptp_graph.specs.Distance.{IsDistance}
 use Rattle.gptp_graph.specs.SettledChoice.{IsBestIdentity}
 use Rattle.gptp_graph.specs.Snapshot.{Snapshot, System}
-use Rattle.gptp_graph.proofs.BestLemmas.{IsBest-neighbour, IsBest-reached}
+use Rattle.gptp_graph.proofs.BestLemmas.{IsBest-neighbour, IsBest-reached, IsBest-unique}
 use Rattle.gptp_graph.proofs.DistanceLemmas.{IsDistance-best, best_at_zero}
 use Rattle.gptp_graph.proofs.ParentLemmas.{no_parent_at_zero}
 use Rattle.gptp_lists.proofs.PlaceLemmas.{get-set_other, get-set_same, same_place}
@@ -41,6 +41,7 @@ use Rattle.gptp_invariants.specs.SyncFollowers.{IsFollower, base_at, follower_cl
 use Rattle.gptp_invariants.specs.ChoiceCalm.{clock_place}
 use Rattle.gptp_invariants.specs.DelayLinkView.{LinkPlace}
 use Rattle.gptp_invariants.specs.SyncTimed.{IsSettledFrom}
+use Rattle.gptp_invariants.specs.SyncTimedLaws.{IsRootOf}
 use Rattle.gptp_invariants.specs.WorldStanding.{snapshot_of, standing_system}
 use Rattle.gptp_invariants.proofs.ChoiceCalmKeptLemmas.{KeepsNetwork}
 use Rattle.gptp_invariants.proofs.ChoiceFoundLemmas.{place_is}
@@ -248,3 +249,22 @@ module _ (p : SettlingParams) (settled longest : ℕ) (w : WorldState) (is : IsS
       best_at_zero g (sender at.direction f.channel).clock best (well_formed p settled longest w is) best_above there in
       ap (base_at w.stations) (root_clock_is ∙ same ∙ sym f.above.named)
       ∙ base_there w is.world.sound.wired.clocks at.asking f.above.station f.above.here
+
+  -- and so that of a system that is its root
+  named : (root : Station) (r : IsRootOf w (follower_clock at w f) root) → clock_of s.root ≡ clock root.system
+  named root r =
+      root_clock_is
+      ∙ ap (λ (x : System). x.clock)
+      (IsBest-unique g (clock s) best r.best (well_formed p settled longest w is) is_best
+      (subst (λ v. IsBest g v r.best) (sym f.own.named) r.is_best))
+      ∙ sym r.named
+
+  pub base_of : (root : Station) → IsRootOf w (follower_clock at w f) root → (ahead : ℤ) → root_base w s ≡ Some ahead
+      → root.system.base ≡ ahead
+  base_of root r ahead base =
+      by (reads_own root.system.reads)
+      (sym (ap (base_at w.stations) (named root r) ∙ base_there w is.world.sound.wired.clocks r.place root r.here) ∙ base)
+    where
+      by : (own : Bool) → (if own then Some root.system.base else None) ≡ Some ahead → root.system.base ≡ ahead
+      by true same = same_Some root.system.base ahead same
+      by false none = absurd (none-some ahead none)

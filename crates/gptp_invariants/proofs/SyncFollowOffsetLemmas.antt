@@ -6,9 +6,6 @@ use Rattle.std.proofs.lemmas.Bool.Decides.{nat_tests}
 use Rattle.std.proofs.lemmas.Option.{none-some, same_Some}
 use Rattle.gptp_lists.proofs.MappedLemmas.{same_there}
 use Rattle.gptp_lists.proofs.PlaceLemmas.{get-set_same}
-use Rattle.gptp_graph.specs.Best.{IsBest}
-use Rattle.gptp_graph.specs.Snapshot.{System}
-use Rattle.gptp_graph.proofs.BestLemmas.{IsBest-unique}
 use Rattle.gptp_vector.specs.declared.port.PortId.{PortId}
 use Rattle.gptp_scaled.specs.Counts.{AreWithin}
 use Rattle.gptp_messages.specs.declared.follow_up.FollowUp.{FollowUp as FollowUpFields}
@@ -22,14 +19,13 @@ use Rattle.gptp_correction.specs.declared.sync_in.SyncInfo.{SyncInfo}
 use Rattle.gptp_correction.specs.Correction.{held_sum}
 use Rattle.gptp_correction.specs.SyncIn.{KeptSync, belongs, information, together}
 use Rattle.gptp_setup.specs.SettlingParams.{SettlingParams, has_sync_timeout}
-use Rattle.gptp_roles.specs.Selection.{clock_of}
 use Rattle.gptp_system.specs.declared.answer.Answer.{Answer}
 use Rattle.gptp_system.specs.declared.answer.Answer.TheVariants as answers
 use Rattle.gptp_system.specs.declared.sending.Sending.{Sending}
 use Rattle.gptp_system.specs.Input.{Frame as FrameHeard, Steps}
-use Rattle.gptp_system.specs.State.{SystemState, is_capable_at, local_time, clock}
+use Rattle.gptp_system.specs.State.{SystemState, is_capable_at, local_time}
 use Rattle.gptp_system.specs.Syncing.{HearsFollowUpIf, IsOffset, KnowsBy, KnowsIf, OffsetFits, delay_at, is_slave_at, offset_of, root_rate_at, said_on, slave_delay, slave_rate}
-use Rattle.gptp_system.specs.Takeover.{reads_own, told_time}
+use Rattle.gptp_system.specs.Takeover.{told_time}
 use Rattle.gptp_error_laws.specs.TimeError.{time_error_at}
 use Rattle.gptp_error_laws.specs.WayLaws.{shown_at}
 use Rattle.gptp_model.specs.Act.{Delivers, Hears, in_state}
@@ -45,13 +41,13 @@ use Rattle.gptp_sync_machine.proofs.ModestLemmas.{rates_are_held, ways_are_modes
 use Rattle.gptp_sync_machine.proofs.TellingLemmas.{offset_is_exact}
 use Rattle.gptp_sync_machine.proofs.TreeLemmas.{way_leads_to}
 use Rattle.gptp_invariants.specs.SyncFollowView.{kept_sync, tells, told_in}
-use Rattle.gptp_invariants.specs.SyncFollowers.{HasWay, IsFollower, follower, follower_clock, follower_setting, follower_parts, follower_state, base_at}
+use Rattle.gptp_invariants.specs.SyncFollowers.{HasWay, IsFollower, follower, follower_clock, follower_setting, follower_parts, follower_state}
 use Rattle.gptp_invariants.specs.DelayLinkView.{LinkPlace, link_frame_view, other_direction}
 use Rattle.gptp_invariants.specs.WorldStanding.{snapshot_of}
 use Rattle.gptp_invariants.specs.SyncTimed.{AllMeasureRight, CarriesTime, IsSettledFrom}
 use Rattle.gptp_invariants.specs.SyncTimedLaws.{IsRootOf, OffsetsAreExact}
 use Rattle.gptp_invariants.specs.ChoiceView.{port_identity_number}
-use Rattle.gptp_invariants.proofs.SyncFollowBaseLemmas.{base_there, best, is_best, root_clock_is}
+use Rattle.gptp_invariants.proofs.SyncFollowBaseLemmas.{base_of}
 use Rattle.gptp_invariants.proofs.SyncFollowDeliveryLemmas.{opposite_same}
 use Rattle.gptp_invariants.proofs.SyncFollowOctetLemmas.{told_alone}
 use Rattle.gptp_invariants.proofs.SyncFollowPartLemmas.{clock_shown}
@@ -246,24 +242,6 @@ module _ (p : SettlingParams) (settled longest : ℕ) (w : WorldState) (is : IsS
 
   -- the clock is that of the system, and what is told what its root tells
   module _ (root : Station) (r : IsRootOf w (follower_clock place w f) root) where
-    named : clock_of x.root ≡ clock root.system
-    named =
-        root_clock_is p settled longest w is place f
-        ∙ ap (λ (y : System). y.clock)
-        (IsBest-unique (snapshot_of w) (clock x) (best p settled longest w is place f) r.best
-        (well_formed p settled longest w is) (is_best p settled longest w is place f)
-        (subst (λ v. IsBest (snapshot_of w) v r.best) (sym f.own.named) r.is_best))
-        ∙ sym r.named
-
-    base_of : (ahead : ℤ) → k.base ≡ Some ahead → root.system.base ≡ ahead
-    base_of ahead base =
-        by (reads_own root.system.reads)
-        (sym (ap (base_at w.stations) named ∙ base_there w is.world.sound.wired.clocks r.place root r.here) ∙ base)
-      where
-        by : (own : Bool) → (if own then Some root.system.base else None) ≡ Some ahead → root.system.base ≡ ahead
-        by true same = same_Some root.system.base ahead same
-        by false none = absurd (none-some ahead none)
-
     pub clocks_are : (ahead : ℤ) → k.base ≡ Some ahead
         → own_clock k w.time -ℤ root_told k ahead w.time ≡ local_time x w.time -ℤ told_time root.system w.time
     clocks_are ahead base =
@@ -274,7 +252,7 @@ module _ (p : SettlingParams) (settled longest : ℕ) (w : WorldState) (is : IsS
         (well_formed p settled longest w is) r.is_best h.is
         ∙ ap (λ c. local_clock (parts.phase c) (parts.drift c) w.time) (sym r.named)
         ∙ sym (clock_shown p.params w is.world.sound is.measured r.place root r.here w.time) in
-        let its = base_of ahead base in
+        let its = base_of p settled longest w is place f root r ahead base in
         λ i. sym own i -ℤ (root_is i +ℤ sym its i)
 
     pub exact_of : (offset : ℤ) → IsExact offset

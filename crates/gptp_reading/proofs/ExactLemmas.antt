@@ -10,7 +10,6 @@ use Rattle.gptp_graph.specs.PathBound.{BoundsPaths}
 use Rattle.gptp_lists.proofs.MappedLemmas.{same_there}
 use Rattle.gptp_lists.proofs.PlaceLemmas.{get-set_same}
 use Rattle.gptp_scaled.specs.Counts.{AreWithin}
-use Rattle.gptp_correction.specs.SyncIn.{together}
 use Rattle.gptp_error_laws.specs.TimeError.{Way, reading_error_at}
 use Rattle.gptp_messages.specs.declared.follow_up.FollowUp.{FollowUp}
 use Rattle.gptp_messages.specs.declared.message.Message.TheVariants as messages
@@ -28,7 +27,8 @@ use Rattle.gptp_system.specs.declared.answer.Answer.{Answer}
 use Rattle.gptp_system.specs.declared.answer.Answer.TheVariants as answers
 use Rattle.gptp_system.specs.declared.sending.Sending.{Sending}
 use Rattle.gptp_system.specs.Input.{Frame as FrameHeard, Steps}
-use Rattle.gptp_system.specs.State.{SystemState, clock, local_time}
+use Rattle.gptp_system.specs.State.{SystemState, clock}
+use Rattle.gptp_system.specs.Takeover.{told_time}
 use Rattle.gptp_model.proofs.SoundLemmas.{acts_sound}
 use Rattle.gptp_model.proofs.SteadyLemmas.{same_clock}
 use Rattle.gptp_model.specs.Act.{Hears, in_state}
@@ -65,7 +65,6 @@ use Rattle.gptp_invariants.proofs.SyncFollowWayLemmas.{Follows, follows_parent}
 use Rattle.gptp_invariants.proofs.ChoiceFoundLemmas.{place_is}
 use Rattle.gptp_invariants.proofs.DelayLinkLemmas.{sender_opposite}
 use Rattle.gptp_invariants.proofs.DelayMeasuredLinkLemmas.{claimed_measured}
-use Rattle.gptp_invariants.proofs.SyncTimeStepLemmas.{knows_on}
 use Rattle.gptp_invariants.proofs.WorldWayLemmas.{one_way}
 use Rattle.gptp_theorem.specs.Headline.{HasComeDown, WorldIsCalm, UsesFollowUp}
 use Rattle.gptp_theorem.proofs.HeadlineLemmas.{quiet_as}
@@ -256,20 +255,11 @@ module _ (link : ℕ) (direction : Direction) (w w' : WorldState) (draws : List 
   left : system ≡ by_whom.after
   left = left_is link direction w w' draws number done is.world.sound k by_whom system shows
 
-  -- the timestamp that is known has nanoseconds
-  small : by_whom.message.origin.nanos < 1000000000
-  small =
-      let knows = is.world.known.time by_whom.place by_whom.station by_whom.there by_whom.live in
-      let port = (receiver direction by_whom.channel).port in
-      let after = knows_on (FrameHeard port by_whom.octets) w.time by_whom.station.system by_whom.after by_whom.sends
-      answers.Used by_whom.steps knows in
-      after.stamped (together by_whom.message here.used.kept) here.used.left.known
-
   has_reading_there : (moment : ℕ) → IsSome (reading system moment)
   has_reading_there moment =
       subst (λ (y : SystemState). IsSome (reading y moment)) (sym left)
       (has_reading p settled p.params.threshold w is right carries followed.at followed.follower steps has_way
-      by_whom.octets here.rest here.front by_whom.message by_whom.reads by_whom.after here.used from_then small moment)
+      by_whom.octets here.rest here.front by_whom.message by_whom.reads by_whom.after here.used from_then moment)
 
   module _ (later error : ℕ) (read shown : ℤ) (reads_it : reading system (w.time + later) ≡ Some read)
       (error_is : error ≡ reading_error_at way steps later) (best : IsBestsTime w number (w.time + later) shown) where
@@ -288,8 +278,8 @@ module _ (link : ℕ) (direction : Direction) (w w' : WorldState) (draws : List 
         has_way by_whom.octets here.rest here.front by_whom.message by_whom.reads by_whom.after here.used from_then
         later best.shows.station root read
         (subst (λ (y : SystemState). reading y (w.time + later) ≡ Some read) left reads_it) in
-        let root_time : local_time best.shows.station.system (w.time + later) ≡ shown =
-        sym (best.is ∙ ap (λ (y : SystemState). local_time y (w.time + later)) best.shows.state) in
+        let root_time : told_time best.shows.station.system (w.time + later) ≡ shown =
+        sym (best.is ∙ ap (λ (y : SystemState). told_time y (w.time + later)) best.shows.state) in
         subst (λ e. AreWithin e read shown) (sym error_is)
         (subst (AreWithin (reading_error_at way steps later) read) root_time exact)
 

@@ -162,7 +162,7 @@ held_on_way w phase base i told sent came rate delay held on measured at = recor
 }
 
 -- two times that a base moves
-both_moved : (a b base : ℤ) (passed : ℕ) → b -ℤ a ≡ pos passed → (b +ℤ base) -ℤ (a +ℤ base) ≡ pos passed
+pub both_moved : (a b base : ℤ) (passed : ℕ) → b -ℤ a ≡ pos passed → (b +ℤ base) -ℤ (a +ℤ base) ≡ pos passed
 both_moved a b base passed is = omega (arith, ints, is)
 
 -- what a bridge adds to the correction isn't negative, and is small
