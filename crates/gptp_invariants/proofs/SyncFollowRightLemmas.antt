@@ -23,7 +23,7 @@ use Rattle.gptp_system.specs.Syncing.{HopFits, IsRelayed, IsSentOn, IsToldAtLimi
 use Rattle.gptp_model.specs.declared.station.Station.{Station}
 use Rattle.gptp_model.specs.World.{WorldState, sender}
 use Rattle.gptp_error_laws.specs.TimeError.{Way}
-use Rattle.gptp_sync_machine.specs.Follower.{FollowerSetting, from, own_clock, root_clock}
+use Rattle.gptp_sync_machine.specs.Follower.{FollowerSetting, from, own_clock}
 use Rattle.gptp_sync_machine.specs.Follower as followers
 use Rattle.gptp_sync_machine.specs.FollowerLaws.{IsParentOf}
 use Rattle.gptp_sync_machine.specs.Right.{IsHeldAt, IsMeasuredAt, FollowUpIsRight}

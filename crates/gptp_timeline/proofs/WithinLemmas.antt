@@ -48,6 +48,7 @@ use Rattle.gptp_setup.specs.Intervals.{IsLog}
 use Rattle.gptp_setup.specs.SettlingParams.{largest_interval, SettlingParams}
 use Rattle.gptp_setup.proofs.IntervalLemmas.{interval_positive}
 use Rattle.gptp_system.specs.State.{local_time, SystemState}
+use Rattle.gptp_system.specs.Takeover.{told_time}
 use Rattle.gptp_accuracy.specs.TimeErrors.{AreTimeErrors}
 use Rattle.gptp_accuracy.specs.TimeErrors as errors_of
 use Rattle.gptp_accuracy.specs.Ways.{IsWay}
@@ -82,13 +83,13 @@ pub record HasError (name : ℕ) (t : ActTrace) (error : ℤ) : Type 0 where
   pub left : own.offset ≡ Some offset
   pub leader : SystemState
   pub leads : live_system (clock_of own.root) t.after ≡ Some leader
-  pub is : error ≡ offset -ℤ (local_time own (at_of t) -ℤ local_time leader (at_of t))
+  pub is : error ≡ offset -ℤ (local_time own (at_of t) -ℤ told_time leader (at_of t))
 
 pub has_error : (name : ℕ) (t : ActTrace) (error : ℤ) → error_at name t ≡ Some error → HasError name t error
 has_error name t error is = by_own (live_system name t.after) refl is
   where
     off_by : SystemState → ℤ → SystemState → ℤ
-    off_by own offset leader = offset -ℤ (local_time own (at_of t) -ℤ local_time leader (at_of t))
+    off_by own offset leader = offset -ℤ (local_time own (at_of t) -ℤ told_time leader (at_of t))
 
     by_leader : (own : SystemState) (offset : ℤ) → live_system name t.after ≡ Some own → own.offset ≡ Some offset
         → (leader : Option SystemState) → live_system (clock_of own.root) t.after ≡ leader
@@ -289,7 +290,7 @@ module _ {F : Type 0} (answers : Bounds → ℕ → F → Option ℕ → F → T
             let (root, leads) = lives_there w b.best.clock b.best clocks b.is_best.live refl in
             let leader : live_system b.best.clock t.after ≡ Some e.leader =
             subst (λ c. live_system c t.after ≡ Some e.leader) b.named e.leads in
-            let ahead : ℤ = local_time s (at_of t) -ℤ local_time root (at_of t) in
+            let ahead : ℤ = local_time s (at_of t) -ℤ told_time root (at_of t) in
             let exact : IsExactInTime name w (at_of t) e.offset =
             received_exactly name (at_of t) t.told.timed.act w happens.was_done.draws t.told.done t.after e.own e.offset
             happens.was_done.acts own

@@ -47,6 +47,7 @@ use Rattle.gptp_settling_time.proofs.MomentLemmas.{last_by}
 use Rattle.gptp_setup.specs.SettlingParams.{largest_interval}
 use Rattle.gptp_sync_machine.specs.Tree.{IsWayTo}
 use Rattle.gptp_system.specs.State.{local_time, SystemState}
+use Rattle.gptp_system.specs.Takeover.{told_time}
 use Rattle.gptp_theorem.specs.AlikeLaws.{AreAlike}
 use Rattle.gptp_theorem.specs.PlayedLaws.{IsPlayable}
 use Rattle.gptp_theorem.proofs.AlikeLemmas.{distance, turned}
@@ -139,7 +140,7 @@ module _ {F : Type 0} (answers : Bounds → ℕ → F → Option ℕ → F → T
       let (root, leads) = lives_there t.before best.clock best clocks there.live refl in
       let leader : live_system best.clock t.after ≡ Some e.leader =
       subst (λ c. live_system c t.after ≡ Some e.leader) best_named e.leads in
-      let ahead : ℤ = local_time s (at_of t) -ℤ local_time root (at_of t) in
+      let ahead : ℤ = local_time s (at_of t) -ℤ told_time root (at_of t) in
       let within = exact has.steps name bound e.offset ahead
       (record {
         uses = uses_follow_up name (at_of t) t.told.timed.act t.before kept.draws t.told.done t.after kept.acts
