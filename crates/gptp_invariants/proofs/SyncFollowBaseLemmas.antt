@@ -100,19 +100,16 @@ best_alone : (p : SettlingParams) (settled longest : ℕ) (w : WorldState) → I
 best_alone p settled longest w is number place best station is_best here live named =
     none station.system.slave (is.choice place station here live (0, there, omega arith)).slave
   where
-    abbrev g : Snapshot
-    g = snapshot_of w
+    own : IsBest (snapshot_of w) best.clock best
+    own = IsBest-reached (snapshot_of w) number best.clock best (well_formed p settled longest w is) is_best.reached is_best
 
-    own : IsBest g best.clock best
-    own = IsBest-reached g number best.clock best (well_formed p settled longest w is) is_best.reached is_best
+    there : IsDistance (snapshot_of w) (clock station.system) 0
+    there = subst (λ v. IsDistance (snapshot_of w) v 0) (sym named) (IsDistance-best (snapshot_of w) best own)
 
-    there : IsDistance g (clock station.system) 0
-    there = subst (λ v. IsDistance g v 0) (sym named) (IsDistance-best g best own)
-
-    none : (slave : Option ℕ) → IsSlaveOf g (clock station.system) slave → slave ≡ None
+    none : (slave : Option ℕ) → IsSlaveOf (snapshot_of w) (clock station.system) slave → slave ≡ None
     none None follows = refl
     none (Some n) (l, follows, at) =
-        absurd (no_parent_at_zero g (clock station.system) l (well_formed p settled longest w is) there follows)
+        absurd (no_parent_at_zero (snapshot_of w) (clock station.system) l (well_formed p settled longest w is) there follows)
 
 -- one system changes
 base_set : (stations : List Station) (place number : ℕ) (old new : Station) → slice_get stations place ≡ Some old

@@ -120,12 +120,15 @@ module _ (k : FollowerSetting) (says : List ℕ → Message → Type 0) where
       *ℤ read_after (info_of (at_rate told held) (own_clock k t.came)) delay rate
       (own_clock k (s.time + later) -ℤ own_clock k t.came))
       (pos 33550000 *ℤ root_told k right.0 (s.time + later))
-      (omega (arith, carried.long, carried.behind, carried.short)) right.2 in
-      (right.0, right.1, subst (λ x. AreWithin (33550000 * time_error_at k.way (suc k.place)
-      + rates_error_at k.way k.place * (later + jitter_at k.way k.place))
-      (pos 33550000
-      *ℤ read_after (info_of (at_rate told held) x) delay rate (own_clock k (s.time + later) -ℤ x))
-      (pos 33550000 *ℤ root_told k right.0 (s.time + later))) (sym t.ingress_is) wide)
+      (omega (arith, carried.long, carried.behind, carried.short)) right.2 in (
+        right.0,
+        right.1,
+        subst (λ x. AreWithin (33550000 * time_error_at k.way (suc k.place)
+            + rates_error_at k.way k.place * (later + jitter_at k.way k.place))
+            (pos 33550000
+            *ℤ read_after (info_of (at_rate told held) x) delay rate (own_clock k (s.time + later) -ℤ x))
+            (pos 33550000 *ℤ root_told k right.0 (s.time + later))) (sym t.ingress_is) wide,
+      )
 
 -- ---- the numbers of an offset fit
 

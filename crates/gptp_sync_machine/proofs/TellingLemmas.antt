@@ -137,10 +137,13 @@ module _ (k : FollowerSetting) (says : List ℕ → Message → Type 0) where
           (on_way k told t.sent t.came s.time is carried
           (subst (λ (m : Relayed). FollowUpIsRight k.way k.phase k.base k.place m t.sent) e t.right)) measured held_at
           carried.behind
-          carried.short in
-          (right.0, right.1, subst (λ x. AreWithin (time_error_at k.way (suc k.place))
-          (x -ℤ sync_received (info_of (at_rate told held) x) delay rate)
-          (own_clock k s.time -ℤ root_told k right.0 s.time)) then right.2)
+          carried.short in (
+            right.0,
+            right.1,
+            subst (λ x. AreWithin (time_error_at k.way (suc k.place))
+                (x -ℤ sync_received (info_of (at_rate told held) x) delay rate)
+                (own_clock k s.time -ℤ root_told k right.0 s.time)) then right.2,
+          )
         where
           came_is : {c : Arrival} → Some a ≡ Some c → a.came ≡ c.came
           came_is e = cc

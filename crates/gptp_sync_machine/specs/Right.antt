@@ -45,16 +45,16 @@ told_at w phase base t = shown_at w phase 0 t +ℤ base
 -- by which it tells time, origin and correction are what it tells then, and the correction is what passed since the origin; the rate is the sum of
 -- the neighbour rates up to there, and a number of 32 bits (IEEE 802.1AS-2020, 11.4.4).
 pub record FollowUpIsRight (w : Way) (phase : ℕ → ℕ) (base : Option ℤ) (i : ℕ) (told : Relayed) (sent : ℕ) : Type 0
-    where
-  pub ahead : ℤ
-  pub base_is : base ≡ Some ahead
-  pub origin : IsTimestamp told.origin
-  pub time : AreWithin (sent_error_at w i) (pos 33550000 *ℤ (scaled_of told.origin +ℤ told.correction))
-      (pos 33550000 *ℤ told_at w phase ahead sent)
-  pub later : pos 0 ≤ℤ told.correction
-  pub small : told.correction ≤ℤ pos (most_correction_at w i)
-  pub rate : AreWithin (total_below i (measured_error_at w)) told.rate (sum_below i (steady_rate_at w))
-  pub fits : FitsRate told.rate
+  where
+    pub ahead : ℤ
+    pub base_is : base ≡ Some ahead
+    pub origin : IsTimestamp told.origin
+    pub time : AreWithin (sent_error_at w i) (pos 33550000 *ℤ (scaled_of told.origin +ℤ told.correction))
+        (pos 33550000 *ℤ told_at w phase ahead sent)
+    pub later : pos 0 ≤ℤ told.correction
+    pub small : told.correction ≤ℤ pos (most_correction_at w i)
+    pub rate : AreWithin (total_below i (measured_error_at w)) told.rate (sum_below i (steady_rate_at w))
+    pub fits : FitsRate told.rate
 
 -- what a Follow_Up tells, and its Sync's ingress by the own clock
 abbrev pub info_of : Relayed → ℤ → SyncInfo

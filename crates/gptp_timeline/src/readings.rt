@@ -112,7 +112,11 @@ pub(crate) fn clock_time<F: Fate + Drop>(
 }
 
 /// The time of a source, in units of 2^-16 ns: what its clock shows, and its base; none where no system has that clock.
-pub(crate) fn source_time<F: Fate + Drop>(world: &World<F>, at: u64, source: &TimeSource) -> Option<i128>
+pub(crate) fn source_time<F: Fate + Drop>(
+    world: &World<F>,
+    at: u64,
+    source: &TimeSource,
+) -> Option<i128>
     requires { at ≤ 1000000000000000 }
     ensures is { result ≡ source_time source.now at world.now.world_core }
     ensures small { IfSome result (λ z. unsigned_abs z ≤ 2 ^ 96) }

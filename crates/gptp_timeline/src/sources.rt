@@ -237,7 +237,10 @@ fn is_told(systems: &[SystemReading], source: TimeSource) -> bool
 }
 
 /// A source is one of several from then on.
-pub(crate) fn add_source(sources: &mut Vec<TimeSource>, source: TimeSource) -> Result<(), AllocError>
+pub(crate) fn add_source(
+    sources: &mut Vec<TimeSource>,
+    source: TimeSource,
+) -> Result<(), AllocError>
     ensures added { OnOk result (sources.new.items ≡ with_source source sources.old.items) }
     ensures same { OnErr result (sources.new.items ≡ sources.old.items) }
 {
