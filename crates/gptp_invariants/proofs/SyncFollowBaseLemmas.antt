@@ -101,7 +101,8 @@ best_alone p settled longest w is number place best station is_best here live na
     none station.system.slave (is.choice place station here live (0, there, omega arith)).slave
   where
     own : IsBest (snapshot_of w) best.clock best
-    own = IsBest-reached (snapshot_of w) number best.clock best (well_formed p settled longest w is) is_best.reached is_best
+    own = IsBest-reached (snapshot_of w) number best.clock best (well_formed p settled longest w is) is_best.reached
+    is_best
 
     there : IsDistance (snapshot_of w) (clock station.system) 0
     there = subst (λ v. IsDistance (snapshot_of w) v 0) (sym named) (IsDistance-best (snapshot_of w) best own)
@@ -109,7 +110,8 @@ best_alone p settled longest w is number place best station is_best here live na
     none : (slave : Option ℕ) → IsSlaveOf (snapshot_of w) (clock station.system) slave → slave ≡ None
     none None follows = refl
     none (Some n) (l, follows, at) =
-        absurd (no_parent_at_zero (snapshot_of w) (clock station.system) l (well_formed p settled longest w is) there follows)
+        absurd (no_parent_at_zero (snapshot_of w) (clock station.system) l (well_formed p settled longest w is) there
+        follows)
 
 -- one system changes
 base_set : (stations : List Station) (place number : ℕ) (old new : Station) → slice_get stations place ≡ Some old
@@ -122,7 +124,8 @@ base_set stations place number old new here same on = by (same_place (clock_plac
         ≡ option_and_then (λ (x : Station). told_base x.system)
         (slice_get (slice_set stations place new) (clock_place stations number))
     now_is =
-        ap (λ i. option_and_then (λ (x : Station). told_base x.system) (slice_get (slice_set stations place new) i)) same
+        ap (λ i. option_and_then (λ (x : Station). told_base x.system) (slice_get (slice_set stations place new) i))
+        same
 
     by : (clock_place stations number ≡ place) ⊎ (clock_place stations number ≢ place)
         → GoesOn (base_at stations number) (base_at (slice_set stations place new) number)
@@ -260,7 +263,8 @@ module _ (p : SettlingParams) (settled longest : ℕ) (w : WorldState) (is : IsS
       → root.system.base ≡ ahead
   base_of root r ahead base =
       by (reads_own root.system.reads)
-      (sym (ap (base_at w.stations) (named root r) ∙ base_there w is.world.sound.wired.clocks r.place root r.here) ∙ base)
+      (sym (ap (base_at w.stations) (named root r) ∙ base_there w is.world.sound.wired.clocks r.place root r.here)
+      ∙ base)
     where
       by : (own : Bool) → (if own then Some root.system.base else None) ≡ Some ahead → root.system.base ≡ ahead
       by true same = same_Some root.system.base ahead same

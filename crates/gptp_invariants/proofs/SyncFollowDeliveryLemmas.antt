@@ -275,7 +275,8 @@ module _ (p : SettlingParams) (settled longest : ℕ) (w : WorldState) (is : IsS
     goes : (number : ℕ) (best : System) → IsBest (snapshot_of w) number best
         → GoesOn (base_at w.stations best.clock) (base_at w'.stations best.clock)
     goes number best is_best =
-        calls_go_on p settled longest d.place (FrameHeard port octets) w emptied draws told w' is refl c keeps_left number
+        calls_go_on p settled longest d.place (FrameHeard port octets) w emptied draws told w' is refl c keeps_left
+        number
         best is_best
 
     time : w'.time ≡ w.time
@@ -374,7 +375,8 @@ module _ (p : SettlingParams) (settled longest : ℕ) (w : WorldState) (is : IsS
       elsewhere_acts : CameElsewhere at left
           → FollowerActs k tells (follower at w g) (follower_view w.time at.direction f'.channel x')
       elsewhere_acts elsewhere =
-          step_seen p settled longest w w' is is' keeps time goes at g f' a b bounds steps h' d.place s s' c.sends seen.news
+          step_seen p settled longest w w' is is' keeps time goes at g f' a b bounds steps h' d.place s s' c.sends
+          seen.news
           (seen.queue_is ∙ ap (λ q. q ++ seen.news) elsewhere.lane)
           (λ y member. subst (λ (z : Bounds). w.time + z.min ≤ y.due) (was at left).bounds (seen.late y member))
           (seen.said ∙ ap (λ q. said_at s' q c.sends) from_is) seen.quiet same own_is

@@ -350,6 +350,7 @@ offsets_are_exact p settled longest link direction w draws done w' place f steps
     subst (λ o. Reads o (messages.FollowUp m)) once.octets_are reads in
     let here = used_here p settled longest w is place f link direction k.octets draws k.answer w' d
     (once.clock_is ∙ ap (λ c. (receiver direction c).clock) channels) m read after there (sym once.answer_is) in
-    exact_of p settled longest w is right carries place f steps h k.octets here.rest here.front m read root is_root offset
+    exact_of p settled longest w is right carries place f steps h k.octets here.rest here.front m read root is_root
+    offset
     (offset_exact p settled longest w is right carries place f steps h k.octets here.rest here.front m read after.system
     here.used late offset left)

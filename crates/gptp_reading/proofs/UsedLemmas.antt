@@ -346,7 +346,8 @@ module _ (p : SettlingParams) (settled longest : ℕ) (w : WorldState) (is : IsS
       (later + jitter_at h.way steps) (read_then t) (root_told k said_time.0 t) said_time.2 in
       subst (AreWithin (reading_error_at h.way steps later)
       (read_at (reading_by s' said offset) (local_time s' t))) (root_is t root r said_time.0 said_time.1)
-      (subst (λ y. AreWithin (reading_error_at h.way steps later) y (root_told k said_time.0 t)) (read_is offset t is_offset)
+      (subst (λ y. AreWithin (reading_error_at h.way steps later) y (root_told k said_time.0 t))
+      (read_is offset t is_offset)
       whole)
 
   pub used_exactly : (later : ℕ) (root : Station) → IsRootOf w (follower_clock place w f) root → (read : ℤ)

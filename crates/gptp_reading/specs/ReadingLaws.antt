@@ -38,7 +38,8 @@ ReadingIsWithin = (least most turnaround root up own above behind delay span cou
 abbrev pub ReadingIsRight : Type 0
 ReadingIsRight = (w : Way) (phase : ℕ → ℕ) (base : Option ℤ) (i : ℕ) (told : Relayed) (sent came now : ℕ)
     (rate delay held : ℤ)
-    → IsOnWay w phase base i told sent came → IsMeasuredAt w i rate delay → IsHeldAt w i told.rate rate held → came ≤ now
+    → IsOnWay w phase base i told sent came → IsMeasuredAt w i rate delay → IsHeldAt w i told.rate rate held
+    → came ≤ now
     → let ingress = shown_at w phase (suc i) came in
     (ahead : ℤ) × (base ≡ Some ahead)
     × AreWithin (33550000 * time_error_at w (suc i) + rates_error_at w i * (now - came))

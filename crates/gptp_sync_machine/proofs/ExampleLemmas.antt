@@ -218,7 +218,8 @@ bridge_adds : IsHeldAt at_bridge.way 0 from_root.told.rate rate from_root.told.r
 bridge_adds = record { fits = omega (arith, ints); nearest = inl refl }
 
 -- what the bridge sends on is right
-bridge_right : FollowUpIsRight at_slave.way at_slave.phase at_slave.base at_slave.place from_bridge.told from_bridge.sent
+bridge_right : FollowUpIsRight at_slave.way at_slave.phase at_slave.base at_slave.place from_bridge.told
+    from_bridge.sent
 bridge_right = parent_tells_right at_bridge says at_slave (relay_due at_bridge from_root) (info at_bridge from_root)
     rate delay from_root.told.rate bridge_is slave_is parent_is
     (runs_keep_inv at_bridge says (ready at_bridge from_root) (relay_due at_bridge from_root)

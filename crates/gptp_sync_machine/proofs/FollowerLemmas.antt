@@ -197,5 +197,6 @@ module _ (k : FollowerSetting) (ahead : ℤ) (none : k.base ≡ None) (says : Li
     is_kept = kept_on inv.arrival s.kept inv.is_kept;
     flows = flows_on inv.arrival s.lane inv.flows;
     known = λ info due known relay late.
-        (let i = inv.known info due known relay late in absurd (nothing_right k.place (follow_up_told info) i.sent i.right));
+        (let i = inv.known info due known relay late in absurd (nothing_right k.place (follow_up_told info) i.sent
+        i.right));
   }

@@ -137,8 +137,8 @@ rates_add w phase base i told sent rate delay right measured =
     }
 
 -- and of the rate after it
-pub rate_behind : (w : Way) (phase : ℕ → ℕ) (base : Option ℤ) (i : ℕ) (told : Relayed) (sent came : ℕ) (rate delay : ℤ) →
-    IsOnWay w phase base i told sent came → IsMeasuredAt w i rate delay → FitsRate (told.rate +ℤ rate) →
+pub rate_behind : (w : Way) (phase : ℕ → ℕ) (base : Option ℤ) (i : ℕ) (told : Relayed) (sent came : ℕ) (rate delay : ℤ)
+    → IsOnWay w phase base i told sent came → IsMeasuredAt w i rate delay → FitsRate (told.rate +ℤ rate) →
     IsRateBehind (clock_at w 0) (clock_at w (suc i)) (rates_error_at w i) (told.rate +ℤ rate)
 rate_behind w phase base i told sent came rate delay on measured fits =
     let (after, e) = natural (unit +ℤ (told.rate +ℤ rate)) (omega (arith, ints, fits)) in
@@ -150,7 +150,8 @@ rate_behind w phase base i told sent came rate delay on measured fits =
     }
 
 -- what was told on the way, at the rate that is held
-pub held_on_way : (w : Way) (phase : ℕ → ℕ) (base : Option ℤ) (i : ℕ) (told : Relayed) (sent came : ℕ) (rate delay held : ℤ) →
+pub held_on_way : (w : Way) (phase : ℕ → ℕ) (base : Option ℤ) (i : ℕ) (told : Relayed) (sent came : ℕ)
+    (rate delay held : ℤ) →
     IsOnWay w phase base i told sent came → IsMeasuredAt w i rate delay → IsHeldAt w i told.rate rate held →
     IsOnWay w phase base i (at_rate told held) sent came
 held_on_way w phase base i told sent came rate delay held on measured at = record {
@@ -166,8 +167,8 @@ pub both_moved : (a b base : ℤ) (passed : ℕ) → b -ℤ a ≡ pos passed →
 both_moved a b base passed is = omega (arith, ints, is)
 
 -- what a bridge adds to the correction isn't negative, and is small
-added_small : (w : Way) (phase : ℕ → ℕ) (base : Option ℤ) (i : ℕ) (told : Relayed) (sent came due : ℕ) (rate delay : ℤ) →
-    IsOnWay w phase base i told sent came → IsMeasuredAt w i rate delay →
+added_small : (w : Way) (phase : ℕ → ℕ) (base : Option ℤ) (i : ℕ) (told : Relayed) (sent came due : ℕ) (rate delay : ℤ)
+    → IsOnWay w phase base i told sent came → IsMeasuredAt w i rate delay →
     IsByMost came due (w.residence + jitter_at w i) → FitsRate (told.rate +ℤ rate) →
     let info = info_of told (shown_at w phase (suc i) came) in
     IsSmall ((link_at w i).most + w.turnaround + w.residence + jitter_at w i + 1)
@@ -183,7 +184,8 @@ added_small w phase base i told sent came due rate delay on measured (later, soo
     (clock_counts.rate (drift_at w (suc i)) drifts) measured.limited measured.delay_within fits count.is count.counted
     (omega (arith, soon, later))
 
-right_behind : (w : Way) (phase : ℕ → ℕ) (base : Option ℤ) (i : ℕ) (told : Relayed) (sent came due : ℕ) (rate delay : ℤ) →
+right_behind : (w : Way) (phase : ℕ → ℕ) (base : Option ℤ) (i : ℕ) (told : Relayed) (sent came due : ℕ)
+    (rate delay : ℤ) →
     IsOnWay w phase base i told sent came → IsMeasuredAt w i rate delay →
     IsByMost came due (w.residence + jitter_at w i) → FitsRate (told.rate +ℤ rate) →
     let info = info_of told (shown_at w phase (suc i) came) in
@@ -231,8 +233,8 @@ bridge_tells_right w phase base i told sent came due rate delay held on measured
     (held_on_way w phase base i told sent came rate delay held on measured at) measured in_time at.fits
 
 -- the numbers fit
-numbers_fit : (w : Way) (phase : ℕ → ℕ) (base : Option ℤ) (i : ℕ) (told : Relayed) (sent came due : ℕ) (rate delay : ℤ) →
-    IsOnWay w phase base i told sent came → IsMeasuredAt w i rate delay →
+numbers_fit : (w : Way) (phase : ℕ → ℕ) (base : Option ℤ) (i : ℕ) (told : Relayed) (sent came due : ℕ) (rate delay : ℤ)
+    → IsOnWay w phase base i told sent came → IsMeasuredAt w i rate delay →
     IsByMost came due (w.residence + jitter_at w i) → FitsRate (told.rate +ℤ rate) →
     most_correction_at w (suc i) < 2 ^ 63 → IsTime (shown_at w phase (suc i) came) →
     IsTime (shown_at w phase (suc i) due) → let info = info_of told (shown_at w phase (suc i) came) in
@@ -263,10 +265,12 @@ numbers_fit w phase base i told sent came due rate delay on measured in_time fit
 pub bridge_numbers_fit : BridgeNumbersFit
 bridge_numbers_fit w phase base i told sent came due rate delay held on measured in_time at short ingress egress =
     numbers_fit w phase base i (at_rate told held) sent came due rate delay
-    (held_on_way w phase base i told sent came rate delay held on measured at) measured in_time at.fits short ingress egress
+    (held_on_way w phase base i told sent came rate delay held on measured at) measured in_time at.fits short ingress
+    egress
 
 -- the offset that is computed from what was told
-offset_within : (w : Way) (phase : ℕ → ℕ) (base : Option ℤ) (i : ℕ) (told : Relayed) (sent came now : ℕ) (rate delay : ℤ) →
+offset_within : (w : Way) (phase : ℕ → ℕ) (base : Option ℤ) (i : ℕ) (told : Relayed) (sent came now : ℕ)
+    (rate delay : ℤ) →
     IsOnWay w phase base i told sent came → IsMeasuredAt w i rate delay → came ≤ now → now ≤ sent + (link_at w i).most →
     let ingress = shown_at w phase (suc i) came in
     (ahead : ℤ) × (base ≡ Some ahead)

@@ -66,10 +66,12 @@ module _ (k : FollowerSetting) (says : List ℕ → Message → Type 0) where
       → s.known ≡ Some info → s.relay ≡ Some s.time → from k + k.way.residence ≤ s.time
       → IsMeasuredAt k.way k.place rate delay → IsHeldAt k.way k.place info.rate rate held
       → let used = record info { rate = held } in
-      FollowUpIsRight k.way k.phase k.base (suc k.place) (relayed used (bridge used delay rate (own_clock k s.time))) s.time
+      FollowUpIsRight k.way k.phase k.base (suc k.place) (relayed used (bridge used delay rate (own_clock k s.time)))
+      s.time
   relay_tells_right s info rate delay held is inv known relay late measured at =
       let i = inv.known info s.time known relay late in
-      let right = bridge_tells_right k.way k.phase k.base k.place (follow_up_told info) i.sent i.came s.time rate delay held
+      let right = bridge_tells_right k.way k.phase k.base k.place (follow_up_told info) i.sent i.came s.time rate delay
+      held
       (on_way k (follow_up_told info) i.sent i.came i.heard is i.carried i.right) measured (stays info s.time i) at in
       subst (λ (x : SyncInfo). FollowUpIsRight k.way k.phase k.base (suc k.place)
       (relayed x (bridge x delay rate (own_clock k s.time))) s.time) (info_is info s.time held i) right
@@ -86,7 +88,8 @@ module _ (k : FollowerSetting) (says : List ℕ → Message → Type 0) where
   parents_numbers_fit s info rate delay held is inv known relay late measured at short shown =
       let i = inv.known info s.time known relay late in
       let stay = stays info s.time i in
-      let fits = bridge_numbers_fit k.way k.phase k.base k.place (follow_up_told info) i.sent i.came s.time rate delay held
+      let fits = bridge_numbers_fit k.way k.phase k.base k.place (follow_up_told info) i.sent i.came s.time rate delay
+      held
       (on_way k (follow_up_told info) i.sent i.came i.heard is i.carried i.right) measured stay at short
       (shown i.came stay.0) (shown s.time (omega arith)) in
       subst (λ (x : SyncInfo). BridgeFits (bridge x delay rate (own_clock k s.time))
@@ -97,7 +100,8 @@ module _ (k : FollowerSetting) (says : List ℕ → Message → Type 0) where
       → s.known ≡ Some info → s.relay ≡ Some s.time → from k' ≤ s.time + (parent_link k').most
       → IsMeasuredAt k.way k.place rate delay → IsHeldAt k.way k.place info.rate rate held
       → let used = record info { rate = held } in
-      FollowUpIsRight k'.way k'.phase k'.base k'.place (relayed used (bridge used delay rate (own_clock k s.time))) s.time
+      FollowUpIsRight k'.way k'.phase k'.base k'.place (relayed used (bridge used delay rate (own_clock k s.time)))
+      s.time
   parent_tells_right k' s info rate delay held is is' parent inv known relay late measured at =
       let used : SyncInfo = record info { rate = held } in
       let right = relay_tells_right s info rate delay held is inv known relay

@@ -54,7 +54,8 @@ module _ (says : List ℕ → Message → Type 0) where
       → s.known ≡ Some info → s.relay ≡ Some s.time → from k' ≤ s.time + (parent_link k').most
       → IsMeasuredAt k.way k.place rate delay → IsHeldAt k.way k.place info.rate rate held
       → let used = record info { rate = held } in
-      FollowUpIsRight k'.way k'.phase k'.base k'.place (relayed used (bridge used delay rate (own_clock k s.time))) s.time
+      FollowUpIsRight k'.way k'.phase k'.base k'.place (relayed used (bridge used delay rate (own_clock k s.time)))
+      s.time
 
   -- The numbers of what a bridge sends on fit, from a residence after the time from which on what comes is right.
   abbrev pub ParentsNumbersFit : Type 0

@@ -41,9 +41,10 @@ most_correction_at w i = 65536
 abbrev pub told_at : Way → (ℕ → ℕ) → ℤ → ℕ → ℤ
 told_at w phase base t = shown_at w phase 0 t +ℤ base
 
--- What a Follow_Up tells is right, as its Sync is sent over the link at a place at that time, in ns: the root has a base
--- by which it tells time, origin and correction are what it tells then, and the correction is what passed since the origin; the rate is the sum of
--- the neighbour rates up to there, and a number of 32 bits (IEEE 802.1AS-2020, 11.4.4).
+-- What a Follow_Up tells is right, as its Sync is sent over the link at a place at that time, in ns: the root has a
+-- base by which it tells time, origin and correction are what it tells then, and the correction is what passed since
+-- the origin; the rate is the sum of the neighbour rates up to there, and a number of 32 bits (IEEE 802.1AS-2020,
+-- 11.4.4).
 pub record FollowUpIsRight (w : Way) (phase : ℕ → ℕ) (base : Option ℤ) (i : ℕ) (told : Relayed) (sent : ℕ) : Type 0
   where
     pub ahead : ℤ

@@ -57,7 +57,8 @@ pub record IsOnWay (w : Way) (phase : ℕ → ℕ) (base : Option ℤ) (i : ℕ)
 -- where it keeps the Sync for at most the jitter and a residence: the jitter until the Follow_Up comes, and a residence
 -- from then on.
 abbrev pub BridgeTellsRight : Type 0
-BridgeTellsRight = (w : Way) (phase : ℕ → ℕ) (base : Option ℤ) (i : ℕ) (told : Relayed) (sent came due : ℕ) (rate delay held : ℤ)
+BridgeTellsRight = (w : Way) (phase : ℕ → ℕ) (base : Option ℤ) (i : ℕ) (told : Relayed) (sent came due : ℕ)
+    (rate delay held : ℤ)
     → IsOnWay w phase base i told sent came → IsMeasuredAt w i rate delay
     → IsByMost came due (w.residence + jitter_at w i) → IsHeldAt w i told.rate rate held
     → let info = info_of (at_rate told held) (shown_at w phase (suc i) came) in
@@ -66,7 +67,8 @@ BridgeTellsRight = (w : Way) (phase : ℕ → ℕ) (base : Option ℤ) (i : ℕ)
 -- all numbers by which a bridge sends a Sync on fit, where it has measured the link well, keeps the Sync for at most
 -- the jitter and a residence, and the correction may have 63 bits
 abbrev pub BridgeNumbersFit : Type 0
-BridgeNumbersFit = (w : Way) (phase : ℕ → ℕ) (base : Option ℤ) (i : ℕ) (told : Relayed) (sent came due : ℕ) (rate delay held : ℤ)
+BridgeNumbersFit = (w : Way) (phase : ℕ → ℕ) (base : Option ℤ) (i : ℕ) (told : Relayed) (sent came due : ℕ)
+    (rate delay held : ℤ)
     → IsOnWay w phase base i told sent came → IsMeasuredAt w i rate delay
     → IsByMost came due (w.residence + jitter_at w i) → IsHeldAt w i told.rate rate held
     → most_correction_at w (suc i) < 2 ^ 63
@@ -78,7 +80,8 @@ BridgeNumbersFit = (w : Way) (phase : ℕ → ℕ) (base : Option ℤ) (i : ℕ)
 -- The offset that a system computes at a Follow_Up, which is its clock as the Sync came less the root's time then, is
 -- within the time error of what its clock shows as the Follow_Up comes less what the root tells.
 abbrev pub OffsetIsRight : Type 0
-OffsetIsRight = (w : Way) (phase : ℕ → ℕ) (base : Option ℤ) (i : ℕ) (told : Relayed) (sent came now : ℕ) (rate delay held : ℤ)
+OffsetIsRight = (w : Way) (phase : ℕ → ℕ) (base : Option ℤ) (i : ℕ) (told : Relayed) (sent came now : ℕ)
+    (rate delay held : ℤ)
     → IsOnWay w phase base i told sent came → IsMeasuredAt w i rate delay → IsHeldAt w i told.rate rate held
     → came ≤ now → now ≤ sent + (link_at w i).most
     → let ingress = shown_at w phase (suc i) came in
