@@ -54,6 +54,14 @@ def line(systems, network=RARE_SYNCS, least=500, most=500, drift=None):
     return text
 
 
+def star():
+    """A system with sixteen ports, each joined to a system of its own: with clocks from 1, that in the middle first."""
+    text = "version = 1\n"
+    for number in range(1, 18):
+        text += f'[[system]]\nclock = "{clock(number)}"\nports = {16 if number == 1 else 1}\n'
+    return text + "".join(link(1, port, port + 1, 1, 500, 500) for port in range(1, 17))
+
+
 def line_that_breaks():
     """257 systems, of which the one with clock 255 fails at 10 s."""
     return f'{line(257)}[[event]]\nat = 10000000000\nkind = "fail"\nclock = "{clock(255)}"\n'
@@ -139,6 +147,7 @@ def files():
         "line_of_9.toml": line(9),
         "line_of_300.toml": line(300),
         "line_of_257_that_breaks.toml": line_that_breaks(),
+        "star_of_17.toml": star(),
         "drifting_line_of_3.toml": line(3, SLOW_BRIDGES, drift=-FASTEST),
         "drifting_line_of_65.toml": line(65, SLOW_BRIDGES, 392, 400, FASTEST),
         "steady_line_of_65.toml": line(65, SLOW_BRIDGES, 392, 400, 0),

@@ -143,6 +143,8 @@ const ORDER: TimelineOrder = TimelineOrder {
                 None,
                 None,
                 None,
+                None,
+                None,
             ],
         },
     },

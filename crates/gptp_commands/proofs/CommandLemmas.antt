@@ -19,7 +19,7 @@ use Rattle.gptp_commands.specs.declared.command.Order.TheVariants.{Ask, Check, C
 use Rattle.gptp_commands.specs.declared.question.Question.{Question}
 use Rattle.gptp_commands.specs.declared.question.Question.TheVariants.{Accuracy, Choice, Explain, Lint}
 use Rattle.gptp_commands.specs.declared.table.Form.TheVariants.{Number}
-use Rattle.gptp_commands.specs.declared.table.rows.TheConstants.{SEED}
+use Rattle.gptp_commands.specs.declared.table.rows.TheConstants.{DETECT, SEED}
 use Rattle.gptp_commands.proofs.NameLemmas.{begins, compare_entered, compares}
 use Rattle.gptp_commands.proofs.OptionLemmas.{default_within, number_within}
 
@@ -120,7 +120,8 @@ taken words e (inr (inr (none, inr (rows, entered_is, wrong)))) is =
     let right : LacksKind rows ⊎ LacksPart rows → ⊥ = subst (λ found. IfSome found IsRightOrder) entered_is is.right in
     absurd (right (lacks rows e wrong))
 
--- ---- the numbers of what is asked for are in their ranges: an end, a seed, a count, those of a question, and all
+-- ---- the numbers of what is asked for are in their ranges: an end, a delay, a seed, a count, those of a question, and
+-- all
 
 upper : (found : Option ℕ) (least most : ℕ) → IfSome found (λ n. (least ≤ n) × (n ≤ most))
     → IfSome found (λ n. n ≤ most)
@@ -132,6 +133,17 @@ end_in_range : (name : Text) (least : ℕ) (rows : List Row) (end : Option ℕ)
 end_in_range name least rows end is =
     subst IsEndInRange (sym is)
     (upper _ least 1000000000000000 (number_within name [] least 1000000000000000 rows))
+
+lower : (found : Option ℕ) (least most : ℕ) → IfSome found (λ n. (least ≤ n) × (n ≤ most))
+    → IfSome found (λ n. least ≤ n)
+lower None least most within = tt
+lower (Some n) least most within = within.0
+
+delay_in_range : (rows : List Row) (delay : Option ℕ) → delay ≡ option_number (the DETECT) rows
+    → IfSome delay (λ n. 1 ≤ n)
+delay_in_range rows delay is =
+    subst (λ d. IfSome d (λ n. 1 ≤ n)) (sym is)
+    (lower _ 1 1000000000000000 (number_within (codes "detect") [] 1 1000000000000000 rows))
 
 seed_in_range : (rows : List Row) (seed : ℕ) → seed ≡ unwrap_or (option_number (the SEED) rows) 1 → seed < 2 ^ 32
 seed_in_range rows seed is =
@@ -187,6 +199,8 @@ asked_in_range words (Faults options) asks =
       moments = moments.1;
       at = end_in_range (codes "at") 0 rows options.at reads.at;
       hold = end_in_range (codes "hold") 1 rows options.hold reads.hold;
+      some_detect = delay_in_range rows options.detect reads.detect;
+      detect = end_in_range (codes "detect") 1 rows options.detect reads.detect;
       some_part = part.0;
       part = reads.there;
       parts = parts.1;

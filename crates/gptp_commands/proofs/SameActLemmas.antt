@@ -232,26 +232,25 @@ same_aside_behind a t u k =
     same_aside_after a t.told.timed.act t.told.done u.told.done k.done
     ∙ (λ i. aside_after (k.timed i).act u.told.done a)
 
+looked_so : (t u : ActTrace) (ts us : List ActTrace) → IsSameTransition t u → SameTransitions ts us → (p q : Bool)
+    → p ≡ q → SameTransitions (if p then ts else t ∷ ts) (if q then us else u ∷ us)
+looked_so t u ts us first rest true true same = rest
+looked_so t u ts us first rest false false same = (first, rest)
+looked_so t u ts us first rest true false same = absurd cc
+looked_so t u ts us first rest false true same = absurd cc
+
 -- the same acts are looked at
 pub same_looked_acts : (a : AsideState) (ts us : List ActTrace) → SameTransitions ts us
     → SameTransitions (looked_acts a ts) (looked_acts a us)
 same_looked_acts a [] [] k = tt
 same_looked_acts a [] (u ∷ us) k = absurd k
 same_looked_acts a (t ∷ ts) [] k = absurd k
-same_looked_acts a (t ∷ ts) (u ∷ us) (first, rest) = by (is_out a t) (is_out a u) (same_out a t u first)
-  where
-    later : SameTransitions (looked_acts (aside_behind t a) ts) (looked_acts (aside_behind u a) us)
-    later =
-        subst (λ (b : AsideState). SameTransitions (looked_acts (aside_behind t a) ts) (looked_acts b us))
-        (same_aside_behind a t u first) (same_looked_acts (aside_behind t a) ts us rest)
-
-    by : (p q : Bool) → p ≡ q
-        → SameTransitions (if p then looked_acts (aside_behind t a) ts else t ∷ looked_acts (aside_behind t a) ts)
-        (if q then looked_acts (aside_behind u a) us else u ∷ looked_acts (aside_behind u a) us)
-    by true true same = later
-    by false false same = (first, later)
-    by true false same = absurd cc
-    by false true same = absurd cc
+same_looked_acts a (t ∷ ts) (u ∷ us) (first, rest) =
+    let later : SameTransitions (looked_acts (aside_behind t a) ts) (looked_acts (aside_behind u a) us) =
+    subst (λ (b : AsideState). SameTransitions (looked_acts (aside_behind t a) ts) (looked_acts b us))
+    (same_aside_behind a t u first) (same_looked_acts (aside_behind t a) ts us rest) in
+    looked_so t u (looked_acts (aside_behind t a) ts) (looked_acts (aside_behind u a) us) first later (is_out a t)
+    (is_out a u) (same_out a t u first)
 
 same_aside_over : (a : AsideState) (ts us : List ActTrace) → SameTransitions ts us
     → aside_over ts a ≡ aside_over us a

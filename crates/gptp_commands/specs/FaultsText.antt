@@ -3,19 +3,18 @@ use Rattle.std.specs.Prelude.{◌≡◌, ◌⊎◌, ℕ, Bool, List}
 use Rattle.gptp_network.specs.declared.fault.DocumentFault.{DocumentFault}
 use Rattle.gptp_network.specs.Document.{DocumentState}
 use Rattle.gptp_faults.specs.Faults.{FaultsOf}
-use Rattle.gptp_faults.specs.Laws.{FollowSettled}
+use Rattle.gptp_faults.specs.Laws.{LinesHold}
 use Rattle.gptp_faults.specs.Refusals.{RefusesFaults}
 use Rattle.gptp_faults.specs.declared.options.FaultsOptions.{FaultsOptions}
 use Rattle.gptp_commands.specs.declared.failure.Status.{Status}
 use Rattle.gptp_commands.specs.Failure.{status_by}
 use Rattle.gptp_commands.specs.Documents.{Answers, AnswersInput, RefusesFault}
 
--- The table of its cases, whose `follow` lines are those of the settled choice where a case stays down as long as the
--- calm network takes at most to settle. It is refused where a limit is exceeded, and where it would be with the two
--- events of some run.
+-- The table of its cases, of which the lines hold. It is refused where a limit is exceeded, and where it would be with
+-- the events of some run.
 abbrev pub TellsFaults : DocumentState → FaultsOptions → List (List ℕ) → Status → Type 0
 TellsFaults d options output status =
-    ((exceeded : Bool) × (f : FaultsOf d options output exceeded) × FollowSettled d options f.times.from f.outcomes
+    ((exceeded : Bool) × (f : FaultsOf d options output exceeded) × LinesHold d options f.times f.outcomes
     × (status ≡ status_by exceeded))
     ⊎ ((fault : DocumentFault) × RefusesFaults d options fault × RefusesFault fault output status)
 

@@ -14,7 +14,7 @@ use crate::failure::{SimError, Status};
 use crate::output::Output;
 use crate::reading::read_whole;
 use crate::source::Source;
-use gptp_faults::{Answer, FaultsOptions, fail_each, follow_lines_settle};
+use gptp_faults::{Answer, FaultsOptions, fail_each, follow_lines_settle, lines_settle_within};
 use gptp_network::{Document, DocumentFault};
 use gptp_report::sink::Sink;
 use gptp_report::write_whole;
@@ -37,6 +37,7 @@ fn answer_document<P: Sink>(
     document.well_formed();
     document.network().well_formed();
     follow_lines_settle();
+    lines_settle_within();
     match fail_each(alloc, document, options, progress) {
         Ok(Answer::Refused(fault)) => refuse(alloc, fault),
         Ok(Answer::Table { text, exceeded }) => {

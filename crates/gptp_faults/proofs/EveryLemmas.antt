@@ -8,6 +8,7 @@ use Rattle.gptp_faults.specs.Cases.{AreCases}
 use Rattle.gptp_faults.specs.EveryLaws.{EachHasFaults, HasFaults, RunsEnd}
 use Rattle.gptp_faults.specs.Faults.{FaultsOf}
 use Rattle.gptp_faults.specs.FaultsText.{exceeds_limit, table_lines}
+use Rattle.gptp_faults.specs.Laws.{LinesHold}
 use Rattle.gptp_faults.specs.Refusals.{any_late, fault_before}
 use Rattle.gptp_faults.specs.Times.{AreOptions, AreTimes}
 use Rattle.gptp_faults.specs.declared.cases.Case.{Case}
@@ -17,6 +18,7 @@ use Rattle.gptp_faults.proofs.EveryOutcomeLemmas.{outcomes_exist}
 use Rattle.gptp_faults.proofs.EveryPlanLemmas.{cases_exist, times_exist}
 use Rattle.gptp_faults.proofs.EveryRankingLemmas.{each_is_ranked}
 use Rattle.gptp_faults.proofs.FollowLemmas.{follow_settles}
+use Rattle.gptp_faults.proofs.WithinLemmas.{lines_within}
 
 module _ (d : DocumentState) (options : FaultsOptions) (playable : IsPlayable d) (runs : RunsEnd d)
     (asked : AreOptions options) (least : IfSome options.hold (λ hold. 1 ≤ hold)) (cases : List Case)
@@ -43,7 +45,11 @@ module _ (d : DocumentState) (options : FaultsOptions) (playable : IsPlayable d)
         are = refl;
         exceeded_is = refl;
       } in
-      inl (lines, exceeded, table, follow_settles d options lines exceeded table playable)
+      let hold : LinesHold d options t outcomes = (
+        follow_settles d options lines exceeded table playable,
+        lines_within d options lines exceeded table playable,
+      ) in
+      inl (lines, exceeded, table, hold)
 
   -- by whether one is late
   by_late : (late : Bool) → fault_before d options t cases ≡ None → any_late d options t cases ≡ late

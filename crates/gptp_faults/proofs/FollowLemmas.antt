@@ -48,7 +48,7 @@ use Rattle.gptp_faults.proofs.ReturnLemmas.{are_last, by_fault, whole_network}
 -- ---- two lists, member by member
 
 -- each of the one is there for one of the other
-each_for : {X Y : Type 0} (P : X → Y → Type 0) (xs : List X) (ys : List Y) (y : Y) → Each P xs ys → In y ys
+pub each_for : {X Y : Type 0} (P : X → Y → Type 0) (xs : List X) (ys : List Y) (y : Y) → Each P xs ys → In y ys
     → (x : X) × In x xs × P x y
 each_for P [] [] y each member = absurd member
 each_for P [] (z ∷ zs) y each member = absurd each

@@ -22,6 +22,7 @@ mod ReturnLemmas
 mod WellLemmas
 mod LivedLemmas
 mod FollowLemmas
+mod WithinLemmas
 pub mod OrderLemmas
 pub mod OneLemmas
 mod EveryRankingLemmas

@@ -1,11 +1,9 @@
 -- Systems by their places, and how many there are.
-use Rattle.std.proofs.Common.{◌≡◌, ◌≤◌, ◌+◌, ◌++◌, ℕ, zero, suc, Bool, true, false, if◌then◌else◌, List, [], ◌∷◌, length, map, filter, take, slice_get, Option, Some, None, option_map, refl, sym, ap, subst, ◌∙◌, arith}
+use Rattle.std.proofs.Common.{◌≡◌, ◌≤◌, ◌+◌, ◌++◌, ℕ, suc, Bool, true, false, if◌then◌else◌, List, [], ◌∷◌, length, map, filter, take, slice_get, Some, None, refl, sym, ap, subst, arith}
 use Rattle.std.specs.List.{AllByRecursion}
 use Rattle.std.proofs.lemmas.List.{length-map}
 use Rattle.gptp_graph.specs.Snapshot.{clocks, Snapshot, System}
 use Rattle.gptp_lists.proofs.MappedLemmas.{taken}
-use Rattle.gptp_network.specs.Snapshot.{system_of}
-use Rattle.gptp_roles.specs.Selection.{clock_of}
 use Rattle.gptp_timeline.specs.Each.{Each}
 use Rattle.gptp_faults.specs.Parts.{AreFew, ArePlaced, ArePlacedBy, is_kept, is_of, IsPlaced, kept, leads, part_of, parts_of, weigh_among, weighed}
 use Rattle.gptp_faults.specs.declared.parts.Placed.{Placed}
@@ -15,35 +13,18 @@ use Rattle.gptp_faults.proofs.EachLemmas.{each_more}
 
 -- ---- by place
 
-slice_map : {X Y : Type 0} (f : X → Y) (xs : List X) (i : ℕ) → slice_get (map f xs) i ≡ option_map f (slice_get xs i)
-slice_map f [] i = refl
-slice_map f (x ∷ xs) zero = refl
-slice_map f (x ∷ xs) (suc i) = slice_map f xs i
-
 -- one more is placed
-pub placed_more : (g g' : Snapshot) (place identity ports : ℕ) (x : Placed) (xs : List Placed)
-    → ArePlacedBy g g' place xs → Some (system_of (identity, ports)) ≡ slice_get g'.systems place
-    → IsPlaced g g' (clock_of identity) x → ArePlacedBy g g' (place + 1) (xs ++ x ∷ [])
-placed_more g g' place identity ports x xs so_far at is =
-    let there : slice_get (clocks g') place ≡ Some (clock_of identity) =
-    slice_map (λ (s : System). s.clock) g'.systems place
-    ∙ ap (option_map (λ (s : System). s.clock)) (sym at) in
-    subst (λ names. Each (IsPlaced g g') names (xs ++ x ∷ [])) (sym (taken (clocks g') place (clock_of identity) there))
-    (each_more (IsPlaced g g') (take place (clocks g')) xs (clock_of identity) x so_far is)
+pub placed_more : (g g' : Snapshot) (place clock : ℕ) (x : Placed) (xs : List Placed) → ArePlacedBy g g' place xs
+    → slice_get (clocks g') place ≡ Some clock → IsPlaced g g' clock x → ArePlacedBy g g' (place + 1) (xs ++ x ∷ [])
+placed_more g g' place clock x xs so_far there is =
+    subst (λ names. Each (IsPlaced g g') names (xs ++ x ∷ [])) (sym (taken (clocks g') place clock there))
+    (each_more (IsPlaced g g') (take place (clocks g')) xs clock x so_far is)
 
 -- there is none at the place
 pub placed_none : (g g' : Snapshot) (place : ℕ) (xs : List Placed) → ArePlacedBy g g' place xs
-    → slice_get g'.systems place ≡ None → ArePlacedBy g g' (place + 1) xs
+    → slice_get (clocks g') place ≡ None → ArePlacedBy g g' (place + 1) xs
 placed_none g g' place xs so_far none =
-    let there : slice_get (clocks g') place ≡ None =
-    slice_map (λ (s : System). s.clock) g'.systems place
-    ∙ ap (option_map (λ (s : System). s.clock)) none in
-    subst (λ names. Each (IsPlaced g g') names xs) (sym (none_more (clocks g') place there)) so_far
-
--- no system is there
-pub no_system : (o : Option (ℕ × ℕ)) (found : Option System) → option_map system_of o ≡ found → o ≡ None
-    → found ≡ None
-no_system o found is none = sym is ∙ ap (option_map system_of) none
+    subst (λ names. Each (IsPlaced g g') names xs) (sym (none_more (clocks g') place none)) so_far
 
 -- ---- how many there are
 

@@ -9,7 +9,7 @@ use Rattle.gptp_timeline.specs.LastStretches.{EndsOf}
 use Rattle.gptp_timeline.specs.declared.ends.LastStretches.{LastStretches}
 use Rattle.gptp_faults.specs.CaseEvents.{EventsState}
 use Rattle.gptp_faults.specs.Faults.{FaultsOf}
-use Rattle.gptp_faults.specs.Laws.{FollowSettled}
+use Rattle.gptp_faults.specs.Laws.{LinesHold}
 use Rattle.gptp_faults.specs.Refusals.{RefusesFaults}
 use Rattle.gptp_faults.specs.Runs.{draws}
 use Rattle.gptp_faults.specs.Stays.{with_case}
@@ -26,12 +26,11 @@ RunsEnd d = (asked : Bool) (aside : AsideState) (e : EventsState) (at hold until
     → IsPlayable (with_case at hold e d) → until ≤ 1000000000000000
     → HasEnds asked aside (with_case at hold e d) until fate
 
--- a table whose `follow` lines are those of the settled choice where faults stay as long as the network takes at most
--- to settle, or a refusal
+-- a table whose lines hold, or a refusal
 abbrev pub HasFaults : DocumentState → FaultsOptions → Type 0
 HasFaults d options =
     ((lines : List (List ℕ)) × (exceeded : Bool) × (f : FaultsOf d options lines exceeded)
-    × FollowSettled d options f.times.from f.outcomes)
+    × LinesHold d options f.times f.outcomes)
     ⊎ ((fault : DocumentFault) × RefusesFaults d options fault)
 
 -- Each document that can be played has one of them where its runs end and a fault stays for some time.

@@ -20,7 +20,7 @@ use std::marker::Model;
 
 /// What is done to a network in a case.
 #[derive(Clone, Copy, Debug)]
-pub(crate) enum CaseChange {
+pub enum CaseChange {
     /// The link at a port goes down.
     LinkDown(PortId),
     /// The link at a port comes up.

@@ -25,6 +25,7 @@ mod time_text;
 mod times;
 mod whole;
 
+pub use case_events::CaseChange;
 pub use faults::{Answer, fail_each};
-pub use laws::follow_lines_settle;
+pub use laws::{follow_lines_settle, lines_settle_within};
 pub use options::{FaultsOptions, Only};

@@ -83,8 +83,9 @@ pub(crate) struct CaseParts {
 }
 
 impl Components {
-    ghost use Rattle.std.specs.Prelude.{◌≡◌, IfOk, IfSome};
+    ghost use Rattle.std.specs.Prelude.{◌≡◌, IfOk, IfSome, slice_get};
     ghost use Rattle.gptp_graph.specs.SettledChoice.{IsBestIdentity};
+    ghost use Rattle.gptp_graph.specs.Snapshot.{clocks};
     ghost use Rattle.gptp_network.specs.Snapshot.{IsSnapshot};
     ghost use Rattle.gptp_scenario.specs.Calm.{last_change};
 
@@ -102,6 +103,14 @@ impl Components {
         ensures { result.now ≡ self.now }
     {
         &self.snapshot
+    }
+
+    /// The clock of the live system at a place, by rising clock.
+    fn clock_at(&self, place: usize) -> Option<ClockId>
+        ensures { result ≡ slice_get (clocks self.now) place }
+    {
+        let (identity, _) = self.snapshot.system_at(place)?;
+        Some(identity.clock())
     }
 
     /// The best of the component of the live system with a clock.
@@ -148,8 +157,8 @@ fn push_live(
     ensures placed { OnOk result (ArePlacedBy before.now after.now (place + 1) all.new.items) }
     ensures memory { IfErr result (λ e. e ≡ Cut.Memory) }
 {
-    if let Some((identity, _)) = after.snapshot().system_at(place) {
-        let one = place_system(before, after, identity.clock())?;
+    if let Some(clock) = after.clock_at(place) {
+        let one = place_system(before, after, clock)?;
         push_placed(all, one)?;
     }
     Ok(())

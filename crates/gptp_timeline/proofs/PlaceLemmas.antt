@@ -78,6 +78,11 @@ error_none clock (y ∷ ys) none =
 
 -- ---- a search by clock
 
+there_is : (xs : List Watched) (i : ℕ) → i < length xs → (x : Watched) × (slice_get xs i ≡ Some x)
+there_is [] i h = absurd (omega arith)
+there_is (x ∷ xs) zero h = (x, refl)
+there_is (x ∷ xs) (suc i) h = there_is xs i (omega arith)
+
 module _ (systems : List Watched) (clock : ℕ) (rising : WatchedRise systems) where
   -- the place at which the system stands is that of its clock
   pub stands_there : (place : ℕ) (x : Watched) → slice_get systems place ≡ Some x → x.clock ≡ clock
@@ -87,6 +92,12 @@ module _ (systems : List Watched) (clock : ℕ) (rising : WatchedRise systems) w
       place_is clock 0 place systems x at named
       (λ j y there same. same_place clock_of_watched systems j place y x rising there at (same ∙ sym named))
       ∙ ap Some count
+
+  pub placed_there : (place : ℕ) → place < length systems
+      → ((x : Watched) → slice_get systems place ≡ Some x → x.clock ≡ clock) → place_from clock 0 systems ≡ Some place
+  placed_there place below named =
+      let (x, at) = there_is systems place below in
+      stands_there place x at (named x at)
 
   -- a search ends where the system stands
   pub searched : (r : Result ℕ ℕ) → IsSearchInRange r (length systems)

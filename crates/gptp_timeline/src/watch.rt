@@ -326,14 +326,10 @@ impl Watch {
 
     /// Whether the system with a clock stands at a place.
     fn stands_at(&self, clock: ClockId, place: usize) -> bool
-        ensures is { result ≡ true → place_of clock self.now ≡ Some place }
         ensures within { result ≡ true → place < length self.now.systems }
         ensures named { result ≡ true → (x : Watched) → slice_get self.now.systems place ≡ Some x → x.clock ≡ clock }
     {
-        match self.systems.get(place) {
-            Some(system) => system.clock == clock,
-            None => false,
-        }
+        place < self.count() && self.clock_at(place) == clock
     }
 
     /// The place of a system, by its clock.

@@ -1,8 +1,8 @@
 -- From one receipt that counts to the next it is no longer than a system waits for Sync, and so what it reads is always
 -- exact.
-use Rattle.std.proofs.Common.{◌≡◌, ◌==◌, ◌⊎◌, ◌≤◌, ◌<◌, ◌+◌, ◌-◌, ◌*◌, ◌^◌, ◌&&◌, not, ℕ, Bool, true, false, nat_le, nat_lt, List, [], ◌∷◌, ◌++◌, length, map, Option, Some, None, option_map, option_and_then, if◌then◌else◌, unsigned_abs, refl, sym, ap, subst, ◌∙◌, inl, inr, append_assoc, append-nil, arith}
+use Rattle.std.proofs.Common.{◌≡◌, ◌==◌, ◌⊎◌, ◌≤◌, ◌<◌, ◌+◌, ◌-◌, ◌*◌, ◌^◌, ◌&&◌, not, ℕ, ℤ, Bool, true, false, nat_le, nat_lt, List, [], ◌∷◌, ◌++◌, length, map, Option, Some, None, option_map, option_and_then, if◌then◌else◌, unsigned_abs, refl, sym, ap, subst, ◌∙◌, inl, inr, append_assoc, append-nil, arith}
 use Rattle.std.specs.List.{AllByRecursion}
-use Rattle.std.specs.Prelude.{is_some}
+use Rattle.std.specs.Prelude.{is_some, IsSome}
 use Rattle.std.proofs.Math.Nat.{mul-le-mul_right}
 use Rattle.std.proofs.lemmas.Bool.Decides.{nat_tests}
 use Rattle.std.proofs.lemmas.Option.{none-some, same_Some}
@@ -12,11 +12,13 @@ use Rattle.gptp_accuracy.specs.TimeErrors.{AreTimeErrors, greatest_age}
 use Rattle.gptp_accuracy.specs.TimeErrors as errors_of
 use Rattle.gptp_accuracy.specs.declared.errors.SystemError.{SystemError}
 use Rattle.gptp_accuracy.specs.declared.errors.TimeErrors.{TimeErrors}
+use Rattle.gptp_correction.specs.declared.sync_in.SyncInfo.{SyncInfo}
 use Rattle.gptp_graph.specs.Best.{IsBest}
 use Rattle.gptp_graph.specs.Distance.{IsDistance}
 use Rattle.gptp_links.specs.declared.bounds.Bounds.{Bounds}
 use Rattle.gptp_lists.specs.Members.{In}
-use Rattle.gptp_lists.proofs.SystemSpecLemmas.{In-parts, In-right, slice_get-In}
+use Rattle.gptp_lists.proofs.SystemSpecLemmas.{In-left, In-parts, In-right, slice_get-In}
+use Rattle.gptp_model.specs.Acts.{at}
 use Rattle.gptp_model.specs.Views.{rising_clocks}
 use Rattle.gptp_model.specs.World.{WorldState}
 use Rattle.gptp_network.specs.Document.{DocumentState}
@@ -37,14 +39,17 @@ use Rattle.gptp_scenario.proofs.LogLemmas.{largest_log}
 use Rattle.gptp_settling_time.specs.HowSoon.{BoundsChoice, IsChoiceBound}
 use Rattle.gptp_settling_time.proofs.MomentLemmas.{last_by}
 use Rattle.gptp_setup.proofs.IntervalLemmas.{interval_positive}
-use Rattle.gptp_system.specs.State.{can_lead}
+use Rattle.gptp_system.specs.Reading.{held_reading, reading_by}
+use Rattle.gptp_system.specs.State.{can_lead, local_time, SystemState}
+use Rattle.gptp_system.specs.declared.reading.Reading.{Reading}
 use Rattle.gptp_theorem.specs.PlayedLaws.{IsPlayable}
 use Rattle.gptp_theorem.proofs.SettlingInvariantLemmas.{each_there}
 use Rattle.gptp_timeline.specs.ExactReads.{counts_new, ended_reads, greater_of, later_of, reads_among, reads_by, reads_ended, reads_next, reads_over, reads_with, unread}
 use Rattle.gptp_timeline.specs.Jumps.{error_before}
 use Rattle.gptp_timeline.specs.Laws.{SayBound}
 use Rattle.gptp_timeline.specs.Looks.{events_left}
-use Rattle.gptp_timeline.specs.Readings.{new_in, read_after, reading_among, reading_error, readings_after}
+use Rattle.gptp_timeline.specs.Readings.{clock_time, new_in, read_after, read_by, reading_among, reading_error, readings_after}
+use Rattle.gptp_timeline.specs.Shown.{live_system}
 use Rattle.gptp_timeline.specs.Stretch.{at_of, is_change, receives}
 use Rattle.gptp_timeline.specs.Timeline.{AllPass, AreErrorsBy, Carried, end_before, later_than, none_carried, now_of, StretchTrace, TimelineOf, tracks}
 use Rattle.gptp_timeline.specs.declared.exact_reads.ExactReads.{ExactReads}
@@ -54,21 +59,28 @@ use Rattle.gptp_timeline.specs.declared.readings.SystemReading.{SystemReading}
 use Rattle.gptp_timeline.specs.declared.timeline.TimelineOptions.{TimelineOptions}
 use Rattle.gptp_timeline.proofs.EventLemmas.{Each, filter_each, filter_in_order}
 use Rattle.gptp_timeline.proofs.PastLemmas.{all_past, PastBy}
+use Rattle.gptp_timeline.proofs.RestLemmas.{lives_there}
 use Rattle.gptp_timeline.proofs.SettlingLemmas.{events_then, IsFitEvent, Keeps}
 use Rattle.gptp_timeline.proofs.WithinLemmas.{past_behind}
-use Rattle.gptp_timeline_laws.specs.Age.{GetsTime, ReceivedWithin, TimelinesAreAlwaysExact, TimelinesHearAgainInTime, wait_at}
+use Rattle.gptp_timeline_laws.specs.Age.{GetsTime, ReceivedWithin, TimelinesAlwaysHaveTime, TimelinesAreAlwaysExact, TimelinesHearAgainInTime, wait_at}
 use Rattle.gptp_timeline_laws.specs.Exact.{last_receipt, reads_from}
-use Rattle.gptp_timeline_laws.specs.Moments.{BeginsWith, last_time, Moment}
+use Rattle.gptp_timeline_laws.specs.Moments.{BeginsWith, HasTime, last_time, Moment, world_after}
+use Rattle.gptp_timeline_laws.specs.Sources.{ReadsFrom}
 use Rattle.gptp_timeline_laws.proofs.AgeLemmas.{timelines_hear_in_time}
-use Rattle.gptp_timeline_laws.proofs.CourseLemmas.{EndsEvents, last_on, left_both, parts}
+use Rattle.gptp_timeline_laws.proofs.BoundLemmas.{readings_both}
+use Rattle.gptp_timeline_laws.proofs.CourseLemmas.{BeginsSo, EndsEvents, IsQuiet, last_on, left_both, parted, parts, passes_quiet, world_on}
 use Rattle.gptp_timeline_laws.proofs.ExactLemmas.{less_each}
 use Rattle.gptp_timeline_laws.proofs.ExactSoonLemmas.{is_told, IsTold}
 use Rattle.gptp_timeline_laws.proofs.HeldLemmas.{IsRight}
 use Rattle.gptp_timeline_laws.proofs.MomentLemmas.{Found, timeline_found}
-use Rattle.gptp_timeline_laws.proofs.OriginLemmas.{IsReceived, IsTakenOver, origin}
+use Rattle.gptp_timeline_laws.proofs.OriginLemmas.{IsReceived, IsTakenOver, live_time, origin}
 use Rattle.gptp_timeline_laws.proofs.ReadSoonLemmas.{acts_right, begins_in, timelines_bound_receipts_soon}
+use Rattle.gptp_timeline_laws.proofs.ReceiptLemmas.{last_both, last_early, reading_stays}
 use Rattle.gptp_timeline_laws.proofs.ReadsLemmas.{counts_not, counts_so, idle_reads, NoReads, reads_both, reads_other, reads_own, unread_none}
-use Rattle.gptp_timeline_laws.proofs.TurnLemmas.{AreInTurn, courses_turn, last_of, turn_each, turn_parts}
+use Rattle.gptp_timeline_laws.proofs.RootLemmas.{timelines_read_from_roots}
+use Rattle.gptp_timeline_laws.proofs.SourceLemmas.{quiet_after, quiet_before}
+use Rattle.gptp_timeline_laws.proofs.StandsLemmas.{best_then, lives_then, root_then, slave_then, span_over_then, stands_so, well}
+use Rattle.gptp_timeline_laws.proofs.TurnLemmas.{AreInTurn, courses_turn, IsLastReceipt, last_of, last_receipt_is, next_of, ReceivesNone, turn_each, turn_parts}
 use Rattle.gptp_world.specs.Transitions.{ActTrace}
 
 -- ---- what is kept of a system, act by act
@@ -292,7 +304,8 @@ record EventsFirst (left last : ℕ) (acts : List ActTrace) : Type 0 where
   head : List ActTrace
   tail : List ActTrace
   are : acts ≡ head ++ tail
-  none : events_left head left ≡ 0
+  ends : EndsEvents left head
+  quiet : AllByRecursion IsQuiet tail
   soon : AllByRecursion (λ (t : ActTrace). at_of t ≤ last) head
 
 events_first : {F : Type 0} (answers : Bounds → ℕ → F → Option ℕ → F → Type 0) (d : DocumentState)
@@ -301,18 +314,28 @@ events_first : {F : Type 0} (answers : Bounds → ℕ → F → Option ℕ → F
     → Keeps answers d playable names before w → Courses answers to es acts fate fate_after w after → PastBy last es
     → EventsFirst (length es) last acts
 events_first answers d playable names before [] to last acts fate fate_after w after fits keeps k past =
-    record { head = []; tail = acts; are = refl; none = refl; soon = tt }
+    record {
+      head = [];
+      tail = acts;
+      are = refl;
+      ends = refl;
+      quiet = passes_quiet answers d playable names to acts fate fate_after w k.between k.passes;
+      soon = tt;
+    }
 events_first answers d playable names before (e ∷ es) to last acts fate fate_after w after fits keeps k past =
     let p = parts answers d playable names before e es [] to acts fate fate_after w after fits keeps k in record {
       head = p.head;
       tail = p.tail;
       are = p.are;
-      none = ends_none (length (e ∷ es)) p.head p.ends;
+      ends = p.ends;
+      quiet = passes_quiet answers d playable names to p.tail p.drawn fate_after p.middle p.passes.between
+          p.passes.passes;
       soon = p.soon last past;
     }
 
 -- the last of acts from another time on
-last_from : (now from time : ℕ) (us : List ActTrace) → from ≤ time → last_time now us ≤ time → last_time from us ≤ time
+pub last_from : (now from time : ℕ) (us : List ActTrace) → from ≤ time → last_time now us ≤ time
+    → last_time from us ≤ time
 last_from now from time [] since by = since
 last_from now from time (t ∷ us) since by = by
 
@@ -454,6 +477,30 @@ older s soon late most less = by s.reading refl
           subst (λ m. error_after r soon ≤ m) (same_Some (error_after r late) most is) grows,
         )
 
+-- ---- what a receipt leaves is kept
+
+-- what is held of time has an offset
+held_offset : (s : SystemState) (r : Reading) → held_reading s ≡ Some r → IsSome s.offset
+held_offset s r is = by s.known s.offset is
+  where
+    by : (known : Option SyncInfo) (offset : Option ℤ)
+        → option_and_then (λ k. option_map (λ o. reading_by s k o) offset) known ≡ Some r → IsSome offset
+    by None offset is = absurd (none-some r is)
+    by (Some k) None is = absurd (none-some r is)
+    by (Some k) (Some o) is = refl
+
+has_slave : (s : SystemState) → (port : ℕ) × (s.slave ≡ Some port) → IsSome s.slave
+has_slave s (port, is) = ap is_some is
+
+-- acts that are no events, and by which a system neither receives time nor takes over, leave what it reads
+stays_on : (name : ℕ) (B : ℕ → ℕ) (ts : List ActTrace) (rs : List SystemReading) → AllByRecursion IsQuiet ts
+    → ReceivesNone name ts → ((t : ActTrace) → In t ts → IsRight name B t t.before)
+    → reading_among (readings_after ts rs) name ≡ reading_among rs name
+stays_on name B [] rs quiet none right = refl
+stays_on name B (t ∷ ts) rs quiet none right =
+    stays_on name B ts (read_after t rs) quiet.1 none.1 (λ u member. right u (inr member))
+    ∙ reading_stays name B t t.before rs (right t (inl refl)) quiet.0 none.0
+
 -- ---- the laws
 
 module _ {F : Type 0} (answers : Bounds → ℕ → F → Option ℕ → F → Type 0) (d : DocumentState) (until : ℕ)
@@ -529,6 +576,9 @@ module _ {F : Type 0} (answers : Bounds → ℕ → F → Option ℕ → F → T
       b.passage.courses)
       (past_behind answers d playable names last b.before (now_of b.from b.left) (subst (PastBy last) made past)))
 
+  none_first : events_left first.head (length p.events) ≡ 0
+  none_first = ends_none (length p.events) first.head first.ends
+
   -- are before that time
   early : last_change (events_by b.from d.events) < from
   early =
@@ -555,7 +605,7 @@ module _ {F : Type 0} (answers : Bounds → ℕ → F → Option ℕ → F → T
         done = done;
         ahead = u ∷ vs;
         are = is;
-        no_event_left = left_both (length p.events) first.head us ∙ ap (events_left us) first.none ∙ none_left us;
+        no_event_left = left_both (length p.events) first.head us ∙ ap (events_left us) none_first ∙ none_left us;
         late = last_from w.time p.from (at_of u) done (omega (arith, since, late)) by;
         early = omega arith;
       }) late
@@ -569,7 +619,7 @@ module _ {F : Type 0} (answers : Bounds → ℕ → F → Option ℕ → F → T
         ahead = [];
         are = sym (append-nil p.acts);
         no_event_left = ap (λ us. events_left us (length p.events)) first.are
-            ∙ left_both (length p.events) first.head first.tail ∙ ap (events_left first.tail) first.none
+            ∙ left_both (length p.events) first.head first.tail ∙ ap (events_left first.tail) none_first
             ∙ none_left first.tail;
         late = last_from w.time p.from p.to p.acts (omega (arith, since, late)) turn.1;
         early = omega arith;
@@ -620,6 +670,204 @@ module _ {F : Type 0} (answers : Bounds → ℕ → F → Option ℕ → F → T
       let (last, is, since) = last_of name w.time None moment.done in_turn heard.act heard.member heard.receives in
       (last, is, omega (arith, late, lately, since), omega (arith, lately, since))
 
+  -- ---- what it reads by the last receipt
+
+  module _ (time : ℕ) (moment : Moment p time) (last : ℕ)
+      (last_is : last_receipt name None moment.done ≡ Some last) (since : from ≤ last) where
+    b_done : BeginsSo first.head first.tail moment.done moment.ahead
+    b_done =
+        parted (length p.events) first.head first.tail moment.done moment.ahead first.ends
+        (sym first.are ∙ moment.are) moment.no_event_left
+
+    receipt : IsLastReceipt name last b_done.more
+    receipt =
+        elim (last_receipt_is name (last_receipt name None first.head) b_done.more last
+        (sym (last_both name None first.head b_done.more)
+        ∙ ap (last_receipt name None) (sym b_done.done_is) ∙ last_is)) [
+          | inl (old, none) ↦
+              let sooner = last_early name from None first.head
+              (less_each (last_change (events_by b.from d.events)) from first.head early first.soon)
+              (λ x no. absurd (none-some x no)) last old in
+              absurd (omega (arith, sooner, since))
+          | inr r ↦ r
+        ]
+
+    abbrev act : ActTrace
+    act = receipt.act
+
+    abbrev done_before : List ActTrace
+    done_before = first.head ++ receipt.before
+
+    abbrev done_then : List ActTrace
+    done_then = done_before ++ act ∷ []
+
+    abbrev behind : List ActTrace
+    behind = receipt.behind ++ moment.ahead
+
+    done_is : moment.done ≡ done_then ++ receipt.behind
+    done_is =
+        b_done.done_is ∙ ap (λ us. first.head ++ us) receipt.are
+        ∙ sym (append_assoc first.head receipt.before (act ∷ receipt.behind))
+        ∙ sym (append_assoc done_before (act ∷ []) receipt.behind)
+
+    acts_are : p.acts ≡ done_then ++ behind
+    acts_are =
+        moment.are ∙ ap (λ us. us ++ moment.ahead) done_is ∙ append_assoc done_then receipt.behind moment.ahead
+
+    turn_then : AreInTurn w.time done_then × AreInTurn (last_time w.time done_then) behind
+    turn_then = turn_parts w.time done_then behind (subst (AreInTurn w.time) acts_are turn.0)
+
+    act_last : last_time w.time done_then ≡ at_of act
+    act_last = last_on w.time done_before (act ∷ [])
+
+    turn_behind : AreInTurn (at_of act) behind
+    turn_behind = subst (λ now. AreInTurn now behind) act_last turn_then.1
+
+    -- the moment at which it is done
+    abbrev moment_then : Moment p (at_of act)
+    moment_then =
+        let by = over in
+        let at = receipt.at_is in
+        let end = ap (last_time w.time) acts_are ∙ last_on w.time done_then behind in
+        let ends = turn.1 in record {
+          done = done_then;
+          ahead = behind;
+          are = acts_are;
+          no_event_left = ap (λ us. events_left us (length p.events))
+              (append_assoc first.head receipt.before (act ∷ []))
+              ∙ left_both (length p.events) first.head (receipt.before ++ act ∷ [])
+              ∙ ap (events_left (receipt.before ++ act ∷ [])) none_first ∙ none_left (receipt.before ++ act ∷ []);
+          late = last_from w.time p.from (at_of act) done_then (omega (arith, by, at, since))
+              (omega (arith, act_last));
+          early = next_of (at_of act) p.to behind turn_behind
+              (subst (λ now. last_time now behind ≤ p.to) act_last (subst (λ n. n ≤ p.to) end ends));
+        }
+
+    gets : GetsTime say.snapshot name
+    gets = gets_time d p.from bound errors say name says
+
+    is_over : (at : ℕ) → from ≤ at
+        → last_change events
+        + settling_span_with (pace_of d.network) (sync_paths d.network events)
+        (sync_paths d.network events).systems
+        ≤ at
+    is_over at on =
+        let by = over in
+        span_over_then d p.from (span_at d p.from) at playable bounds (omega (arith, by, on))
+
+    among : (a : ActTrace) → In a done_then ⊎ In a receipt.behind → In a p.acts
+    among a (inl member) = subst (In a) (sym acts_are) (In-left a done_then behind member)
+    among a (inr member) =
+        subst (In a) (sym acts_are) (In-right a done_then behind (In-left a receipt.behind moment.ahead member))
+
+    module _ (rs : List SystemReading) (has : c.readings ≡ Some rs) where
+      right : (a : ActTrace) → In a p.acts → from ≤ at_of a
+          → IsRight name (acts_right answers d until options fate lines exceeded t playable shown p w c errors name from
+          bound says begins are from_is).0 a a.before
+      right =
+          (acts_right answers d until options fate lines exceeded t playable shown p w c errors name from bound says
+          begins are from_is).1
+
+      -- then it reads from its best
+      reads_then : ReadsFrom (readings_after done_then rs) name (clock_of gets.best.identity)
+      reads_then =
+          let k = stands_so answers d until options fate lines exceeded t playable shown p w c (at_of act) moment_then
+          begins in
+          let v = at (at_of act) (world_after done_then w) in
+          let acts = k.before ++ done_then in
+          let at_is = receipt.at_is in
+          let long = is_over (at_of act) (omega (arith, at_is, since)) in
+          let (s, lives) = lives_then answers d playable names events acts v k.stands k.timed bounds.0 say.snapshot
+          say.is name gets.near in
+          let slave = slave_then answers d playable names events acts v k.stands k.timed bounds.0 say.snapshot
+          say.is name gets.near long gets.best gets.is_best gets.other s lives in
+          let root = root_then answers d playable names events acts v k.stands k.timed bounds.0 say.snapshot say.is
+          name gets.near long gets.best gets.is_best s lives in
+          let known = offset_known s lives in
+          subst (λ r. ReadsFrom (readings_after done_then rs) name (clock_of r)) root
+          (timelines_read_from_roots answers d until options fate lines exceeded t playable shown p w c rs (at_of act)
+          moment_then name s begins has lives (has_slave s slave) known)
+        where
+          world_is : world_after done_then w ≡ act.after
+          world_is = world_on done_before (act ∷ []) w
+
+          offset_known : (s : SystemState) → live_system name (world_after done_then w) ≡ Some s → IsSome s.offset
+          offset_known s lives =
+              let member = among act (inl (In-right act done_before (act ∷ []) (inl refl))) in
+              let at_is = receipt.at_is in
+              let so = right act member (omega (arith, at_is, since)) in
+              let (u, new, named) = so.reads rs receipt.own in
+              by u named (λ taken. so.no_takeover u named taken)
+              (origin act.told.timed.act act.told.done act.after rs u new)
+            where
+              by : (u : NewReading) → u.clock ≡ name → (IsTakenOver act.after u → ⊥)
+                  → IsReceived act.told.done act.after u ⊎ IsTakenOver act.after u → IsSome s.offset
+              by u named none (inr taken) = absurd (none taken)
+              by u named none (inl r) =
+                  let there : live_system name act.after ≡ Some s =
+                  subst (λ v. live_system name v ≡ Some s) world_is lives in
+                  let same : r.own ≡ s =
+                  same_Some r.own s (sym r.lives ∙ ap (λ n. live_system n act.after) named ∙ there) in
+                  subst (λ (x : SystemState). IsSome x.offset) same (held_offset r.own r.reading r.held)
+
+      -- and goes on to
+      reads_on : ReadsFrom (readings_after moment.done rs) name (clock_of gets.best.identity)
+      reads_on =
+          let from_best = reads_then in
+          let at_is = receipt.at_is in
+          let stay = stays_on name (acts_right answers d until options fate lines exceeded t playable shown p w c
+          errors name from bound says begins are from_is).0 receipt.behind (readings_after done_then rs)
+          (quiet_before receipt.behind moment.ahead
+          (quiet_after (receipt.before ++ act ∷ []) behind
+          (subst (AllByRecursion IsQuiet) tail_is first.quiet)))
+          receipt.none
+          (λ a member.
+          (let soon = (turn_each (at_of act) behind turn_behind a (In-left a receipt.behind moment.ahead member)).0 in
+          right a (among a (inr member)) (omega (arith, soon, at_is, since)))) in
+          record {
+            kept = from_best.kept;
+            has = ap (λ us. reading_among us name)
+                (ap (λ us. readings_after us rs) done_is ∙ readings_both done_then receipt.behind rs)
+                ∙ stay ∙ from_best.has;
+            is = from_best.is;
+          }
+        where
+          tail_is : first.tail ≡ (receipt.before ++ act ∷ []) ++ behind
+          tail_is =
+              b_done.tail_is ∙ ap (λ us. us ++ moment.ahead) receipt.are
+              ∙ append_assoc receipt.before (act ∷ receipt.behind) moment.ahead
+              ∙ sym (append_assoc receipt.before (act ∷ []) behind)
+
+      -- so it has time
+      has_time : HasTime time (world_after moment.done w) (readings_after moment.done rs) name
+      has_time =
+          let k = stands_so answers d until options fate lines exceeded t playable shown p w c time moment begins in
+          let v = at time (world_after moment.done w) in
+          let acts = k.before ++ moment.done in
+          let clocks = k.timed.claimed.world.sound.wired.clocks in
+          let (s, lives) = lives_then answers d playable names events acts v k.stands k.timed bounds.0 say.snapshot
+          say.is name gets.near in
+          let there = best_then answers d playable names events acts v k.stands k.timed bounds.0 say.snapshot say.is
+          name gets.near gets.best gets.is_best in
+          let shape = well answers d playable names events acts v k.stands k.timed bounds.0 in
+          let named : clock_of gets.best.identity ≡ gets.best.clock =
+          (shape.identified gets.best there.live).clock in
+          let (root, leads) = lives_there v gets.best.clock gets.best clocks there.live refl in
+          let reads = reads_on in
+          record {
+            read = read_by reads.kept (local_time s time);
+            source = local_time root time;
+            reads = record {
+              kept = reads.kept;
+              has = reads.has;
+              own = local_time s time;
+              shows = live_time name time v.stations s lives;
+              read_is = refl;
+              source_shows = ap (λ n. clock_time n time v) (reads.is ∙ named)
+                  ∙ live_time gets.best.clock time v.stations root leads;
+            };
+          }
+
 pub timelines_hear_again_in_time : {F : Type 0} (answers : Bounds → ℕ → F → Option ℕ → F → Type 0)
     → TimelinesHearAgainInTime answers
 timelines_hear_again_in_time answers d until options fate lines exceeded t playable shown p w c rs errors name from
@@ -641,3 +889,12 @@ timelines_are_always_exact answers d until options fate lines exceeded t playabl
     let within = timelines_bound_receipts_soon answers d until options fate lines exceeded t playable shown p w c rs
     errors name from bound last time read source one moment says begins has are from_is is since r one_is in
     omega (arith, within, less)
+
+pub timelines_always_have_time : {F : Type 0} (answers : Bounds → ℕ → F → Option ℕ → F → Type 0)
+    → TimelinesAlwaysHaveTime answers
+timelines_always_have_time answers d until options fate lines exceeded t playable shown p w c rs errors name from bound
+    age time moment says begins has are from_is age_so late =
+    let (last, is, since, soon) = last_then answers d until options fate lines exceeded t playable shown p w c errors
+    name from bound age says begins are from_is age_so time moment late in
+    has_time answers d until options fate lines exceeded t playable shown p w c errors name from bound age says begins
+    are from_is age_so time moment last is since rs has

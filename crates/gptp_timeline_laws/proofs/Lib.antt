@@ -28,3 +28,5 @@ pub mod ExactSoonLemmas
 pub mod ReadSoonLemmas
 pub mod TurnLemmas
 pub mod GapLemmas
+pub mod DifferenceLemmas
+pub mod ApartLemmas

@@ -63,7 +63,7 @@ module _ {F : Type 0} (answers : Bounds → ℕ → F → Option ℕ → F → T
       ∙ world_on k.first (transition event k.done k.between w' ∷ []) v
 
   -- where a stretch ends it is that after its acts, at the time of the end
-  courses_world : (until : ℕ) (events : List Timed) (ts : List ActTrace) (fate fate_after : F) (w w' : WorldState)
+  pub courses_world : (until : ℕ) (events : List Timed) (ts : List ActTrace) (fate fate_after : F) (w w' : WorldState)
       → Courses answers until events ts fate fate_after w w' → w' ≡ at until (world_after ts w)
   courses_world until [] ts fate fate_after w w' k =
       k.is ∙ ap (at until) (passes_world until ts fate fate_after w k.between k.passes)
@@ -233,6 +233,26 @@ module _ {F : Type 0} (answers : Bounds → ℕ → F → Option ℕ → F → T
       carried us None = refl
       carried us (Some rs) = ap Some (sym (readings_both q.acts us rs))
 
+-- a stretch begins at the time of the world in which it does
+pub begins_on_time : {F : Type 0} (answers : Bounds → ℕ → F → Option ℕ → F → Type 0) (d : DocumentState) (until : ℕ)
+    (passages : List StretchTrace) (from : ℕ) (left : List Timed) (fate fate_after : F) (w w' : WorldState)
+    (c : Carried) (p : StretchTrace) (v : WorldState) (e : Carried) → w.time ≡ from
+    → AllPass answers true d until from left fate fate_after w w' passages → BeginsWith passages w c p v e
+    → v.time ≡ p.from
+begins_on_time answers d until [] from left fate fate_after w w' c p v e is pass begins = absurd pass
+begins_on_time answers d until (q ∷ []) from left fate fate_after w w' c p v e is (passage, none, ends) (inl first) =
+    ap (λ (x : WorldState). x.time) first.world ∙ is ∙ sym passage.from_is
+    ∙ ap (λ (x : StretchTrace). x.from) (sym first.stretch)
+begins_on_time answers d until (q ∷ []) from left fate fate_after w w' c p v e is pass (inr later) = absurd later
+begins_on_time answers d until (q ∷ (r ∷ rs)) from left fate fate_after w w' c p v e is (drawn, passage, some, rest)
+    (inl first) =
+    ap (λ (x : WorldState). x.time) first.world ∙ is ∙ sym passage.from_is
+    ∙ ap (λ (x : StretchTrace). x.from) (sym first.stretch)
+begins_on_time answers d until (q ∷ (r ∷ rs)) from left fate fate_after w w' c p v e is (drawn, passage, some, rest)
+    (inr later) =
+    begins_on_time answers d until (r ∷ rs) q.to (later_than from left) drawn fate_after q.after w' (carry q.acts c) p v
+    e (after_time answers q.to q.events q.acts fate drawn w q.after passage.courses) rest later
+
 -- ---- a moment of a stretch
 
 pub last_less : (soon late : ℕ) (ts : List ActTrace) → soon ≤ late → last_time soon ts ≤ last_time late ts
@@ -265,33 +285,37 @@ module _ {F : Type 0} (answers : Bounds → ℕ → F → Option ℕ → F → T
   abbrev pub first : Carried
   first = none_carried (tracks options) (rising_clocks t.start)
 
-  pub moment_so : Q [] t.start → (p : StretchTrace) (w : WorldState) (c : Carried) (time : ℕ) (moment : Moment p time)
-      → BeginsWith t.passages t.start first p w c → MomentSo Q first p w c time moment.done
-  moment_so so p w c time moment begins =
+  pub point_so : Q [] t.start → (p : StretchTrace) (w : WorldState) (c : Carried) (time : ℕ)
+      (done ahead : List ActTrace) → p.acts ≡ done ++ ahead → last_time p.from done ≤ time → time ≤ next_time p.to ahead
+      → BeginsWith t.passages t.start first p w c → MomentSo Q first p w c time done
+  point_so so p w c time done ahead acts_are late early begins =
       let names = rising_clocks t.start in
       let unfolds = timeline_unfolds answers d until options fate lines exceeded t playable.events in
       let k = part_of answers d playable names until t.passages 0 (events_by until d.events) t.started t.fate_after
       t.start t.after first p w c t.pass begins in
       let was = runs_were_so answers t.start Q act_keeps later_keeps d until fate t.after (all_acts t.passages) playable
       moment_ends unfolds so in
-      let are : all_acts t.passages ≡ (k.before ++ moment.done) ++ (moment.ahead ++ k.behind) =
-      k.are ∙ ap (λ us. k.before ++ (us ++ k.behind)) moment.are
-      ∙ ap (λ us. k.before ++ us) (append_assoc moment.done moment.ahead k.behind)
-      ∙ sym (append_assoc k.before moment.done (moment.ahead ++ k.behind)) in
+      let are : all_acts t.passages ≡ (k.before ++ done) ++ (ahead ++ k.behind) =
+      k.are ∙ ap (λ us. k.before ++ (us ++ k.behind)) acts_are
+      ∙ ap (λ us. k.before ++ us) (append_assoc done ahead k.behind)
+      ∙ sym (append_assoc k.before done (ahead ++ k.behind)) in
       let zero_time = start_time answers d.network fate t.started t.start playable.network
       (initial_sound d.network playable.network) t.begun in
       let soon = last_early t.start.time p.from k.before (omega (arith, zero_time)) k.early in
-      let less = last_less (last_time t.start.time k.before) p.from moment.done soon in
-      let late = moment.late in
-      let early = moment.early in
-      let more = next_more p.to (next_time t.after.time k.behind) moment.ahead k.next in
+      let less = last_less (last_time t.start.time k.before) p.from done soon in
+      let more = next_more p.to (next_time t.after.time k.behind) ahead k.next in
       record {
         before = k.before;
-        so = subst (Q (k.before ++ moment.done)) (k.world moment.done time)
-            (was (k.before ++ moment.done) (moment.ahead ++ k.behind) time are
-            (subst (λ n. n ≤ time) (sym (last_on t.start.time k.before moment.done)) (omega (arith, less, late)))
-            (subst (λ n. time ≤ n) (sym (next_both answers t.after.time moment.ahead k.behind))
+        so = subst (Q (k.before ++ done)) (k.world done time)
+            (was (k.before ++ done) (ahead ++ k.behind) time are
+            (subst (λ n. n ≤ time) (sym (last_on t.start.time k.before done)) (omega (arith, less, late)))
+            (subst (λ n. time ≤ n) (sym (next_both answers t.after.time ahead k.behind))
             (omega (arith, early, more))));
         readings = k.readings;
         early = k.early;
       }
+
+  pub moment_so : Q [] t.start → (p : StretchTrace) (w : WorldState) (c : Carried) (time : ℕ) (moment : Moment p time)
+      → BeginsWith t.passages t.start first p w c → MomentSo Q first p w c time moment.done
+  moment_so so p w c time moment begins =
+      point_so so p w c time moment.done moment.ahead moment.are moment.late moment.early begins

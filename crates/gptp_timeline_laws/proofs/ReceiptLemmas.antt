@@ -23,7 +23,7 @@ use Rattle.gptp_theorem.specs.PlayedLaws.{IsPlayable}
 use Rattle.gptp_timeline.specs.Laws.{IsExactBySpan, SayBound}
 use Rattle.gptp_timeline.specs.Looks.{events_left}
 use Rattle.gptp_timeline.specs.Readings.{new_in, put_reading, read_after, reading_among, readings_after, readings_by}
-use Rattle.gptp_timeline.specs.Stretch.{at_of, receives}
+use Rattle.gptp_timeline.specs.Stretch.{at_of, is_change, receives}
 use Rattle.gptp_timeline.specs.Timeline.{AreErrorsBy, Carried, now_of, StretchTrace}
 use Rattle.gptp_timeline.specs.declared.readings.KeptReading.{KeptReading}
 use Rattle.gptp_timeline.specs.declared.readings.NewReading.{NewReading}
@@ -46,13 +46,13 @@ use Rattle.gptp_world.specs.Transitions.{ActTrace}
 
 -- ---- the last receipt
 
-last_both : (name : ℕ) (l : Option ℕ) (us vs : List ActTrace)
+pub last_both : (name : ℕ) (l : Option ℕ) (us vs : List ActTrace)
     → last_receipt name l (us ++ vs) ≡ last_receipt name (last_receipt name l us) vs
 last_both name l [] vs = refl
 last_both name l (t ∷ us) vs = last_both name (if receives name t then Some (at_of t) else l) us vs
 
 -- by acts before a time it is before that
-last_early : (name from : ℕ) (l : Option ℕ) (ts : List ActTrace)
+pub last_early : (name from : ℕ) (l : Option ℕ) (ts : List ActTrace)
     → AllByRecursion (λ (t : ActTrace). at_of t < from) ts → ((last : ℕ) → l ≡ Some last → last < from)
     → (last : ℕ) → last_receipt name l ts ≡ Some last → last < from
 last_early name from l [] each old last is = old last is
@@ -64,6 +64,33 @@ last_early name from l (t ∷ ts) each old last is =
         let at : at_of t ≡ one = same_Some (at_of t) one same in
         let first = each.0 in omega (arith, at, first)
     by false one same = old one same
+
+-- an act that is no event, by which a system neither receives time nor takes over, leaves what it reads
+pub reading_stays : (name : ℕ) (B : ℕ → ℕ) (t : ActTrace) (w : WorldState) (rs : List SystemReading)
+    → IsRight name B t w → is_change t.told.timed.act ≡ false → receives name t ≡ false
+    → reading_among (read_after t rs) name ≡ reading_among rs name
+reading_stays name B t w rs right quiet none = by (new_in t rs) refl
+  where
+    not_it : (u : NewReading) → name ≡ u.clock → IsReceived t.told.done t.after u ⊎ IsTakenOver t.after u → ⊥
+    not_it u mine (inl r) =
+        let itself : u.clock == name ≡ true = grind (arith, nat_tests) in
+        let own : receives name t ≡ true = ap (λ o. option_map_or (λ c. c == name) o false) r.told ∙ itself in
+        let no : true ≡ false = sym own ∙ none in cc
+    not_it u mine (inr taken) = right.no_takeover u (sym mine) taken
+
+    by : (new : Option NewReading) → new_in t rs ≡ new
+        → reading_among (readings_by t.told.timed.act new rs) name ≡ reading_among rs name
+    by None is = ap (λ us. reading_among us name) (quiet_reads t.told.timed.act rs quiet)
+    by (Some u) is = own (name == u.clock) refl
+      where
+        own : (test : Bool) → name == u.clock ≡ test
+            → reading_among (put_reading u.clock (Some u.after) rs) name ≡ reading_among rs name
+        own true test =
+            let mine : name ≡ u.clock = grind (arith, nat_tests) in
+            absurd (not_it u mine (origin t.told.timed.act t.told.done t.after rs u is))
+        own false test =
+            let apart : name ≡ u.clock → ⊥ = grind (arith, nat_tests) in
+            put_other u.clock (Some u.after) rs name apart
 
 module _ {F : Type 0} (answers : Bounds → ℕ → F → Option ℕ → F → Type 0) (d : DocumentState)
     (playable : IsPlayable d) (names : List ℕ) (events : List Timed) (name from : ℕ) (B : ℕ → ℕ)
@@ -102,31 +129,9 @@ module _ {F : Type 0} (answers : Bounds → ℕ → F → Option ℕ → F → T
     -- another act leaves what it reads
     stays : (late : from ≤ at_of t) → receives name t ≡ false
         → reading_among (read_after t rs) name ≡ reading_among rs name
-    stays late none = by (new_in t rs) refl
-      where
-        not_it : (u : NewReading) → name ≡ u.clock → IsReceived t.told.done t.after u ⊎ IsTakenOver t.after u → ⊥
-        not_it u mine (inl r) =
-            let itself : u.clock == name ≡ true = grind (arith, nat_tests) in
-            let own : receives name t ≡ true = ap (λ o. option_map_or (λ c. c == name) o false) r.told ∙ itself in
-            let no : true ≡ false = sym own ∙ none in cc
-        not_it u mine (inr taken) =
-            (right_then late).no_takeover u (sym mine) taken
-
-        by : (new : Option NewReading) → new_in t rs ≡ new
-            → reading_among (readings_by t.told.timed.act new rs) name ≡ reading_among rs name
-        by None is =
-            ap (λ us. reading_among us name) (quiet_reads t.told.timed.act rs
-            (quiet_next happens.next.item t.told.timed.act w happens.next.act))
-        by (Some u) is = own (name == u.clock) refl
-          where
-            own : (test : Bool) → name == u.clock ≡ test
-                → reading_among (put_reading u.clock (Some u.after) rs) name ≡ reading_among rs name
-            own true test =
-                let mine : name ≡ u.clock = grind (arith, nat_tests) in
-                absurd (not_it u mine (origin t.told.timed.act t.told.done t.after rs u is))
-            own false test =
-                let apart : name ≡ u.clock → ⊥ = grind (arith, nat_tests) in
-                put_other u.clock (Some u.after) rs name apart
+    stays late none =
+        reading_stays name B t w rs (right_then late) (quiet_next happens.next.item t.told.timed.act w happens.next.act)
+        none
 
     step_last : (l : Option ℕ) (now : ℕ) → now ≤ at_of t → TrackLast base rs l now
         → TrackLast base (read_after t rs) (if receives name t then Some (at_of t) else l) (at_of t)

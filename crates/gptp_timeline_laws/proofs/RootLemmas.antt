@@ -73,7 +73,7 @@ received_it name (Heard number port answer frame) (same, used, (m, reads)) =
 
 -- ---- what is kept of all systems
 
-abbrev names_of : List SystemReading → List ℕ
+abbrev pub names_of : List SystemReading → List ℕ
 names_of rs = map (λ (x : SystemReading). x.clock) rs
 
 names_put : (n : ℕ) (put : Option KeptReading) (rs : List SystemReading)
@@ -95,7 +95,11 @@ names_after act None rs = by (failed_by act) refl
     by None is = rw is refl
     by (Some n) is = rw is (names_put n None rs)
 
-names_first : (ns : List ℕ) → names_of (map no_reading ns) ≡ ns
+pub names_over : (ts : List ActTrace) (rs : List SystemReading) → names_of (readings_after ts rs) ≡ names_of rs
+names_over [] rs = refl
+names_over (t ∷ ts) rs = names_over ts (read_after t rs) ∙ names_after t.told.timed.act (new_in t rs) rs
+
+pub names_first : (ns : List ℕ) → names_of (map no_reading ns) ≡ ns
 names_first [] = refl
 names_first (n ∷ ns) = ap (λ rest. n ∷ rest) (names_first ns)
 
@@ -282,7 +286,7 @@ module _ {F : Type 0} (answers : Bounds → ℕ → F → Option ℕ → F → T
             station there live known slave);
       }
 
-readings_are : (asked : Bool) (names : List ℕ) (before : List ActTrace) (o : Option (List SystemReading))
+pub readings_are : (asked : Bool) (names : List ℕ) (before : List ActTrace) (o : Option (List SystemReading))
     (rs : List SystemReading) → o ≡ option_map (readings_after before) (none_carried asked names).readings
     → o ≡ Some rs → rs ≡ readings_after before (map no_reading names)
 readings_are true names before o rs is has =

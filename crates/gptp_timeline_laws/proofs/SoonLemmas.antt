@@ -38,7 +38,7 @@ use Rattle.gptp_timeline.specs.Laws.{AllNear}
 use Rattle.gptp_timeline.specs.Ports.{shown_port, shown_ports}
 use Rattle.gptp_timeline.specs.Shown.{live_system, same_choice, same_roles, shown, shown_of}
 use Rattle.gptp_timeline.specs.Stretch.{at_of, last_at, leaves_another}
-use Rattle.gptp_timeline.specs.Timeline.{StretchTrace, later_than}
+use Rattle.gptp_timeline.specs.Timeline.{AllPass, StretchTrace, later_than}
 use Rattle.gptp_timeline.proofs.BehindLemmas.{IsStill, ShowsTheSame, StillBehind, last_choice, last_roles}
 use Rattle.gptp_timeline.proofs.EventLemmas.{filter_in_order, now_by}
 use Rattle.gptp_timeline.proofs.PastLemmas.{by_sooner}
@@ -127,6 +127,11 @@ module _ (g : Snapshot) (well : IsWellFormed g) (w w' : WorldState) (is : snapsh
 
 -- ---- a stretch
 
+-- what is so of each act is so of all
+all_still : (time : ℕ) (ts : List ActTrace) → ((a : ActTrace) → In a ts → IsStill time a) → StillBehind time ts
+all_still time [] each = tt
+all_still time (t ∷ ts) each = (each t (inl refl), all_still time ts (λ a member. each a (inr member)))
+
 module _ {F : Type 0} (answers : Bounds → ℕ → F → Option ℕ → F → Type 0) (d : DocumentState) (playable : IsPlayable d)
     (until : ℕ) (p : StretchTrace) (fate started : F) (start : WorldState)
     (begun : Begun answers d.network fate started start)
@@ -150,6 +155,12 @@ module _ {F : Type 0} (answers : Bounds → ℕ → F → Option ℕ → F → T
         (from_filter (λ (t : Timed). nat_le t.at p.from) event d.events member).1 in
         let soon : event.at ≤ p.from = grind (arith, nat_tests) in
         absurd (omega (arith, soon, late))
+
+    -- none of its acts is later than its end
+    ended : StillBehind p.to p.acts
+    ended =
+        all_still p.to p.acts (λ a member.
+        inl (acts_by answers short p.to fate start p.after run.ts unfolds a (run.among a member)))
 
     module _ (choice : ℕ) (bound : IsChoiceBound d p.from choice) (near : AllNear (snapshot_of p.after)) where
       bounded : IsChoiceBound short p.from choice
@@ -176,20 +187,13 @@ module _ {F : Type 0} (answers : Bounds → ℕ → F → Option ℕ → F → T
           record { choice = λ name. (both name).0; roles = λ name. (both name).1 }
 
       still : StillBehind (p.from + choice) p.acts
-      still = all p.acts (λ a member. member)
+      still = all_still (p.from + choice) p.acts (λ a member. by a member (nat_le (at_of a) (p.from + choice)) refl)
         where
           by : (a : ActTrace) → In a p.acts → (early : Bool) → nat_le (at_of a) (p.from + choice) ≡ early
               → IsStill (p.from + choice) a
           by a member true test = inl (grind (arith, nat_tests))
           by a member false test =
               let late : p.from + choice < at_of a = grind (arith, nat_tests) in inr (still_act a member late)
-
-          all : (ts : List ActTrace) → ((a : ActTrace) → In a ts → In a p.acts) → StillBehind (p.from + choice) ts
-          all [] among = tt
-          all (t ∷ ts) among = (
-            by t (among t (inl refl)) (nat_le (at_of t) (p.from + choice)) refl,
-            all ts (λ a member. among a (inr member)),
-          )
 
 -- ---- what is told of a time
 
@@ -213,29 +217,59 @@ within : (from bound : ℕ) (last : Option ℕ) → IfSome last (λ time. time �
 within from bound None is = tt
 within from bound (Some last) is = omega (arith, is)
 
-pub stretches_settle_soon : {F : Type 0} (answers : Bounds → ℕ → F → Option ℕ → F → Type 0)
-    → StretchesSettleSoon answers
-stretches_settle_soon answers d until options fate lines exceeded t playable p s names carried member told near =
+-- How late the acts of a stretch leave some system another: no later than it ends; and where bounds are told of it, and
+-- every live system is near where it ends, no later than these.
+pub record SettlesByBounds (p : StretchTrace) (names : List ℕ) : Type 0 where
+  pub on : p.from ≤ p.to
+  pub chosen : IfSome (last_at (leaves_another same_choice names) p.acts) (λ time. time ≤ p.to)
+  pub played : IfSome (last_at (leaves_another same_roles names) p.acts) (λ time. time ≤ p.to)
+  pub settles : (s : Settling) → p.settling ≡ Some s → AllNear (snapshot_of p.after)
+      → IfSome (option_map (λ time. time - p.from) (last_at (leaves_another same_choice names) p.acts))
+      (λ last. last ≤ s.choice)
+      × IfSome (option_map (λ time. time - p.from) (last_at (leaves_another same_roles names) p.acts))
+      (λ last. last ≤ s.roles)
+
+-- each stretch of a run
+pub stretch_settles : {F : Type 0} (answers : Bounds → ℕ → F → Option ℕ → F → Type 0) (d : DocumentState)
+    (exact : Bool) (until : ℕ) (passages : List StretchTrace) (fate started fate_after : F) (start after : WorldState)
+    (p : StretchTrace) (names : List ℕ) → IsPlayable d → Begun answers d.network fate started start
+    → AllPass answers exact d until 0 (events_by until d.events) started fate_after start after passages
+    → In p passages → SettlesByBounds p names
+stretch_settles answers d exact until passages fate started fate_after start after p names playable begun pass
+    member =
     let order = filter_in_order (λ (e : Timed). nat_le e.at until) d.events playable.events.in_order in
-    let run = runs_to answers true d until t.passages 0 (events_by until d.events) t.started t.fate_after t.start
-    t.after p order t.pass member in
-    let clocks = rising_clocks t.start in
-    let b = begins answers d playable clocks true until t.passages 0 [] (events_by until d.events) t.started
-    t.fate_after t.start t.after p (left_first answers d playable clocks until)
-    (keeps_first answers d playable clocks fate t.started t.start refl t.begun) t.pass member in
+    let run = runs_to answers exact d until passages 0 (events_by until d.events) started fate_after start after p order
+    pass member in
+    let clocks = rising_clocks start in
+    let b = begins answers d playable clocks exact until passages 0 [] (events_by until d.events) started fate_after
+    start after p (left_first answers d playable clocks until)
+    (keeps_first answers d playable clocks fate started start refl begun) pass member in
     let from_is = b.passage.from_is in
-    let (time, among, at_is, is) = told_time (settling_times d) b.from s (sym b.passage.settling_is ∙ told) in
-    let (bound, roles) = settlings_are_choice_bounds d time s playable among is in
-    let here : IsChoiceBound d p.from s.choice =
-    subst (λ at. IsChoiceBound d at s.choice) (at_is ∙ sym from_is) bound in
     let to_is = b.passage.to_is in
     let due = b.is_left.within in
     let ends = ends_on until b.from b.left (later_than b.from b.left) refl due in
-    let calm = still answers d playable until p fate t.started t.start t.begun run
-    (omega (arith, from_is, due)) (omega (arith, from_is, to_is, ends)) s.choice here near in
+    let early : p.from ≤ until = omega (arith, from_is, due) in
+    let on : p.from ≤ p.to = omega (arith, from_is, to_is, ends) in
     let chosen : Option ℕ = last_at (leaves_another same_choice names) p.acts in
-    let played : Option ℕ = last_at (leaves_another same_roles names) p.acts in (
-      within p.from s.choice chosen (last_choice names (p.from + s.choice) p.acts calm),
-      subst (λ r. IfSome (option_map (λ time. time - p.from) played) (λ time. time ≤ r)) (sym roles)
-          (within p.from s.choice played (last_roles names (p.from + s.choice) p.acts calm)),
-    )
+    let played : Option ℕ = last_at (leaves_another same_roles names) p.acts in
+    let by_end = ended answers d playable until p fate started start begun run early on in record {
+      on = on;
+      chosen = last_choice names p.to p.acts by_end;
+      played = last_roles names p.to p.acts by_end;
+      settles = λ s told near.
+          let (time, among, at_is, is) = told_time (settling_times d) b.from s (sym b.passage.settling_is ∙ told) in
+          let (bound, roles) = settlings_are_choice_bounds d time s playable among is in
+          let here : IsChoiceBound d p.from s.choice =
+          subst (λ at. IsChoiceBound d at s.choice) (at_is ∙ sym from_is) bound in
+          let calm = still answers d playable until p fate started start begun run early on s.choice here near in (
+            within p.from s.choice chosen (last_choice names (p.from + s.choice) p.acts calm),
+            subst (λ r. IfSome (option_map (λ time. time - p.from) played) (λ time. time ≤ r)) (sym roles)
+                (within p.from s.choice played (last_roles names (p.from + s.choice) p.acts calm)),
+          );
+    }
+
+pub stretches_settle_soon : {F : Type 0} (answers : Bounds → ℕ → F → Option ℕ → F → Type 0)
+    → StretchesSettleSoon answers
+stretches_settle_soon answers d until options fate lines exceeded t playable p s names carried member told near =
+    (stretch_settles answers d true until t.passages fate t.started t.fate_after t.start t.after p names playable
+    t.begun t.pass member).settles s told near

@@ -137,7 +137,11 @@ module _ (changed : List Greatest) where
 
 -- ---- a stretch
 
-quiet_after : (us vs : List ActTrace) → AllByRecursion IsQuiet (us ++ vs) → AllByRecursion IsQuiet vs
+pub quiet_before : (us vs : List ActTrace) → AllByRecursion IsQuiet (us ++ vs) → AllByRecursion IsQuiet us
+quiet_before [] vs quiet = tt
+quiet_before (t ∷ us) vs quiet = (quiet.0, quiet_before us vs quiet.1)
+
+pub quiet_after : (us vs : List ActTrace) → AllByRecursion IsQuiet (us ++ vs) → AllByRecursion IsQuiet vs
 quiet_after [] vs quiet = quiet
 quiet_after (t ∷ us) vs quiet = quiet_after us vs quiet.1
 

@@ -1,6 +1,8 @@
 -- The acts of a stretch are done one after another.
-use Rattle.std.proofs.Common.{◌≡◌, ◌≤◌, ℕ, List, [], ◌∷◌, ◌++◌, Option, Some, if◌then◌else◌, true, false, Bool, refl, sym, subst, inl, inr, arith}
+use Rattle.std.proofs.Common.{◌≡◌, ◌≤◌, ℕ, List, [], ◌∷◌, ◌++◌, ◌⊎◌, Option, Some, if◌then◌else◌, true, false, Bool, refl, sym, ap, subst, inl, inr, arith}
+use Rattle.std.specs.List.{AllByRecursion}
 use Rattle.std.specs.Prelude.{⊤}
+use Rattle.std.proofs.lemmas.Option.{same_Some}
 use Rattle.gptp_invariants.proofs.SyncFollowClaimLemmas.{acts_time}
 use Rattle.gptp_invariants.proofs.WorldOutlineLemmas.{change_time}
 use Rattle.gptp_links.specs.declared.bounds.Bounds.{Bounds}
@@ -15,7 +17,7 @@ use Rattle.gptp_scenario.specs.declared.change.Act.TheVariants.{Change as Changi
 use Rattle.gptp_scenario.specs.declared.change.Timed.{Timed}
 use Rattle.gptp_timeline.specs.Stretch.{at_of, receives}
 use Rattle.gptp_timeline_laws.specs.Exact.{last_receipt}
-use Rattle.gptp_timeline_laws.specs.Moments.{last_time}
+use Rattle.gptp_timeline_laws.specs.Moments.{last_time, next_time}
 use Rattle.gptp_timeline_laws.proofs.CourseLemmas.{last_on}
 use Rattle.gptp_timeline_laws.proofs.PartLemmas.{last_less as last_sooner}
 use Rattle.gptp_world.specs.Transitions.{ActTrace, Passes, PassesTo, transition}
@@ -83,6 +85,62 @@ last_of name now l (t ∷ ts) turn a (inl same) own =
     (sym same) (last_some name (at_of t) (at_of t) ts turn.1 (omega arith)))
 last_of name now l (t ∷ ts) turn a (inr later) own =
     last_of name (at_of t) (if receives name t then Some (at_of t) else l) ts turn.1 a later own
+
+-- some end no sooner than the next begins
+pub next_of : (now until : ℕ) (ts : List ActTrace) → AreInTurn now ts → last_time now ts ≤ until
+    → now ≤ next_time until ts
+next_of now until [] turn by = by
+next_of now until (t ∷ ts) turn by = turn.0
+
+-- ---- the act of the last receipt
+
+abbrev pub ReceivesNone : ℕ → List ActTrace → Type 0
+ReceivesNone name ts = AllByRecursion (λ (t : ActTrace). receives name t ≡ false) ts
+
+-- By this act a system received time, at this time, and by none of those behind it.
+pub record IsLastReceipt (name last : ℕ) (ts : List ActTrace) : Type 0 where
+  pub before : List ActTrace
+  pub act : ActTrace
+  pub behind : List ActTrace
+  pub are : ts ≡ before ++ act ∷ behind
+  pub at_is : at_of act ≡ last
+  pub own : receives name act ≡ true
+  pub none : ReceivesNone name behind
+
+-- it is one of several acts, or none of them is a receipt
+pub last_receipt_is : (name : ℕ) (l : Option ℕ) (ts : List ActTrace) (last : ℕ) → last_receipt name l ts ≡ Some last
+    → ((l ≡ Some last) × ReceivesNone name ts) ⊎ IsLastReceipt name last ts
+last_receipt_is name l [] last is = inl (is, tt)
+last_receipt_is name l (t ∷ ts) last is =
+    by (receives name t) refl (last_receipt_is name (if receives name t then Some (at_of t) else l) ts last is)
+  where
+    later : IsLastReceipt name last ts → IsLastReceipt name last (t ∷ ts)
+    later r = record {
+      before = t ∷ r.before;
+      act = r.act;
+      behind = r.behind;
+      are = ap (λ us. t ∷ us) r.are;
+      at_is = r.at_is;
+      own = r.own;
+      none = r.none;
+    }
+
+    by : (test : Bool) → receives name t ≡ test
+        → (((if test then Some (at_of t) else l) ≡ Some last) × ReceivesNone name ts) ⊎ IsLastReceipt name last ts
+        → ((l ≡ Some last) × ReceivesNone name (t ∷ ts)) ⊎ IsLastReceipt name last (t ∷ ts)
+    by true own (inl (same, none)) =
+        inr (record {
+          before = [];
+          act = t;
+          behind = ts;
+          are = refl;
+          at_is = same_Some (at_of t) last same;
+          own = own;
+          none = none;
+        })
+    by false own (inl (same, none)) = inl (same, (own, none))
+    by true own (inr r) = inr (later r)
+    by false own (inr r) = inr (later r)
 
 -- ---- of a stretch
 

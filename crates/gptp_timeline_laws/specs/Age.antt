@@ -23,7 +23,7 @@ use Rattle.gptp_timeline.specs.declared.exact_reads.ExactReads.{ExactReads}
 use Rattle.gptp_timeline.specs.declared.readings.SystemReading.{SystemReading}
 use Rattle.gptp_timeline.specs.declared.timeline.TimelineOptions.{TimelineOptions}
 use Rattle.gptp_timeline_laws.specs.Exact.{reads_from}
-use Rattle.gptp_timeline_laws.specs.Moments.{BeginsWith, Moment, ReadsAt, world_after}
+use Rattle.gptp_timeline_laws.specs.Moments.{BeginsWith, HasTime, Moment, ReadsAt, world_after}
 use Rattle.gptp_world.specs.Transitions.{ActTrace}
 
 -- how long a near system waits for the next Sync at most, in the network of a document as it is at a time
@@ -76,6 +76,14 @@ AreAlwaysExact start first passages = (p : StretchTrace) (w : WorldState) (c : C
     → ReadsAt time (world_after moment.done w) (readings_after moment.done rs) name read source
     → reading_always errors.age says.system ≡ Some most → unsigned_abs (read -ℤ source) ≤ most
 
+-- It has time at every moment from then on, so there is something that this is said of.
+abbrev pub AlwaysHaveTime : WorldState → Carried → List StretchTrace → Type 0
+AlwaysHaveTime start first passages = (p : StretchTrace) (w : WorldState) (c : Carried) (rs : List SystemReading)
+    (errors : TimeErrors) (name from bound age time : ℕ) (moment : Moment p time) (says : SayBound errors name bound)
+    → BeginsWith passages start first p w c → c.readings ≡ Some rs → p.errors ≡ Some errors
+    → errors.from ≡ Some from → errors.age ≡ Some age → from + age ≤ time
+    → HasTime time (world_after moment.done w) (readings_after moment.done rs) name
+
 -- ---- of every timeline, as long as clocks can show the time
 
 abbrev pub TimelinesHearInTime : {F : Type 0} → (Bounds → ℕ → F → Option ℕ → F → Type 0) → Type 0
@@ -95,3 +103,9 @@ TimelinesAreAlwaysExact {F} answers = (d : DocumentState) (until : ℕ) (options
     (lines : List (List ℕ)) (exceeded : Bool) (t : TimelineOf answers d until options fate lines exceeded)
     → IsPlayable d → until ≤ 10 ^ 18
     → AreAlwaysExact t.start (none_carried (tracks options) (rising_clocks t.start)) t.passages
+
+abbrev pub TimelinesAlwaysHaveTime : {F : Type 0} → (Bounds → ℕ → F → Option ℕ → F → Type 0) → Type 0
+TimelinesAlwaysHaveTime {F} answers = (d : DocumentState) (until : ℕ) (options : TimelineOptions) (fate : F)
+    (lines : List (List ℕ)) (exceeded : Bool) (t : TimelineOf answers d until options fate lines exceeded)
+    → IsPlayable d → until ≤ 10 ^ 18
+    → AlwaysHaveTime t.start (none_carried (tracks options) (rising_clocks t.start)) t.passages

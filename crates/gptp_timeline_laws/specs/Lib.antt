@@ -4,5 +4,6 @@ pub mod Exact
 pub mod ExactSoon
 pub mod Sources
 pub mod Age
+pub mod Apart
 pub mod Right
 pub mod Soon

@@ -71,6 +71,12 @@ pub record ReadsAt (time : ℕ) (w : WorldState) (rs : List SystemReading) (name
   pub read_is : read ≡ read_by kept own
   pub source_shows : clock_time kept.source time w ≡ Some source
 
+-- a system has time: it reads something then, and so does its source
+pub record HasTime (time : ℕ) (w : WorldState) (rs : List SystemReading) (name : ℕ) : Type 0 where
+  pub read : ℤ
+  pub source : ℤ
+  pub reads : ReadsAt time w rs name read source
+
 -- ---- what is measured bounds it
 
 -- the greatest error that was looked at; 0 where none was

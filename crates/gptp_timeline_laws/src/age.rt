@@ -1,6 +1,7 @@
 //! How old what systems read is.
 
-ghost use Rattle.gptp_timeline_laws.specs.Age.{TimelinesAreAlwaysExact, TimelinesHearAgainInTime, TimelinesHearInTime};
+ghost use Rattle.gptp_timeline_laws.specs.Age.{TimelinesAlwaysHaveTime, TimelinesAreAlwaysExact};
+ghost use Rattle.gptp_timeline_laws.specs.Age.{TimelinesHearAgainInTime, TimelinesHearInTime};
 
 use gptp_links::Fate;
 
@@ -20,4 +21,9 @@ pub fn timelines_hear_again_in_time<F: Fate>()
 /// Once that age is over after that time, what the system reads is at every moment within the error for that age.
 pub fn timelines_are_always_exact<F: Fate>()
     ensures { TimelinesAreAlwaysExact F.answers }
+{}
+
+/// And it reads something at each of these moments.
+pub fn timelines_always_have_time<F: Fate>()
+    ensures { TimelinesAlwaysHaveTime F.answers }
 {}

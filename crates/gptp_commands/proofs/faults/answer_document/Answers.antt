@@ -28,7 +28,10 @@ returns-in-Ok-Table-clause-tells g c =
       inl (
         exceeded,
         table,
-        c.follow_lines_settle.ensures d options lines exceeded table playable,
+        (
+          c.follow_lines_settle.ensures d options lines exceeded table playable,
+          c.lines_settle_within.ensures d options lines exceeded table playable,
+        ),
         c.of.ensures.status ∙ c.of_refusal.ensures,
       ),
       c.of.ensures.text ∙ text,
