@@ -1,5 +1,5 @@
 -- How the links of a network stand after events, which of them are new at a time, and over which delays vary (profile).
-use Rattle.std.specs.Prelude.{ℕ, ◌*◌, ◌&&◌, ◌||◌, not, nat_le, Bool, false, if◌then◌else◌, List, [], ◌∷◌, ◌++◌, map, filter, Option, Some, None, slice_get}
+use Rattle.std.specs.Prelude.{ℕ, ◌*◌, ◌&&◌, not, nat_le, Bool, false, if◌then◌else◌, List, [], ◌∷◌, ◌++◌, map, filter, Option, Some, None, slice_get}
 use Rattle.gptp_scenario.specs.Change.{link_after}
 use Rattle.gptp_scenario.specs.InUse.{lives}
 use Rattle.gptp_scenario.specs.Network.{NetworkState}
@@ -24,10 +24,6 @@ standings_after n events = map (standing_then n events) n.links
 -- the greatest delay of a link is twice the least or more
 abbrev pub varies : Cable → Bool
 varies c = nat_le (2 * c.bounds.min) c.bounds.max
-
--- a link that is up joins a live system to one that has failed
-abbrev pub is_unanswered : Standing → Bool
-is_unanswered s = s.cable.up && (s.a_lives || s.b_lives) && not (s.a_lives && s.b_lives)
 
 -- A link is new that is in use after the events of a time and wasn't before; at the first time each in use is.
 abbrev pub is_new : NetworkState → List Timed → List Timed → Bool → LinkSpec → Bool

@@ -29,14 +29,13 @@ use Rattle.gptp_how_soon.specs.declared.bounds.SettlingTime.{SettlingTime}
 use Rattle.gptp_how_soon.specs.declared.bounds.Row.{Row}
 use Rattle.gptp_how_soon.specs.declared.kinds.Told.{Told}
 
--- What is seen of a time: when a link was last set; the time before, and what Sync had to cross then; how links
--- stand at it, and those that are new; its events; what Sync has to cross; and whether the network is calm.
+-- What is seen of a time: when a link was last set; the time before, and what Sync had to cross then; the links that
+-- are new at it; its events; what Sync has to cross; and whether the network is calm.
 pub record View : Type 0 where
   pub at : ℕ
   pub last_set : ℕ
   pub before : Option SettlingTime
   pub paths_before : SyncPaths
-  pub standings : List Standing
   pub new : List Cable
   pub told : List Told
   pub paths : SyncPaths
@@ -60,7 +59,7 @@ gained_at n v = ready_at n v + heard_at n v + way_span v.paths
 
 abbrev pub row_at : NetworkState → View → Row
 row_at n v =
-    row_of (is_from_rest n v.at v.paths_before v.paths v.standings v.told (ready_at n v) v.before) (is_first v) v.told
+    row_of (is_from_rest n v.at v.paths_before v.paths v.told v.before) (is_first v) v.told
 
 abbrev pub settling_time : NetworkState → View → SettlingTime
 settling_time n v = times_by n v.at v.last_set v.paths v.calm (sets_link v.told) (row_at n v) (gained_at n v)
@@ -99,7 +98,6 @@ view_at n made now before at = record {
   last_set = last_set (made ++ now);
   before = before;
   paths_before = sync_paths n made;
-  standings = standings_after n (made ++ now);
   new = new_links n made (made ++ now) (not (is_some before));
   told = told_of n made now;
   paths = sync_paths n (made ++ now);

@@ -55,7 +55,6 @@ view_seen n w at = record {
   last_set = w.last_set;
   before = w.before;
   paths_before = w.paths_before;
-  standings = w.tables.standings.items;
   new = new_among (not (is_some w.before)) w.tables.standings.items w.used_before.items;
   told = w.told.items;
   paths = marked_paths w.tables.marks.items w.tables.nodes.items;

@@ -1,9 +1,8 @@
 //! Which links are new at a time, and over which delays vary.
 
 ghost use Rattle.std.specs.Prelude.{◌≡◌, ◌++◌, ◌∷◌, [], IfOk, OnOk, map};
-ghost use Rattle.std.specs.List.{list_any};
 ghost use Rattle.gptp_topology.specs.Course.{cable_is_used};
-ghost use Rattle.gptp_how_soon.specs.Links.{is_old_at, is_unanswered, is_used_at, new_among, new_one, varies};
+ghost use Rattle.gptp_how_soon.specs.Links.{is_old_at, is_used_at, new_among, new_one, varies};
 
 use gptp_topology::{Cable, Standing, is_used};
 use std::alloc::{AllocError, Global};
@@ -13,20 +12,6 @@ pub(crate) fn varies(cable: &Cable) -> bool
     ensures { result ≡ varies cable.now }
 {
     2 * u128::from(cable.bounds.min) <= u128::from(cable.bounds.max)
-}
-
-/// Whether a link that is up joins a live system to one that has failed.
-fn is_unanswered(link: &Standing) -> bool
-    ensures { result ≡ is_unanswered link.now }
-{
-    link.cable.up && (link.a_lives || link.b_lives) && !(link.a_lives && link.b_lives)
-}
-
-/// Whether one of these links does.
-pub(crate) fn any_unanswered(standings: &[Standing]) -> bool
-    ensures { result ≡ list_any is_unanswered standings.now }
-{
-    standings.iter().any(|link| is_unanswered(link))
 }
 
 /// Which of these links are in use.

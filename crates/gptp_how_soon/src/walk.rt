@@ -109,16 +109,7 @@ impl Walk {
         let ready = ready(network, paths, told, new);
         let followed = heard_at_once(first, self.paths_before, told);
         let gained = ready + heard(network, followed, told, new) + way_span(paths);
-        let from_rest = is_from_rest(
-            network,
-            at,
-            self.paths_before,
-            paths,
-            standings,
-            told,
-            ready,
-            self.before,
-        );
+        let from_rest = is_from_rest(network, at, self.paths_before, paths, told, self.before);
         Ok(times_by(
             network,
             at,

@@ -93,9 +93,11 @@ pub mod DelayFirstAtLemmas
 pub mod DelayFirstUpLemmas
 pub mod FailedUnansweredStandLemmas
 pub mod FailedUnansweredLaneLemmas
+pub mod UnmeasuredLemmas
 pub mod FailedUnansweredCallLemmas
 pub mod FailedUnansweredExpiryLemmas
 pub mod FailedUnansweredDeliveryLemmas
+pub mod FailedNeverAnsweredLemmas
 pub mod FailedUnansweredActLemmas
 pub mod FailedSilentLemmas
 pub mod WorldBeforeLemmas

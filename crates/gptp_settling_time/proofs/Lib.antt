@@ -7,6 +7,7 @@ pub mod AskedElsewhereLemmas
 pub mod RestartLemmas
 pub mod AsksSoonLemmas
 pub mod RecoverLemmas
+pub mod RecoverAloneLemmas
 pub mod UpSoonLemmas
 pub mod TimedNewsLemmas
 pub mod SoonOffsetLemmas

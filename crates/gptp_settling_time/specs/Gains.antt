@@ -138,13 +138,6 @@ EndHasFailed n events port = (place : ℕ) (v : LinkSpec) → slice_get n.links 
     → (IsLive n.systems events (link_after events v).a.clock → ⊥)
     ⊎ (IsLive n.systems events (link_after events v).b.clock → ⊥)
 
--- each link that is up and ends at the system with this clock joins live systems after these events
-abbrev pub LeadsToLive : NetworkState → List Timed → ℕ → Type 0
-LeadsToLive n events number = (place : ℕ) (v : LinkSpec) → slice_get n.links place ≡ Some v
-    → (link_after events v).up ≡ true
-    → ((link_after events v).a.clock ≡ number) ⊎ ((link_after events v).b.clock ≡ number)
-    → IsLive n.systems events (link_after events v).a.clock × IsLive n.systems events (link_after events v).b.clock
-
 -- Such an event leaves all as it was beside failed systems: a link comes up, over which nothing is in flight yet, a
 -- system recovers, or a priority1 is set.
 abbrev pub SparesFailed : Act → Type 0
@@ -176,15 +169,12 @@ UsesNoLink n events number = (place : ℕ) (v : LinkSpec) → slice_get n.links 
 -- ports ask then; a failed system that recovers, whose own ports ask then, and those beside it within a peer delay
 -- interval, where it uses a link; and a priority1 that gets no worse. What a system that recovers sent before it failed
 -- is gone by then.
--- Beside another that has failed its port doesn't become capable, which is known only once L + 5 announce intervals are
--- over since the network began.
 abbrev pub LeavesCapable : NetworkState → List Timed → Timed → ℕ → Act → Type 0
 LeavesCapable n before event next (Changing (LinkUp number port)) =
     JoinsLive n (before ++ event ∷ []) (port_id number port)
     × (exchanged_from (pace_of n) (sync_paths n (before ++ event ∷ [])) event.at ≤ next)
 LeavesCapable n before event next (Changing (Recover number)) =
     (IsLive n.systems before number → ⊥)
-    × (LeadsToLive n (before ++ event ∷ []) number ⊎ (capability_span (pace_of n) ≤ next))
     × AreSparedBy n [] before event.at
     × ((exchanged_again_from (pace_of n) (sync_paths n (before ++ event ∷ [])) event.at ≤ next)
     ⊎ (UsesNoLink n (before ++ event ∷ []) number × (event.at < next)))
