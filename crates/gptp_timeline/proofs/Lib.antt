@@ -33,7 +33,7 @@ mod LookedLemmas
 mod JumpLemmas
 mod NewReadingLemmas
 mod PutLemmas
-mod TimeSourceLemmas
+pub mod TimeSourceLemmas
 pub mod SourceLemmas
 mod SourceEndsLemmas
 pub mod KeeperLemmas
