@@ -42,7 +42,7 @@ use Rattle.gptp_invariants.specs.ChoiceCalm.{clock_place}
 use Rattle.gptp_invariants.specs.DelayLinkView.{LinkPlace}
 use Rattle.gptp_invariants.specs.SyncTimed.{IsSettledFrom}
 use Rattle.gptp_invariants.specs.SyncTimedLaws.{IsRootOf}
-use Rattle.gptp_invariants.specs.WorldStanding.{snapshot_of, standing_system}
+use Rattle.gptp_invariants.specs.WorldStanding.{snapshot_of}
 use Rattle.gptp_invariants.proofs.ChoiceCalmKeptLemmas.{KeepsNetwork}
 use Rattle.gptp_invariants.proofs.ChoiceFoundLemmas.{place_is}
 use Rattle.gptp_invariants.proofs.SyncFollowTreeLemmas.{settled_system, well_formed}
