@@ -101,8 +101,9 @@ best_alone p settled longest w is number place best station is_best here live na
     none station.system.slave (is.choice place station here live (0, there, omega arith)).slave
   where
     own : IsBest (snapshot_of w) best.clock best
-    own = IsBest-reached (snapshot_of w) number best.clock best (well_formed p settled longest w is) is_best.reached
-    is_best
+    own =
+        IsBest-reached (snapshot_of w) number best.clock best (well_formed p settled longest w is) is_best.reached
+        is_best
 
     there : IsDistance (snapshot_of w) (clock station.system) 0
     there = subst (λ v. IsDistance (snapshot_of w) v 0) (sym named) (IsDistance-best (snapshot_of w) best own)
