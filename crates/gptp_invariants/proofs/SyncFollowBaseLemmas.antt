@@ -42,7 +42,7 @@ use Rattle.gptp_invariants.specs.ChoiceCalm.{clock_place}
 use Rattle.gptp_invariants.specs.DelayLinkView.{LinkPlace}
 use Rattle.gptp_invariants.specs.SyncTimed.{IsSettledFrom}
 use Rattle.gptp_invariants.specs.SyncTimedLaws.{IsRootOf}
-use Rattle.gptp_invariants.specs.WorldStanding.{snapshot_of, standing_system}
+use Rattle.gptp_invariants.specs.WorldStanding.{snapshot_of}
 use Rattle.gptp_invariants.proofs.ChoiceCalmKeptLemmas.{KeepsNetwork}
 use Rattle.gptp_invariants.proofs.ChoiceFoundLemmas.{place_is}
 use Rattle.gptp_invariants.proofs.SyncFollowTreeLemmas.{settled_system, well_formed}
@@ -101,8 +101,9 @@ best_alone p settled longest w is number place best station is_best here live na
     none station.system.slave (is.choice place station here live (0, there, omega arith)).slave
   where
     own : IsBest (snapshot_of w) best.clock best
-    own = IsBest-reached (snapshot_of w) number best.clock best (well_formed p settled longest w is) is_best.reached
-    is_best
+    own =
+        IsBest-reached (snapshot_of w) number best.clock best (well_formed p settled longest w is) is_best.reached
+        is_best
 
     there : IsDistance (snapshot_of w) (clock station.system) 0
     there = subst (λ v. IsDistance (snapshot_of w) v 0) (sym named) (IsDistance-best (snapshot_of w) best own)

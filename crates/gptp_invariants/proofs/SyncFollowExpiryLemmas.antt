@@ -1,8 +1,13 @@
 -- An expiry in a settled world keeps what is claimed of the time that is carried in it.
-use Rattle.std.proofs.Common.{◌≡◌, ◌≢◌, ◌⊎◌, ◌<◌, ◌+◌, ℕ, Bool, true, false, List, [], Some, refl, sym, ap, subst, ◌∙◌, inl, inr}
+use Rattle.std.proofs.Common.{◌≡◌, ◌≢◌, ◌⊎◌, ◌<◌, ◌+◌, ℕ, Bool, true, false, List, [], Some, refl, sym, ap, subst, ◌∙◌, inl, inr, zero, suc, arith}
 use Rattle.std.proofs.lemmas.Option.{none-some}
+use Rattle.std.specs.List.{list_any}
 use Rattle.gptp_lists.specs.Members.{In}
 use Rattle.gptp_graph.specs.Distance.{IsDistance}
+use Rattle.gptp_graph.specs.Best.{IsBest}
+use Rattle.gptp_graph.specs.Snapshot.{System}
+use Rattle.gptp_graph.specs.Parent.{ParentLink}
+use Rattle.gptp_graph.proofs.ParentLemmas.{IsParent-unique}
 use Rattle.gptp_vector.specs.declared.port.PortId.{PortId}
 use Rattle.gptp_links.specs.Fate.{Draw}
 use Rattle.gptp_setup.specs.declared.setup.Params.{Params}
@@ -13,8 +18,8 @@ use Rattle.gptp_system.specs.declared.answer.Answer.{Answer}
 use Rattle.gptp_system.specs.Input.{Input, Steps, Expires as TimerExpires}
 use Rattle.gptp_system.specs.Messages.{AreSent}
 use Rattle.gptp_system.specs.Selection.{kept_if}
-use Rattle.gptp_system.specs.State.{SystemState, clock, due}
-use Rattle.gptp_system.specs.Syncing.{LeadsTime, is_leading}
+use Rattle.gptp_system.specs.State.{SystemState, clock, due, is_mine}
+use Rattle.gptp_system.specs.Syncing.{LeadsTime, is_leading, own_time}
 use Rattle.gptp_system.proofs.SentLemmas.{steps_send}
 use Rattle.gptp_model.proofs.SteadyLemmas.{same_clock}
 use Rattle.gptp_model.specs.Act.{Calls, TimerRunsOut, in_state}
@@ -24,7 +29,7 @@ use Rattle.gptp_model.specs.World.{WorldState, sender}
 use Rattle.gptp_sync_machine.specs.Follower.{FollowerSetting}
 use Rattle.gptp_sync_machine.specs.Invariant.{FollowerInvariant}
 use Rattle.gptp_invariants.specs.SyncFollowView.{tells}
-use Rattle.gptp_invariants.specs.SyncFollowers.{HasWay, IsFollower, follower, follower_setting, state_above}
+use Rattle.gptp_invariants.specs.SyncFollowers.{HasWay, IsFollower, follower, follower_setting, state_above, base_at, follower_clock, parent_link, told_base}
 use Rattle.gptp_invariants.specs.DelayLinkView.{LinkPlace}
 use Rattle.gptp_invariants.specs.ChoiceSaid.{said_at}
 use Rattle.gptp_invariants.specs.WorldStanding.{snapshot_of}
@@ -191,15 +196,17 @@ module _ (p : SettlingParams) (settled longest : ℕ) (w w' : WorldState) (is : 
         its_base : steps ≡ 0 → kset.base ≡ told_base s'
         its_base none = by_zero steps h' none
           where
+            was : WasBefore place (TimerExpires timer) at_rest draws e.answer w' e.calls at.asking
+                (sender at.direction f'.channel).clock f'.above
+            was =
+                was_before place (TimerExpires timer) at_rest draws e.answer w' e.calls at.asking
+                (sender at.direction f'.channel).clock f'.above
+
             after : f'.above.station.system ≡ s'
-            after = by_which (was_before place (TimerExpires timer) at_rest draws e.answer w' e.calls at.asking
-                (sender at.direction f'.channel).clock f'.above).which
-              where
-                by_which : ((at.asking ≡ place) × (_ ≡ e.calls.station)
-                    × (f'.above.station ≡ in_state e.calls.after e.calls.station))
-                    ⊎ ((at.asking ≢ place) × (f'.above.station ≡ _)) → f'.above.station.system ≡ s'
-                by_which (inl (same, was, now)) = ap (λ (y : Station). y.system) now
-                by_which (inr (other, still)) = absurd (other here)
+            after = elim was.which [
+              | inl (same, before, now) ↦ ap (λ (y : Station). y.system) now
+              | inr (other, still) ↦ absurd (other here)
+            ]
 
             by_zero : (n : ℕ) → HasWay p.params at w' f' n → n ≡ 0 → kset.base ≡ told_base s'
             by_zero zero way is_zero =

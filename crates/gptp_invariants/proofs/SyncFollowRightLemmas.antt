@@ -1,11 +1,13 @@
 -- What the parent of a system tells is right, where it may come after what comes is right: a root tells its own clock,
 -- and a bridge what it knows.
-use Rattle.std.proofs.Common.{◌≡◌, ◌⊎◌, ◌<◌, ◌≤◌, ◌+◌, ◌*◌, ℕ, zero, suc, ℤ, true, List, Some, refl, sym, ap, subst, ◌∙◌, inl, inr, arith, eqb-true}
+use Rattle.std.proofs.Common.{◌≡◌, ◌⊎◌, ◌<◌, ◌≤◌, ◌+◌, ◌*◌, ℕ, zero, suc, ℤ, true, List, Some, refl, sym, ap, subst, ◌∙◌, inl, inr, arith, eqb-true, Option, None, ◌+ℤ◌, if◌then◌else◌}
 use Rattle.std.specs.Prelude.{◌==◌}
+use Rattle.std.specs.List.{list_any}
 use Rattle.std.proofs.lemmas.Bool.{and_parts}
 use Rattle.gptp_graph.specs.Distance.{IsDistance, IsNear}
 use Rattle.gptp_graph.specs.Parent.{IsParent, ParentLink}
 use Rattle.gptp_graph.specs.Snapshot.{IsWellFormed, Snapshot, System}
+use Rattle.gptp_graph.specs.SettledChoice.{IsBestIdentity}
 use Rattle.gptp_graph.proofs.ParentLemmas.{IsParent-unique, LeadsNearer-distance}
 use Rattle.gptp_graph.proofs.SystemLemmas.{same_identity}
 use Rattle.gptp_graph.proofs.TreeLemmas.{best_has_no_parent}
@@ -18,21 +20,23 @@ use Rattle.gptp_correction.specs.declared.sync_in.SyncInfo.{SyncInfo}
 use Rattle.gptp_correction.specs.Correction.{bridge, carried, carried_on, held_sum, relayed, BridgeFits}
 use Rattle.gptp_setup.specs.SettlingParams.{SettlingParams}
 use Rattle.gptp_system.specs.declared.sending.Sending.{Sending}
-use Rattle.gptp_system.specs.State.{SystemState, can_lead, clock, local_time}
+use Rattle.gptp_system.specs.State.{SystemState, can_lead, clock, local_time, is_mine}
 use Rattle.gptp_system.specs.Syncing.{HopFits, IsRelayed, IsSentOn, IsToldAtLimits, LeadsTime, hop_of, is_leading, own_time, slave_delay, slave_rate, told_by}
+use Rattle.gptp_system.specs.Takeover.{base_after}
 use Rattle.gptp_model.specs.declared.station.Station.{Station}
 use Rattle.gptp_model.specs.World.{WorldState, sender}
 use Rattle.gptp_error_laws.specs.TimeError.{Way}
+use Rattle.gptp_error_laws.specs.WayLaws.{shown_at}
 use Rattle.gptp_sync_machine.specs.Follower.{FollowerSetting, from, own_clock}
 use Rattle.gptp_sync_machine.specs.Follower as followers
 use Rattle.gptp_sync_machine.specs.FollowerLaws.{IsParentOf}
 use Rattle.gptp_sync_machine.specs.Right.{IsHeldAt, IsMeasuredAt, FollowUpIsRight}
-use Rattle.gptp_sync_machine.specs.Tree.{IsWayTo, Parts}
+use Rattle.gptp_sync_machine.specs.Tree.{IsWayTo, Parts, follower_of}
 use Rattle.gptp_sync_machine.proofs.ModestLemmas.{rates_are_held, ways_are_modest}
 use Rattle.gptp_sync_machine.proofs.TellingLemmas.{parent_tells_right, parents_numbers_fit, root_tells}
 use Rattle.gptp_sync_machine.proofs.TreeLemmas.{parents_are_parents, way_ends_at_parent}
 use Rattle.gptp_invariants.specs.SyncFollowView.{tells}
-use Rattle.gptp_invariants.specs.SyncFollowers.{HasWay, IsFollower, follower, follower_clock, follower_setting, parent_link, follower_parts, state_above, follower_state}
+use Rattle.gptp_invariants.specs.SyncFollowers.{HasWay, IsFollower, follower, follower_clock, follower_setting, parent_link, follower_parts, state_above, follower_state, base_at, told_base}
 use Rattle.gptp_invariants.specs.DelayLinkView.{LinkPlace}
 use Rattle.gptp_invariants.specs.ChoiceSettled.{IsSettledSystem}
 use Rattle.gptp_invariants.specs.WorldStanding.{snapshot_of, standing_system}
@@ -42,9 +46,10 @@ use Rattle.gptp_invariants.proofs.SyncFollowPartLemmas.{clock_shown}
 use Rattle.gptp_invariants.proofs.SyncFollowSayLemmas.{SendsOn}
 use Rattle.gptp_invariants.proofs.SyncFollowSettingLemmas.{is_setting, own_shown, residence_is}
 use Rattle.gptp_invariants.proofs.SyncFollowBaseLemmas.{GoesOn, right_goes_on, root_above, taken_over}
-use Rattle.gptp_invariants.proofs.SyncFollowTreeLemmas.{well_formed}
+use Rattle.gptp_invariants.proofs.SyncFollowTreeLemmas.{well_formed, same_root, settled_system}
 use Rattle.gptp_invariants.proofs.SyncFollowWayLemmas.{Follows, correction_small, documented, few, follows_parent, long, own_time_fits}
 use Rattle.gptp_invariants.proofs.WorldSystemLemmas.{live_there}
+use Rattle.gptp_roles.specs.Selection.{clock_of}
 
 -- ---- what is sent on
 

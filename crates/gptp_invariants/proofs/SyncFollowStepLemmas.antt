@@ -8,6 +8,8 @@ use Rattle.gptp_lists.proofs.MappedLemmas.{same_there}
 use Rattle.gptp_lists.proofs.SystemSpecLemmas.{In-right}
 use Rattle.gptp_lists.proofs.PlaceLemmas.{same_place}
 use Rattle.gptp_graph.specs.SettledChoice.{IsBestIdentity}
+use Rattle.gptp_graph.specs.Best.{IsBest}
+use Rattle.gptp_graph.specs.Snapshot.{System}
 use Rattle.gptp_vector.specs.declared.port.PortId.{PortId}
 use Rattle.gptp_messages.specs.Frame.{PortFits}
 use Rattle.gptp_links.specs.declared.bounds.Bounds.{Bounds}
@@ -48,6 +50,7 @@ use Rattle.gptp_invariants.proofs.DelayLinkLemmas.{receiver_same}
 use Rattle.gptp_invariants.proofs.DelaySentLemmas.{octets_of}
 use Rattle.gptp_invariants.proofs.WorldStandsLemmas.{ends_differ}
 use Rattle.gptp_invariants.proofs.SyncLaneLemmas.{own_fits}
+use Rattle.gptp_roles.specs.Selection.{clock_of}
 
 -- the Relay timer of a system expires
 pub record RelayStops (now : ℕ) (s s' : SystemState) : Type 0 where

@@ -1,6 +1,5 @@
 -- The ways of a world: as long as distances are, over short links; and a parent with a parent follows that.
-use Rattle.std.proofs.Common.{◌≡◌, ◌⊎◌, ◌<◌, ◌≤◌, ◌^◌, ◌+◌, ◌*◌, ℕ, zero, suc, true, List, Option, None, Some, length, slice_get, refl, sym, ap, subst, ◌∙◌, inl, inr, arith}
-use Rattle.std.specs.Option.{option_map_or}
+use Rattle.std.proofs.Common.{◌≡◌, ◌⊎◌, ◌<◌, ◌≤◌, ◌^◌, ◌+◌, ◌*◌, ℕ, zero, suc, true, Some, length, slice_get, refl, sym, ap, subst, ◌∙◌, inl, inr, arith}
 use Rattle.std.proofs.Math.Nat.{mul-le-mul}
 use Rattle.std.proofs.lemmas.Bool.{cases_lt}
 use Rattle.gptp_graph.specs.Distance.{IsDistance, IsNear}
@@ -8,16 +7,14 @@ use Rattle.gptp_graph.specs.Parent.{IsParent, ParentLink}
 use Rattle.gptp_graph.specs.Snapshot.{IsWellFormed, PortIdentity, Snapshot, System, port_of}
 use Rattle.gptp_graph.proofs.DistanceLemmas.{IsDistance-unique}
 use Rattle.gptp_graph.proofs.LinkLemmas.{Joins-sym}
-use Rattle.gptp_lists.proofs.MappedLemmas.{mapped}
 use Rattle.gptp_pdelay.specs.Clock.{IsDrift, IsTime}
 use Rattle.gptp_pdelay.proofs.ClockLemmas.{clock_shows_time}
-use Rattle.gptp_setup.specs.declared.setup.Setup.{Setup}
 use Rattle.gptp_setup.specs.SettlingParams.{SettlingParams}
 use Rattle.gptp_system.specs.State.{clock}
 use Rattle.gptp_model.specs.declared.station.Station.{Station}
 use Rattle.gptp_model.specs.World.{WorldState, receiver, sender}
-use Rattle.gptp_error_laws.specs.TimeError.{WayLink, Way, drift_at, link_at}
-use Rattle.gptp_error_laws.specs.WayLaws.{IsDocumented, shown_at}
+use Rattle.gptp_error_laws.specs.TimeError.{WayLink, Way, link_at}
+use Rattle.gptp_error_laws.specs.WayLaws.{IsDocumented}
 use Rattle.gptp_error_laws.proofs.LongerLemmas.{link_same}
 use Rattle.gptp_sync_machine.specs.Follower.{own_clock}
 use Rattle.gptp_sync_machine.specs.Right.{most_correction_at}
@@ -25,8 +22,7 @@ use Rattle.gptp_sync_machine.specs.Tree.{IsWayTo, Parts, last_link}
 use Rattle.gptp_sync_machine.specs.TreeLaws.{ArePartsOf}
 use Rattle.gptp_sync_machine.proofs.SizeLemmas.{corrections_are_small}
 use Rattle.gptp_sync_machine.proofs.TreeLemmas.{way_ends_at_parent, way_leads_to}
-use Rattle.gptp_invariants.specs.ChoiceCalm.{clock_place, setups_of}
-use Rattle.gptp_invariants.specs.SyncFollowers.{HasWay, IsFollower, follower_clock, follower_setting, parent_link, follower_parts, set_up_with, follower_state}
+use Rattle.gptp_invariants.specs.SyncFollowers.{HasWay, IsFollower, follower_clock, follower_setting, parent_link, follower_parts, follower_state}
 use Rattle.gptp_invariants.specs.DelayLinkView.{LinkPlace}
 use Rattle.gptp_invariants.specs.WorldStanding.{live_stations, snapshot_of}
 use Rattle.gptp_invariants.specs.SyncTimed.{IsSettledFrom}

@@ -90,8 +90,8 @@ module _ (k : FollowerSetting) (says : List ℕ → Message → Type 0) (s s' : 
   --
   -- What a root tells is `right` by root_tells. What a bridge tells is so by parent_tells_right, from its invariant,
   -- rates_are_held and ways_are_modest. It does send on, by parents_numbers_fit and corrections_are_small; the seconds
-  -- fit, since a right time is near the root's clock. A root sets no Relay timer: what one from before sends on is due
-  -- before `from` of each that follows it.
+  -- fit, since the origin of what is right is a timestamp. A root sets no Relay timer: what one from before sends on is
+  -- due before `from` of each that follows it.
   pub record ParentTells : Type 0 where
     pub unmoved : IsUnmoved s s'
     pub sequence : ℕ

@@ -18,14 +18,14 @@ leads s now reads base interval =
 pub told_time-requires-clause-ready : goal.told_time-requires-clause-ready
 told_time-requires-clause-ready c =
     let s = state_of c.args.self.now in
-    let is = leads s c.args.now c.reads_after.ensures c.base_after-base.ensures
+    let is = leads s c.args.now c.reads_after-self.ensures c.base_after-base.ensures
     (c.interval_of.ensures.interval ∙ ap interval_of (log_back s.params.sync c.requires.ready.params.sync)) in
     subst IsReady (sym is) (led_ready s c.args.now c.requires.ready c.requires.due)
 
 pub told_time-requires-clause-low : goal.told_time-requires-clause-low
 told_time-requires-clause-low c =
     let s = state_of c.args.self.now in
-    let is = leads s c.args.now c.reads_after.ensures c.base_after-base.ensures
+    let is = leads s c.args.now c.reads_after-self.ensures c.base_after-base.ensures
     (c.interval_of.ensures.interval ∙ ap interval_of (log_back s.params.sync c.requires.ready.params.sync)) in
     subst (λ t. pos 0 ≤ℤ told_time t c.args.now) (sym is)
     (led_low s c.args.now c.args.now c.requires.ready c.requires.due (omega arith))
@@ -33,7 +33,7 @@ told_time-requires-clause-low c =
 pub returns-clause-state : goal.returns-clause-state
 returns-clause-state c =
     let s = state_of c.args.self.now in
-    leads s c.args.now c.reads_after.ensures c.base_after-base.ensures
+    leads s c.args.now c.reads_after-self.ensures c.base_after-base.ensures
     (c.interval_of.ensures.interval ∙ ap interval_of (log_back s.params.sync c.requires.ready.params.sync))
 
 pub returns-clause-told : goal.returns-clause-told
