@@ -132,6 +132,15 @@ shown_by p w claimed name s is time =
     ∙ ap (λ c. local_clock ((follower_parts p.params w).phase c) ((follower_parts p.params w).drift c) time)
     live.is_named
 
+-- a system with links to its best is another
+pub best_apart : (g : Snapshot) (name steps : ℕ) (best : System) → IsWellFormed g → IsDistance g name (suc steps)
+    → IsBest g name best → best.clock ≡ name → ⊥
+best_apart g name steps best wf far is_best is =
+    let own = IsBest-reached g name best.clock best wf is_best.reached is_best in
+    let none : 0 ≡ suc steps = IsDistance-unique g name 0 (suc steps) wf
+    (subst (λ v. IsDistance g v 0) is (IsDistance-best g best own)) far in
+    cc
+
 -- ---- times
 
 -- a system has fewer steps than a path has systems
@@ -278,14 +287,6 @@ module _ {F : Type 0} (answers : Bounds → ℕ → F → Option ℕ → F → T
               named = ap clock_of root_is ∙ (well.identified best there.live).clock;
             }
 
-        -- the system is another than its best
-        best_apart : (best : System) → IsBest (snapshot_of w) name best → best.clock ≡ name → ⊥
-        best_apart best is_best is =
-            let own = IsBest-reached (snapshot_of w) name best.clock best well is_best.reached is_best in
-            let none : 0 ≡ suc has.steps = IsDistance-unique (snapshot_of w) name 0 (suc has.steps) well
-            (subst (λ v. IsDistance (snapshot_of w) v 0) is (IsDistance-best (snapshot_of w) best own)) far in
-            cc
-
         act_within : until ≤ 10 ^ 18 → (error : ℤ) → receives name t ≡ true → error_at name t ≡ Some error
             → unsigned_abs error ≤ bound
         act_within early error own is =
@@ -317,7 +318,8 @@ module _ {F : Type 0} (answers : Bounds → ℕ → F → Option ℕ → F → T
             }) in
             let own_time = same_time name s e.own e.lives lives in
             let still = receiver_alone name (at_of t) t.told.timed.act w happens.was_done.draws t.told.done t.after
-            happens.was_done.acts own b.best.clock (best_apart b.best b.is_best) in
+            happens.was_done.acts own b.best.clock
+            (best_apart (snapshot_of w) name has.steps b.best well far b.is_best) in
             let same_root : e.leader ≡ root = same_Some e.leader root (sym leader ∙ still ∙ leads) in
             let is_off : error ≡ e.offset -ℤ ahead =
             e.is ∙ (λ i. e.offset -ℤ (own_time i -ℤ told_time (same_root i) (at_of t))) in
