@@ -1,6 +1,6 @@
 -- The offset that the second of two systems is left by a Follow_Up is exact, as each act of their world
 -- promises.
-use Rattle.std.proofs.Common.{◌≡◌, ◌≤◌, ◌+◌, ◌-ℤ◌, ℕ, zero, suc, ℤ, pos, true, [], ◌∷◌, Option, Some, length, slice_get, refl, sym, ap, subst, ◌∙◌, inl, inr, arith}
+use Rattle.std.proofs.Common.{◌≡◌, ◌≤◌, ◌+◌, ◌+ℤ◌, ◌-ℤ◌, ℕ, zero, suc, ℤ, pos, true, [], ◌∷◌, Option, Some, length, slice_get, refl, sym, ap, subst, ◌∙◌, inl, inr, arith}
 use Rattle.std.proofs.lemmas.Int.{ints}
 use Rattle.std.proofs.lemmas.Option.{none-some, same_Some}
 use Rattle.gptp_error_laws.specs.TimeError.{Way, time_error}

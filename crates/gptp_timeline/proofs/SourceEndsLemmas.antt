@@ -81,7 +81,8 @@ record IsTaken (before : ℤ → ℤ → Type 0) (a b taken : SourceTime) : Type
 
 ahead_taken : (best one : SourceTime) → IsTaken greater best one (further_ahead best one)
 ahead_taken best one =
-    by (int_lt (time_of best) (time_of one)) (int_lt (time_of one) (time_of best)) (nat_lt one.source.clock best.source.clock) refl refl refl
+    by (int_lt (time_of best) (time_of one)) (int_lt (time_of one) (time_of best))
+    (nat_lt one.source.clock best.source.clock) refl refl refl
   where
     by : (l m lower : Bool) → int_lt (time_of best) (time_of one) ≡ l → int_lt (time_of one) (time_of best) ≡ m
         → nat_lt one.source.clock best.source.clock ≡ lower
@@ -89,7 +90,12 @@ ahead_taken best one =
     by true m lower is also low =
         record { one_of = inr refl; first = inl (is_less (time_of best) (time_of one) is); second = itself greater one }
     by false true lower is also low =
-        record { one_of = inl refl; first = itself greater best; second = inl (is_less (time_of one) (time_of best) also) }
+        record {
+          one_of = inl refl;
+          first = itself greater best;
+          second = inl (is_less (time_of one)
+              (time_of best) also);
+        }
     by false false true is also low =
         let same = are_same (time_of one) (time_of best) also is in
         record { one_of = inr refl; first = inr (same, grind (arith, nat_tests)); second = itself greater one }
@@ -99,7 +105,8 @@ ahead_taken best one =
 
 behind_taken : (best one : SourceTime) → IsTaken less best one (further_behind best one)
 behind_taken best one =
-    by (int_lt (time_of one) (time_of best)) (int_lt (time_of best) (time_of one)) (nat_lt one.source.clock best.source.clock) refl refl refl
+    by (int_lt (time_of one) (time_of best)) (int_lt (time_of best) (time_of one))
+    (nat_lt one.source.clock best.source.clock) refl refl refl
   where
     by : (l m lower : Bool) → int_lt (time_of one) (time_of best) ≡ l → int_lt (time_of best) (time_of one) ≡ m
         → nat_lt one.source.clock best.source.clock ≡ lower
@@ -135,10 +142,12 @@ one_ends P Q None (Some b) alike none be to from = absurd (none b.ahead (from b.
 one_ends P Q (Some a) None alike ae none to from = absurd (none a.ahead (to a.ahead ae.ahead_there))
 one_ends P Q (Some a) (Some b) alike ae be to from =
     let ahead = ahead_same a.ahead b.ahead
-    (alike a.ahead b.ahead ae.ahead_there (from b.ahead be.ahead_there)) (ae.ahead b.ahead (from b.ahead be.ahead_there))
+    (alike a.ahead b.ahead ae.ahead_there (from b.ahead be.ahead_there)) (ae.ahead b.ahead
+    (from b.ahead be.ahead_there))
     (be.ahead a.ahead (to a.ahead ae.ahead_there)) in
     let behind = behind_same a.behind b.behind
-    (alike a.behind b.behind ae.behind_there (from b.behind be.behind_there)) (ae.behind b.behind (from b.behind be.behind_there))
+    (alike a.behind b.behind ae.behind_there (from b.behind be.behind_there)) (ae.behind b.behind
+    (from b.behind be.behind_there))
     (be.behind a.behind (to a.behind ae.behind_there)) in
     λ i. Some (record { ahead = ahead i; behind = behind i })
 
@@ -228,7 +237,8 @@ same_over : (xs ys : List (Option SourceTime))
     → ((s : SourceTime) → In (Some s) ys → In (Some s) xs) → ends_over None xs ≡ ends_over None ys
 same_over xs ys alike to from =
     one_ends (λ s. NoSource s ⊎ In (Some s) xs) (λ s. NoSource s ⊎ In (Some s) ys) (ends_over None xs)
-    (ends_over None ys) both_alike (over_are NoSource None xs (λ s never. never)) (over_are NoSource None ys (λ s never. never))
+    (ends_over None ys) both_alike (over_are NoSource None xs (λ s never. never)) (over_are NoSource None ys
+    (λ s never. never))
     (λ s there. elim there [ inl never ↦ inl never | inr x ↦ inr (to s x) ])
     (λ s there. elim there [ inl never ↦ inl never | inr y ↦ inr (from s y) ])
   where
@@ -250,7 +260,8 @@ module _ (at : ℕ) (w : WorldState) where
   of_sources e (s ∷ ss) = of_sources (ends_with e (source_of at w s)) ss
 
   -- who reads from a source tells its time
-  tells : (source : TimeSource) (r : SystemReading) → reads_from source r ≡ true → told_time at w r ≡ source_of at w source
+  tells : (source : TimeSource) (r : SystemReading) → reads_from source r ≡ true
+      → told_time at w r ≡ source_of at w source
   tells source r = by r.reading
     where
       by : (o : Option KeptReading) → option_map_or (λ (k : KeptReading). same_source k.source source) o false ≡ true

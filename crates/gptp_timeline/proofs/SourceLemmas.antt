@@ -49,7 +49,8 @@ later : (source : TimeSource) (x : SystemReading) (xs : List SystemReading) → 
 later source x xs told = or_later (reads_from source x) (is_told source xs) told
 
 -- the source of a system that has time is told
-told_of : (rs : List SystemReading) (n : ℕ) (source : TimeSource) → From (reading_among rs n) source → is_told source rs ≡ true
+told_of : (rs : List SystemReading) (n : ℕ) (source : TimeSource) → From (reading_among rs n) source
+    → is_told source rs ≡ true
 told_of [] n source (k, is, same) = absurd (none-some k is)
 told_of (x ∷ xs) n source from = by (x.clock == n) (told_of xs n source) from
   where
@@ -132,7 +133,8 @@ told_still n put (x ∷ xs) source rise told =
 
 -- ---- the list of told sources
 
-in_any : (source : TimeSource) (ss : List TimeSource) → list_any (λ other. same_source other source) ss ≡ true → In source ss
+in_any : (source : TimeSource) (ss : List TimeSource) → list_any (λ other. same_source other source) ss ≡ true
+    → In source ss
 in_any source [] is = absurd cc
 in_any source (s ∷ ss) is =
     elim (or_is (same_source s source) (list_any (λ other. same_source other source) ss) is) [
@@ -161,7 +163,8 @@ in_with c s ss = by (list_any (λ other. same_source other c) ss) refl
     by false is (inl old) = In-left s ss (c ∷ []) old
     by false is (inr same) = In-right s ss (c ∷ []) (inl same)
 
-in_others : (c s : TimeSource) (ss : List TimeSource) → In s (filter (λ other. not (same_source other c)) ss) → In s ss × (s ≡ c → ⊥)
+in_others : (c s : TimeSource) (ss : List TimeSource) → In s (filter (λ other. not (same_source other c)) ss)
+    → In s ss × (s ≡ c → ⊥)
 in_others c s [] there = absurd there
 in_others c s (x ∷ xs) there = by (same_source x c) refl (in_others c s xs) there
   where
@@ -174,7 +177,8 @@ in_others c s (x ∷ xs) there = by (same_source x c) refl (in_others c s xs) th
       | inr more ↦ (let r = rest more in (inr r.0, r.1))
     ]
 
-others_in : (c s : TimeSource) (ss : List TimeSource) → In s ss → (s ≡ c → ⊥) → In s (filter (λ other. not (same_source other c)) ss)
+others_in : (c s : TimeSource) (ss : List TimeSource) → In s ss → (s ≡ c → ⊥)
+    → In s (filter (λ other. not (same_source other c)) ss)
 others_in c s [] there apart = absurd there
 others_in c s (x ∷ xs) there apart = by (same_source x c) refl there (others_in c s xs)
   where
@@ -190,12 +194,14 @@ without_in : (c s : TimeSource) (rs : List SystemReading) (ss : List TimeSource)
     → In s ss × (s ≡ c → is_told c rs ≡ true)
 without_in c s rs ss = by (is_told c rs) refl
   where
-    by : (told : Bool) → is_told c rs ≡ told → In s (if told then ss else filter (λ other. not (same_source other c)) ss)
+    by : (told : Bool) → is_told c rs ≡ told
+        → In s (if told then ss else filter (λ other. not (same_source other c)) ss)
         → In s ss × (s ≡ c → is_told c rs ≡ true)
     by true is there = (there, λ same. is)
     by false is there = let r = in_others c s ss there in (r.0, λ same. absurd (r.1 same))
 
-in_without : (c s : TimeSource) (rs : List SystemReading) (ss : List TimeSource) → In s ss → (s ≡ c → is_told c rs ≡ true)
+in_without : (c s : TimeSource) (rs : List SystemReading) (ss : List TimeSource) → In s ss
+    → (s ≡ c → is_told c rs ≡ true)
     → In s (without_untold c rs ss)
 in_without c s rs ss there told = by (is_told c rs) refl
   where
@@ -300,7 +306,8 @@ module _ (n : ℕ) (new : KeptReading) (rs : List SystemReading) (ss : List Time
           ])
 
 -- a system has no time any more
-module _ (n : ℕ) (rs : List SystemReading) (ss : List TimeSource) (rise : ReadingsRise rs) (sources : AreSources ss rs) where
+module _ (n : ℕ) (rs : List SystemReading) (ss : List TimeSource) (rise : ReadingsRise rs)
+    (sources : AreSources ss rs) where
   abbrev left : List SystemReading
   left = put_reading n None rs
 

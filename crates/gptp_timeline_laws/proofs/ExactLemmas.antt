@@ -103,7 +103,7 @@ module _ {F : Type 0} (answers : Bounds → ℕ → F → Option ℕ → F → T
         → reading_error time v n kept ≡ reading_error time base n kept
     error_same base v same time n kept =
         λ i. option_and_then (λ shown. option_map (λ x. read_by kept shown -ℤ x)
-            (same_sources base v same kept.source time i)) (same n time i)
+        (same_sources base v same kept.source time i)) (same n time i)
 
     -- a receipt that counts after another, or the first
     next_held : (base : WorldState) (rs : List SystemReading) (at now : ℕ)

@@ -320,5 +320,6 @@ timelines_read_from_roots answers d until options fate lines exceeded t playable
     readings_both k.before moment.done none ∙ ap (readings_after moment.done) (sym was) in
     subst (λ us. ReadsFromClock us name (clock_of s.root)) after
     (subst (λ n. ReadsFromClock (readings_after (k.before ++ moment.done) none) n (clock_of s.root)) live.is_named
-    (subst (λ (x : SystemState). ReadsFromClock (readings_after (k.before ++ moment.done) none) (clock live.station.system)
+    (subst (λ (x : SystemState). ReadsFromClock (readings_after (k.before ++ moment.done) none)
+    (clock live.station.system)
     (clock_of x.root)) live.state one))

@@ -163,7 +163,7 @@ module _ (low high : ℤ) (most : ℕ) (w : WorldState) where
       → reading_error time v name kept ≡ error_then time name kept
   error_same v same time name kept =
       λ i. option_and_then (λ shown. option_map (λ at. read_by kept shown -ℤ at)
-          (same_sources w v same kept.source time i)) (same name time i)
+      (same_sources w v same kept.source time i)) (same name time i)
 
   -- what is looked at is good
   good_look : (name : ℕ) (error : Option ℤ)

@@ -144,7 +144,11 @@ amount_is amount ends = by (amount == 0) refl
   where
     by : (none : Bool) → amount == 0 ≡ none
         → amount_of (if none then None
-        else Some (record { amount = amount; ahead = ends.ahead.source.clock; behind = ends.behind.source.clock })) ≡ amount
+        else Some (record {
+          amount = amount;
+          ahead = ends.ahead.source.clock;
+          behind = ends.behind.source.clock;
+        })) ≡ amount
     by true is = grind (arith, nat_tests)
     by false is = refl
 
@@ -187,7 +191,8 @@ source_stays (Some k) u is same =
     (k, refl, source_is k.source u.after.source (not_false (same_source k.source u.after.source) test))
 
 -- who has a source after a reading that changes none had it before
-pub had_source : (u : NewReading) (rs : List SystemReading) (name : ℕ) (source : TimeSource) → u.before ≡ reading_among rs u.clock
+pub had_source : (u : NewReading) (rs : List SystemReading) (name : ℕ) (source : TimeSource)
+    → u.before ≡ reading_among rs u.clock
     → changes_source u ≡ false → ReadsFrom (put_reading u.clock (Some u.after) rs) name source
     → ReadsFrom rs name source
 had_source u rs name source before same now = own (name == u.clock) refl
@@ -213,7 +218,8 @@ had_source u rs name source before same now = own (name == u.clock) refl
         }
 
 -- and has it after that
-pub keeps_source : (u : NewReading) (rs : List SystemReading) (name : ℕ) (source : TimeSource) → u.before ≡ reading_among rs u.clock
+pub keeps_source : (u : NewReading) (rs : List SystemReading) (name : ℕ) (source : TimeSource)
+    → u.before ≡ reading_among rs u.clock
     → changes_source u ≡ false → ReadsFrom rs name source
     → ReadsFrom (put_reading u.clock (Some u.after) rs) name source
 keeps_source u rs name source before same now = own (name == u.clock) refl
@@ -255,7 +261,8 @@ module _ (low high : ℤ) (most : ℕ) (w : WorldState) where
 
   -- the sources of two systems were looked at together by a time
   abbrev pub SeenTogether : List SystemReading → ℕ → Type 0
-  SeenTogether rs since = (name other : ℕ) (source source' : TimeSource) → ReadsFrom rs name source → ReadsFrom rs other source'
+  SeenTogether rs since = (name other : ℕ) (source source' : TimeSource) → ReadsFrom rs name source
+      → ReadsFrom rs other source'
       → NearBefore source source' since
 
   amount_within : (d : Option DifferenceState) → ((x : DifferenceState) → In x (listed d) → x.amount ≤ most)
@@ -340,7 +347,8 @@ module _ (low high : ℤ) (most : ℕ) (w : WorldState) where
 
   pub together_later : (until since left : ℕ) (rs : List SystemReading) (vs : List ActTrace) (end : WorldState)
       → Steps w until since vs → SameClocks w end → GoodLooks low high most (looked_over rs left vs)
-      → GoodLooks low high most (looked_all until end (readings_after vs rs)) → (name other : ℕ) (source source' : TimeSource)
+      → GoodLooks low high most (looked_all until end (readings_after vs rs))
+      → (name other : ℕ) (source source' : TimeSource)
       → ReadsFrom rs name source → ReadsFrom rs other source' → NearAfter source source' (next_time until vs)
   together_later until since left rs [] end steps same good last name other source source' first second = record {
     time = until;
