@@ -2,13 +2,12 @@
 
 ghost use Rattle.std.specs.Prelude.{◌≡◌, ◌≤◌, ◌+◌, ◌*◌, nat_lt};
 ghost use Rattle.gptp_how_soon.specs.Bounds.{way_span};
-ghost use Rattle.gptp_how_soon.specs.Rest.{are_events_followed, are_recoveries_followed, are_turns_followed, have_shown, heard_at_once, is_from_rest, is_start_from_rest, is_wider_followed, rested, row_of, settles_wider_by};
+ghost use Rattle.gptp_how_soon.specs.Rest.{are_events_followed, are_recoveries_followed, are_turns_followed, heard_at_once, is_from_rest, is_wider_followed, rested, row_of, settles_wider_by};
 
 use crate::bounds::{Row, SettlingTime, way_span};
 use crate::kinds::{
     Told, all_make_nothing, all_tell_nothing, any_better, any_gain, any_loss, any_lowers_unused,
-    any_other, any_raises_unused, any_recovery, any_wider, are_heard, begins_wider,
-    fails_and_recovers, first_wider_by,
+    any_other, any_recovery, any_wider, are_heard, begins_wider, fails_and_recovers, first_wider_by,
 };
 use gptp_scenario::{Network, SyncPaths};
 use gptp_setup::interval_of;
