@@ -72,7 +72,6 @@ module _ (n : NetworkState) (network : IsNetwork n) where
         last_set = so.set i;
         before = w.before;
         paths_before = so.paths i;
-        standings = standings i;
         new = new i;
         told = so.told i;
         paths = crossed_is n network (made ++ now) w.tables so.tables i;
