@@ -7,7 +7,8 @@ ghost use Rattle.gptp_how_soon.specs.Rest.{are_events_followed, are_recoveries_f
 use crate::bounds::{Row, SettlingTime, way_span};
 use crate::kinds::{
     Told, all_make_nothing, all_tell_nothing, any_better, any_gain, any_loss, any_lowers_unused,
-    any_other, any_recovery, any_wider, are_heard, begins_wider, fails_and_recovers, first_wider_by,
+    any_other, any_recovery, any_wider, are_heard, begins_wider, fails_and_recovers,
+    first_wider_by,
 };
 use gptp_scenario::SyncPaths;
 

@@ -222,7 +222,10 @@ fn a_system_recovers_once_no_frame_of_before_is_in_flight(rt: HostRuntime) -> Re
         rt.alloc(),
         "[[event]]\nat = 0\nkind = \"fail\"\nclock = \"000000000000000d\"\n[[event]]\nat = 1000003051\nkind = \"recover\"\nclock = \"000000000000000d\"\n",
     )?;
-    assert_eq!(rt; soon(&early, 1_000_003_051), Some((3_000_003_050, 4_000_013_301)));
+    assert_eq!(rt;
+        soon(&early, 1_000_003_051),
+        Some((3_000_003_050, 4_000_013_301))
+    );
     Ok(())
 }
 
