@@ -218,7 +218,7 @@ module _ (p : SettlingParams) (settled longest : ℕ) (w : WorldState) (is : IsS
   abbrev g : Snapshot
   g = snapshot_of w
 
-  pub best : System
+  abbrev pub best : System
   best = (settled_system p settled longest w is at f).root.0
 
   pub is_best : IsBest g (clock s) best
