@@ -317,7 +317,7 @@ longest_within : (n : NetworkState) (events others : List Timed)
 longest_within n events others = record {
   links = λ place v there.
       let here = longest_there v n.links (In-slice_get v n.links place there) in omega (arith, here);
-  events = set_within (longest_delay n (events ++ others)) events others (omega arith);
+  sets = set_within (longest_delay n (events ++ others)) events others (omega arith);
 }
 
 module _ (n : NetworkState) (network : IsNetwork n) (events : List Timed) (b : SettlingTime) (at : ℕ)

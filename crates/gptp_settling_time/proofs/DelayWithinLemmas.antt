@@ -22,12 +22,12 @@ fit_parts most (event ∷ events) others fit =
 pub within_before : (n : NetworkState) (events others : List Timed) (most : ℕ)
     → HasDelaysWithin n (events ++ others) most → HasDelaysWithin n events most
 within_before n events others most within =
-    record { links = within.links; events = (fit_parts most events others within.events).0 }
+    record { links = within.links; sets = (fit_parts most events others within.sets).0 }
 
 -- and the last lets none take longer
 pub within_last : (n : NetworkState) (events : List Timed) (event : Timed) (most : ℕ)
     → HasDelaysWithin n (events ++ event ∷ []) most → DelayFitsInterval most event.act
-within_last n events event most within = (fit_parts most events (event ∷ []) within.events).1.0
+within_last n events event most within = (fit_parts most events (event ∷ []) within.sets).1.0
 
 -- nor does what happens by itself
 pub itself_fits : (most : ℕ) (act : Act) → IsNoChange act → DelayFitsInterval most act

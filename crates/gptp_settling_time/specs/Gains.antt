@@ -151,7 +151,7 @@ SparesFailed act = ⊥
 -- no link takes longer than this, in ns, before all events, or as one of these sets it
 pub record HasDelaysWithin (n : NetworkState) (events : List Timed) (most : ℕ) : Type 0 where
   pub links : (place : ℕ) (v : LinkSpec) → slice_get n.links place ≡ Some v → v.bounds.max ≤ most
-  pub events : AllByRecursion (λ (t : Timed). DelayFitsInterval most t.act) events
+  pub sets : AllByRecursion (λ (t : Timed). DelayFitsInterval most t.act) events
 
 -- So does one that changes nothing. After any other all that was in flight is due by this time: no link took longer.
 abbrev pub IsSparedBy : NetworkState → List Timed → Timed → ℕ → Type 0
