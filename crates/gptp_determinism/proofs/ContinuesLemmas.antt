@@ -1,9 +1,10 @@
 -- What of a step doesn't depend on whether systems go on with the time that they read.
-use Rattle.std.proofs.Common.{◌≡◌, ◌+◌, ℕ, ℤ, pos, Bool, true, false, List, [], ◌∷◌, map, ◌⊎◌, Option, Some, None, refl, sym, ap, subst, ◌∙◌, inl, inr}
+use Rattle.std.proofs.Common.{◌≡◌, ◌+◌, ℕ, ℤ, pos, Bool, true, false, List, [], ◌∷◌, map, ◌⊎◌, Option, Some, None, refl, sym, ap, subst, ◌∙◌, inl, inr, arith}
 use Rattle.std.specs.Prelude.{◌↔◌, ⊤, if◌then◌else◌}
 use Rattle.std.specs.Option.{option_map, unwrap_or}
 use Rattle.std.proofs.lemmas.Option.{none-some}
 use Rattle.gptp_lists.proofs.MappedLemmas.{some_same}
+use Rattle.gptp_scaled.specs.Stamp.{IsSplit, Timestamp}
 use Rattle.gptp_messages.specs.declared.announce.AnnounceView.{AnnounceView}
 use Rattle.gptp_messages.specs.declared.follow_up.FollowUp.{FollowUp}
 use Rattle.gptp_messages.specs.declared.head.Head.{Head}
@@ -37,8 +38,9 @@ use Rattle.gptp_system.specs.State.{SystemState, clock, due, held_at, is_capable
 use Rattle.gptp_system.specs.Steps.{Expires, HearsFrame, HearsMessage}
 use Rattle.gptp_system.specs.Takeover.{leading}
 use Rattle.gptp_system.specs.Syncing.{as_received, delay_at, follow_up_of, forgetting, hop_of, is_followed, is_leading, is_slave_at, keeping, knowing, offset_of, own_time, refreshing, restarted, root_rate_at, said_on, slave_rate, sync_of, syncs, telling, timer_stopped, told_by, HearsFollowUpIf, HearsSyncIf, HopFits, IsToldAtLimits, KeepsIf, KnowsBy, KnowsIf, OffsetFits, RelaysBy, RelaysIf, SyncsIf}
-use Rattle.gptp_determinism.specs.BesideTime.{beside_time, follow_up_beside, info_beside, no_time, sending_beside, SaySameBeside}
-use Rattle.gptp_determinism.specs.ContinuesLaws.{FitAlike, IsSameBeside, RelaysFitAlike, StartsBesideTime, StepsBesideTime, TimersBesideTime}
+use Rattle.gptp_determinism.specs.BesideTime.{CanBeTold, CanTell, beside_time, follow_up_beside, info_beside, no_time, sending_beside, SameBeside, SaySameBeside}
+use Rattle.gptp_determinism.specs.ContinuesLaws.{FitAlike, RelaysFitAlike, StartsBesideTime, StepsBesideTime, TimersBesideTime}
+use Rattle.gptp_determinism.specs.StepLaws.{SameAnswer}
 use Rattle.gptp_determinism.proofs.StepLemmas.{steps_once}
 
 -- ---- steps that touch no time: they are steps of what is left of a system without it
@@ -137,30 +139,6 @@ hears_announce_beside p a now s t sends answer (inr (inr k)) =
       answer_is = k.answer_is;
     }))
 
--- ---- outcomes that are the same beside the time
-
-module _ (s' t' : SystemState) (sends more : List Sending) where
-  -- both systems and all sends
-  abbrev Same : Type 0
-  Same = (beside_time s' ≡ beside_time t') × (map sending_beside sends ≡ map sending_beside more)
-
-  -- from what the same step made of both without time
-  once : (input : Input) (now : ℕ) (s t : SystemState) (answer said : Answer) → beside_time s ≡ beside_time t
-      → Steps input now (beside_time s) (beside_time s') sends answer
-      → Steps input now (beside_time t) (beside_time t') more said
-      → IsSameBeside input s' t' sends more answer said
-  once input now s t answer said same k l =
-      let one = steps_once input now (beside_time s) (beside_time s') (beside_time t') sends more answer said k
-      (subst (λ x. Steps input now x (beside_time t') more said) (sym same) l) in
-      record { state = one.state; sends_are = ap (map sending_beside) one.sends_are; answer_is = one.answer_is }
-
-  -- both became such systems, and sent nothing
-  become : (s t : SystemState) → beside_time s ≡ beside_time t → Becomes s s' sends → Becomes t t' more → Same
-  become s t same k l = (
-    ap beside_time k.state ∙ same ∙ sym (ap beside_time l.state),
-    ap (map sending_beside) k.silent ∙ sym (ap (map sending_beside) l.silent),
-  )
-
 -- ---- what is told
 
 -- what is told, but for the time
@@ -191,6 +169,57 @@ told_same s t a b same told =
     ∙ ap (λ (x : Relayed). told_by x (beside_time s)) told
     ∙ ap (told_by (told_beside b)) same
     ∙ sym (syncs_beside (clock t) t.params.sync b 1 t.held t.ports)
+
+-- ---- outcomes that are the same beside the time
+
+-- what is known of a time can be told: its nanoseconds make no second, and its other numbers fit
+abbrev pub KnowsTold : SystemState → Type 0
+KnowsTold s = (info : SyncInfo) → s.known ≡ Some info → CanBeTold info
+
+abbrev pub IsTold : Relayed → Type 0
+IsTold told = CanTell told.origin told.correction told.rate
+
+-- both tell a time, the same beside the time
+pub record TellBoth (s t : SystemState) (sends more : List Sending) : Type 0 where
+  pub told : Relayed
+  pub others : Relayed
+  pub same : told_beside told ≡ told_beside others
+  pub sends_are : sends ≡ told_by told s
+  pub more_are : more ≡ told_by others t
+  pub one : KnowsTold s → IsTold told
+  pub other : KnowsTold t → IsTold others
+
+-- or they send one thing
+abbrev pub SendAlike : SystemState → SystemState → List Sending → List Sending → Type 0
+SendAlike s t sends more = (sends ≡ more) ⊎ TellBoth s t sends more
+
+-- both systems and all sends
+abbrev Same : SystemState → SystemState → SystemState → SystemState → List Sending → List Sending → Type 0
+Same s t s' t' sends more = (beside_time s' ≡ beside_time t') × SendAlike s t sends more
+
+-- and the answer
+pub record IsAlikeStep (input : Input) (s t s' t' : SystemState) (sends more : List Sending) (answer said : Answer) :
+    Type 0 where
+  pub state : beside_time s' ≡ beside_time t'
+  pub sends_are : SendAlike s t sends more
+  pub answer_is : SameAnswer input answer said
+
+-- from what the same step made of both without time
+once : (s' t' : SystemState) (sends more : List Sending) (input : Input) (now : ℕ) (s t : SystemState)
+    (answer said : Answer) → beside_time s ≡ beside_time t
+    → Steps input now (beside_time s) (beside_time s') sends answer
+    → Steps input now (beside_time t) (beside_time t') more said
+    → IsAlikeStep input s t s' t' sends more answer said
+once s' t' sends more input now s t answer said same k l =
+    let one = steps_once input now (beside_time s) (beside_time s') (beside_time t') sends more answer said k
+    (subst (λ x. Steps input now x (beside_time t') more said) (sym same) l) in
+    record { state = one.state; sends_are = inl one.sends_are; answer_is = one.answer_is }
+
+-- both became such systems, and sent nothing
+become : (s t s' t' : SystemState) (sends more : List Sending) (u v : SystemState) → beside_time u ≡ beside_time v
+    → Becomes u s' sends → Becomes v t' more → Same s t s' t' sends more
+become s t s' t' sends more u v same k l =
+    (ap beside_time k.state ∙ same ∙ sym (ap beside_time l.state), inl (k.silent ∙ sym l.silent))
 
 -- ---- what a Follow_Up says
 
@@ -232,23 +261,61 @@ refreshed info now s = record s {
 abbrev known_then : SyncInfo → ℕ → SystemState → SystemState
 known_then info now s = record s { known = Some info; relay = Some (now + s.params.residence) }
 
+-- ---- what is told can be spelled
+
+own_told : (stamp : Timestamp) (rest : ℕ) (time : ℤ) → IsSplit time stamp rest
+    → IsTold (own_time stamp rest)
+own_told stamp rest time split =
+    let small = split.small in record {
+      nanos = split.stamp.nanos;
+      correction = record { sfits = omega arith };
+      rate = record { sfits = omega arith };
+    }
+
+hop_told : (info : SyncInfo) (now : ℕ) (s : SystemState) → s.known ≡ Some info → HopFits info now s → KnowsTold s
+    → IsTold (relayed info (hop_of info now s))
+hop_told info now s is fits knows =
+    record { nanos = (knows info is).nanos; correction = fits.correction; rate = fits.rate }
+
+limits_told : (info : SyncInfo) (now : ℕ) (s : SystemState) (told : Relayed) → s.known ≡ Some info
+    → IsToldAtLimits info now s told → KnowsTold s → IsTold told
+limits_told info now s told is (inl k) knows =
+    let fits = k.0 in
+    subst IsTold (sym k.1) (record {
+      nanos = (knows info is).nanos;
+      correction = fits.correction;
+      rate = fits.rate;
+    })
+limits_told info now s told is (inr k) knows =
+    let can = knows info is in
+    subst IsTold (sym k.1) (record { nanos = can.nanos; correction = can.correction; rate = can.rate })
+
 -- ---- steps that touch time
 
 module _ (s' t' : SystemState) (sends more : List Sending) (now : ℕ) (s t : SystemState)
     (same : beside_time s ≡ beside_time t) where
   -- both tell, in such states
   tell : (u v : SystemState) (a b : Relayed) → beside_time u ≡ beside_time v → told_beside a ≡ told_beside b
-      → s' ≡ telling u → t' ≡ telling v → sends ≡ told_by a s → more ≡ told_by b t → Same s' t' sends more
-  tell u v a b alike told s-is t-is sends-are more-are = (
+      → (KnowsTold s → IsTold a) → (KnowsTold t → IsTold b) → s' ≡ telling u → t' ≡ telling v → sends ≡ told_by a s → more ≡ told_by b t → Same s t s' t' sends more
+  tell u v a b alike told a-told b-told s-is t-is sends-are more-are = (
     ap beside_time s-is ∙ ap telling alike ∙ sym (ap beside_time t-is),
-    ap (map sending_beside) sends-are ∙ told_same s t a b same told ∙ sym (ap (map sending_beside) more-are),
+    inr (record {
+      told = a;
+      others = b;
+      same = told;
+      sends_are = sends-are;
+      more_are = more-are;
+      one = a-told;
+      other = b-told;
+    }),
   )
 
-  syncs_if : (leads : Bool) → SyncsIf leads now s s' sends → SyncsIf leads now t t' more → Same s' t' sends more
+  syncs_if : (leads : Bool) → SyncsIf leads now s s' sends → SyncsIf leads now t t' more → Same s t s' t' sends more
   syncs_if true k l =
       tell (restarted now (leading now s)) (restarted now (leading now t)) (own_time k.stamp k.rest)
-      (own_time l.stamp l.rest) (ap (restarted now) same) refl k.state l.state k.sends_are l.sends_are
-  syncs_if false k l = become s' t' sends more (restarted now s) (restarted now t) (ap (restarted now) same) k l
+      (own_time l.stamp l.rest) (ap (restarted now) same) refl (λ knows. own_told k.stamp k.rest _ k.split)
+      (λ knows. own_told l.stamp l.rest _ l.split) k.state l.state k.sends_are l.sends_are
+  syncs_if false k l = become s t s' t' sends more (restarted now s) (restarted now t) (ap (restarted now) same) k l
 
   -- what is told at the limits, but for the time
   abbrev at_limits : SyncInfo → SystemState → Relayed
@@ -269,44 +336,46 @@ module _ (s' t' : SystemState) (sends more : List Sending) (now : ℕ) (s t : Sy
   told_at_limits i j a b infos fit (inr k) (inr l) =
       ap told_beside k.1 ∙ ap (λ (x : SyncInfo). told_beside (as_received x)) infos ∙ sym (ap told_beside l.1)
 
-  relays_by : (on : Bool) (i j : SyncInfo) → info_beside i ≡ info_beside j → (HopFits i now s ↔ HopFits j now t)
+  relays_by : (on : Bool) (i j : SyncInfo) → s.known ≡ Some i → t.known ≡ Some j → info_beside i ≡ info_beside j
+      → (HopFits i now s ↔ HopFits j now t)
       → (HopFits (held_sum i (slave_rate s)) now s ↔ HopFits (held_sum j (slave_rate t)) now t)
-      → RelaysBy on i now s s' sends → RelaysBy on j now t t' more → Same s' t' sends more
-  relays_by true i j infos fit held k l =
+      → RelaysBy on i now s s' sends → RelaysBy on j now t t' more → Same s t s' t' sends more
+  relays_by true i j i-is j-is infos fit held k l =
       tell (timer_stopped s) (timer_stopped t) k.told l.told (ap timer_stopped same)
-      (told_at_limits i j k.told l.told infos held k.told_is l.told_is) k.state l.state k.sends_are l.sends_are
-  relays_by false i j infos fit held (inl k) (inl l) =
+      (told_at_limits i j k.told l.told infos held k.told_is l.told_is)
+      (limits_told i now s k.told i-is k.told_is) (limits_told j now t l.told j-is l.told_is) k.state l.state k.sends_are l.sends_are
+  relays_by false i j i-is j-is infos fit held (inl k) (inl l) =
       tell (timer_stopped s) (timer_stopped t) (relayed i (hop_of i now s)) (relayed j (hop_of j now t))
       (ap timer_stopped same)
       (ap (λ (x : SyncInfo). as_sent_on x (beside_time s)) infos ∙ ap (as_sent_on (info_beside j)) same)
-      k.state l.state k.sends_are l.sends_are
-  relays_by false i j infos fit held (inl k) (inr l) = absurd (l.unfit (fit.0 k.fits))
-  relays_by false i j infos fit held (inr k) (inl l) = absurd (k.unfit (fit.1 l.fits))
-  relays_by false i j infos fit held (inr k) (inr l) =
-      become s' t' sends more (timer_stopped s) (timer_stopped t) (ap timer_stopped same) k.becomes l.becomes
+      (hop_told i now s i-is k.fits) (hop_told j now t j-is l.fits) k.state l.state k.sends_are l.sends_are
+  relays_by false i j i-is j-is infos fit held (inl k) (inr l) = absurd (l.unfit (fit.0 k.fits))
+  relays_by false i j i-is j-is infos fit held (inr k) (inl l) = absurd (k.unfit (fit.1 l.fits))
+  relays_by false i j i-is j-is infos fit held (inr k) (inr l) =
+      become s t s' t' sends more (timer_stopped s) (timer_stopped t) (ap timer_stopped same) k.becomes l.becomes
 
   relays_if : RelaysFitAlike now s t → (k-known l-known : Option SyncInfo)
       → s.known ≡ k-known → t.known ≡ l-known → option_map info_beside k-known ≡ option_map info_beside l-known
-      → RelaysIf k-known now s s' sends → RelaysIf l-known now t t' more → Same s' t' sends more
+      → RelaysIf k-known now s s' sends → RelaysIf l-known now t t' more → Same s t s' t' sends more
   relays_if fit None None k-is l-is infos k l =
-      become s' t' sends more (timer_stopped s) (timer_stopped t) (ap timer_stopped same) k l
+      become s t s' t' sends more (timer_stopped s) (timer_stopped t) (ap timer_stopped same) k l
   relays_if fit None (Some j) k-is l-is infos k l = absurd (none-some (info_beside j) infos)
   relays_if fit (Some i) None k-is l-is infos k l = absurd (none-some (info_beside i) (sym infos))
   relays_if fit (Some i) (Some j) k-is l-is infos k l =
-      relays_by (has_sync_timeout s.params) i j (some_same (info_beside i) (info_beside j) infos)
+      relays_by (has_sync_timeout s.params) i j k-is l-is (some_same (info_beside i) (info_beside j) infos)
       (fit.sums i j k-is l-is) (fit.held i j k-is l-is) k
       (subst (λ on. RelaysBy on j now t t' more) (sym (ap (λ (x : SystemState). has_sync_timeout x.params) same)) l)
 
   -- both became such systems, and answer the same
   heard : (u v : SystemState) (a b answer said : Answer) → beside_time u ≡ beside_time v → a ≡ b → Becomes u s' sends
-      → Becomes v t' more → answer ≡ a → said ≡ b → Same s' t' sends more × (answer ≡ said)
+      → Becomes v t' more → answer ≡ a → said ≡ b → Same s t s' t' sends more × (answer ≡ said)
   heard u v a b answer said alike ab k l k-is l-is =
-      (become s' t' sends more u v alike k l, k-is ∙ ab ∙ sym l-is)
+      (become s t s' t' sends more u v alike k l, k-is ∙ ab ∙ sym l-is)
 
   knows_by : (on : Bool) (i j : SyncInfo) (delay rate way pace : ℤ) (answer said : Answer)
       → info_beside i ≡ info_beside j → (OffsetFits i delay rate ↔ OffsetFits j way pace)
       → KnowsBy on i delay rate now s s' sends answer → KnowsBy on j way pace now t t' more said
-      → Same s' t' sends more × (answer ≡ said)
+      → Same s t s' t' sends more × (answer ≡ said)
   knows_by true i j delay rate way pace answer said infos fit k l =
       heard (refreshing i k.offset rate now s) (refreshing j l.offset pace now t) _ _ answer said
       (ap (λ (x : SyncInfo). refreshed x now (beside_time s)) infos
@@ -325,7 +394,7 @@ module _ (s' t' : SystemState) (sends more : List Sending) (now : ℕ) (s t : Sy
       → option_map info_beside k-said ≡ option_map info_beside l-said
       → ((i j : SyncInfo) → k-said ≡ Some i → l-said ≡ Some j → (OffsetFits i delay rate ↔ OffsetFits j way pace))
       → KnowsIf k-said delay rate now s s' sends answer → KnowsIf l-said way pace now t t' more said
-      → Same s' t' sends more × (answer ≡ said)
+      → Same s t s' t' sends more × (answer ≡ said)
   knows_if None None delay rate way pace answer said infos fit k l =
       heard s t _ _ answer said same refl k.becomes l.becomes k.answer_is l.answer_is
   knows_if None (Some j) delay rate way pace answer said infos fit k l = absurd (none-some (info_beside j) infos)
@@ -341,7 +410,7 @@ module _ (s' t' : SystemState) (sends more : List Sending) (now : ℕ) (s t : Sy
       → ((i j : SyncInfo) → said_on p m s ≡ Some i → said_on p n t ≡ Some j
       → (OffsetFits i (delay_at s p) (root_rate_at s p) ↔ OffsetFits j (delay_at t p) (root_rate_at t p)))
       → HearsFollowUpIf on p m now s s' sends answer → HearsFollowUpIf on p n now t t' more said
-      → Same s' t' sends more × (answer ≡ said)
+      → Same s t s' t' sends more × (answer ≡ said)
   follow_if true p m n answer said say fit k l =
       knows_if (said_on p m s) (said_on p n t) (delay_at s p) (root_rate_at s p) (delay_at t p) (root_rate_at t p)
       answer said (said_same p m n s t same say) fit k l
@@ -353,7 +422,7 @@ module _ (s' t' : SystemState) (sends more : List Sending) (now : ℕ) (s t : Sy
       → FitAlike (Frame p a) (Frame p b) now s t
       → HearsMessage p (messages.FollowUp m) now s s' sends answer
       → HearsMessage p (messages.FollowUp n) now t t' more said
-      → IsSameBeside (Frame p a) s' t' sends more answer said
+      → IsAlikeStep (Frame p a) s t s' t' sends more answer said
   hears_follow_up p a b m n answer said a-reads b-reads say fit k l =
       let both =
       follow_if (is_capable_at s p) p m n answer said say (λ i j i-is j-is. fit m n i j a-reads b-reads i-is j-is)
@@ -389,7 +458,7 @@ module _ (s' t' : SystemState) (sends more : List Sending) (now : ℕ) (s t : Sy
   -- one frame, which isn't a Follow_Up, or is one
   other_once : (p : ℕ) (octets : List ℕ) (m : Message) → IsOther m → Reads octets m
       → HearsMessage p m now s s' sends answer → HearsMessage p m now t t' more said
-      → IsSameBeside (Frame p octets) s' t' sends more answer said
+      → IsAlikeStep (Frame p octets) s t s' t' sends more answer said
   other_once p octets m is reads k l =
       once s' t' sends more (Frame p octets) now s t answer said same
       (inl (record { message = m; reads = reads; hears = message_beside p m now s s' sends answer is k }))
@@ -397,7 +466,7 @@ module _ (s' t' : SystemState) (sends more : List Sending) (now : ℕ) (s t : Sy
 
   message_once : (p : ℕ) (octets : List ℕ) (m : Message) → FitAlike (Frame p octets) (Frame p octets) now s t
       → Reads octets m → HearsMessage p m now s s' sends answer → HearsMessage p m now t t' more said
-      → IsSameBeside (Frame p octets) s' t' sends more answer said
+      → IsAlikeStep (Frame p octets) s t s' t' sends more answer said
   message_once p octets (messages.FollowUp m) fit reads k l =
       hears_follow_up s' t' sends more now s t same p octets octets m m answer said reads reads refl fit k l
   message_once p octets (messages.Sync head) fit reads k l = other_once p octets (messages.Sync head) tt reads k l
@@ -411,7 +480,7 @@ module _ (s' t' : SystemState) (sends more : List Sending) (now : ℕ) (s t : Sy
 
   frame_once : (p : ℕ) (octets : List ℕ) → FitAlike (Frame p octets) (Frame p octets) now s t
       → HearsFrame p octets now s s' sends answer → HearsFrame p octets now t t' more said
-      → IsSameBeside (Frame p octets) s' t' sends more answer said
+      → IsAlikeStep (Frame p octets) s t s' t' sends more answer said
   frame_once p octets fit (inl k) (inl l) =
       let one = one_reading octets l.message k.message l.reads k.reads in
       message_once p octets k.message fit k.reads k.hears
@@ -436,7 +505,7 @@ module _ (s' t' : SystemState) (sends more : List Sending) (now : ℕ) (s t : Sy
   -- two that say the same beside the time
   frames_once : (p : ℕ) (a b : List ℕ) → (a ≡ b) ⊎ SaySameBeside a b → FitAlike (Frame p a) (Frame p b) now s t
       → HearsFrame p a now s s' sends answer → HearsFrame p b now t t' more said
-      → IsSameBeside (Frame p a) s' t' sends more answer said
+      → IsAlikeStep (Frame p a) s t s' t' sends more answer said
   frames_once p a b (inl one) fit k l =
       frame_once p a (subst (λ (f : List ℕ). FitAlike (Frame p a) (Frame p f) now s t) (sym one) fit) k
       (subst (λ (f : List ℕ). HearsFrame p f now t t' more said) (sym one) l)
@@ -470,7 +539,7 @@ module _ (s' t' : SystemState) (sends more : List Sending) (now : ℕ) (s t : Sy
     (same : beside_time s ≡ beside_time t) where
   timer_once : (timer : Timer) → FitAlike (TimerExpires timer) (TimerExpires timer) now s t
       → Expires timer now s s' sends → Expires timer now t t' more
-      → IsSameBeside (TimerExpires timer) s' t' sends more answer said
+      → IsAlikeStep (TimerExpires timer) s t s' t' sends more answer said
   timer_once (timers.Announce p) fit k l =
       once s' t' sends more (TimerExpires (timers.Announce p)) now s t answer said same
       (record { state = ap beside_time k.state; sends_are = k.sends_are })
@@ -506,32 +575,50 @@ module _ (s' t' : SystemState) (sends more : List Sending) (now : ℕ) (s t : Sy
 
 -- ---- all inputs
 
-pub steps_beside_time : StepsBesideTime
-steps_beside_time (PortUp p) other now s s' t t' sends more answer said same alike fit k l =
+pub steps_alike : (input other : Input) (now : ℕ) (s s' t t' : SystemState) (sends more : List Sending)
+    (answer said : Answer) → beside_time s ≡ beside_time t → SameBeside input other → FitAlike input other now s t
+    → Steps input now s s' sends answer → Steps other now t t' more said
+    → IsAlikeStep input s t s' t' sends more answer said
+steps_alike (PortUp p) other now s s' t t' sends more answer said same alike fit k l =
     once s' t' sends more (PortUp p) now s t answer said same (asks_beside p reset_peer now s s' sends k)
     (asks_beside p reset_peer now t t' more
     (subst (λ (i : Input). Steps i now t t' more said) (sym alike) l))
-steps_beside_time (PortDown p) other now s s' t t' sends more answer said same alike fit k l =
+steps_alike (PortDown p) other now s s' t t' sends more answer said same alike fit k l =
     once s' t' sends more (PortDown p) now s t answer said same (selects_beside now (down p s) s' sends k)
     (selects_beside now (down p t) t' more (subst (λ (i : Input). Steps i now t t' more said) (sym alike) l))
-steps_beside_time (Frame p a) (Frame q b) now s s' t t' sends more answer said same alike fit k l =
+steps_alike (Frame p a) (Frame q b) now s s' t t' sends more answer said same alike fit k l =
     let at_port : FitAlike (Frame p a) (Frame p b) now s t =
     subst (λ (x : ℕ). FitAlike (Frame p a) (Frame x b) now s t) (sym alike.0) fit in
     frames_once s' t' sends more now s t answer said same p a b alike.1 at_port k
     (subst (λ (x : ℕ). HearsFrame x b now t t' more said) (sym alike.0) l)
-steps_beside_time (Frame p a) (PortUp q) now s s' t t' sends more answer said same alike fit k l = absurd cc
-steps_beside_time (Frame p a) (PortDown q) now s s' t t' sends more answer said same alike fit k l = absurd cc
-steps_beside_time (Frame p a) (TimerExpires timer) now s s' t t' sends more answer said same alike fit k l = absurd cc
-steps_beside_time (Frame p a) (Priority value) now s s' t t' sends more answer said same alike fit k l = absurd cc
-steps_beside_time (TimerExpires timer) other now s s' t t' sends more answer said same alike fit k l =
+steps_alike (Frame p a) (PortUp q) now s s' t t' sends more answer said same alike fit k l = absurd cc
+steps_alike (Frame p a) (PortDown q) now s s' t t' sends more answer said same alike fit k l = absurd cc
+steps_alike (Frame p a) (TimerExpires timer) now s s' t t' sends more answer said same alike fit k l = absurd cc
+steps_alike (Frame p a) (Priority value) now s s' t t' sends more answer said same alike fit k l = absurd cc
+steps_alike (TimerExpires timer) other now s s' t t' sends more answer said same alike fit k l =
     timer_once s' t' sends more now s t answer said same timer
     (subst (λ (i : Input). FitAlike (TimerExpires timer) i now s t) (sym alike) fit) k
     (subst (λ (i : Input). Steps i now t t' more said) (sym alike) l)
-steps_beside_time (Priority value) other now s s' t t' sends more answer said same alike fit k l =
+steps_alike (Priority value) other now s s' t t' sends more answer said same alike fit k l =
     once s' t' sends more (Priority value) now s t answer said same
     (selects_beside now (with_priority value s) s' sends k)
     (selects_beside now (with_priority value t) t' more
     (subst (λ (i : Input). Steps i now t t' more said) (sym alike) l))
+
+sent_alike : (s t : SystemState) (sends more : List Sending) → beside_time s ≡ beside_time t
+    → SendAlike s t sends more → map sending_beside sends ≡ map sending_beside more
+sent_alike s t sends more same (inl one) = ap (map sending_beside) one
+sent_alike s t sends more same (inr k) =
+    ap (map sending_beside) k.sends_are ∙ told_same s t k.told k.others same k.same
+    ∙ sym (ap (map sending_beside) k.more_are)
+
+pub steps_beside_time : StepsBesideTime
+steps_beside_time input other now s s' t t' sends more answer said same alike fit k l =
+    let step = steps_alike input other now s s' t t' sends more answer said same alike fit k l in record {
+      state = step.state;
+      sends_are = sent_alike s t sends more same step.sends_are;
+      answer_is = step.answer_is;
+    }
 
 pub timers_beside_time : TimersBesideTime
 timers_beside_time s t same (timers.Announce p) = ap (due (timers.Announce p)) same

@@ -1,7 +1,9 @@
 -- What of a system, of what it sends and of what it is given stays the same whether systems go on with the time that
 -- they read or not: all but the time itself.
-use Rattle.std.specs.Prelude.{◌≡◌, ◌⊎◌, ℕ, pos, false, List, None}
+use Rattle.std.specs.Prelude.{◌≡◌, ◌⊎◌, ◌<◌, ℕ, ℤ, pos, false, List, None}
 use Rattle.std.specs.Option.{option_map}
+use Rattle.gptp_scaled.specs.Interval.{FitsInterval}
+use Rattle.gptp_scaled.specs.Rate.{FitsRate}
 use Rattle.gptp_scaled.specs.Stamp.{Timestamp}
 use Rattle.gptp_messages.specs.declared.follow_up.FollowUp.{FollowUp}
 use Rattle.gptp_messages.specs.declared.head.Head.{Head}
@@ -55,6 +57,15 @@ pub record SaySameBeside (a b : List ℕ) : Type 0 where
   pub reads : Reads a (messages.FollowUp one)
   pub reads_other : Reads b (messages.FollowUp other)
   pub same : follow_up_beside one ≡ follow_up_beside other
+
+-- a time can be told: its nanoseconds make no second, and the other numbers fit their octets
+pub record CanTell (origin : Timestamp) (added pace : ℤ) : Type 0 where
+  pub nanos : origin.nanos < 1000000000
+  pub correction : FitsInterval added
+  pub rate : FitsRate pace
+
+abbrev pub CanBeTold : SyncInfo → Type 0
+CanBeTold info = CanTell info.origin info.correction info.rate
 
 -- two inputs are one, but for the time that a Follow_Up says
 abbrev pub SameBeside : Input → Input → Type 0
