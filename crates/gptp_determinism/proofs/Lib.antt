@@ -1,4 +1,5 @@
 pub mod StepLemmas
+pub mod ContinuesLemmas
 pub mod NameLemmas
 pub mod SendLemmas
 pub mod CallLemmas

@@ -1,4 +1,6 @@
 pub mod StepLaws
+pub mod BesideTime
+pub mod ContinuesLaws
 pub mod Named
 pub mod GoingOn
 pub mod ActLaws

@@ -6,6 +6,7 @@ ghost use Rattle.gptp_certificate.specs.Stated.{States};
 ghost use Rattle.gptp_graph.specs.Labelling.{SystemLine};
 ghost use Rattle.gptp_invariants.specs.WorldSettlingInvariant.{SettlingInvariant};
 ghost use Rattle.gptp_determinism.specs.ActLaws.{ActsKeepNames, ActsOnce, ActsOnceDrawn, InitialIsNamed, SoundIsNamed};
+ghost use Rattle.gptp_determinism.specs.ContinuesLaws.{StartsBesideTime, StepsBesideTime, TimersBesideTime};
 ghost use Rattle.gptp_determinism.specs.CourseLaws.{AdvancesOnce, BeginsOnce, NextOnce, StopsOnTheWay};
 ghost use Rattle.gptp_determinism.specs.ExistenceLaws.{ActsExist, BeginningsExist, DocumentsLead, DocumentsUnfold, FramesAreJudged, StepsExist, WaysExist};
 ghost use Rattle.gptp_determinism.specs.RunLaws.{LeadsOnce, MeantIsNamed, PlayedIsNamed, PlaysOnce, ReportsOnce, StatesOnce};
@@ -19,6 +20,18 @@ use gptp_links::Fate;
 /// system, the time and the input.
 pub fn steps_have_one_outcome()
     ensures { StepsOnce }
+{}
+
+/// Whether a system goes on with the time that it read (`continues`) touches that time alone. Of two systems that differ
+/// in it, and so in the time that they read and tell, a step with one input makes two of which the same is true: they
+/// send and answer the same but for the origin and the correction of Follow_Ups, and all their timers run out at the same
+/// times. Systems that start with setups that differ in it alone are such systems. Where a correction reaches the end of
+/// its 64 bits the part of a nanosecond can tell one that fits from one that doesn't: a step is one whose numbers fit in
+/// both systems, or in neither.
+pub fn continues_touches_time_alone()
+    ensures starts { StartsBesideTime }
+    ensures steps { StepsBesideTime }
+    ensures timers { TimersBesideTime }
 {}
 
 /// In a sound world whose links join two ports each, a clock names one system, and a port one end of one link. So it is

@@ -4,8 +4,6 @@
 -- past.
 use Rattle.std.specs.Prelude.{ℕ, ◌+◌, ◌*◌, ◌&&◌, ◌||◌, nat_le, nat_lt, not, Bool, false, if◌then◌else◌, List, Option, Some, None}
 use Rattle.std.specs.List.{list_all, list_any}
-use Rattle.gptp_setup.specs.SettlingParams.{largest_interval}
-use Rattle.gptp_scenario.specs.Network.{NetworkState, pace_of}
 use Rattle.gptp_scenario.specs.declared.sync_wait.SyncPaths.{SyncPaths}
 use Rattle.gptp_how_soon.specs.Bounds.{way_span}
 use Rattle.gptp_how_soon.specs.Kinds.{are_heard, begins_wider, fails_and_recovers, first_wider_by, is_better, is_gain, is_loss, is_other, is_recovery, is_wider, lowers_unused, makes_nothing, tells_nothing}
@@ -33,11 +31,10 @@ are_events_followed told = not (list_any is_other told) && not (fails_and_recove
 abbrev pub are_turns_followed : List Told → Bool
 are_turns_followed told = not (list_any lowers_unused told && list_any is_gain told)
 
--- Systems that recover are followed where an announce interval has passed since the time before, and no link that isn't
--- used goes down besides.
-abbrev pub are_recoveries_followed : NetworkState → ℕ → ℕ → List Told → Bool
-are_recoveries_followed n last at told =
-    nat_lt (last + largest_interval (pace_of n)) at && not (list_any lowers_unused told)
+-- Systems that recover are followed where the greatest delay that a link has had has passed since the time before, so
+-- that nothing of what was sent then is in flight, and no link that isn't used goes down besides.
+abbrev pub are_recoveries_followed : ℕ → ℕ → ℕ → List Told → Bool
+are_recoveries_followed longest last at told = nat_lt (last + longest) at && not (list_any lowers_unused told)
 
 -- A link that gets wider is followed as the first event of a time whose others change nothing, where what was before
 -- settles by its wider delays too: two messages of the link take so much longer, and a way does.
@@ -51,13 +48,13 @@ is_wider_followed b at paths_before paths told =
     begins_wider told && settles_wider_by b at paths_before paths (first_wider_by told) b.settling
 
 -- Time 0 is from rest where its events, if any, leave it so that nothing is told.
-abbrev pub is_from_rest : NetworkState → ℕ → SyncPaths → SyncPaths → List Told → Option SettlingTime → Bool
-is_from_rest n at paths_before paths told None = list_all tells_nothing told
-is_from_rest n at paths_before paths told (Some b) =
+abbrev pub is_from_rest : ℕ → ℕ → SyncPaths → SyncPaths → List Told → Option SettlingTime → Bool
+is_from_rest longest at paths_before paths told None = list_all tells_nothing told
+is_from_rest longest at paths_before paths told (Some b) =
     rested b at
     && are_events_followed told
     && are_turns_followed told
-    && (not (list_any is_recovery told) || are_recoveries_followed n b.at at told)
+    && (not (list_any is_recovery told) || are_recoveries_followed longest b.at at told)
     && (not (list_any is_wider told) || is_wider_followed b at paths_before paths told)
 
 -- ---- rows

@@ -1,9 +1,10 @@
-//! Which links are new at a time, and over which delays vary.
+//! Which links are new at a time, over which delays vary, and the greatest delay of links.
 
 ghost use Rattle.std.specs.Prelude.{◌≡◌, ◌++◌, ◌∷◌, [], IfOk, OnOk, map};
 ghost use Rattle.gptp_topology.specs.Course.{cable_is_used};
-ghost use Rattle.gptp_how_soon.specs.Links.{is_old_at, is_used_at, new_among, new_one, varies};
+ghost use Rattle.gptp_how_soon.specs.Links.{delay_changed, delay_set, is_old_at, is_used_at, longest_among, new_among, new_one, varies};
 
+use gptp_scenario::{Act, Change};
 use gptp_topology::{Cable, Standing, is_used};
 use std::alloc::{AllocError, Global};
 
@@ -70,4 +71,55 @@ pub(crate) fn new_links(
         )?;
     }
     Ok(new)
+}
+
+/// The greatest delay of these links, in ns, or 0.
+#[tactic(auto, using(gptp_topology::proofs::BoundLemmas::delay_moves))]
+pub(crate) fn longest_among(cables: &[Cable]) -> u64
+    ensures { result ≡ longest_among cables.now }
+{
+    let mut longest = 0;
+    for cable in cables {
+        longest = cable.bounds.max.max(longest);
+    }
+    longest
+}
+
+/// The delay, in ns, that a change lets a link have at most, or 0.
+fn delay_changed(change: &Change) -> u64
+    ensures { result ≡ delay_changed change.now }
+{
+    match *change {
+        Change::LinkSet {
+            clock: _,
+            port: _,
+            min: _,
+            max,
+            loss: _,
+        } => max,
+        Change::LinkDown { clock: _, port: _ } => 0,
+        Change::LinkUp { clock: _, port: _ } => 0,
+        Change::Fail { clock: _ } => 0,
+        Change::Recover { clock: _ } => 0,
+        Change::Priority1 { clock: _, value: _ } => 0,
+        Change::Inject {
+            clock: _,
+            port: _,
+            octets: _,
+        } => 0,
+    }
+}
+
+/// The same of an act.
+pub(crate) fn delay_set(act: &Act) -> u64
+    ensures { result ≡ delay_set act.now }
+{
+    match act {
+        Act::Change(change) => delay_changed(change),
+        Act::Deliver {
+            link: _,
+            direction: _,
+        } => 0,
+        Act::Expire { clock: _, timer: _ } => 0,
+    }
 }

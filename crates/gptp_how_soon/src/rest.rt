@@ -7,10 +7,14 @@ ghost use Rattle.gptp_how_soon.specs.Rest.{are_events_followed, are_recoveries_f
 use crate::bounds::{Row, SettlingTime, way_span};
 use crate::kinds::{
     Told, all_make_nothing, all_tell_nothing, any_better, any_gain, any_loss, any_lowers_unused,
+<<<<<<< HEAD
     any_other, any_recovery, any_wider, are_heard, begins_wider, fails_and_recovers, first_wider_by,
+=======
+    any_other, any_recovery, any_wider, are_heard, begins_wider, fails_and_recovers,
+    first_wider_by,
+>>>>>>> ddc5c35d923772a9f2d18fcff46bb91182609ab6
 };
-use gptp_scenario::{Network, SyncPaths};
-use gptp_setup::interval_of;
+use gptp_scenario::SyncPaths;
 
 /// Whether a time is later than another by more than a span.
 fn is_later(last: u64, span: u64, at: u64) -> bool
@@ -44,11 +48,10 @@ fn are_turns_followed(told: &[Told]) -> bool
 }
 
 /// Whether systems that recover are followed.
-fn are_recoveries_followed(network: &Network, last: u64, at: u64, told: &[Told]) -> bool
-    ensures { result ≡ are_recoveries_followed network.now last at told.now }
+fn are_recoveries_followed(longest: u64, last: u64, at: u64, told: &[Told]) -> bool
+    ensures { result ≡ are_recoveries_followed longest last at told.now }
 {
-    network.well_formed();
-    is_later(last, interval_of(network.largest()), at) && !any_lowers_unused(told)
+    is_later(last, longest, at) && !any_lowers_unused(told)
 }
 
 /// Whether a choice that stood so much later than a time, in ns, would have stood by another where a link is wider by so
@@ -106,7 +109,7 @@ fn is_wider_followed(
 
 /// Whether a time is from rest.
 pub(crate) fn is_from_rest(
-    network: &Network,
+    longest: u64,
     at: u64,
     paths_before: SyncPaths,
     paths: SyncPaths,
@@ -115,14 +118,14 @@ pub(crate) fn is_from_rest(
 ) -> bool
     requires few { paths.systems ≤ 512 }
     requires short { paths.delay ≤ 16000000000 }
-    ensures { result ≡ is_from_rest network.now at paths_before paths told.now before }
+    ensures { result ≡ is_from_rest longest at paths_before paths told.now before }
 {
     match before {
         Some(before) => {
             rested(&before, at)
                 && are_events_followed(told)
                 && are_turns_followed(told)
-                && (!any_recovery(told) || are_recoveries_followed(network, before.at, at, told))
+                && (!any_recovery(told) || are_recoveries_followed(longest, before.at, at, told))
                 && (!any_wider(told) || is_wider_followed(&before, at, paths_before, paths, told))
         }
         None => all_tell_nothing(told),

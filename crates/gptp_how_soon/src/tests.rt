@@ -217,6 +217,19 @@ fn a_system_that_recovers_without_links_is_heard_at_once(rt: HostRuntime) -> Res
 }
 
 #[test]
+fn a_system_recovers_once_no_frame_of_before_is_in_flight(rt: HostRuntime) -> Result<(), Fail> {
+    let early = ring(
+        rt.alloc(),
+        "[[event]]\nat = 0\nkind = \"fail\"\nclock = \"000000000000000d\"\n[[event]]\nat = 1000003051\nkind = \"recover\"\nclock = \"000000000000000d\"\n",
+    )?;
+    assert_eq!(rt;
+        soon(&early, 1_000_003_051),
+        Some((3_000_003_050, 4_000_013_301))
+    );
+    Ok(())
+}
+
+#[test]
 fn offsets_are_exact_an_announce_interval_after_the_start(rt: HostRuntime) -> Result<(), Fail> {
     // Eight exchanges each second.
     assert_eq!(rt;

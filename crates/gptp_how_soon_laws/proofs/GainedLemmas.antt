@@ -10,7 +10,6 @@ use Rattle.gptp_lists.proofs.SystemSpecLemmas.{In-map, In-slice_get}
 use Rattle.gptp_vector.specs.declared.port.PortId.{PortId}
 use Rattle.gptp_links.specs.declared.bounds.Bounds.{Bounds}
 use Rattle.gptp_setup.specs.Intervals.{interval_of}
-use Rattle.gptp_setup.specs.SettlingParams.{largest_interval}
 use Rattle.gptp_setup.specs.declared.setup.Params.{Params}
 use Rattle.gptp_scenario.specs.Calm.{IsLive, NothingLapses}
 use Rattle.gptp_scenario.specs.Change.{link_acted, link_after, with_up}
@@ -34,9 +33,10 @@ use Rattle.gptp_how_soon.specs.Kinds.{are_heard, is_better, is_gain, is_heard_to
 use Rattle.gptp_how_soon.specs.Links.{is_new, new_links, standing_then, varies}
 use Rattle.gptp_how_soon.specs.Times.{told_at, told_of}
 use Rattle.gptp_how_soon.specs.declared.kinds.Told.{Told}
-use Rattle.gptp_settling_time.specs.Gains.{AreSparedBy, ChangesNothing, IsNoWorse, IsSparedBy, JoinsLive, LeavesCapable, SparesFailed, TakesNothing, UsesNoLink, exchanged_again_from}
+use Rattle.gptp_settling_time.specs.Gains.{AreSparedBy, ChangesNothing, HasDelaysWithin, IsNoWorse, IsSparedBy, JoinsLive, LeavesCapable, SparesFailed, TakesNothing, UsesNoLink, exchanged_again_from}
 use Rattle.gptp_settling_time.specs.HowSoon.{AfterIdleEvents, AreGainEvents, AreHeardEvents, EachEvent, IsGainEvent, IsGainToo, IsHeardEvent, IsHeardToo, IsIdleEvent, TurnsUnused, way_span, AreWiderEvents}
 use Rattle.gptp_settling_time.specs.InTurn.{AddsHeard, BettersClock, BringsUp, MakesNothing, RecoversAlone, TurnsInVain}
+use Rattle.gptp_settling_time.proofs.DelayWithinLemmas.{within_before}
 use Rattle.gptp_settling_time.proofs.SamePathsLemmas.{idle_paths, turned_paths}
 use Rattle.gptp_how_soon_laws.proofs.CalmLemmas.{lives_to, three_from, three_parts, used_cable}
 use Rattle.gptp_how_soon_laws.proofs.KindLemmas.{Gains, RaisesLink, gain_gains, gain_is_not_idle, idle_changes, nothing_or_gain, unused_turns, wider_widens}
@@ -55,12 +55,17 @@ none_any p xs x none member = false_from_ne_true (p x) (λ is.
 
 -- ---- what failed systems sent is gone
 
--- after events that are long over
-spared_past : (n : NetworkState) (time : ℕ) (made events : List Timed) → 0 < time
-    → AllByRecursion (λ (t : Timed). t.at + largest_interval (pace_of n) < time) events → AreSparedBy n made events time
-spared_past n time made [] positive past = positive
-spared_past n time made (event ∷ events) positive past =
-    (inl past.0, spared_past n time (made ++ event ∷ []) events positive past.1)
+-- after events that are over by more than a link takes
+spared_past : (n : NetworkState) (most time : ℕ) (made events : List Timed) → 0 < time
+    → HasDelaysWithin n (made ++ events) most → AllByRecursion (λ (t : Timed). t.at + most < time) events
+    → AreSparedBy n made events time
+spared_past n most time made [] positive within past = positive
+spared_past n most time made (event ∷ events) positive within past =
+    let joined : HasDelaysWithin n ((made ++ event ∷ []) ++ events) most =
+    subst (λ es. HasDelaysWithin n es most) (sym (append_assoc made (event ∷ []) events)) within in (
+      inl (most, within_before n (made ++ event ∷ []) events most joined, past.0),
+      spared_past n most time (made ++ event ∷ []) events positive joined past.1,
+    )
 
 -- after one event more
 spared_more : (n : NetworkState) (time : ℕ) (made events : List Timed) (event : Timed) → AreSparedBy n made events time
@@ -131,7 +136,9 @@ module _ (n : NetworkState) (network : IsNetwork n) (time : ℕ) (first events :
 
   -- where a system recovers
   pub record AreFollowed : Type 0 where
-    pub past : AllByRecursion (λ (t : Timed). t.at + largest_interval (pace_of n) < time) first
+    pub most : ℕ
+    pub within : HasDelaysWithin n first most
+    pub past : AllByRecursion (λ (t : Timed). t.at + most < time) first
     pub turns : list_any lowers_unused tolds ≡ false
 
   -- where a link turns that isn't used
@@ -754,7 +761,8 @@ module _ (n : NetworkState) (network : IsNetwork n) (time : ℕ) (first events :
     begins : IsSoFar first
     begins = record {
       more = same_more n first;
-      spared = λ recovers. spared_past n time [] first positive (followed recovers).past;
+      spared = λ recovers.
+          let facts = followed recovers in spared_past n facts.most time [] first positive facts.within facts.past;
     }
 
     pub all_gained : list_all makes_nothing tolds ≡ false → AfterIdleEvents n (AreGainEvents n next) first events

@@ -52,7 +52,8 @@ module _ (at : LinkPlace) (place : ℕ) (input : Input) (w : WorldState) (draws 
     (mute : at.asking ≡ place → IsMuteTo (sender at.direction is.link.channel).port input) where
   called : CallStep place input (gone_by at w is.link).0 at w w' is.link
   called =
-      call_seen (gone_by at w is.link).0 at place input w draws answer w' k clocks is.link (gone_by at w is.link).1 given
+      call_seen (gone_by at w is.link).0 at place input w draws answer w' k clocks is.link (gone_by at w is.link).1
+      given
 
   pub never_called : IsNeverAnswered at w'
   never_called = record {

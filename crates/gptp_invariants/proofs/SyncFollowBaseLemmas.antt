@@ -1,5 +1,5 @@
 -- By what base a root tells time, and that it goes on to do so.
-use Rattle.std.proofs.Common.{◌≡◌, ◌≢◌, ◌⊎◌, ◌==◌, ◌<◌, ℕ, zero, suc, ℤ, Bool, true, false, if◌then◌else◌, List, [], ◌∷◌, Option, Some, None, slice_get, refl, sym, ap, subst, ◌∙◌, inl, inr, eqb-true, arith}
+use Rattle.std.proofs.Common.{◌≡◌, ◌≢◌, ◌⊎◌, ◌==◌, ℕ, suc, ℤ, Bool, true, false, if◌then◌else◌, List, [], ◌∷◌, Option, Some, None, slice_get, refl, sym, ap, subst, ◌∙◌, inl, inr, eqb-true, arith}
 use Rattle.std.specs.Prelude.{slice_set, not, ◌&&◌, ◌||◌, ◌+◌}
 use Rattle.std.specs.List.{list_any}
 use Rattle.std.specs.Option.{option_and_then}
@@ -218,7 +218,7 @@ module _ (p : SettlingParams) (settled longest : ℕ) (w : WorldState) (is : IsS
   abbrev g : Snapshot
   g = snapshot_of w
 
-  pub best : System
+  abbrev pub best : System
   best = (settled_system p settled longest w is at f).root.0
 
   pub is_best : IsBest g (clock s) best

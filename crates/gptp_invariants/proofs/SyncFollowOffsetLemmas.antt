@@ -192,7 +192,7 @@ module _ (p : SettlingParams) (settled longest : ℕ) (w : WorldState) (is : IsS
       (subst (λ r. IsMeasuredAt h.way steps r (slave_delay x)) same_rate (right place f steps h))
 
   -- its root tells time, and the offset is within the time error of the way, less what is told
-  IsExact : ℤ → Type 0
+  abbrev IsExact : ℤ → Type 0
   IsExact offset = (ahead : ℤ) × (k.base ≡ Some ahead) × AreWithin (time_error_at h.way (suc steps)) offset
       (own_clock k w.time -ℤ root_told k ahead w.time)
 

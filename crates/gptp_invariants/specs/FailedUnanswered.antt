@@ -17,12 +17,13 @@ use Rattle.gptp_pdelay_machine.specs.Silence.{InvUnanswered, Unanswered}
 use Rattle.gptp_invariants.specs.DelayMeasured.{StationIsLiveAt}
 use Rattle.gptp_invariants.specs.DelayLinkView.{IsEndAmong, LinkPlace, asker_view, other_direction, reads_as_reply, setting_view}
 
--- no exchange was full, and no response is recorded
+-- a response is recorded
 abbrev pub is_answered : Progress → Bool
 is_answered Closed = false
 is_answered (Sent request) = false
 is_answered (Answered request response) = true
 
+-- no exchange was full, and no response is recorded
 abbrev pub IsUnmeasured : PeerState → Type 0
 IsUnmeasured p = (p.last ≡ None) × (is_answered p.progress ≡ false)
 

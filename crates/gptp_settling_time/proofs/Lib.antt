@@ -17,6 +17,7 @@ pub mod GainLemmas
 pub mod PassLemmas
 pub mod LaterLemmas
 pub mod SinceSetLemmas
+pub mod DelayWithinLemmas
 pub mod KeptToLemmas
 pub mod PrioritySparedLemmas
 pub mod MadeLemmas

@@ -31,6 +31,7 @@ use Rattle.gptp_invariants.specs.WorldSettlingInvariant.{KeepsAll}
 use Rattle.gptp_invariants.specs.WorldEncodableLaws.{SetsAnOctet}
 use Rattle.gptp_invariants.specs.DelayLinkView.{LinkPlace}
 use Rattle.gptp_invariants.specs.WorldNews.{AreReadyBy, AreSilentBy, IsNews}
+use Rattle.gptp_invariants.specs.WorldShort.{IsShort}
 use Rattle.gptp_invariants.specs.WorldSound.{IsGain, IsSoundWorld}
 use Rattle.gptp_invariants.specs.FailedUnanswered.{StandsUnanswered}
 use Rattle.gptp_invariants.proofs.WorldClaimLemmas.{claim_kept, claim_later}
@@ -38,6 +39,7 @@ use Rattle.gptp_invariants.proofs.WorldLinkUpNewsLemmas.{link_up_news}
 use Rattle.gptp_invariants.proofs.WorldNewsActLemmas.{gain_news, ready_later, silent_by_later, unanswered_silent, watched_ready}
 use Rattle.gptp_invariants.proofs.WorldNewsLemmas.{none_silent}
 use Rattle.gptp_invariants.proofs.WorldOutlineLemmas.{change_is_last, change_time}
+use Rattle.gptp_invariants.proofs.WorldShortLemmas.{acts_short, later_short}
 use Rattle.gptp_invariants.proofs.WorldSoundLemmas.{sound_later}
 use Rattle.gptp_theorem.specs.PlayedLaws.{IsMade, IsPlayable}
 use Rattle.gptp_theorem.specs.Reached.{StandsAsPlanned, channel_wire}
@@ -46,7 +48,7 @@ use Rattle.gptp_theorem.proofs.SettlingInvariantLemmas.{IsFitEvent, least_of}
 use Rattle.gptp_theorem.proofs.KeptLemmas.{time_stands}
 use Rattle.gptp_theorem.proofs.SyncPathLemmas.{paths_stand}
 use Rattle.gptp_settling_time.specs.ExactInTurn.{last_set}
-use Rattle.gptp_settling_time.specs.Gains.{AreCapableAnyway, AreCapableNext, AreCapableStill, AreSparedBy, ChangesNothing, IsGainAfter, IsIdleAfter, IsSparedBy, JoinsLive, LeavesCapable, SparesFailed, TakesNothing, UsesNoLink}
+use Rattle.gptp_settling_time.specs.Gains.{AreCapableAnyway, AreCapableNext, AreCapableStill, AreSparedBy, ChangesNothing, HasDelaysWithin, IsGainAfter, IsIdleAfter, IsSparedBy, JoinsLive, LeavesCapable, SparesFailed, TakesNothing, UsesNoLink}
 use Rattle.gptp_settling_time.specs.Idle.{Lives}
 use Rattle.gptp_settling_time.specs.InTurn.{AddsHeard}
 use Rattle.gptp_settling_time.proofs.GainLemmas.{all_live, better_lives, failed_so, gain_so, idle_so, lives_so, used_as}
@@ -54,6 +56,7 @@ use Rattle.gptp_settling_time.proofs.IdleLemmas.{idle_still}
 use Rattle.gptp_settling_time.proofs.AskedElsewhereLemmas.{up_gone_still, up_in_time_still}
 use Rattle.gptp_settling_time.proofs.AskedInTimeLemmas.{AreAskedInTime, are_asked_begin, are_asked_later}
 use Rattle.gptp_settling_time.proofs.BetweenFailedLemmas.{AreGoneBetween, gone_begins, gone_later}
+use Rattle.gptp_settling_time.proofs.DelayWithinLemmas.{within_before, within_last}
 use Rattle.gptp_settling_time.proofs.KeptToLemmas.{IsNewsTo, KeepsTo, WereAskedInTime, keeps_later}
 use Rattle.gptp_settling_time.proofs.NewsSoonLemmas.{AreComing, HowComing, IsNewsFrom, IsNewsSoon, coming_later, from_coming, from_later, from_sound}
 use Rattle.gptp_settling_time.proofs.PriorityNewsLemmas.{priority_soon, priority_stays_news}
@@ -262,18 +265,28 @@ module _ {F : Type 0} (answers : Bounds → ℕ → F → Option ℕ → F → T
     asked_now : (gone : ℕ) → AreAskedInTime gone w → AreAskedInTime gone then
     asked_now gone asked = are_asked_later gone event.at w k.ready.timely.now asked
 
+    -- no link takes longer
+    short_after : (most : ℕ) → HasDelaysWithin n more most → IsShort most w'
+    short_after most within =
+        acts_short most event.act then w' k.draws done (within_last n made event most within)
+        (later_short most event.at w k.ready.timely.now
+        (keeps.short most (within_before n made (event ∷ []) most within)))
+        k.acts
+
     asked_after : (time : ℕ) → AreSparedBy n [] more time → WereAskedInTime time w'
     asked_after time spare =
         let (before, last) = one_more n [] made event time spare in
         let (gone, past, asked, all) = keeps.asked time before in
         elim last [
-          | inl over ↦
+          | inl (most, within, over) ↦
               let change = made_last in
-              let now = made_time in (
-                w'.last_change + largest_interval p,
+              let now = made_time in
+              let short = short_after most within in (
+                w'.last_change + most,
                 omega (arith, over, change, now),
-                are_asked_begin p w' claim_after.world.sound claim_after.measured claim_after.world.known made_last,
-                gone_begins p w' claim_after.world.known made_last,
+                are_asked_begin p most w' claim_after.world.sound claim_after.measured claim_after.world.known short
+                    made_last,
+                gone_begins most w' short made_last,
               )
           | inr (inl nothing) ↦
               let still = still_now (subst (ChangesNothing n made) is.act nothing) in (
@@ -294,6 +307,7 @@ module _ {F : Type 0} (answers : Bounds → ℕ → F → Option ℕ → F → T
       stands = stands_after;
       slow = stays_none_faster (least_of d) w w'
           (done_stays answers event fate fate_after w w' done keeps.claim.world.sound.wired.setups k) keeps.slow;
+      short = short_after;
       asked = asked_after;
       unset = unset_made p made event is.change then k.draws w' is.act refl acts.1 made_time made_last claim_after.world
           (unset_later p (last_set made) w event.at k.ready.timely.now keeps.unset);

@@ -1,6 +1,7 @@
 -- Events of a document that take nothing away from its network, and from when on all ports at links are capable after
 -- them.
 use Rattle.std.specs.Prelude.{◌≡◌, ◌<◌, ◌≤◌, ◌⊎◌, ◌+◌, ◌*◌, ◌^◌, ◌%◌, ℕ, ⊤, true, false, List, [], ◌∷◌, ◌++◌, Some, slice_get}
+use Rattle.std.specs.List.{AllByRecursion}
 use Rattle.gptp_vector.specs.declared.port.PortId.{PortId}
 use Rattle.gptp_roles.specs.Selection.{clock_of}
 use Rattle.gptp_setup.specs.Intervals.{interval_of}
@@ -8,6 +9,7 @@ use Rattle.gptp_setup.specs.SettlingParams.{SettlingParams, largest_interval, lo
 use Rattle.gptp_scenario.specs.Calm.{IsCalm, IsLive, IsUsed, last_change}
 use Rattle.gptp_scenario.specs.Change.{link_after, system_after}
 use Rattle.gptp_scenario.specs.Network.{IsEnd, NetworkState, pace_of}
+use Rattle.gptp_scenario.specs.Prompt.{DelayFitsInterval}
 use Rattle.gptp_scenario.specs.SettlingTime.{capability_span}
 use Rattle.gptp_scenario.specs.SyncWait.{sync_paths}
 use Rattle.gptp_scenario.specs.declared.change.Act.{Act}
@@ -146,10 +148,15 @@ SparesFailed (Changing (Recover number)) = ⊤
 SparesFailed (Changing (Priority1 number value)) = ⊤
 SparesFailed act = ⊥
 
--- So does one that changes nothing. After any other the largest announce interval is over by this time.
+-- no link takes longer than this, in ns, before all events, or as one of these sets it
+pub record HasDelaysWithin (n : NetworkState) (events : List Timed) (most : ℕ) : Type 0 where
+  pub links : (place : ℕ) (v : LinkSpec) → slice_get n.links place ≡ Some v → v.bounds.max ≤ most
+  pub sets : AllByRecursion (λ (t : Timed). DelayFitsInterval most t.act) events
+
+-- So does one that changes nothing. After any other all that was in flight is due by this time: no link took longer.
 abbrev pub IsSparedBy : NetworkState → List Timed → Timed → ℕ → Type 0
 IsSparedBy n before event time =
-    (event.at + largest_interval (pace_of n) < time)
+    ((most : ℕ) × HasDelaysWithin n (before ++ event ∷ []) most × (event.at + most < time))
     ⊎ (ChangesNothing n before event.act ⊎ SparesFailed event.act)
 
 -- by this time what failed systems sent is gone, after each of these events

@@ -14,8 +14,8 @@
 -- These gains are followed, at a time behind events that make nothing: a link that comes up between live systems, a
 -- system that recovers, and a priority1 of a live system that gets better. The first is heard at once where its delay
 -- varies little, the second where it uses no link, the last where no path has more than 255 systems. At time 0 links
--- may go down and come up, systems fail and a priority1 be set. Not followed yet are other delays that are set, and events that take something away at a later time. There
--- the span stands.
+-- may go down and come up, systems fail and a priority1 be set. Not followed are other delays that are set, and events
+-- that take something away at a later time. There the span stands.
 use Rattle.std.specs.Prelude.{◌≡◌, ◌<◌, ◌≤◌, ◌⊎◌, ◌+◌, ◌*◌, ◌==◌, ℕ, ⊤, pred, suc, List, [], ◌∷◌, ◌++◌, filter}
 use Rattle.gptp_lists.specs.Members.{In}
 use Rattle.gptp_setup.specs.Intervals.{interval_of}
