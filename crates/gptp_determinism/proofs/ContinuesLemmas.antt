@@ -1,10 +1,9 @@
 -- What of a step doesn't depend on whether systems go on with the time that they read.
-use Rattle.std.proofs.Common.{◌≡◌, ◌+◌, ℕ, ℤ, pos, Bool, true, false, List, [], ◌∷◌, map, ◌⊎◌, Option, Some, None, refl, sym, ap, subst, ◌∙◌, inl, inr, arith}
+use Rattle.std.proofs.Common.{◌≡◌, ◌<◌, ◌+◌, ℕ, ℤ, pos, Bool, true, false, List, [], ◌∷◌, map, ◌⊎◌, Option, Some, None, refl, sym, ap, subst, ◌∙◌, inl, inr}
 use Rattle.std.specs.Prelude.{◌↔◌, ⊤, if◌then◌else◌}
 use Rattle.std.specs.Option.{option_map, unwrap_or}
 use Rattle.std.proofs.lemmas.Option.{none-some}
 use Rattle.gptp_lists.proofs.MappedLemmas.{some_same}
-use Rattle.gptp_scaled.specs.Stamp.{IsSplit, Timestamp}
 use Rattle.gptp_messages.specs.declared.announce.AnnounceView.{AnnounceView}
 use Rattle.gptp_messages.specs.declared.follow_up.FollowUp.{FollowUp}
 use Rattle.gptp_messages.specs.declared.head.Head.{Head}
@@ -38,7 +37,7 @@ use Rattle.gptp_system.specs.State.{SystemState, clock, due, held_at, is_capable
 use Rattle.gptp_system.specs.Steps.{Expires, HearsFrame, HearsMessage}
 use Rattle.gptp_system.specs.Takeover.{leading}
 use Rattle.gptp_system.specs.Syncing.{as_received, delay_at, follow_up_of, forgetting, hop_of, is_followed, is_leading, is_slave_at, keeping, knowing, offset_of, own_time, refreshing, restarted, root_rate_at, said_on, slave_rate, sync_of, syncs, telling, timer_stopped, told_by, HearsFollowUpIf, HearsSyncIf, HopFits, IsToldAtLimits, KeepsIf, KnowsBy, KnowsIf, OffsetFits, RelaysBy, RelaysIf, SyncsIf}
-use Rattle.gptp_determinism.specs.BesideTime.{CanBeTold, CanTell, beside_time, follow_up_beside, info_beside, no_time, sending_beside, SameBeside, SaySameBeside}
+use Rattle.gptp_determinism.specs.BesideTime.{KnowsStamp, beside_time, follow_up_beside, info_beside, no_time, sending_beside, SameBeside, SaySameBeside}
 use Rattle.gptp_determinism.specs.ContinuesLaws.{FitAlike, RelaysFitAlike, StartsBesideTime, StepsBesideTime, TimersBesideTime}
 use Rattle.gptp_determinism.specs.StepLaws.{SameAnswer}
 use Rattle.gptp_determinism.proofs.StepLemmas.{steps_once}
@@ -142,7 +141,7 @@ hears_announce_beside p a now s t sends answer (inr (inr k)) =
 -- ---- what is told
 
 -- what is told, but for the time
-abbrev told_beside : Relayed → Relayed
+abbrev pub told_beside : Relayed → Relayed
 told_beside told = record { origin = no_time; correction = pos 0; rate = told.rate }
 
 mine_beside : (mine : Bool) (own : PortId) (log : ℤ) (told : Relayed) (q : Port) (xs ys : List Sending)
@@ -172,12 +171,9 @@ told_same s t a b same told =
 
 -- ---- outcomes that are the same beside the time
 
--- what is known of a time can be told: its nanoseconds make no second, and its other numbers fit
-abbrev pub KnowsTold : SystemState → Type 0
-KnowsTold s = (info : SyncInfo) → s.known ≡ Some info → CanBeTold info
-
+-- what is told has nanoseconds that make no second
 abbrev pub IsTold : Relayed → Type 0
-IsTold told = CanTell told.origin told.correction told.rate
+IsTold told = told.origin.nanos < 1000000000
 
 -- both tell a time, the same beside the time
 pub record TellBoth (s t : SystemState) (sends more : List Sending) : Type 0 where
@@ -186,8 +182,8 @@ pub record TellBoth (s t : SystemState) (sends more : List Sending) : Type 0 whe
   pub same : told_beside told ≡ told_beside others
   pub sends_are : sends ≡ told_by told s
   pub more_are : more ≡ told_by others t
-  pub one : KnowsTold s → IsTold told
-  pub other : KnowsTold t → IsTold others
+  pub one : KnowsStamp s → IsTold told
+  pub other : KnowsStamp t → IsTold others
 
 -- or they send one thing
 abbrev pub SendAlike : SystemState → SystemState → List Sending → List Sending → Type 0
@@ -261,34 +257,12 @@ refreshed info now s = record s {
 abbrev known_then : SyncInfo → ℕ → SystemState → SystemState
 known_then info now s = record s { known = Some info; relay = Some (now + s.params.residence) }
 
--- ---- what is told can be spelled
-
-own_told : (stamp : Timestamp) (rest : ℕ) (time : ℤ) → IsSplit time stamp rest
-    → IsTold (own_time stamp rest)
-own_told stamp rest time split =
-    let small = split.small in record {
-      nanos = split.stamp.nanos;
-      correction = record { sfits = omega arith };
-      rate = record { sfits = omega arith };
-    }
-
-hop_told : (info : SyncInfo) (now : ℕ) (s : SystemState) → s.known ≡ Some info → HopFits info now s → KnowsTold s
-    → IsTold (relayed info (hop_of info now s))
-hop_told info now s is fits knows =
-    record { nanos = (knows info is).nanos; correction = fits.correction; rate = fits.rate }
+-- ---- what is told at the limits
 
 limits_told : (info : SyncInfo) (now : ℕ) (s : SystemState) (told : Relayed) → s.known ≡ Some info
-    → IsToldAtLimits info now s told → KnowsTold s → IsTold told
-limits_told info now s told is (inl k) knows =
-    let fits = k.0 in
-    subst IsTold (sym k.1) (record {
-      nanos = (knows info is).nanos;
-      correction = fits.correction;
-      rate = fits.rate;
-    })
-limits_told info now s told is (inr k) knows =
-    let can = knows info is in
-    subst IsTold (sym k.1) (record { nanos = can.nanos; correction = can.correction; rate = can.rate })
+    → IsToldAtLimits info now s told → KnowsStamp s → IsTold told
+limits_told info now s told is (inl k) knows = subst IsTold (sym k.1) (knows info is)
+limits_told info now s told is (inr k) knows = subst IsTold (sym k.1) (knows info is)
 
 -- ---- steps that touch time
 
@@ -296,7 +270,7 @@ module _ (s' t' : SystemState) (sends more : List Sending) (now : ℕ) (s t : Sy
     (same : beside_time s ≡ beside_time t) where
   -- both tell, in such states
   tell : (u v : SystemState) (a b : Relayed) → beside_time u ≡ beside_time v → told_beside a ≡ told_beside b
-      → (KnowsTold s → IsTold a) → (KnowsTold t → IsTold b) → s' ≡ telling u → t' ≡ telling v → sends ≡ told_by a s → more ≡ told_by b t → Same s t s' t' sends more
+      → (KnowsStamp s → IsTold a) → (KnowsStamp t → IsTold b) → s' ≡ telling u → t' ≡ telling v → sends ≡ told_by a s → more ≡ told_by b t → Same s t s' t' sends more
   tell u v a b alike told a-told b-told s-is t-is sends-are more-are = (
     ap beside_time s-is ∙ ap telling alike ∙ sym (ap beside_time t-is),
     inr (record {
@@ -313,8 +287,8 @@ module _ (s' t' : SystemState) (sends more : List Sending) (now : ℕ) (s t : Sy
   syncs_if : (leads : Bool) → SyncsIf leads now s s' sends → SyncsIf leads now t t' more → Same s t s' t' sends more
   syncs_if true k l =
       tell (restarted now (leading now s)) (restarted now (leading now t)) (own_time k.stamp k.rest)
-      (own_time l.stamp l.rest) (ap (restarted now) same) refl (λ knows. own_told k.stamp k.rest _ k.split)
-      (λ knows. own_told l.stamp l.rest _ l.split) k.state l.state k.sends_are l.sends_are
+      (own_time l.stamp l.rest) (ap (restarted now) same) refl (λ knows. k.split.stamp.nanos)
+      (λ knows. l.split.stamp.nanos) k.state l.state k.sends_are l.sends_are
   syncs_if false k l = become s t s' t' sends more (restarted now s) (restarted now t) (ap (restarted now) same) k l
 
   -- what is told at the limits, but for the time
@@ -348,7 +322,7 @@ module _ (s' t' : SystemState) (sends more : List Sending) (now : ℕ) (s t : Sy
       tell (timer_stopped s) (timer_stopped t) (relayed i (hop_of i now s)) (relayed j (hop_of j now t))
       (ap timer_stopped same)
       (ap (λ (x : SyncInfo). as_sent_on x (beside_time s)) infos ∙ ap (as_sent_on (info_beside j)) same)
-      (hop_told i now s i-is k.fits) (hop_told j now t j-is l.fits) k.state l.state k.sends_are l.sends_are
+      (λ knows. knows i i-is) (λ knows. knows j j-is) k.state l.state k.sends_are l.sends_are
   relays_by false i j i-is j-is infos fit held (inl k) (inr l) = absurd (l.unfit (fit.0 k.fits))
   relays_by false i j i-is j-is infos fit held (inr k) (inl l) = absurd (k.unfit (fit.1 l.fits))
   relays_by false i j i-is j-is infos fit held (inr k) (inr l) =

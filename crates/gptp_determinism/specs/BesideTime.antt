@@ -1,9 +1,7 @@
 -- What of a system, of what it sends and of what it is given stays the same whether systems go on with the time that
 -- they read or not: all but the time itself.
-use Rattle.std.specs.Prelude.{◌≡◌, ◌⊎◌, ◌<◌, ℕ, ℤ, pos, false, List, None}
+use Rattle.std.specs.Prelude.{◌≡◌, ◌⊎◌, ◌<◌, ℕ, pos, false, List, Some, None}
 use Rattle.std.specs.Option.{option_map}
-use Rattle.gptp_scaled.specs.Interval.{FitsInterval}
-use Rattle.gptp_scaled.specs.Rate.{FitsRate}
 use Rattle.gptp_scaled.specs.Stamp.{Timestamp}
 use Rattle.gptp_messages.specs.declared.follow_up.FollowUp.{FollowUp}
 use Rattle.gptp_messages.specs.declared.head.Head.{Head}
@@ -58,16 +56,15 @@ pub record SaySameBeside (a b : List ℕ) : Type 0 where
   pub reads_other : Reads b (messages.FollowUp other)
   pub same : follow_up_beside one ≡ follow_up_beside other
 
--- a time can be told: its nanoseconds make no second, and the other numbers fit their octets
-pub record CanTell (origin : Timestamp) (added pace : ℤ) : Type 0 where
-  pub nanos : origin.nanos < 1000000000
-  pub correction : FitsInterval added
-  pub rate : FitsRate pace
+-- what is known of a time has nanoseconds that make no second
+abbrev pub KnowsStamp : SystemState → Type 0
+KnowsStamp s = (info : SyncInfo) → s.known ≡ Some info → info.origin.nanos < 1000000000
 
-abbrev pub CanBeTold : SyncInfo → Type 0
-CanBeTold info = CanTell info.origin info.correction info.rate
+-- they are one frame, or do that
+abbrev pub SaySame : List ℕ → List ℕ → Type 0
+SaySame a b = (a ≡ b) ⊎ SaySameBeside a b
 
 -- two inputs are one, but for the time that a Follow_Up says
 abbrev pub SameBeside : Input → Input → Type 0
-SameBeside (Frame p a) (Frame q b) = (p ≡ q) × ((a ≡ b) ⊎ SaySameBeside a b)
+SameBeside (Frame p a) (Frame q b) = (p ≡ q) × SaySame a b
 SameBeside input other = input ≡ other
