@@ -232,7 +232,7 @@ steps_stamp (Priority value) now s t sends answer k = selects_stamp now s (with_
 
 -- ---- timers
 
-dues_same : (x y : Station) → StationsBeside x y → (timer : Timer) → station_due timer x ≡ station_due timer y
+pub dues_same : (x y : Station) → StationsBeside x y → (timer : Timer) → station_due timer x ≡ station_due timer y
 dues_same x y is timer =
     ap (λ live. if live then due timer x.system else None) is.live
     ∙ ap (λ (d : Option ℕ). if y.live then d else None) (timers_beside_time x.system y.system is.system.same timer)
@@ -350,18 +350,18 @@ places_same w v number other place at x y own is same here named there called =
 
 -- ---- starts
 
-started_beside : (now : ℕ) (x y : Station) → StationsBeside x y
-    → SystemsBeside (started x.setup now) (started y.setup now)
-started_beside now x y is = record {
-  same = ap (λ (setup : Setup). beside_time (started setup now)) is.setup;
+pub started_beside : (now : ℕ) (a b : Setup) → setup_beside a ≡ setup_beside b → FitsSigned w8 a.params.sync
+    → SystemsBeside (started a now) (started b now)
+started_beside now a b same log = record {
+  same = ap (λ (setup : Setup). beside_time (started setup now)) same;
   one = λ info known. absurd (none-some info known);
   other = λ info known. absurd (none-some info known);
-  log = is.log;
+  log = log;
 }
 
 fresh_beside : (now : ℕ) (x y : Station) → StationsBeside x y → StationsBeside (fresh now x) (fresh now y)
 fresh_beside now x y is =
-    record { setup = is.setup; log = is.log; system = started_beside now x y is; live = refl }
+    record { setup = is.setup; log = is.log; system = started_beside now x.setup y.setup is.setup is.log; live = refl }
 
 -- the same links are up at a port
 ups_same : (number port : ℕ) (cs ds : List Channel) → EachTo LinksBeside cs ds
