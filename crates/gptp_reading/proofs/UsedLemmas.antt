@@ -5,6 +5,9 @@ use Rattle.std.specs.Prelude.{◌<◌, IsSome, if◌then◌else◌}
 use Rattle.std.proofs.lemmas.Bool.Decides.{nat_tests}
 use Rattle.std.proofs.lemmas.Int.{ints, clamps}
 use Rattle.std.proofs.lemmas.Option.{none-some, same_Some}
+use Rattle.gptp_graph.specs.Best.{IsBest}
+use Rattle.gptp_graph.specs.Snapshot.{System}
+use Rattle.gptp_graph.proofs.BestLemmas.{IsBest-unique}
 use Rattle.gptp_scaled.specs.Counts.{AreWithin}
 use Rattle.gptp_scaled.specs.Rate.{FitsRate, scaled_by}
 use Rattle.gptp_scaled.specs.Stamp.{scaled_of}
@@ -22,7 +25,7 @@ use Rattle.gptp_system.specs.declared.answer.Answer.{Answer}
 use Rattle.gptp_system.specs.declared.answer.Answer.TheVariants as answers
 use Rattle.gptp_system.specs.declared.sending.Sending.{Sending}
 use Rattle.gptp_system.specs.Input.{Frame as FrameHeard, Steps}
-use Rattle.gptp_system.specs.State.{SystemState, is_capable_at, lapse_of, local_time}
+use Rattle.gptp_system.specs.State.{SystemState, clock, is_capable_at, lapse_of, local_time}
 use Rattle.gptp_system.specs.Reading.{read_at}
 use Rattle.gptp_system.specs.Syncing.{reading_by, HearsFollowUpIf, IsOffset, OffsetFits, KnowsBy, KnowsIf, delay_at, is_slave_at, offset_of, root_rate_at, said_on, slave_delay, slave_rate}
 use Rattle.gptp_system.specs.Takeover.{told_time}
@@ -36,13 +39,13 @@ use Rattle.gptp_sync_machine.specs.Right.{IsHeldAt, IsMeasuredAt, at_rate, info_
 use Rattle.gptp_sync_machine.proofs.ModestLemmas.{rates_are_held, ways_are_modest}
 use Rattle.gptp_sync_machine.proofs.TreeLemmas.{way_leads_to}
 use Rattle.gptp_invariants.specs.SyncFollowView.{kept_sync, tells, told_in}
-use Rattle.gptp_invariants.specs.SyncFollowers.{HasWay, IsFollower, follower, follower_clock, follower_setting, follower_parts, follower_state}
+use Rattle.gptp_invariants.specs.SyncFollowers.{HasWay, IsFollower, base_at, follower, follower_clock, follower_setting, follower_parts, follower_state}
 use Rattle.gptp_invariants.specs.DelayLinkView.{LinkPlace, link_frame_view}
 use Rattle.gptp_invariants.specs.WorldStanding.{snapshot_of}
 use Rattle.gptp_invariants.specs.SyncTimed.{AllMeasureRight, CarriesTime, IsSettledFrom}
 use Rattle.gptp_invariants.specs.SyncTimedLaws.{IsRootOf}
 use Rattle.gptp_invariants.specs.ChoiceView.{port_identity_number}
-use Rattle.gptp_invariants.proofs.SyncFollowBaseLemmas.{base_of}
+use Rattle.gptp_invariants.proofs.SyncFollowBaseLemmas.{base_of, best as root_of, is_best as is_root, root_clock_is}
 use Rattle.gptp_invariants.proofs.SyncFollowOctetLemmas.{told_alone}
 use Rattle.gptp_invariants.proofs.SyncFollowOffsetLemmas.{IsUsed, is_used}
 use Rattle.gptp_invariants.proofs.SyncFollowPartLemmas.{clock_shown}
@@ -305,6 +308,21 @@ module _ (p : SettlingParams) (settled longest : ℕ) (w : WorldState) (is : IsS
       (delay_at x n) held later
       (is_setting p settled longest w is place f steps h) (carries.follow place f steps h)
       (ap (map link_frame_view) front) refl late one (ap (option_map kept_sync) used.keeps) measured allowed
+
+  -- the best has taken over, and so has a base
+  pub has_base : (best : System) → IsBest (snapshot_of w) (follower_clock place w f) best
+      → (ahead : ℤ) × (base_at w.stations best.clock ≡ Some ahead)
+  has_base best is_best =
+      let said_time = exact 0 in
+      let same : root_of p settled longest w is place f ≡ best =
+      IsBest-unique (snapshot_of w) (clock x) (root_of p settled longest w is place f) best
+      (well_formed p settled longest w is) (is_root p settled longest w is place f)
+      (subst (λ n. IsBest (snapshot_of w) n best) (sym f.own.named) is_best) in (
+        said_time.0,
+        ap (base_at w.stations)
+            (ap (λ (y : System). y.clock) (sym same) ∙ sym (root_clock_is p settled longest w is place f))
+            ∙ said_time.1,
+      )
 
   -- by the state that is left
   read_is : (offset : ℤ) (t : ℕ) → s'.offset ≡ Some offset

@@ -13,7 +13,8 @@ use Rattle.gptp_graph.specs.Best.{IsBest}
 use Rattle.gptp_graph.specs.Distance.{IsDistance, IsNear}
 use Rattle.gptp_graph.specs.PathBound.{BoundsPaths, path_bound}
 use Rattle.gptp_graph.specs.Snapshot.{IsWellFormed, Snapshot, System}
-use Rattle.gptp_graph.proofs.DistanceLemmas.{best_at_zero}
+use Rattle.gptp_graph.proofs.BestLemmas.{IsBest-reached}
+use Rattle.gptp_graph.proofs.DistanceLemmas.{IsDistance-best, IsDistance-unique, best_at_zero}
 use Rattle.gptp_invariants.specs.WorldCalmFor.{IsCalmFor}
 use Rattle.gptp_invariants.specs.WorldSettlingInvariant.{KeepsAll}
 use Rattle.gptp_invariants.specs.SyncExact.{exact_span, IsWayError, IsExactInTime}
@@ -62,7 +63,7 @@ use Rattle.gptp_timeline.specs.declared.timeline.TimelineOptions.{TimelineOption
 use Rattle.gptp_timeline.proofs.BehindLemmas.{all_both}
 use Rattle.gptp_timeline.proofs.ErrorLemmas.{errors_within}
 use Rattle.gptp_timeline.proofs.EventLemmas.{Each, filter_each, filter_in_order}
-use Rattle.gptp_timeline.proofs.HeardLemmas.{received_exactly}
+use Rattle.gptp_timeline.proofs.HeardLemmas.{receiver_alone, received_exactly}
 use Rattle.gptp_timeline.proofs.PastLemmas.{all_past, PastBy}
 use Rattle.gptp_timeline.proofs.RestLemmas.{found_live, IsAtRest, lives_there, shows_live, stands_there}
 use Rattle.gptp_timeline.proofs.SettlingLemmas.{act_time, alike_after, begins, bounded, calm_since, early_makes, ends_by, events_fit, events_then, IsFitEvent, Keeps, keeps_act, keeps_first, keeps_later, keeps_made, left_first, no_change, rests, span_after}
@@ -130,6 +131,15 @@ shown_by p w claimed name s is time =
     ∙ clock_shown p.params w claimed.world.sound claimed.measured live.place live.station live.here time
     ∙ ap (λ c. local_clock ((follower_parts p.params w).phase c) ((follower_parts p.params w).drift c) time)
     live.is_named
+
+-- a system with links to its best is another
+pub best_apart : (g : Snapshot) (name steps : ℕ) (best : System) → IsWellFormed g → IsDistance g name (suc steps)
+    → IsBest g name best → best.clock ≡ name → ⊥
+best_apart g name steps best wf far is_best is =
+    let own = IsBest-reached g name best.clock best wf is_best.reached is_best in
+    let none : 0 ≡ suc steps = IsDistance-unique g name 0 (suc steps) wf
+    (subst (λ v. IsDistance g v 0) is (IsDistance-best g best own)) far in
+    cc
 
 -- ---- times
 
@@ -307,8 +317,12 @@ module _ {F : Type 0} (answers : Bounds → ℕ → F → Option ℕ → F → T
               is = refl;
             }) in
             let own_time = same_time name s e.own e.lives lives in
-            let root_time = same_time b.best.clock root e.leader leader leads in
-            let is_off : error ≡ e.offset -ℤ ahead = e.is ∙ (λ i. e.offset -ℤ (own_time i -ℤ root_time i)) in
+            let still = receiver_alone name (at_of t) t.told.timed.act w happens.was_done.draws t.told.done t.after
+            happens.was_done.acts own b.best.clock
+            (best_apart (snapshot_of w) name has.steps b.best well far b.is_best) in
+            let same_root : e.leader ≡ root = same_Some e.leader root (sym leader ∙ still ∙ leads) in
+            let is_off : error ≡ e.offset -ℤ ahead =
+            e.is ∙ (λ i. e.offset -ℤ (own_time i -ℤ told_time (same_root i) (at_of t))) in
             subst (λ z. unsigned_abs z ≤ bound) (sym is_off) (size_within bound e.offset ahead within)
 
     passes_within : (until : ℕ) (ts : List ActTrace) (fate fate_after : F) (w w' : WorldState) → until ≤ 10 ^ 18

@@ -43,7 +43,7 @@ pub(crate) const NOTHING_READ: TimeMeasures = TimeMeasures {
 /// The amount of a difference, or 0.
 fn apart_sources(difference: Option<Difference>) -> u128
     ensures is { result ≡ apart_sources difference }
-    ensures small { result < 2 ^ 97 }
+    ensures small { result ≤ 2 ^ 97 }
 {
     match difference {
         Some(difference) => difference.amount(),

@@ -85,7 +85,10 @@ fn base_of<F: Fate + Drop>(world: &World<F>, clock: ClockId) -> ScaledNs
     ensures { result ≡ base_of clock world.now.world_core }
 {
     world.well_formed();
-    world.base(clock).unwrap_or_default()
+    match world.base(clock) {
+        Some(base) => base,
+        None => ScaledNs::default(),
+    }
 }
 
 /// The clock of a system with its base.
@@ -119,7 +122,7 @@ pub(crate) fn source_time<F: Fate + Drop>(
 ) -> Option<i128>
     requires { at ≤ 1000000000000000 }
     ensures is { result ≡ source_time source.now at world.now.world_core }
-    ensures small { IfSome result (λ z. unsigned_abs z ≤ 2 ^ 96) }
+    ensures small { IfSome result (λ z. unsigned_abs z < 2 ^ 99) }
 {
     match clock_time(world, source.clock, at) {
         Some(shown) => Some(told_by(shown, source.base)),

@@ -215,18 +215,18 @@ pub(crate) fn told_difference<F: Fate + Drop>(
 }
 
 /// Whether a system reads from a source.
-fn reads_from(system: &SystemReading, source: TimeSource) -> bool
-    ensures { result ≡ reads_from source system.now }
+fn reads_from(system: &SystemReading, source: &TimeSource) -> bool
+    ensures { result ≡ reads_from source.now system.now }
 {
     match &system.reading {
-        Some(kept) => kept.source == source,
+        Some(kept) => kept.source == *source,
         None => false,
     }
 }
 
 /// Whether a source is told: whether some system reads from it.
-fn is_told(systems: &[SystemReading], source: TimeSource) -> bool
-    ensures { result ≡ is_told source systems.now }
+fn is_told(systems: &[SystemReading], source: &TimeSource) -> bool
+    ensures { result ≡ is_told source.now systems.now }
 {
     for system in systems {
         if reads_from(system, source) {
@@ -259,7 +259,7 @@ pub(crate) fn drop_untold(
 )
     ensures { sources.new.items ≡ without_untold source systems.now sources.old.items }
 {
-    if is_told(systems, source) {
+    if is_told(systems, &source) {
         return;
     }
     sources.retain(|other| *other != source);
