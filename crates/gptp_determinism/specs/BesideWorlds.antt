@@ -1,8 +1,10 @@
 -- Worlds of which the same is true but for the time that systems read and tell, as of two that differ in whether systems
 -- go on with it.
-use Rattle.std.specs.Prelude.{◌≡◌, ℕ, ⊤, false, List, [], ◌∷◌, Some, FitsSigned, slice_get}
+use Rattle.std.specs.Prelude.{◌≡◌, ℕ, ⊤, false, List, [], ◌∷◌, map, Some, FitsSigned, slice_get}
 use Rattle.std.specs.Int.{w8}
 use Rattle.gptp_links.specs.Queue.{Frame}
+use Rattle.gptp_scenario.specs.Network.{NetworkState}
+use Rattle.gptp_scenario.specs.declared.network.SystemSpec.{SystemSpec}
 use Rattle.gptp_scenario.specs.declared.change.Act.{Act}
 use Rattle.gptp_scenario.specs.declared.change.Act.TheVariants.{Deliver, Expire}
 use Rattle.gptp_setup.specs.declared.setup.Setup.{Setup}
@@ -57,6 +59,13 @@ pub record StationsBeside (x y : Station) : Type 0 where
   pub log : FitsSigned w8 x.setup.params.sync
   pub system : SystemsBeside x.system y.system
   pub live : x.live ≡ y.live
+
+-- networks whose systems differ in `continues` alone
+abbrev pub member_beside : SystemSpec → SystemSpec
+member_beside member = record member { continues = false }
+
+abbrev pub network_beside : NetworkState → NetworkState
+network_beside n = record n { systems = map member_beside n.systems }
 
 pub record WorldsBeside (w v : WorldState) : Type 0 where
   pub time : w.time ≡ v.time
