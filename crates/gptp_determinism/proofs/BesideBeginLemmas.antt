@@ -1,5 +1,5 @@
 -- How worlds that are the same but for the time begin, and which act is next in them.
-use Rattle.std.proofs.Common.{◌≡◌, ◌≤◌, ℕ, ℤ, Bool, false, List, [], ◌∷◌, ◌++◌, map, length, Option, Some, FitsSigned, w8, slice_get, refl, sym, ap, subst, ◌∙◌, inl, inr, arith}
+use Rattle.std.proofs.Common.{◌≡◌, ◌≤◌, ℕ, ℤ, List, [], ◌∷◌, ◌++◌, map, length, Option, Some, FitsSigned, w8, refl, sym, ap, subst, ◌∙◌, inl, inr, arith}
 use Rattle.std.specs.Prelude.{⊤}
 use Rattle.std.specs.Int.{int_max}
 use Rattle.std.specs.List.{flat_map, range_with_len, reduce}
@@ -12,11 +12,9 @@ use Rattle.gptp_links.specs.Fate.{Draw, Draws}
 use Rattle.gptp_links.specs.Queue.{Frame}
 use Rattle.gptp_setup.specs.Intervals.{IsLog}
 use Rattle.gptp_setup.specs.SettlingParams.{SettlingParams}
-use Rattle.gptp_setup.specs.declared.setup.Setup.{Setup}
 use Rattle.gptp_setup.specs.declared.timer.Timer.{Timer}
 use Rattle.gptp_setup.specs.declared.timer.Timer.TheVariants as timers
 use Rattle.gptp_scenario.specs.Network.{largest_of, logs_of, pace_of, IsNetwork, NetworkState}
-use Rattle.gptp_scenario.specs.declared.network.LinkSpec.{LinkSpec}
 use Rattle.gptp_scenario.specs.declared.network.SystemSpec.{SystemSpec}
 use Rattle.gptp_scenario.specs.declared.change.Act.{Act}
 use Rattle.gptp_scenario.specs.declared.change.Act.TheVariants.{Deliver, Expire, Change as Changing}
@@ -28,7 +26,7 @@ use Rattle.gptp_vector.specs.declared.port.PortId.{PortId}
 use Rattle.gptp_model.specs.declared.item.Item.{Item}
 use Rattle.gptp_model.specs.declared.item.Item.TheVariants.{Arrival, Expiry}
 use Rattle.gptp_model.specs.declared.station.Station.{Station}
-use Rattle.gptp_model.specs.Acts.{AnyLink, AnySystem, AtLink, AtPlace, AtSystem, IsDueThen, IsOldestDue, IsReadyAct, IsThere, IsThereToChange}
+use Rattle.gptp_model.specs.Acts.{AnyLink, AtLink, AtSystem, IsDueThen, IsOldestDue, IsThere, IsThereToChange}
 use Rattle.gptp_model.specs.Changing.{StartsAll}
 use Rattle.gptp_model.specs.Initial.{channel_from, initial, setup_of, station_of}
 use Rattle.gptp_model.specs.Pending.{IsNext, NothingBefore}
@@ -36,7 +34,6 @@ use Rattle.gptp_model.specs.Views.{IsActOf}
 use Rattle.gptp_model.specs.World.{port_id, station_due, world_queue, Channel, Net, WorldState}
 use Rattle.gptp_determinism.specs.BesideWorlds.{EachTo, FramesBeside, LinksBeside, NetsBeside, StationsBeside, WorldsBeside, member_beside, network_beside, setup_beside}
 use Rattle.gptp_determinism.specs.WorldsBesideLaws.{BeginsBesideTime, NextBesideTime, ReadyBesideTime}
-use Rattle.gptp_determinism.specs.Named.{AnswersOnce}
 use Rattle.gptp_determinism.proofs.BesideCallLemmas.{dues_same, started_beside, starts_all_beside}
 use Rattle.gptp_determinism.proofs.BesideSendLemmas.{each_itself, each_on, queues_beside}
 use Rattle.gptp_determinism.proofs.NameLemmas.{initial_named}
@@ -132,10 +129,12 @@ pub begins_beside : {F : Type 0} (answers : Bounds → ℕ → F → Option ℕ 
 begins_beside answers once n m fate f g w v is same k l =
     let starts = subst (λ (count : ℕ). StartsAll (range_with_len 0 count) (initial m) l.draws v)
     (sym (counts_same n m same)) l.starts in
-    let (draws, worlds) = starts_all_beside answers once (range_with_len 0 (length n.systems)) (initial n) (initial m) w v
+    let (draws, worlds) = starts_all_beside answers once (range_with_len 0 (length n.systems)) (initial n) (initial m)
+    w v
     k.draws l.draws (initial_named n is) (initial_beside n m is same)
     (record { fate = fate; one = f; other = g; first = k.drawn; second = l.drawn }) k.starts starts in (
-      draws_once answers once fate f g l.draws (subst (λ (ds : List Draw). Draws answers fate ds f) draws k.drawn) l.drawn,
+      draws_once answers once fate f g l.draws (subst (λ (ds : List Draw). Draws answers fate ds f)
+          draws k.drawn) l.drawn,
       worlds,
     )
 

@@ -1,5 +1,5 @@
 -- What two systems send that are the same but for time, and what that leaves on the links of two such worlds.
-use Rattle.std.proofs.Common.{◌≡◌, ◌⊎◌, ◌<◌, ◌+◌, ℕ, zero, suc, ℤ, Bool, true, false, List, [], ◌∷◌, ◌++◌, map, Option, Some, None, FitsSigned, w8, slice_get, slice_set, refl, sym, ap, subst, ◌∙◌, inl, inr}
+use Rattle.std.proofs.Common.{◌≡◌, ◌+◌, ℕ, zero, suc, ℤ, Bool, true, false, List, [], ◌∷◌, ◌++◌, Option, Some, None, FitsSigned, w8, slice_get, slice_set, refl, sym, ap, subst, ◌∙◌, inl, inr}
 use Rattle.std.specs.Prelude.{max, if◌then◌else◌}
 use Rattle.gptp_lists.proofs.MappedLemmas.{same_there, some_same}
 use Rattle.gptp_vector.specs.declared.port.PortId.{PortId}
@@ -206,8 +206,8 @@ module _ {F : Type 0} (answers : Bounds → ℕ → F → Option ℕ → F → T
   -- one send in two such worlds, of frames that say the same beside the time
   pub send_beside : (now : ℕ) (from : PortId) (a b : List ℕ) (net other n m : Net) (d e : Draw) (fate f g : F)
       → HaveOwnPorts net.channels → NetsBeside net other → SaySame a b → SendsOne now from a d net n
-      → SendsOne now from b e other m → answers d.bounds d.sent fate d.answer f → answers e.bounds e.sent fate e.answer g
-      → (d ≡ e) × (f ≡ g) × NetsBeside n m
+      → SendsOne now from b e other m → answers d.bounds d.sent fate d.answer f → answers e.bounds e.sent fate e.answer
+      g → (d ≡ e) × (f ≡ g) × NetsBeside n m
   unfolding draw
   send_beside now from a b net other n m d e fate f g own is say k l k-drawn l-drawn =
       let (c, c-here, c-same) = each_back LinksBeside net.channels other.channels l.place l.channel is.links l.here in
@@ -232,8 +232,8 @@ module _ {F : Type 0} (answers : Bounds → ℕ → F → Option ℕ → F → T
             ∙ ap (λ (x : Option ℕ). draw e.bounds e.sent x) answer,
         fates,
         subst (λ (x : Net). NetsBeside x m) (sym after)
-        (subst (NetsBeside (entered l.place l.direction k.channel now a e.answer net)) (sym l.after)
-        (entered_beside l.place l.direction k.channel l.channel now a b e.answer net other links say is)),
+            (subst (NetsBeside (entered l.place l.direction k.channel now a e.answer net)) (sym l.after)
+            (entered_beside l.place l.direction k.channel l.channel now a b e.answer net other links say is)),
       )
 
   -- what is sent from a port at which a link is up isn't without a link in the other world

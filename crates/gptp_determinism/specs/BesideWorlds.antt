@@ -1,5 +1,5 @@
--- Worlds of which the same is true but for the time that systems read and tell, as of two that differ in whether systems
--- go on with it.
+-- Worlds of which the same is true but for the time that systems read and tell, as of two that differ in whether
+-- systems go on with it.
 use Rattle.std.specs.Prelude.{◌≡◌, ℕ, ⊤, false, List, [], ◌∷◌, map, Some, FitsSigned, slice_get}
 use Rattle.std.specs.Int.{w8}
 use Rattle.gptp_links.specs.Queue.{Frame}
@@ -16,7 +16,7 @@ use Rattle.gptp_model.specs.declared.done.Done.TheVariants.{Quiet, Heard}
 use Rattle.gptp_model.specs.declared.station.Station.{Station}
 use Rattle.gptp_model.specs.World.{Channel, Net, WorldState, world_queue, receiver}
 use Rattle.gptp_determinism.specs.BesideTime.{KnowsStamp, SaySame, beside_time}
-use Rattle.gptp_determinism.specs.ContinuesLaws.{FitAlike, ReceiptsFitAlike, RelaysFitAlike}
+use Rattle.gptp_determinism.specs.ContinuesLaws.{ReceiptsFitAlike, RelaysFitAlike}
 
 -- each member of one list is so to the one at its place in the other
 abbrev pub EachTo : {X : Type 0} → (X → X → Type 0) → List X → List X → Type 0
