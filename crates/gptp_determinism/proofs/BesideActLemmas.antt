@@ -1,5 +1,6 @@
 -- One act in two worlds that are the same but for the time that systems read and tell.
 use Rattle.std.proofs.Common.{◌≡◌, ◌*◌, ◌+◌, ◌%◌, ◌^◌, ℕ, Bool, true, false, List, [], ◌∷◌, Option, Some, None, slice_get, slice_set, refl, sym, ap, subst, ◌∙◌, inl, inr}
+use Rattle.std.specs.List.{AllZip}
 use Rattle.gptp_vector.specs.declared.port.PortId.{PortId}
 use Rattle.gptp_links.specs.declared.bounds.Bounds.{Bounds}
 use Rattle.gptp_links.specs.declared.link.Direction.{Direction}
@@ -30,7 +31,7 @@ use Rattle.gptp_model.specs.Sound.{HaveOwnClocks}
 use Rattle.gptp_model.specs.World.{port_id, receiver, sender, with_queue, world_queue, Channel, Net, WorldState}
 use Rattle.gptp_model.proofs.StayLemmas.{brought_up_stays, carry_join, taken_down_stays, takes_carry}
 use Rattle.gptp_determinism.specs.BesideTime.{SaySame}
-use Rattle.gptp_determinism.specs.BesideWorlds.{ActsFitAlike, DoneBeside, EachTo, FramesBeside, LinksBeside, NetsBeside, StationsBeside, TimersFitAlike, WorldsBeside}
+use Rattle.gptp_determinism.specs.BesideWorlds.{ActsFitAlike, DoneBeside, FramesBeside, LinksBeside, NetsBeside, StationsBeside, TimersFitAlike, WorldsBeside}
 use Rattle.gptp_determinism.specs.ContinuesLaws.{FitAlike, ReceiptsFitAlike}
 use Rattle.gptp_determinism.specs.Named.{AnswersOnce, HaveOwnPorts, IsNamed}
 use Rattle.gptp_determinism.specs.WorldsBesideLaws.{IsActBeside}
@@ -175,9 +176,9 @@ module _ {F : Type 0} (answers : Bounds → ℕ → F → Option ℕ → F → T
       let c = k.channel in
       let d = l.channel in
       let links = each_at LinksBeside w.net.channels v.net.channels link c d is.net.links k.takes.here l.takes.here in
-      let queues : EachTo FramesBeside (frame w.time a ∷ k.takes.rest) (frame v.time b ∷ l.takes.rest) =
-      subst (λ (fs : List Frame). EachTo FramesBeside fs (frame v.time b ∷ l.takes.rest)) k.takes.front
-      (subst (EachTo FramesBeside (world_queue direction c)) l.takes.front (queues_beside direction c d links)) in
+      let queues : AllZip FramesBeside (frame w.time a ∷ k.takes.rest) (frame v.time b ∷ l.takes.rest) =
+      subst (λ (fs : List Frame). AllZip FramesBeside fs (frame v.time b ∷ l.takes.rest)) k.takes.front
+      (subst (AllZip FramesBeside (world_queue direction c)) l.takes.front (queues_beside direction c d links)) in
       let say = queues.0.say in
       let left : List Frame → Channel → Net → Net = λ rest channel net. record {
         channels = slice_set net.channels link (with_queue direction rest channel);

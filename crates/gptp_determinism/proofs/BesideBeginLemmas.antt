@@ -2,7 +2,7 @@
 use Rattle.std.proofs.Common.{◌≡◌, ◌≤◌, ℕ, ℤ, List, [], ◌∷◌, ◌++◌, map, length, Option, Some, FitsSigned, w8, refl, sym, ap, subst, ◌∙◌, inl, inr, arith}
 use Rattle.std.specs.Prelude.{⊤}
 use Rattle.std.specs.Int.{int_max}
-use Rattle.std.specs.List.{flat_map, range_with_len, reduce}
+use Rattle.std.specs.List.{flat_map, range_with_len, reduce, AllZip}
 use Rattle.std.specs.Option.{unwrap_or}
 use Rattle.std.proofs.lemmas.Int.{ints}
 use Rattle.std.proofs.lemmas.List.{length-map}
@@ -32,7 +32,7 @@ use Rattle.gptp_model.specs.Initial.{channel_from, initial, setup_of, station_of
 use Rattle.gptp_model.specs.Pending.{IsNext, NothingBefore}
 use Rattle.gptp_model.specs.Views.{IsActOf}
 use Rattle.gptp_model.specs.World.{port_id, station_due, world_queue, Channel, Net, WorldState}
-use Rattle.gptp_determinism.specs.BesideWorlds.{EachTo, FramesBeside, LinksBeside, NetsBeside, StationsBeside, WorldsBeside, member_beside, network_beside, setup_beside}
+use Rattle.gptp_determinism.specs.BesideWorlds.{FramesBeside, LinksBeside, NetsBeside, StationsBeside, WorldsBeside, member_beside, network_beside, setup_beside}
 use Rattle.gptp_determinism.specs.WorldsBesideLaws.{BeginsBesideTime, NextBesideTime, ReadyBesideTime}
 use Rattle.gptp_determinism.proofs.BesideCallLemmas.{dues_same, started_beside, starts_all_beside}
 use Rattle.gptp_determinism.proofs.BesideSendLemmas.{each_itself, each_on, queues_beside}
@@ -76,7 +76,7 @@ members_same x y xs ys e = (cc, cc)
 
 stations_beside : (p : SettlingParams) (xs ys : List SystemSpec) → FitsSigned w8 p.params.sync
     → map member_beside xs ≡ map member_beside ys
-    → EachTo StationsBeside (map (station_of p) xs) (map (station_of p) ys)
+    → AllZip StationsBeside (map (station_of p) xs) (map (station_of p) ys)
 stations_beside p [] [] log same = tt
 stations_beside p [] (y ∷ ys) log same = absurd cc
 stations_beside p (x ∷ xs) [] log same = absurd cc
@@ -109,12 +109,12 @@ initial_beside n m is same =
       time = refl;
       last_change = refl;
       stations =
-          subst (λ (p : SettlingParams). EachTo StationsBeside (map (station_of (pace_of n)) n.systems)
+          subst (λ (p : SettlingParams). AllZip StationsBeside (map (station_of (pace_of n)) n.systems)
           (map (station_of p) m.systems)) (pace_same n m same)
           (stations_beside (pace_of n) n.systems m.systems log systems);
       net = record {
         links =
-            subst (EachTo LinksBeside (map channel_from n.links)) links
+            subst (AllZip LinksBeside (map channel_from n.links)) links
             (each_itself LinksBeside (map channel_from n.links) link_itself);
         pending = refl;
       };
@@ -202,10 +202,10 @@ oldest_too : (direction : Direction) (time : ℕ) (c d : Channel) → LinksBesid
     → IsOldestDue direction time d
 oldest_too direction time c d links k =
     front (world_queue direction d) refl
-    (subst (λ (fs : List Frame). EachTo FramesBeside fs (world_queue direction d)) k.front
+    (subst (λ (fs : List Frame). AllZip FramesBeside fs (world_queue direction d)) k.front
     (queues_beside direction c d links))
   where
-    front : (gs : List Frame) → world_queue direction d ≡ gs → EachTo FramesBeside (k.oldest ∷ k.rest) gs
+    front : (gs : List Frame) → world_queue direction d ≡ gs → AllZip FramesBeside (k.oldest ∷ k.rest) gs
         → IsOldestDue direction time d
     front [] is each = absurd each
     front (g ∷ gs) is each = record { oldest = g; rest = gs; front = is; due = sym each.0.due ∙ k.due }

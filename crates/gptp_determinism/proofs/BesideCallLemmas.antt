@@ -1,7 +1,7 @@
 -- Calls of systems, one or one after another, in two worlds that are the same but for time.
 use Rattle.std.proofs.Common.{◌≡◌, ◌<◌, ℕ, ℤ, true, false, List, [], ◌∷◌, map, length, Bool, Option, Some, None, FitsSigned, w8, slice_get, slice_set, refl, sym, ap, subst, ◌∙◌, inl, inr}
 use Rattle.std.specs.Prelude.{◌&&◌, ◌||◌, if◌then◌else◌}
-use Rattle.std.specs.List.{filter, range_with_len}
+use Rattle.std.specs.List.{filter, range_with_len, AllZip}
 use Rattle.std.proofs.lemmas.Option.{none-some, same_Some}
 use Rattle.gptp_vector.specs.declared.port.PortId.{PortId}
 use Rattle.gptp_links.specs.declared.bounds.Bounds.{Bounds}
@@ -46,7 +46,7 @@ use Rattle.gptp_model.specs.Sound.{HaveOwnClocks}
 use Rattle.gptp_model.specs.World.{Channel, Net, WorldState, station_due, timers_from}
 use Rattle.gptp_model.proofs.StayLemmas.{calls_carry, calls_if_live_carry, carry_join, starts_stays}
 use Rattle.gptp_determinism.specs.BesideTime.{KnowsStamp, SameBeside, beside_time}
-use Rattle.gptp_determinism.specs.BesideWorlds.{EachTo, LinksBeside, NetsBeside, StationsBeside, SystemsBeside, WorldsBeside, setup_beside}
+use Rattle.gptp_determinism.specs.BesideWorlds.{LinksBeside, NetsBeside, StationsBeside, SystemsBeside, WorldsBeside, setup_beside}
 use Rattle.gptp_determinism.specs.ContinuesLaws.{FitAlike}
 use Rattle.gptp_determinism.specs.Named.{AnswersOnce, HaveOwnPorts, IsNamed}
 use Rattle.gptp_determinism.specs.StepLaws.{SameAnswer}
@@ -363,7 +363,7 @@ fresh_beside now x y is =
     record { setup = is.setup; log = is.log; system = started_beside now x.setup y.setup is.setup is.log; live = refl }
 
 -- the same links are up at a port
-ups_same : (number port : ℕ) (cs ds : List Channel) → EachTo LinksBeside cs ds
+ups_same : (number port : ℕ) (cs ds : List Channel) → AllZip LinksBeside cs ds
     → is_up_at cs number port ≡ is_up_at ds number port
 ups_same number port [] [] each = refl
 ups_same number port [] (d ∷ ds) each = absurd each

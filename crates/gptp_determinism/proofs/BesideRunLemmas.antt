@@ -1,5 +1,6 @@
 -- What happens in two worlds that are the same but for the time that systems read and tell.
 use Rattle.std.proofs.Common.{◌≡◌, ◌+◌, ℕ, List, [], ◌∷◌, ◌++◌, Option, refl, sym, subst, ◌∙◌}
+use Rattle.std.specs.List.{AllZip}
 use Rattle.gptp_links.specs.declared.bounds.Bounds.{Bounds}
 use Rattle.gptp_links.specs.Fate.{Draw, Draws}
 use Rattle.gptp_scenario.specs.declared.change.Timed.{Timed}
@@ -9,7 +10,7 @@ use Rattle.gptp_model.specs.Course.{WasDone}
 use Rattle.gptp_model.specs.Pending.{NothingBefore}
 use Rattle.gptp_model.specs.World.{WorldState}
 use Rattle.gptp_report.specs.Transitions.{Courses, Makes, Passes, PassesTo, ActTrace, transition}
-use Rattle.gptp_determinism.specs.BesideWorlds.{ActsFitAlike, DoneBeside, EachTo, WorldsBeside}
+use Rattle.gptp_determinism.specs.BesideWorlds.{ActsFitAlike, DoneBeside, WorldsBeside}
 use Rattle.gptp_determinism.specs.Named.{AnswersOnce, IsNamed}
 use Rattle.gptp_determinism.specs.WorldsBesideLaws.{AllFitAlike, CoursesBesideTime, IsWayBeside, TransitionsBeside}
 use Rattle.gptp_determinism.proofs.ActTraceLemmas.{makes_named, passes_to_named}
@@ -21,18 +22,18 @@ use Rattle.gptp_determinism.proofs.SendLemmas.{draws_once}
 
 -- ---- acts one after the other
 
-each_append : (first second third fourth : List ActTrace) → EachTo TransitionsBeside first second
-    → EachTo TransitionsBeside third fourth → EachTo TransitionsBeside (first ++ third) (second ++ fourth)
+each_append : (first second third fourth : List ActTrace) → AllZip TransitionsBeside first second
+    → AllZip TransitionsBeside third fourth → AllZip TransitionsBeside (first ++ third) (second ++ fourth)
 each_append [] [] third fourth k l = l
 each_append [] (u ∷ us) third fourth k l = absurd k
 each_append (t ∷ ts) [] third fourth k l = absurd k
 each_append (t ∷ ts) (u ∷ us) third fourth k l = (k.0, each_append ts us third fourth k.1 l)
 
 each_parts : (ts us first second third fourth : List ActTrace) → ts ≡ first ++ third → us ≡ second ++ fourth
-    → EachTo TransitionsBeside first second → EachTo TransitionsBeside third fourth → EachTo TransitionsBeside ts us
+    → AllZip TransitionsBeside first second → AllZip TransitionsBeside third fourth → AllZip TransitionsBeside ts us
 each_parts ts us first second third fourth ts-is us-is k l =
-    subst (λ (xs : List ActTrace). EachTo TransitionsBeside xs us) (sym ts-is)
-    (subst (EachTo TransitionsBeside (first ++ third)) (sym us-is) (each_append first second third fourth k l))
+    subst (λ (xs : List ActTrace). AllZip TransitionsBeside xs us) (sym ts-is)
+    (subst (AllZip TransitionsBeside (first ++ third)) (sym us-is) (each_append first second third fourth k l))
 
 -- the numbers fit at the first acts, and at those after them
 front_fits : (first second third fourth : List ActTrace) → AllFitAlike (first ++ third) (second ++ fourth)
@@ -41,7 +42,7 @@ front_fits [] second third fourth fit = tt
 front_fits (t ∷ ts) [] third fourth fit = tt
 front_fits (t ∷ ts) (u ∷ us) third fourth fit = (fit.0, front_fits ts us third fourth fit.1)
 
-back_fits : (first second third fourth : List ActTrace) → EachTo TransitionsBeside first second
+back_fits : (first second third fourth : List ActTrace) → AllZip TransitionsBeside first second
     → AllFitAlike (first ++ third) (second ++ fourth) → AllFitAlike third fourth
 back_fits [] [] third fourth each fit = fit
 back_fits [] (u ∷ us) third fourth each fit = absurd each

@@ -1,7 +1,8 @@
 -- Worlds of which the same is true but for the time that systems read and tell, as of two that differ in whether
 -- systems go on with it.
-use Rattle.std.specs.Prelude.{◌≡◌, ℕ, ⊤, false, List, [], ◌∷◌, map, Some, FitsSigned, slice_get}
+use Rattle.std.specs.Prelude.{◌≡◌, ℕ, ⊤, false, List, ◌∷◌, map, Some, FitsSigned, slice_get}
 use Rattle.std.specs.Int.{w8}
+use Rattle.std.specs.List.{AllZip}
 use Rattle.gptp_links.specs.Queue.{Frame}
 use Rattle.gptp_scenario.specs.Network.{NetworkState}
 use Rattle.gptp_scenario.specs.declared.network.SystemSpec.{SystemSpec}
@@ -18,13 +19,6 @@ use Rattle.gptp_model.specs.World.{Channel, Net, WorldState, world_queue, receiv
 use Rattle.gptp_determinism.specs.BesideTime.{KnowsStamp, SaySame, beside_time}
 use Rattle.gptp_determinism.specs.ContinuesLaws.{ReceiptsFitAlike, RelaysFitAlike}
 
--- each member of one list is so to the one at its place in the other
-abbrev pub EachTo : {X : Type 0} → (X → X → Type 0) → List X → List X → Type 0
-EachTo R [] [] = ⊤
-EachTo R [] (y ∷ ys) = ⊥
-EachTo R (x ∷ xs) [] = ⊥
-EachTo R (x ∷ xs) (y ∷ ys) = R x y × EachTo R xs ys
-
 -- frames in flight
 pub record FramesBeside (f g : Frame) : Type 0 where
   pub due : f.due ≡ g.due
@@ -35,12 +29,12 @@ pub record LinksBeside (c d : Channel) : Type 0 where
   pub b : c.b ≡ d.b
   pub bounds : c.bounds ≡ d.bounds
   pub up : c.up ≡ d.up
-  pub from_a : EachTo FramesBeside c.from_a d.from_a
-  pub from_b : EachTo FramesBeside c.from_b d.from_b
+  pub from_a : AllZip FramesBeside c.from_a d.from_a
+  pub from_b : AllZip FramesBeside c.from_b d.from_b
 
 -- what is between the systems
 pub record NetsBeside (n m : Net) : Type 0 where
-  pub links : EachTo LinksBeside n.channels m.channels
+  pub links : AllZip LinksBeside n.channels m.channels
   pub pending : n.pending ≡ m.pending
 
 -- Systems. What they know of a time is a timestamp, and their sync interval fits its octet: so what they tell is read.
@@ -70,7 +64,7 @@ network_beside n = record n { systems = map member_beside n.systems }
 pub record WorldsBeside (w v : WorldState) : Type 0 where
   pub time : w.time ≡ v.time
   pub last_change : w.last_change ≡ v.last_change
-  pub stations : EachTo StationsBeside w.stations v.stations
+  pub stations : AllZip StationsBeside w.stations v.stations
   pub net : NetsBeside w.net v.net
 
 -- what is told of two acts is the same, but for the time that a Follow_Up says

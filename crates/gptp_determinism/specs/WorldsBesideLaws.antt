@@ -1,5 +1,6 @@
 -- What of a world doesn't depend on whether systems go on with the time that they read (`continues`).
 use Rattle.std.specs.Prelude.{◌≡◌, ℕ, ⊤, List, [], ◌∷◌, Option}
+use Rattle.std.specs.List.{AllZip}
 use Rattle.gptp_links.specs.declared.bounds.Bounds.{Bounds}
 use Rattle.gptp_links.specs.Fate.{Draw, Draws}
 use Rattle.gptp_scenario.specs.Network.{IsNetwork, NetworkState}
@@ -11,7 +12,7 @@ use Rattle.gptp_model.specs.Course.{Begun}
 use Rattle.gptp_model.specs.Views.{IsNextAct}
 use Rattle.gptp_model.specs.World.{WorldState}
 use Rattle.gptp_report.specs.Transitions.{Courses, ActTrace}
-use Rattle.gptp_determinism.specs.BesideWorlds.{ActsFitAlike, DoneBeside, EachTo, WorldsBeside, network_beside}
+use Rattle.gptp_determinism.specs.BesideWorlds.{ActsFitAlike, DoneBeside, WorldsBeside, network_beside}
 use Rattle.gptp_determinism.specs.Named.{AnswersOnce, IsNamed}
 
 -- two outcomes of an act are one, but for the time: what was drawn, what is told, and the worlds afterwards
@@ -61,7 +62,7 @@ AllFitAlike (t ∷ ts) (u ∷ us) =
 
 -- two ways are one, but for the time: what happens, the state of the fate, and the worlds afterwards
 pub record IsWayBeside {F : Type 0} (ts us : List ActTrace) (f g : F) (w v : WorldState) : Type 0 where
-  pub acts : EachTo TransitionsBeside ts us
+  pub acts : AllZip TransitionsBeside ts us
   pub fate_is : f ≡ g
   pub worlds : WorldsBeside w v
 
