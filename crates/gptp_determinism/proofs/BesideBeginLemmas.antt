@@ -12,10 +12,12 @@ use Rattle.gptp_links.specs.Fate.{Draw, Draws}
 use Rattle.gptp_links.specs.Queue.{Frame}
 use Rattle.gptp_setup.specs.Intervals.{IsLog}
 use Rattle.gptp_setup.specs.SettlingParams.{SettlingParams}
+use Rattle.gptp_setup.specs.declared.setup.Setup.{Setup}
 use Rattle.gptp_setup.specs.declared.timer.Timer.{Timer}
 use Rattle.gptp_setup.specs.declared.timer.Timer.TheVariants as timers
 use Rattle.gptp_scenario.specs.Network.{largest_of, logs_of, pace_of, IsNetwork, NetworkState}
 use Rattle.gptp_scenario.specs.declared.network.SystemSpec.{SystemSpec}
+use Rattle.gptp_scenario.specs.declared.change.Timed.{Timed}
 use Rattle.gptp_scenario.specs.declared.change.Act.{Act}
 use Rattle.gptp_scenario.specs.declared.change.Act.TheVariants.{Deliver, Expire, Change as Changing}
 use Rattle.gptp_scenario.specs.declared.change.Change.{Change}
@@ -26,11 +28,11 @@ use Rattle.gptp_vector.specs.declared.port.PortId.{PortId}
 use Rattle.gptp_model.specs.declared.item.Item.{Item}
 use Rattle.gptp_model.specs.declared.item.Item.TheVariants.{Arrival, Expiry}
 use Rattle.gptp_model.specs.declared.station.Station.{Station}
-use Rattle.gptp_model.specs.Acts.{AnyLink, AtLink, AtSystem, IsDueThen, IsOldestDue, IsThere, IsThereToChange}
+use Rattle.gptp_model.specs.Acts.{AnyLink, AtLink, AtSystem, IsDueThen, IsOldestDue, IsReadyAct, IsThere, IsThereToChange}
 use Rattle.gptp_model.specs.Changing.{StartsAll}
 use Rattle.gptp_model.specs.Initial.{channel_from, initial, setup_of, station_of}
 use Rattle.gptp_model.specs.Pending.{IsNext, NothingBefore}
-use Rattle.gptp_model.specs.Views.{IsActOf}
+use Rattle.gptp_model.specs.Views.{IsActOf, IsNextAct}
 use Rattle.gptp_model.specs.World.{port_id, station_due, world_queue, Channel, Net, WorldState}
 use Rattle.gptp_determinism.specs.BesideWorlds.{FramesBeside, LinksBeside, NetsBeside, StationsBeside, WorldsBeside, member_beside, network_beside, setup_beside}
 use Rattle.gptp_determinism.specs.WorldsBesideLaws.{BeginsBesideTime, NextBesideTime, ReadyBesideTime}
@@ -219,8 +221,9 @@ due_too (Expire number timer) time w v is k =
     (λ x y pair due. sym (dues_same x y pair timer) ∙ due) k
 due_too (Changing c) time w v is k = tt
 
-pub ready_beside : ReadyBesideTime
-ready_beside act time w v is k = record {
+ready_too : (act : Act) (time : ℕ) (w v : WorldState) → WorldsBeside w v → IsReadyAct act time w
+    → IsReadyAct act time v
+ready_too act time w v is k = record {
   timely = record {
     now = subst (λ (t : ℕ). t ≤ time) is.time k.timely.now;
     first = subst (NothingBefore time) is.net.pending k.timely.first;
@@ -235,9 +238,73 @@ act_too (Expiry place timer) w v act is (station, here, k) =
     let (y, there, pair) = each_on StationsBeside w.stations v.stations place station is.stations here in
     (y, there, k ∙ ap (λ (s : SystemState). Expire (clock s) timer) pair.system.same)
 
-pub next_beside : NextBesideTime
-next_beside w v timed is k = record {
+pub next_too : (w v : WorldState) (timed : Timed) → WorldsBeside w v → IsNextAct w timed → IsNextAct v timed
+next_too w v timed is k = record {
   item = k.item;
   next = subst (λ es. IsNext es timed.at k.item) is.net.pending k.next;
   act = act_too k.item w v timed.act is k.act;
 }
+
+-- ---- the other way round
+
+zip_back : {X : Type 0} (R : X → X → Type 0) (xs ys : List X) → ((x y : X) → R x y → R y x) → AllZip R xs ys
+    → AllZip R ys xs
+zip_back R [] [] back each = tt
+zip_back R [] (y ∷ ys) back each = absurd each
+zip_back R (x ∷ xs) [] back each = absurd each
+zip_back R (x ∷ xs) (y ∷ ys) back each = (back x y each.0, zip_back R xs ys back each.1)
+
+frame_back : (f g : Frame) → FramesBeside f g → FramesBeside g f
+frame_back f g is = record {
+  due = sym is.due;
+  say = elim is.say [
+    | inl one ↦ inl (sym one)
+    | inr k ↦ inr (record {
+      one = k.other;
+      other = k.one;
+      reads = k.reads_other;
+      reads_other = k.reads;
+      same = sym k.same;
+    })
+  ];
+}
+
+link_back : (c d : Channel) → LinksBeside c d → LinksBeside d c
+link_back c d is = record {
+  a = sym is.a;
+  b = sym is.b;
+  bounds = sym is.bounds;
+  up = sym is.up;
+  from_a = zip_back FramesBeside c.from_a d.from_a frame_back is.from_a;
+  from_b = zip_back FramesBeside c.from_b d.from_b frame_back is.from_b;
+}
+
+station_back : (x y : Station) → StationsBeside x y → StationsBeside y x
+station_back x y is = record {
+  setup = sym is.setup;
+  log = subst (λ (setup : Setup). FitsSigned w8 setup.params.sync) is.setup is.log;
+  system = record {
+    same = sym is.system.same;
+    one = is.system.other;
+    other = is.system.one;
+    log = subst (λ (s : SystemState). FitsSigned w8 s.params.sync) is.system.same is.system.log;
+  };
+  live = sym is.live;
+}
+
+world_back : (w v : WorldState) → WorldsBeside w v → WorldsBeside v w
+world_back w v is = record {
+  time = sym is.time;
+  last_change = sym is.last_change;
+  stations = zip_back StationsBeside w.stations v.stations station_back is.stations;
+  net = record {
+    links = zip_back LinksBeside w.net.channels v.net.channels link_back is.net.links;
+    pending = sym is.net.pending;
+  };
+}
+
+pub ready_beside : ReadyBesideTime
+ready_beside act time w v is = (ready_too act time w v is, ready_too act time v w (world_back w v is))
+
+pub next_beside : NextBesideTime
+next_beside w v timed is = (next_too w v timed is, next_too v w timed (world_back w v is))

@@ -15,7 +15,7 @@ use Rattle.gptp_determinism.specs.Named.{AnswersOnce, IsNamed}
 use Rattle.gptp_determinism.specs.WorldsBesideLaws.{AllFitAlike, CoursesBesideTime, IsWayBeside, TransitionsBeside}
 use Rattle.gptp_determinism.proofs.ActTraceLemmas.{makes_named, passes_to_named}
 use Rattle.gptp_determinism.proofs.BesideActLemmas.{acts_beside}
-use Rattle.gptp_determinism.proofs.BesideBeginLemmas.{next_beside}
+use Rattle.gptp_determinism.proofs.BesideBeginLemmas.{next_too}
 use Rattle.gptp_determinism.proofs.CourseLemmas.{next_once, not_left}
 use Rattle.gptp_determinism.proofs.NameLemmas.{done_named, named_at}
 use Rattle.gptp_determinism.proofs.SendLemmas.{draws_once}
@@ -87,12 +87,12 @@ module _ {F : Type 0} (answers : Bounds → ℕ → F → Option ℕ → F → T
       (subst (NothingBefore (until + 1)) is.net.pending
       (subst (λ (z : WorldState). NothingBefore (until + 1) z.net.pending) w-is none)))
   passes_beside until (t ∷ ts) [] fate f g w v w' v' named is fit (a, t-is, k, ks) (g-is, v-is) none nothing =
-      absurd (not_left answers once until t.told.timed v (next_beside w v t.told.timed is k.next) k.early
+      absurd (not_left answers once until t.told.timed v (next_too w v t.told.timed is k.next) k.early
       (subst (λ (z : WorldState). NothingBefore (until + 1) z.net.pending) v-is nothing))
   passes_beside until (t ∷ ts) (x ∷ us) fate f g w v w' v' named is fit (a, t-is, k, ks) (b, x-is, l, ls) none
       nothing =
       let acts : x.told.timed ≡ t.told.timed =
-      next_once v x.told.timed t.told.timed l.next (next_beside w v t.told.timed is k.next) in
+      next_once v x.told.timed t.told.timed l.next (next_too w v t.told.timed is k.next) in
       let was : WasDone answers t.told.timed fate b v x.after x.told.done =
       subst (λ (e : Timed). WasDone answers e fate b v x.after x.told.done) acts l.was_done in
       let fits : ActsFitAlike t.told.timed.act (at t.told.timed.at w) (at t.told.timed.at v) =

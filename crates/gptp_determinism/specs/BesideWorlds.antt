@@ -44,7 +44,7 @@ pub record SystemsBeside (s t : SystemState) : Type 0 where
   pub other : KnowsStamp t
   pub log : FitsSigned w8 s.params.sync
 
--- what systems start with, but for `continues`
+-- what a system starts with, but for `continues`
 abbrev pub setup_beside : Setup → Setup
 setup_beside setup = record setup { continues = false }
 
@@ -54,7 +54,7 @@ pub record StationsBeside (x y : Station) : Type 0 where
   pub system : SystemsBeside x.system y.system
   pub live : x.live ≡ y.live
 
--- networks whose systems differ in `continues` alone
+-- a network, but for that of its systems
 abbrev pub member_beside : SystemSpec → SystemSpec
 member_beside member = record member { continues = false }
 
@@ -75,13 +75,14 @@ DoneBeside (Heard clock port answer frame) Quiet = ⊥
 DoneBeside (Heard clock port answer frame) (Heard number reached said octets) =
     (clock ≡ number) × (port ≡ reached) × (answer ≡ said) × SaySame frame.items octets.items
 
--- what a system is given with an act is in both worlds such that the numbers on the way of time fit, or in neither
+-- The numbers on the way of time fit in both worlds or in neither, where the timer of a system expires.
 abbrev pub TimersFitAlike : Timer → WorldState → WorldState → Type 0
 TimersFitAlike timers.Relay w v = (place : ℕ) (x y : Station)
     → slice_get w.stations place ≡ Some x → slice_get v.stations place ≡ Some y
     → RelaysFitAlike w.time x.system y.system
 TimersFitAlike timer w v = ⊤
 
+-- So they do where an act is done: those of the frame that is delivered, or of the timer.
 abbrev pub ActsFitAlike : Act → WorldState → WorldState → Type 0
 ActsFitAlike (Deliver link direction) w v = (place : ℕ) (x y : Station) (c d : Channel) (f g : Frame)
     (fs gs : List Frame) → slice_get w.stations place ≡ Some x → slice_get v.stations place ≡ Some y

@@ -1,5 +1,5 @@
 -- What of a world doesn't depend on whether systems go on with the time that they read (`continues`).
-use Rattle.std.specs.Prelude.{◌≡◌, ℕ, ⊤, List, [], ◌∷◌, Option}
+use Rattle.std.specs.Prelude.{◌≡◌, ◌↔◌, ℕ, ⊤, List, [], ◌∷◌, Option}
 use Rattle.std.specs.List.{AllZip}
 use Rattle.gptp_links.specs.declared.bounds.Bounds.{Bounds}
 use Rattle.gptp_links.specs.Fate.{Draw, Draws}
@@ -30,13 +30,13 @@ ActsBesideTime {F} answers = AnswersOnce answers →
     → Acts act w draws done w' → Acts act v more said v'
     → IsActBeside draws more done said w' v'
 
--- An act that is ready in the one is ready in the other, and the act that is next is the same.
+-- an act is ready in the one exactly where it is in the other, and the act that is next is the same
 abbrev pub ReadyBesideTime : Type 0
-ReadyBesideTime = (act : Act) (time : ℕ) (w v : WorldState) → WorldsBeside w v → IsReadyAct act time w
-    → IsReadyAct act time v
+ReadyBesideTime = (act : Act) (time : ℕ) (w v : WorldState) → WorldsBeside w v
+    → (IsReadyAct act time w ↔ IsReadyAct act time v)
 
 abbrev pub NextBesideTime : Type 0
-NextBesideTime = (w v : WorldState) (timed : Timed) → WorldsBeside w v → IsNextAct w timed → IsNextAct v timed
+NextBesideTime = (w v : WorldState) (timed : Timed) → WorldsBeside w v → (IsNextAct w timed ↔ IsNextAct v timed)
 
 -- the worlds of two networks whose systems differ in `continues` alone begin so, with what one fate draws
 abbrev pub BeginsBesideTime : {F : Type 0} → (Bounds → ℕ → F → Option ℕ → F → Type 0) → Type 0
