@@ -1,12 +1,11 @@
--- Calls of systems, one or one after another, in two worlds that are the same but for the time that systems read and tell.
-use Rattle.std.proofs.Common.{◌≡◌, ◌⊎◌, ◌<◌, ℕ, ℤ, true, false, List, [], ◌∷◌, ◌++◌, map, length, Bool, Option, Some, None, FitsSigned, w8, slice_get, slice_set, refl, sym, ap, subst, ◌∙◌, inl, inr}
-use Rattle.std.specs.Prelude.{if◌then◌else◌}
+-- Calls of systems, one or one after another, in two worlds that are the same but for time.
+use Rattle.std.proofs.Common.{◌≡◌, ◌<◌, ℕ, ℤ, true, false, List, [], ◌∷◌, map, length, Bool, Option, Some, None, FitsSigned, w8, slice_get, slice_set, refl, sym, ap, subst, ◌∙◌, inl, inr}
+use Rattle.std.specs.Prelude.{◌&&◌, ◌||◌, if◌then◌else◌}
+use Rattle.std.specs.List.{filter, range_with_len, AllZip}
 use Rattle.std.proofs.lemmas.Option.{none-some, same_Some}
-use Rattle.gptp_lists.proofs.MappedLemmas.{same_there, some_same}
+use Rattle.gptp_vector.specs.declared.port.PortId.{PortId}
 use Rattle.gptp_links.specs.declared.bounds.Bounds.{Bounds}
-use Rattle.gptp_links.specs.declared.link.Direction.{Direction}
 use Rattle.gptp_links.specs.Fate.{Draw}
-use Rattle.gptp_messages.specs.declared.announce.AnnounceView.{AnnounceView}
 use Rattle.gptp_messages.specs.declared.follow_up.FollowUp.{FollowUp}
 use Rattle.gptp_messages.specs.declared.message.Message.{Message}
 use Rattle.gptp_messages.specs.declared.message.Message.TheVariants as messages
@@ -24,37 +23,37 @@ use Rattle.gptp_setup.specs.declared.timer.Timer.{Timer}
 use Rattle.gptp_setup.specs.declared.timer.Timer.TheVariants as timers
 use Rattle.gptp_setup.specs.SettlingParams.{has_sync_timeout}
 use Rattle.gptp_system.specs.declared.answer.Answer.{Answer}
-use Rattle.gptp_system.specs.declared.port.Port.{Port}
 use Rattle.gptp_system.specs.declared.sending.Sending.{Sending}
 use Rattle.gptp_system.specs.Announcing.{aged_at, compared, replaces_held, with_priority}
 use Rattle.gptp_system.specs.Input.{Input, PortUp, PortDown, Frame, Priority, Steps}
 use Rattle.gptp_system.specs.Input.{Expires as TimerExpires}
 use Rattle.gptp_system.specs.Lapse.{lapsed}
 use Rattle.gptp_system.specs.Measuring.{down, is_turned, turned, Turns, TurnsAndAsks, TurnsIf}
-use Rattle.gptp_system.specs.Selection.{choosing, follows_on, kept_if, Becomes, Selects, SelectsIf}
+use Rattle.gptp_system.specs.Selection.{follows_on, kept_if, Becomes, Selects, SelectsIf}
 use Rattle.gptp_system.specs.Start.{started}
 use Rattle.gptp_system.specs.State.{SystemState, clock, due, held_at, is_capable_at, number, own}
-use Rattle.gptp_system.specs.Steps.{Expires, HearsFrame, HearsMessage}
+use Rattle.gptp_system.specs.Steps.{Expires, HearsMessage}
 use Rattle.gptp_system.specs.Syncing.{delay_at, forgetting, is_followed, is_leading, is_slave_at, root_rate_at, said_on, HearsFollowUpIf, HearsSyncIf, KeepsIf, KnowsBy, KnowsIf, RelaysBy, RelaysIf, SyncsIf}
 use Rattle.gptp_system.proofs.StepLemmas.{steps_sound}
 use Rattle.gptp_system.proofs.TypeLemmas.{type_is}
 use Rattle.gptp_model.specs.declared.station.Station.{Station}
 use Rattle.gptp_model.specs.declared.item.Item.TheVariants.{Expiry}
-use Rattle.gptp_model.specs.Act.{all_timers, in_state, set_timers, Calls, HasFailed}
+use Rattle.gptp_model.specs.Act.{all_timers, in_state, set_timers, Calls}
 use Rattle.gptp_model.specs.Changing.{fresh, is_link_end, is_up_at, up_ports, with_station, CallsAll, CallsIfLive, Starts, StartsAll, TellsEnds}
 use Rattle.gptp_model.specs.Pending.{set_due, Entry}
 use Rattle.gptp_model.specs.Sends.{SendsAll}
+use Rattle.gptp_model.specs.Sound.{HaveOwnClocks}
 use Rattle.gptp_model.specs.World.{Channel, Net, WorldState, station_due, timers_from}
 use Rattle.gptp_model.proofs.StayLemmas.{calls_carry, calls_if_live_carry, carry_join, starts_stays}
-use Rattle.gptp_determinism.specs.BesideTime.{KnowsStamp, SameBeside, SaySame, beside_time}
-use Rattle.gptp_determinism.specs.BesideWorlds.{EachTo, LinksBeside, NetsBeside, StationsBeside, SystemsBeside, WorldsBeside, setup_beside}
+use Rattle.gptp_determinism.specs.BesideTime.{KnowsStamp, SameBeside, beside_time}
+use Rattle.gptp_determinism.specs.BesideWorlds.{LinksBeside, NetsBeside, StationsBeside, SystemsBeside, WorldsBeside, setup_beside}
 use Rattle.gptp_determinism.specs.ContinuesLaws.{FitAlike}
 use Rattle.gptp_determinism.specs.Named.{AnswersOnce, HaveOwnPorts, IsNamed}
 use Rattle.gptp_determinism.specs.StepLaws.{SameAnswer}
-use Rattle.gptp_determinism.proofs.BesideSendLemmas.{each_at, each_back, each_on, each_set, sends_beside, sends_say}
+use Rattle.gptp_determinism.proofs.BesideSendLemmas.{each_at, each_back, each_set, sends_beside, sends_say}
 use Rattle.gptp_determinism.proofs.ContinuesLemmas.{steps_alike, timers_beside_time}
 use Rattle.gptp_determinism.proofs.NameLemmas.{named_still, ports_kept}
-use Rattle.gptp_determinism.proofs.SendLemmas.{in_turn, AreDrawn}
+use Rattle.gptp_determinism.proofs.SendLemmas.{in_order, AreDrawn}
 
 -- ---- what is known of a time stays a timestamp
 
@@ -107,7 +106,8 @@ read_nanos octets m reads =
     let kind : type_of 0x8 ≡ Some reads.kind =
     subst (λ n. type_of n ≡ Some reads.kind) (type_is octets (messages.FollowUp m) reads) reads.header.kind_is in
     let same = same_Some _ reads.kind kind in
-    let is = one m _ (subst (λ k. messages.FollowUp m ≡ message_of k octets reads.path reads.rate) (sym same) reads.is) in
+    let is = one m _
+    (subst (λ k. messages.FollowUp m ≡ message_of k octets reads.path reads.rate) (sym same) reads.is) in
     let stamp = subst (λ k. StampIsRead k octets) (sym same) reads.stamp in
     subst (λ (x : FollowUp). x.origin.nanos < 1000000000) (sym is) stamp
   where
@@ -135,11 +135,13 @@ knows_stamp : (on : Bool) (info : SyncInfo) (delay rate : ℤ) (now : ℕ) (s t 
     → KeepsStamp s t
 knows_stamp true info delay rate now s t sends answer nanos k =
     subst (KeepsStamp s) (sym k.becomes.state) (record {
-      keeps = λ knows other is. subst (λ (x : SyncInfo). x.origin.nanos < 1000000000) (same_Some info other is) nanos;
+      keeps = λ knows other is. subst (λ (x : SyncInfo). x.origin.nanos < 1000000000)
+          (same_Some info other is) nanos;
     })
 knows_stamp false info delay rate now s t sends answer nanos (inl k) =
     subst (KeepsStamp s) (sym k.becomes.state) (record {
-      keeps = λ knows other is. subst (λ (x : SyncInfo). x.origin.nanos < 1000000000) (same_Some info other is) nanos;
+      keeps = λ knows other is. subst (λ (x : SyncInfo). x.origin.nanos < 1000000000)
+          (same_Some info other is) nanos;
     })
 knows_stamp false info delay rate now s t sends answer nanos (inr k) =
     becomes_stamp s (forgetting s) t sends (unknown s (forgetting s) refl) k.becomes
@@ -186,8 +188,8 @@ message_stamp p octets (messages.Announce a) now s t sends answer reads (inl k) 
 message_stamp p octets (messages.Announce a) now s t sends answer reads (inr (inl k)) =
     becomes_stamp s s t sends (same_known s s refl) k.becomes
 message_stamp p octets (messages.Announce a) now s t sends answer reads (inr (inr k)) =
-    selects_if_stamp (replaces_held (comparison (held_at s p) (own s p) a)) now s (compared p a now s) t sends refl
-    k.selects
+    selects_if_stamp (replaces_held (comparison (held_at s p) (own s p) a)) now s (compared p a now s)
+    t sends refl k.selects
 
 relays_stamp : (on : Bool) (info : SyncInfo) (now : ℕ) (s t : SystemState) (sends : List Sending)
     → RelaysBy on info now s t sends → KeepsStamp s t
@@ -229,7 +231,7 @@ steps_stamp (Priority value) now s t sends answer k = selects_stamp now s (with_
 
 -- ---- timers
 
-dues_same : (x y : Station) → StationsBeside x y → (timer : Timer) → station_due timer x ≡ station_due timer y
+pub dues_same : (x y : Station) → StationsBeside x y → (timer : Timer) → station_due timer x ≡ station_due timer y
 dues_same x y is timer =
     ap (λ live. if live then due timer x.system else None) is.live
     ∙ ap (λ (d : Option ℕ). if y.live then d else None) (timers_beside_time x.system y.system is.system.same timer)
@@ -308,15 +310,171 @@ module _ {F : Type 0} (answers : Bounds → ℕ → F → Option ℕ → F → T
         time = is.time;
         last_change = is.last_change;
         stations =
-            each_set StationsBeside w.stations v.stations place (in_state k.after x) (in_state l.after y) is.stations
-            stations;
+            each_set StationsBeside w.stations v.stations place (in_state k.after x)
+            (in_state l.after y) is.stations stations;
         net = nets;
       } in (
         draws,
         subst (λ (z : WorldState). WorldsBeside z v') (sym k.is)
             (subst (WorldsBeside (record w {
-          stations = slice_set w.stations place (in_state k.after x);
-          net = k.net;
-        })) (sym l.is) worlds),
+              stations = slice_set w.stations place (in_state k.after x);
+              net = k.net;
+            })) (sym l.is) worlds),
         step.answer_is,
       )
+
+-- ---- several
+
+-- an input that asks nothing of the time of a system
+pub record IsPlain (input : Input) : Type 0 where
+  pub same : SameBeside input input
+  pub fit : (now : ℕ) (s t : SystemState) → FitAlike input input now s t
+
+pub plain_up : (p : ℕ) → IsPlain (PortUp p)
+plain_up p = record { same = refl; fit = λ now s t. tt }
+
+pub plain_down : (p : ℕ) → IsPlain (PortDown p)
+plain_down p = record { same = refl; fit = λ now s t. tt }
+
+pub plain_priority : (value : ℕ) → IsPlain (Priority value)
+plain_priority value = record { same = refl; fit = λ now s t. tt }
+
+-- the systems of one clock stand at one place
+pub places_same : (w v : WorldState) (number other place at : ℕ) (x y : Station) → HaveOwnClocks w → WorldsBeside w v
+    → number ≡ other → slice_get w.stations place ≡ Some x → clock x.system ≡ number
+    → slice_get v.stations at ≡ Some y → clock y.system ≡ other → at ≡ place
+places_same w v number other place at x y own is same here named there called =
+    let (z, z-here, z-same) = each_back StationsBeside w.stations v.stations at y is.stations there in
+    own at place z x z-here here (ap clock z-same.system.same ∙ called ∙ sym same ∙ sym named)
+
+-- ---- starts
+
+pub started_beside : (now : ℕ) (a b : Setup) → setup_beside a ≡ setup_beside b → FitsSigned w8 a.params.sync
+    → SystemsBeside (started a now) (started b now)
+started_beside now a b same log = record {
+  same = ap (λ (setup : Setup). beside_time (started setup now)) same;
+  one = λ info known. absurd (none-some info known);
+  other = λ info known. absurd (none-some info known);
+  log = log;
+}
+
+fresh_beside : (now : ℕ) (x y : Station) → StationsBeside x y → StationsBeside (fresh now x) (fresh now y)
+fresh_beside now x y is =
+    record { setup = is.setup; log = is.log; system = started_beside now x.setup y.setup is.setup is.log; live = refl }
+
+-- the same links are up at a port
+ups_same : (number port : ℕ) (cs ds : List Channel) → AllZip LinksBeside cs ds
+    → is_up_at cs number port ≡ is_up_at ds number port
+ups_same number port [] [] each = refl
+ups_same number port [] (d ∷ ds) each = absurd each
+ups_same number port (c ∷ cs) [] each = absurd each
+ups_same number port (c ∷ cs) (d ∷ ds) each =
+    let is = each.0 in
+    let up = is.up in
+    let a = is.a in
+    let b = is.b in
+    let rest = ups_same number port cs ds each.1 in
+    λ i. (up i && (is_link_end number port (a i) || is_link_end number port (b i))) || rest i
+
+up_ports_same : (x y : Station) (n m : Net) → StationsBeside x y → NetsBeside n m → up_ports x n ≡ up_ports y m
+up_ports_same x y n m is nets =
+    let number = clock x.system in
+    let ups = λ (p : ℕ). ups_same number p n.channels m.channels nets.links in
+    let ports : SystemState → List ℕ =
+    λ s. filter (λ p. is_up_at m.channels (clock s) p) (range_with_len 1 (length s.ports)) in
+    (λ i. filter (λ p. ups p i) (range_with_len 1 (length x.system.ports))) ∙ ap ports is.system.same
+
+module _ {F : Type 0} (answers : Bounds → ℕ → F → Option ℕ → F → Type 0) (once : AnswersOnce answers) where
+  pub calls_if_live_beside : (place : ℕ) (input : Input) (w v w' v' : WorldState) (ds es : List Draw) → IsPlain input
+      → HaveOwnPorts w.net.channels → WorldsBeside w v → AreDrawn answers once ds es → CallsIfLive place input w ds w'
+      → CallsIfLive place input v es v' → (ds ≡ es) × WorldsBeside w' v'
+  calls_if_live_beside place input w v w' v' ds es plain own is both (inl (answer, k)) (inl (said, l)) =
+      let same = calls_beside answers once place input input w v w' v' ds es answer said own is plain.same
+      (λ x y here there. plain.fit w.time x.system y.system) both k l in
+      (same.0, same.1)
+  calls_if_live_beside place input w v w' v' ds es plain own is both (inl (answer, k)) (inr (failed, none, same)) =
+      absurd (both_live w v place k.station failed.station is k.here failed.here k.live failed.failed)
+  calls_if_live_beside place input w v w' v' ds es plain own is both (inr (failed, none, same)) (inl (said, l)) =
+      absurd (one_live w v place failed.station l.station is failed.here l.here failed.failed l.live)
+  calls_if_live_beside place input w v w' v' ds es plain own is both (inr (_, k-none, k-same))
+      (inr (_, l-none, l-same)) = (
+        k-none ∙ sym l-none,
+        subst (λ (z : WorldState). WorldsBeside z v') (sym k-same) (subst (WorldsBeside w) (sym l-same) is),
+      )
+
+  -- both ends of a link are told
+  pub tells_ends_beside : (input : ℕ → Input) (c d : Channel) (w v w' v' : WorldState) (ds es : List Draw)
+      → ((p : ℕ) → IsPlain (input p)) → LinksBeside c d → IsNamed w → WorldsBeside w v → AreDrawn answers once ds es
+      → TellsEnds input c w ds w' → TellsEnds input d v es v' → (ds ≡ es) × WorldsBeside w' v'
+  tells_ends_beside input c d w v w' v' ds es plain links named is both k l =
+      let a-places = places_same w v c.a.clock d.a.clock k.place_a l.place_a k.station_a l.station_a named.clocks is
+      (ap (λ (p : PortId). p.clock) links.a) k.is_a.here k.is_a.named l.is_a.here l.is_a.named in
+      let b-places = places_same w v c.b.clock d.b.clock k.place_b l.place_b k.station_b l.station_b named.clocks is
+      (ap (λ (p : PortId). p.clock) links.b) k.is_b.here k.is_b.named l.is_b.here l.is_b.named in
+      let at_a = subst (λ (i : ℕ). CallsIfLive i (input c.a.port) v l.first l.between) a-places
+      (subst (λ (p : PortId). CallsIfLive l.place_a (input p.port) v l.first l.between) (sym links.a) l.at_a) in
+      let at_b = subst (λ (i : ℕ). CallsIfLive i (input c.b.port) l.between l.second v') b-places
+      (subst (λ (p : PortId). CallsIfLive l.place_b (input p.port) l.between l.second v') (sym links.b) l.at_b) in
+      let joins = carry_join w.net.channels k.between.net.channels
+      (calls_if_live_carry k.place_a (input c.a.port) w k.first k.between k.at_a) in
+      in_order answers once {P = WorldsBeside k.between l.between} {Q = WorldsBeside w' v'} ds es k.first k.second
+      l.first l.second both k.draws_are l.draws_are
+      (λ drawn. calls_if_live_beside k.place_a (input c.a.port) w v k.between l.between k.first l.first
+      (plain c.a.port) named.ports is drawn k.at_a at_a)
+      (λ between drawn. calls_if_live_beside k.place_b (input c.b.port) k.between l.between w' v' k.second l.second
+      (plain c.b.port) (ports_kept w.net.channels k.between.net.channels joins named.ports) between drawn k.at_b at_b)
+
+  -- ports of a live system come up, one after another
+  calls_all_beside : (place : ℕ) (ports : List ℕ) (w v w' v' : WorldState) (ds es : List Draw)
+      → HaveOwnPorts w.net.channels → WorldsBeside w v → AreDrawn answers once ds es
+      → CallsAll place (map PortUp ports) w ds w' → CallsAll place (map PortUp ports) v es v'
+      → (ds ≡ es) × WorldsBeside w' v'
+  calls_all_beside place [] w v w' v' ds es own is both k l = (
+    k.0 ∙ sym l.0,
+    subst (λ (z : WorldState). WorldsBeside z v') (sym k.1) (subst (WorldsBeside w) (sym l.1) is),
+  )
+  calls_all_beside place (p ∷ ports) w v w' v' ds es own is both (first, rest, x, answer, d-is, k, k-more)
+      (third, fourth, y, said, e-is, l, l-more) =
+      let joins = carry_join w.net.channels x.net.channels (calls_carry place (PortUp p) w first answer x k) in
+      in_order answers once {P = WorldsBeside x y} {Q = WorldsBeside w' v'} ds es first rest third fourth both d-is e-is
+      (λ drawn. let same = calls_beside answers once place (PortUp p) (PortUp p) w v x y first third answer said own is
+      refl (λ a b here there. tt) drawn k l in (same.0, same.1))
+      (λ between drawn. calls_all_beside place ports x y w' v' rest fourth
+      (ports_kept w.net.channels x.net.channels joins own) between drawn k-more l-more)
+
+  pub starts_beside : (place : ℕ) (w v w' v' : WorldState) (ds es : List Draw) → HaveOwnPorts w.net.channels
+      → WorldsBeside w v → AreDrawn answers once ds es → Starts place w ds w' → Starts place v es v'
+      → (ds ≡ es) × WorldsBeside w' v'
+  starts_beside place w v w' v' ds es own is both k l =
+      let x = k.station in
+      let y = l.station in
+      let pair = fresh_beside w.time x y (stations_at w v place x y is k.here l.here) in
+      let begun : ℕ → Station → WorldState → WorldState = λ now station z.
+      record (with_station place (fresh now station) z) { net = all_timers place (fresh now station) z.net } in
+      let worlds : WorldsBeside (begun w.time x w) (begun w.time y v) = record {
+        time = is.time;
+        last_change = is.last_change;
+        stations =
+            each_set StationsBeside w.stations v.stations place (fresh w.time x) (fresh w.time y) is.stations pair;
+        net = all_timers_beside place (fresh w.time x) (fresh w.time y) w.net v.net pair is.net;
+      } in
+      let ports = up_ports_same (fresh w.time x) (fresh w.time y) w.net v.net pair is.net in
+      let calls = subst (λ (ps : List ℕ). CallsAll place (map PortUp ps) (begun w.time y v) es v') (sym ports)
+      (subst (λ (t : ℕ). CallsAll place (map PortUp (up_ports (fresh t y) v.net)) (begun t y v) es v') (sym is.time)
+      l.calls) in
+      calls_all_beside place (up_ports (fresh w.time x) w.net) (begun w.time x w) (begun w.time y v) w' v' ds es own
+      worlds both k.calls calls
+
+  pub starts_all_beside : (places : List ℕ) (w v w' v' : WorldState) (ds es : List Draw) → IsNamed w → WorldsBeside w v
+      → AreDrawn answers once ds es → StartsAll places w ds w' → StartsAll places v es v'
+      → (ds ≡ es) × WorldsBeside w' v'
+  starts_all_beside [] w v w' v' ds es named is both k l = (
+    k.0 ∙ sym l.0,
+    subst (λ (z : WorldState). WorldsBeside z v') (sym k.1) (subst (WorldsBeside w) (sym l.1) is),
+  )
+  starts_all_beside (place ∷ places) w v w' v' ds es named is both (first, rest, x, d-is, k, k-more)
+      (third, fourth, y, e-is, l, l-more) =
+      in_order answers once {P = WorldsBeside x y} {Q = WorldsBeside w' v'} ds es first rest third fourth both d-is e-is
+      (λ drawn. starts_beside place w v x y first third named.ports is drawn k l)
+      (λ between drawn. starts_all_beside places x y w' v' rest fourth
+      (named_still w x (starts_stays place w first x named.setups k) named) between drawn k-more l-more)

@@ -119,7 +119,7 @@ module _ (p : SettlingParams) (v w : WorldState) (keeps : KeepsNetwork v w) (cal
 
 -- the best of each component tells time in the second world by the base that it has in the first, or had none there
 abbrev BasesGoOn : WorldState → WorldState → Type 0
-BasesGoOn v w = (number : ℕ) (best : System) → IsBest (snapshot_of w) number best
+BasesGoOn v w = (number : ℕ) (best : System) → IsBest (snapshot_of v) number best
     → GoesOn (base_at v.stations best.clock) (base_at w.stations best.clock)
 
 -- No act is later than the world. From each act since the last change the network lasts; and where it had settled by
