@@ -1,6 +1,6 @@
 -- One act in two worlds that are the same but for the time that systems read and tell.
-use Rattle.std.proofs.Common.{◌≡◌, ◌⊎◌, ◌*◌, ◌+◌, ◌%◌, ◌^◌, ℕ, Bool, true, false, List, [], ◌∷◌, Option, Some, None, slice_get, slice_set, refl, sym, ap, subst, ◌∙◌, inl, inr}
-use Rattle.gptp_lists.proofs.MappedLemmas.{same_there}
+use Rattle.std.proofs.Common.{◌≡◌, ◌*◌, ◌+◌, ◌%◌, ◌^◌, ℕ, Bool, true, false, List, [], ◌∷◌, Option, Some, None, slice_get, slice_set, refl, sym, ap, subst, ◌∙◌, inl, inr}
+use Rattle.std.specs.List.{AllZip}
 use Rattle.gptp_vector.specs.declared.port.PortId.{PortId}
 use Rattle.gptp_links.specs.declared.bounds.Bounds.{Bounds}
 use Rattle.gptp_links.specs.declared.link.Direction.{Direction}
@@ -22,7 +22,7 @@ use Rattle.gptp_model.specs.declared.done.Done.{Done}
 use Rattle.gptp_model.specs.declared.done.Done.TheVariants.{Quiet, Heard}
 use Rattle.gptp_model.specs.declared.item.Item.TheVariants.{Arrival, Expiry}
 use Rattle.gptp_model.specs.declared.station.Station.{Station}
-use Rattle.gptp_model.specs.Act.{all_timers, Delivers, Hears, TimerRunsOut}
+use Rattle.gptp_model.specs.Act.{Delivers, Hears, TimerRunsOut}
 use Rattle.gptp_model.specs.Acts.{set_to, Acts, AtLink, AtSystem, Changes, Delivery, TellsHearing}
 use Rattle.gptp_model.specs.Changing.{brought_up, failed, lost, taken_down, with_bounds, with_setup, with_station, CallsIfLive, ComesUpIf, FailsIf, GoesDownIf, InjectsIf, IsChannel, RecoversIf}
 use Rattle.gptp_model.specs.Pending.{without, without_first_entry}
@@ -31,7 +31,7 @@ use Rattle.gptp_model.specs.Sound.{HaveOwnClocks}
 use Rattle.gptp_model.specs.World.{port_id, receiver, sender, with_queue, world_queue, Channel, Net, WorldState}
 use Rattle.gptp_model.proofs.StayLemmas.{brought_up_stays, carry_join, taken_down_stays, takes_carry}
 use Rattle.gptp_determinism.specs.BesideTime.{SaySame}
-use Rattle.gptp_determinism.specs.BesideWorlds.{ActsFitAlike, DoneBeside, EachTo, FramesBeside, LinksBeside, NetsBeside, StationsBeside, TimersFitAlike, WorldsBeside, setup_beside}
+use Rattle.gptp_determinism.specs.BesideWorlds.{ActsFitAlike, DoneBeside, FramesBeside, LinksBeside, NetsBeside, StationsBeside, TimersFitAlike, WorldsBeside}
 use Rattle.gptp_determinism.specs.ContinuesLaws.{FitAlike, ReceiptsFitAlike}
 use Rattle.gptp_determinism.specs.Named.{AnswersOnce, HaveOwnPorts, IsNamed}
 use Rattle.gptp_determinism.specs.WorldsBesideLaws.{IsActBeside}
@@ -157,8 +157,8 @@ module _ {F : Type 0} (answers : Bounds → ℕ → F → Option ℕ → F → T
       → AreDrawn answers once ds es → Hears place port a w ds answer w' → Hears place port b v es said v'
       → (ds ≡ es) × WorldsBeside w' v' × (answer ≡ said)
   hears_beside place port a b w v w' v' ds es (Some answer) (Some said) own is say fit both k l =
-      let (draws, worlds, same) = calls_beside answers once place (FrameHeard port a) (FrameHeard port b) w v w' v' ds es
-      answer said own is (refl, say) fit both k l in
+      let (draws, worlds, same) = calls_beside answers once place (FrameHeard port a) (FrameHeard port b) w v w' v' ds
+      es answer said own is (refl, say) fit both k l in
       (draws, worlds, ap Some same)
   hears_beside place port a b w v w' v' ds es (Some answer) None own is say fit both k (failed, none, same) =
       absurd (both_live w v place k.station failed.station is k.here failed.here k.live failed.failed)
@@ -176,9 +176,9 @@ module _ {F : Type 0} (answers : Bounds → ℕ → F → Option ℕ → F → T
       let c = k.channel in
       let d = l.channel in
       let links = each_at LinksBeside w.net.channels v.net.channels link c d is.net.links k.takes.here l.takes.here in
-      let queues : EachTo FramesBeside (frame w.time a ∷ k.takes.rest) (frame v.time b ∷ l.takes.rest) =
-      subst (λ (fs : List Frame). EachTo FramesBeside fs (frame v.time b ∷ l.takes.rest)) k.takes.front
-      (subst (EachTo FramesBeside (world_queue direction c)) l.takes.front (queues_beside direction c d links)) in
+      let queues : AllZip FramesBeside (frame w.time a ∷ k.takes.rest) (frame v.time b ∷ l.takes.rest) =
+      subst (λ (fs : List Frame). AllZip FramesBeside fs (frame v.time b ∷ l.takes.rest)) k.takes.front
+      (subst (AllZip FramesBeside (world_queue direction c)) l.takes.front (queues_beside direction c d links)) in
       let say = queues.0.say in
       let left : List Frame → Channel → Net → Net = λ rest channel net. record {
         channels = slice_set net.channels link (with_queue direction rest channel);
@@ -202,8 +202,8 @@ module _ {F : Type 0} (answers : Bounds → ℕ → F → Option ℕ → F → T
       (subst (λ (p : ℕ). Hears l.place p b (record v { net = l.net }) es said v') (sym ports) l.hears) in
       let joins = carry_join w.net.channels k.net.channels
       (takes_carry link direction w.time a c w.net k.net k.takes) in
-      let (draws, after, told) = hears_beside k.place port a b (record w { net = k.net }) (record v { net = l.net }) w' v'
-      ds es answer said (ports_kept w.net.channels k.net.channels joins named.ports) worlds say
+      let (draws, after, told) = hears_beside k.place port a b (record w { net = k.net }) (record v { net = l.net }) w'
+      v' ds es answer said (ports_kept w.net.channels k.net.channels joins named.ports) worlds say
       (λ x y here there. receipts_at port (receiver direction d).port a b x.system y.system ports
       (fit k.place x y c d (frame w.time a) (frame v.time b) k.takes.rest l.takes.rest here there k.takes.here
       l.takes.here k.takes.front l.takes.front)) both k.hears heard in
@@ -214,9 +214,10 @@ module _ {F : Type 0} (answers : Bounds → ℕ → F → Option ℕ → F → T
       → Delivery link direction done w ds w' → Delivery link direction also v es v'
       → IsActBeside ds es done also w' v'
   delivery_beside link direction done also w v w' v' ds es named is fit both k l =
-      let (draws, worlds, answer, say) = delivers_beside link direction k.octets l.octets w v w' v' ds es k.answer l.answer
-      named is fit both k.delivers l.delivers in
-      let links = each_at LinksBeside w.net.channels v.net.channels link k.channel l.channel is.net.links k.here l.here in
+      let (draws, worlds, answer, say) = delivers_beside link direction k.octets l.octets w v w' v' ds es k.answer
+      l.answer named is fit both k.delivers l.delivers in
+      let links = each_at LinksBeside w.net.channels v.net.channels link k.channel l.channel is.net.links
+      k.here l.here in
       record {
         draws_are = draws;
         done_is = tells_beside (receiver direction k.channel) (receiver direction l.channel) k.answer l.answer k.octets
@@ -243,8 +244,8 @@ module _ {F : Type 0} (answers : Bounds → ℕ → F → Option ℕ → F → T
         pending = ap (λ es. without (Arrival place FromB) (without (Arrival place FromA) es)) is.net.pending;
       } in
       let below = record w { net = taken_down place c w.net } in
-      tells_ends_beside answers once PortDown c d below (record v { net = taken_down place d v.net }) w' v' ds es plain_down
-      links (named_still w below (taken_down_stays place c w here named.setups) named)
+      tells_ends_beside answers once PortDown c d below (record v { net = taken_down place d v.net }) w' v' ds es
+      plain_down links (named_still w below (taken_down_stays place c w here named.setups) named)
       (in_nets w v (taken_down place c w.net) (taken_down place d v.net) is nets) both k l
   goes_down_beside false place c d w v w' v' ds es here named is links both k l = nothing_beside w v w' v' ds es is k l
 
@@ -412,9 +413,9 @@ module _ {F : Type 0} (answers : Bounds → ℕ → F → Option ℕ → F → T
           pending = ap (without_first_entry (Expiry place timer)) is.net.pending;
         };
       } in
-      let same = calls_beside answers once place (TimerExpires timer) (TimerExpires timer) (stopped w) (stopped v) w' v' ds
-      es k.answer l.answer named.ports worlds refl (λ x y here there. timer_fits timer w v place x y fit here there) both
-      k.calls l.calls in
+      let same = calls_beside answers once place (TimerExpires timer) (TimerExpires timer) (stopped w) (stopped v)
+      w' v' ds es k.answer l.answer named.ports worlds refl
+      (λ x y here there. timer_fits timer w v place x y fit here there) both k.calls l.calls in
       (same.0, same.1)
 
   quiet_beside : (ds es : List Draw) (done also : Done) (w v : WorldState) → done ≡ Quiet → also ≡ Quiet

@@ -1,8 +1,8 @@
 -- How worlds that are the same but for the time begin, and which act is next in them.
-use Rattle.std.proofs.Common.{◌≡◌, ◌≤◌, ℕ, ℤ, Bool, false, List, [], ◌∷◌, ◌++◌, map, length, Option, Some, FitsSigned, w8, slice_get, refl, sym, ap, subst, ◌∙◌, inl, inr, arith}
+use Rattle.std.proofs.Common.{◌≡◌, ◌≤◌, ℕ, ℤ, List, [], ◌∷◌, ◌++◌, map, length, Option, Some, FitsSigned, w8, refl, sym, ap, subst, ◌∙◌, inl, inr, arith}
 use Rattle.std.specs.Prelude.{⊤}
 use Rattle.std.specs.Int.{int_max}
-use Rattle.std.specs.List.{flat_map, range_with_len, reduce}
+use Rattle.std.specs.List.{flat_map, range_with_len, reduce, AllZip}
 use Rattle.std.specs.Option.{unwrap_or}
 use Rattle.std.proofs.lemmas.Int.{ints}
 use Rattle.std.proofs.lemmas.List.{length-map}
@@ -16,8 +16,8 @@ use Rattle.gptp_setup.specs.declared.setup.Setup.{Setup}
 use Rattle.gptp_setup.specs.declared.timer.Timer.{Timer}
 use Rattle.gptp_setup.specs.declared.timer.Timer.TheVariants as timers
 use Rattle.gptp_scenario.specs.Network.{largest_of, logs_of, pace_of, IsNetwork, NetworkState}
-use Rattle.gptp_scenario.specs.declared.network.LinkSpec.{LinkSpec}
 use Rattle.gptp_scenario.specs.declared.network.SystemSpec.{SystemSpec}
+use Rattle.gptp_scenario.specs.declared.change.Timed.{Timed}
 use Rattle.gptp_scenario.specs.declared.change.Act.{Act}
 use Rattle.gptp_scenario.specs.declared.change.Act.TheVariants.{Deliver, Expire, Change as Changing}
 use Rattle.gptp_scenario.specs.declared.change.Change.{Change}
@@ -28,15 +28,14 @@ use Rattle.gptp_vector.specs.declared.port.PortId.{PortId}
 use Rattle.gptp_model.specs.declared.item.Item.{Item}
 use Rattle.gptp_model.specs.declared.item.Item.TheVariants.{Arrival, Expiry}
 use Rattle.gptp_model.specs.declared.station.Station.{Station}
-use Rattle.gptp_model.specs.Acts.{AnyLink, AnySystem, AtLink, AtPlace, AtSystem, IsDueThen, IsOldestDue, IsReadyAct, IsThere, IsThereToChange}
+use Rattle.gptp_model.specs.Acts.{AnyLink, AtLink, AtSystem, IsDueThen, IsOldestDue, IsReadyAct, IsThere, IsThereToChange}
 use Rattle.gptp_model.specs.Changing.{StartsAll}
 use Rattle.gptp_model.specs.Initial.{channel_from, initial, setup_of, station_of}
 use Rattle.gptp_model.specs.Pending.{IsNext, NothingBefore}
-use Rattle.gptp_model.specs.Views.{IsActOf}
+use Rattle.gptp_model.specs.Views.{IsActOf, IsNextAct}
 use Rattle.gptp_model.specs.World.{port_id, station_due, world_queue, Channel, Net, WorldState}
-use Rattle.gptp_determinism.specs.BesideWorlds.{EachTo, FramesBeside, LinksBeside, NetsBeside, StationsBeside, WorldsBeside, member_beside, network_beside, setup_beside}
+use Rattle.gptp_determinism.specs.BesideWorlds.{FramesBeside, LinksBeside, NetsBeside, StationsBeside, WorldsBeside, member_beside, network_beside, setup_beside}
 use Rattle.gptp_determinism.specs.WorldsBesideLaws.{BeginsBesideTime, NextBesideTime, ReadyBesideTime}
-use Rattle.gptp_determinism.specs.Named.{AnswersOnce}
 use Rattle.gptp_determinism.proofs.BesideCallLemmas.{dues_same, started_beside, starts_all_beside}
 use Rattle.gptp_determinism.proofs.BesideSendLemmas.{each_itself, each_on, queues_beside}
 use Rattle.gptp_determinism.proofs.NameLemmas.{initial_named}
@@ -79,7 +78,7 @@ members_same x y xs ys e = (cc, cc)
 
 stations_beside : (p : SettlingParams) (xs ys : List SystemSpec) → FitsSigned w8 p.params.sync
     → map member_beside xs ≡ map member_beside ys
-    → EachTo StationsBeside (map (station_of p) xs) (map (station_of p) ys)
+    → AllZip StationsBeside (map (station_of p) xs) (map (station_of p) ys)
 stations_beside p [] [] log same = tt
 stations_beside p [] (y ∷ ys) log same = absurd cc
 stations_beside p (x ∷ xs) [] log same = absurd cc
@@ -112,12 +111,12 @@ initial_beside n m is same =
       time = refl;
       last_change = refl;
       stations =
-          subst (λ (p : SettlingParams). EachTo StationsBeside (map (station_of (pace_of n)) n.systems)
+          subst (λ (p : SettlingParams). AllZip StationsBeside (map (station_of (pace_of n)) n.systems)
           (map (station_of p) m.systems)) (pace_same n m same)
           (stations_beside (pace_of n) n.systems m.systems log systems);
       net = record {
         links =
-            subst (EachTo LinksBeside (map channel_from n.links)) links
+            subst (AllZip LinksBeside (map channel_from n.links)) links
             (each_itself LinksBeside (map channel_from n.links) link_itself);
         pending = refl;
       };
@@ -132,10 +131,12 @@ pub begins_beside : {F : Type 0} (answers : Bounds → ℕ → F → Option ℕ 
 begins_beside answers once n m fate f g w v is same k l =
     let starts = subst (λ (count : ℕ). StartsAll (range_with_len 0 count) (initial m) l.draws v)
     (sym (counts_same n m same)) l.starts in
-    let (draws, worlds) = starts_all_beside answers once (range_with_len 0 (length n.systems)) (initial n) (initial m) w v
+    let (draws, worlds) = starts_all_beside answers once (range_with_len 0 (length n.systems)) (initial n) (initial m)
+    w v
     k.draws l.draws (initial_named n is) (initial_beside n m is same)
     (record { fate = fate; one = f; other = g; first = k.drawn; second = l.drawn }) k.starts starts in (
-      draws_once answers once fate f g l.draws (subst (λ (ds : List Draw). Draws answers fate ds f) draws k.drawn) l.drawn,
+      draws_once answers once fate f g l.draws (subst (λ (ds : List Draw). Draws answers fate ds f)
+          draws k.drawn) l.drawn,
       worlds,
     )
 
@@ -203,10 +204,10 @@ oldest_too : (direction : Direction) (time : ℕ) (c d : Channel) → LinksBesid
     → IsOldestDue direction time d
 oldest_too direction time c d links k =
     front (world_queue direction d) refl
-    (subst (λ (fs : List Frame). EachTo FramesBeside fs (world_queue direction d)) k.front
+    (subst (λ (fs : List Frame). AllZip FramesBeside fs (world_queue direction d)) k.front
     (queues_beside direction c d links))
   where
-    front : (gs : List Frame) → world_queue direction d ≡ gs → EachTo FramesBeside (k.oldest ∷ k.rest) gs
+    front : (gs : List Frame) → world_queue direction d ≡ gs → AllZip FramesBeside (k.oldest ∷ k.rest) gs
         → IsOldestDue direction time d
     front [] is each = absurd each
     front (g ∷ gs) is each = record { oldest = g; rest = gs; front = is; due = sym each.0.due ∙ k.due }
@@ -220,8 +221,9 @@ due_too (Expire number timer) time w v is k =
     (λ x y pair due. sym (dues_same x y pair timer) ∙ due) k
 due_too (Changing c) time w v is k = tt
 
-pub ready_beside : ReadyBesideTime
-ready_beside act time w v is k = record {
+ready_too : (act : Act) (time : ℕ) (w v : WorldState) → WorldsBeside w v → IsReadyAct act time w
+    → IsReadyAct act time v
+ready_too act time w v is k = record {
   timely = record {
     now = subst (λ (t : ℕ). t ≤ time) is.time k.timely.now;
     first = subst (NothingBefore time) is.net.pending k.timely.first;
@@ -236,9 +238,73 @@ act_too (Expiry place timer) w v act is (station, here, k) =
     let (y, there, pair) = each_on StationsBeside w.stations v.stations place station is.stations here in
     (y, there, k ∙ ap (λ (s : SystemState). Expire (clock s) timer) pair.system.same)
 
-pub next_beside : NextBesideTime
-next_beside w v timed is k = record {
+pub next_too : (w v : WorldState) (timed : Timed) → WorldsBeside w v → IsNextAct w timed → IsNextAct v timed
+next_too w v timed is k = record {
   item = k.item;
   next = subst (λ es. IsNext es timed.at k.item) is.net.pending k.next;
   act = act_too k.item w v timed.act is k.act;
 }
+
+-- ---- the other way round
+
+zip_back : {X : Type 0} (R : X → X → Type 0) (xs ys : List X) → ((x y : X) → R x y → R y x) → AllZip R xs ys
+    → AllZip R ys xs
+zip_back R [] [] back each = tt
+zip_back R [] (y ∷ ys) back each = absurd each
+zip_back R (x ∷ xs) [] back each = absurd each
+zip_back R (x ∷ xs) (y ∷ ys) back each = (back x y each.0, zip_back R xs ys back each.1)
+
+frame_back : (f g : Frame) → FramesBeside f g → FramesBeside g f
+frame_back f g is = record {
+  due = sym is.due;
+  say = elim is.say [
+    | inl one ↦ inl (sym one)
+    | inr k ↦ inr (record {
+      one = k.other;
+      other = k.one;
+      reads = k.reads_other;
+      reads_other = k.reads;
+      same = sym k.same;
+    })
+  ];
+}
+
+link_back : (c d : Channel) → LinksBeside c d → LinksBeside d c
+link_back c d is = record {
+  a = sym is.a;
+  b = sym is.b;
+  bounds = sym is.bounds;
+  up = sym is.up;
+  from_a = zip_back FramesBeside c.from_a d.from_a frame_back is.from_a;
+  from_b = zip_back FramesBeside c.from_b d.from_b frame_back is.from_b;
+}
+
+station_back : (x y : Station) → StationsBeside x y → StationsBeside y x
+station_back x y is = record {
+  setup = sym is.setup;
+  log = subst (λ (setup : Setup). FitsSigned w8 setup.params.sync) is.setup is.log;
+  system = record {
+    same = sym is.system.same;
+    one = is.system.other;
+    other = is.system.one;
+    log = subst (λ (s : SystemState). FitsSigned w8 s.params.sync) is.system.same is.system.log;
+  };
+  live = sym is.live;
+}
+
+world_back : (w v : WorldState) → WorldsBeside w v → WorldsBeside v w
+world_back w v is = record {
+  time = sym is.time;
+  last_change = sym is.last_change;
+  stations = zip_back StationsBeside w.stations v.stations station_back is.stations;
+  net = record {
+    links = zip_back LinksBeside w.net.channels v.net.channels link_back is.net.links;
+    pending = sym is.net.pending;
+  };
+}
+
+pub ready_beside : ReadyBesideTime
+ready_beside act time w v is = (ready_too act time w v is, ready_too act time v w (world_back w v is))
+
+pub next_beside : NextBesideTime
+next_beside w v timed is = (next_too w v timed is, next_too v w timed (world_back w v is))

@@ -1,14 +1,11 @@
--- Calls of systems, one or one after another, in two worlds that are the same but for the time that systems read and tell.
-use Rattle.std.proofs.Common.{◌≡◌, ◌⊎◌, ◌<◌, ℕ, ℤ, true, false, List, [], ◌∷◌, ◌++◌, map, length, Bool, Option, Some, None, FitsSigned, w8, slice_get, slice_set, refl, sym, ap, subst, ◌∙◌, inl, inr}
+-- Calls of systems, one or one after another, in two worlds that are the same but for time.
+use Rattle.std.proofs.Common.{◌≡◌, ◌<◌, ℕ, ℤ, true, false, List, [], ◌∷◌, map, length, Bool, Option, Some, None, FitsSigned, w8, slice_get, slice_set, refl, sym, ap, subst, ◌∙◌, inl, inr}
 use Rattle.std.specs.Prelude.{◌&&◌, ◌||◌, if◌then◌else◌}
-use Rattle.std.specs.List.{filter, range_with_len}
+use Rattle.std.specs.List.{filter, range_with_len, AllZip}
 use Rattle.std.proofs.lemmas.Option.{none-some, same_Some}
-use Rattle.gptp_lists.proofs.MappedLemmas.{same_there, some_same}
 use Rattle.gptp_vector.specs.declared.port.PortId.{PortId}
 use Rattle.gptp_links.specs.declared.bounds.Bounds.{Bounds}
-use Rattle.gptp_links.specs.declared.link.Direction.{Direction}
 use Rattle.gptp_links.specs.Fate.{Draw}
-use Rattle.gptp_messages.specs.declared.announce.AnnounceView.{AnnounceView}
 use Rattle.gptp_messages.specs.declared.follow_up.FollowUp.{FollowUp}
 use Rattle.gptp_messages.specs.declared.message.Message.{Message}
 use Rattle.gptp_messages.specs.declared.message.Message.TheVariants as messages
@@ -26,35 +23,34 @@ use Rattle.gptp_setup.specs.declared.timer.Timer.{Timer}
 use Rattle.gptp_setup.specs.declared.timer.Timer.TheVariants as timers
 use Rattle.gptp_setup.specs.SettlingParams.{has_sync_timeout}
 use Rattle.gptp_system.specs.declared.answer.Answer.{Answer}
-use Rattle.gptp_system.specs.declared.port.Port.{Port}
 use Rattle.gptp_system.specs.declared.sending.Sending.{Sending}
 use Rattle.gptp_system.specs.Announcing.{aged_at, compared, replaces_held, with_priority}
 use Rattle.gptp_system.specs.Input.{Input, PortUp, PortDown, Frame, Priority, Steps}
 use Rattle.gptp_system.specs.Input.{Expires as TimerExpires}
 use Rattle.gptp_system.specs.Lapse.{lapsed}
 use Rattle.gptp_system.specs.Measuring.{down, is_turned, turned, Turns, TurnsAndAsks, TurnsIf}
-use Rattle.gptp_system.specs.Selection.{choosing, follows_on, kept_if, Becomes, Selects, SelectsIf}
+use Rattle.gptp_system.specs.Selection.{follows_on, kept_if, Becomes, Selects, SelectsIf}
 use Rattle.gptp_system.specs.Start.{started}
 use Rattle.gptp_system.specs.State.{SystemState, clock, due, held_at, is_capable_at, number, own}
-use Rattle.gptp_system.specs.Steps.{Expires, HearsFrame, HearsMessage}
+use Rattle.gptp_system.specs.Steps.{Expires, HearsMessage}
 use Rattle.gptp_system.specs.Syncing.{delay_at, forgetting, is_followed, is_leading, is_slave_at, root_rate_at, said_on, HearsFollowUpIf, HearsSyncIf, KeepsIf, KnowsBy, KnowsIf, RelaysBy, RelaysIf, SyncsIf}
 use Rattle.gptp_system.proofs.StepLemmas.{steps_sound}
 use Rattle.gptp_system.proofs.TypeLemmas.{type_is}
 use Rattle.gptp_model.specs.declared.station.Station.{Station}
 use Rattle.gptp_model.specs.declared.item.Item.TheVariants.{Expiry}
-use Rattle.gptp_model.specs.Act.{all_timers, in_state, set_timers, Calls, HasFailed}
+use Rattle.gptp_model.specs.Act.{all_timers, in_state, set_timers, Calls}
 use Rattle.gptp_model.specs.Changing.{fresh, is_link_end, is_up_at, up_ports, with_station, CallsAll, CallsIfLive, Starts, StartsAll, TellsEnds}
 use Rattle.gptp_model.specs.Pending.{set_due, Entry}
 use Rattle.gptp_model.specs.Sends.{SendsAll}
 use Rattle.gptp_model.specs.Sound.{HaveOwnClocks}
 use Rattle.gptp_model.specs.World.{Channel, Net, WorldState, station_due, timers_from}
 use Rattle.gptp_model.proofs.StayLemmas.{calls_carry, calls_if_live_carry, carry_join, starts_stays}
-use Rattle.gptp_determinism.specs.BesideTime.{KnowsStamp, SameBeside, SaySame, beside_time}
-use Rattle.gptp_determinism.specs.BesideWorlds.{EachTo, LinksBeside, NetsBeside, StationsBeside, SystemsBeside, WorldsBeside, setup_beside}
+use Rattle.gptp_determinism.specs.BesideTime.{KnowsStamp, SameBeside, beside_time}
+use Rattle.gptp_determinism.specs.BesideWorlds.{LinksBeside, NetsBeside, StationsBeside, SystemsBeside, WorldsBeside, setup_beside}
 use Rattle.gptp_determinism.specs.ContinuesLaws.{FitAlike}
 use Rattle.gptp_determinism.specs.Named.{AnswersOnce, HaveOwnPorts, IsNamed}
 use Rattle.gptp_determinism.specs.StepLaws.{SameAnswer}
-use Rattle.gptp_determinism.proofs.BesideSendLemmas.{each_at, each_back, each_on, each_set, sends_beside, sends_say}
+use Rattle.gptp_determinism.proofs.BesideSendLemmas.{each_at, each_back, each_set, sends_beside, sends_say}
 use Rattle.gptp_determinism.proofs.ContinuesLemmas.{steps_alike, timers_beside_time}
 use Rattle.gptp_determinism.proofs.NameLemmas.{named_still, ports_kept}
 use Rattle.gptp_determinism.proofs.SendLemmas.{in_order, AreDrawn}
@@ -110,7 +106,8 @@ read_nanos octets m reads =
     let kind : type_of 0x8 ≡ Some reads.kind =
     subst (λ n. type_of n ≡ Some reads.kind) (type_is octets (messages.FollowUp m) reads) reads.header.kind_is in
     let same = same_Some _ reads.kind kind in
-    let is = one m _ (subst (λ k. messages.FollowUp m ≡ message_of k octets reads.path reads.rate) (sym same) reads.is) in
+    let is = one m _
+    (subst (λ k. messages.FollowUp m ≡ message_of k octets reads.path reads.rate) (sym same) reads.is) in
     let stamp = subst (λ k. StampIsRead k octets) (sym same) reads.stamp in
     subst (λ (x : FollowUp). x.origin.nanos < 1000000000) (sym is) stamp
   where
@@ -138,11 +135,13 @@ knows_stamp : (on : Bool) (info : SyncInfo) (delay rate : ℤ) (now : ℕ) (s t 
     → KeepsStamp s t
 knows_stamp true info delay rate now s t sends answer nanos k =
     subst (KeepsStamp s) (sym k.becomes.state) (record {
-      keeps = λ knows other is. subst (λ (x : SyncInfo). x.origin.nanos < 1000000000) (same_Some info other is) nanos;
+      keeps = λ knows other is. subst (λ (x : SyncInfo). x.origin.nanos < 1000000000)
+          (same_Some info other is) nanos;
     })
 knows_stamp false info delay rate now s t sends answer nanos (inl k) =
     subst (KeepsStamp s) (sym k.becomes.state) (record {
-      keeps = λ knows other is. subst (λ (x : SyncInfo). x.origin.nanos < 1000000000) (same_Some info other is) nanos;
+      keeps = λ knows other is. subst (λ (x : SyncInfo). x.origin.nanos < 1000000000)
+          (same_Some info other is) nanos;
     })
 knows_stamp false info delay rate now s t sends answer nanos (inr k) =
     becomes_stamp s (forgetting s) t sends (unknown s (forgetting s) refl) k.becomes
@@ -189,8 +188,8 @@ message_stamp p octets (messages.Announce a) now s t sends answer reads (inl k) 
 message_stamp p octets (messages.Announce a) now s t sends answer reads (inr (inl k)) =
     becomes_stamp s s t sends (same_known s s refl) k.becomes
 message_stamp p octets (messages.Announce a) now s t sends answer reads (inr (inr k)) =
-    selects_if_stamp (replaces_held (comparison (held_at s p) (own s p) a)) now s (compared p a now s) t sends refl
-    k.selects
+    selects_if_stamp (replaces_held (comparison (held_at s p) (own s p) a)) now s (compared p a now s)
+    t sends refl k.selects
 
 relays_stamp : (on : Bool) (info : SyncInfo) (now : ℕ) (s t : SystemState) (sends : List Sending)
     → RelaysBy on info now s t sends → KeepsStamp s t
@@ -311,16 +310,16 @@ module _ {F : Type 0} (answers : Bounds → ℕ → F → Option ℕ → F → T
         time = is.time;
         last_change = is.last_change;
         stations =
-            each_set StationsBeside w.stations v.stations place (in_state k.after x) (in_state l.after y) is.stations
-            stations;
+            each_set StationsBeside w.stations v.stations place (in_state k.after x)
+            (in_state l.after y) is.stations stations;
         net = nets;
       } in (
         draws,
         subst (λ (z : WorldState). WorldsBeside z v') (sym k.is)
             (subst (WorldsBeside (record w {
-          stations = slice_set w.stations place (in_state k.after x);
-          net = k.net;
-        })) (sym l.is) worlds),
+              stations = slice_set w.stations place (in_state k.after x);
+              net = k.net;
+            })) (sym l.is) worlds),
         step.answer_is,
       )
 
@@ -364,7 +363,7 @@ fresh_beside now x y is =
     record { setup = is.setup; log = is.log; system = started_beside now x.setup y.setup is.setup is.log; live = refl }
 
 -- the same links are up at a port
-ups_same : (number port : ℕ) (cs ds : List Channel) → EachTo LinksBeside cs ds
+ups_same : (number port : ℕ) (cs ds : List Channel) → AllZip LinksBeside cs ds
     → is_up_at cs number port ≡ is_up_at ds number port
 ups_same number port [] [] each = refl
 ups_same number port [] (d ∷ ds) each = absurd each
@@ -397,9 +396,11 @@ module _ {F : Type 0} (answers : Bounds → ℕ → F → Option ℕ → F → T
       absurd (both_live w v place k.station failed.station is k.here failed.here k.live failed.failed)
   calls_if_live_beside place input w v w' v' ds es plain own is both (inr (failed, none, same)) (inl (said, l)) =
       absurd (one_live w v place failed.station l.station is failed.here l.here failed.failed l.live)
-  calls_if_live_beside place input w v w' v' ds es plain own is both (inr (_, k-none, k-same)) (inr (_, l-none, l-same)) =
-      (k-none ∙ sym l-none,
-      subst (λ (z : WorldState). WorldsBeside z v') (sym k-same) (subst (WorldsBeside w) (sym l-same) is))
+  calls_if_live_beside place input w v w' v' ds es plain own is both (inr (_, k-none, k-same))
+      (inr (_, l-none, l-same)) = (
+        k-none ∙ sym l-none,
+        subst (λ (z : WorldState). WorldsBeside z v') (sym k-same) (subst (WorldsBeside w) (sym l-same) is),
+      )
 
   -- both ends of a link are told
   pub tells_ends_beside : (input : ℕ → Input) (c d : Channel) (w v w' v' : WorldState) (ds es : List Draw)
@@ -416,8 +417,8 @@ module _ {F : Type 0} (answers : Bounds → ℕ → F → Option ℕ → F → T
       (subst (λ (p : PortId). CallsIfLive l.place_b (input p.port) l.between l.second v') (sym links.b) l.at_b) in
       let joins = carry_join w.net.channels k.between.net.channels
       (calls_if_live_carry k.place_a (input c.a.port) w k.first k.between k.at_a) in
-      in_order answers once {P = WorldsBeside k.between l.between} {Q = WorldsBeside w' v'} ds es k.first k.second l.first
-      l.second both k.draws_are l.draws_are
+      in_order answers once {P = WorldsBeside k.between l.between} {Q = WorldsBeside w' v'} ds es k.first k.second
+      l.first l.second both k.draws_are l.draws_are
       (λ drawn. calls_if_live_beside k.place_a (input c.a.port) w v k.between l.between k.first l.first
       (plain c.a.port) named.ports is drawn k.at_a at_a)
       (λ between drawn. calls_if_live_beside k.place_b (input c.b.port) k.between l.between w' v' k.second l.second
@@ -428,9 +429,10 @@ module _ {F : Type 0} (answers : Bounds → ℕ → F → Option ℕ → F → T
       → HaveOwnPorts w.net.channels → WorldsBeside w v → AreDrawn answers once ds es
       → CallsAll place (map PortUp ports) w ds w' → CallsAll place (map PortUp ports) v es v'
       → (ds ≡ es) × WorldsBeside w' v'
-  calls_all_beside place [] w v w' v' ds es own is both k l =
-      (k.0 ∙ sym l.0,
-      subst (λ (z : WorldState). WorldsBeside z v') (sym k.1) (subst (WorldsBeside w) (sym l.1) is))
+  calls_all_beside place [] w v w' v' ds es own is both k l = (
+    k.0 ∙ sym l.0,
+    subst (λ (z : WorldState). WorldsBeside z v') (sym k.1) (subst (WorldsBeside w) (sym l.1) is),
+  )
   calls_all_beside place (p ∷ ports) w v w' v' ds es own is both (first, rest, x, answer, d-is, k, k-more)
       (third, fourth, y, said, e-is, l, l-more) =
       let joins = carry_join w.net.channels x.net.channels (calls_carry place (PortUp p) w first answer x k) in
@@ -460,15 +462,16 @@ module _ {F : Type 0} (answers : Bounds → ℕ → F → Option ℕ → F → T
       let calls = subst (λ (ps : List ℕ). CallsAll place (map PortUp ps) (begun w.time y v) es v') (sym ports)
       (subst (λ (t : ℕ). CallsAll place (map PortUp (up_ports (fresh t y) v.net)) (begun t y v) es v') (sym is.time)
       l.calls) in
-      calls_all_beside place (up_ports (fresh w.time x) w.net) (begun w.time x w) (begun w.time y v) w' v' ds es own worlds
-      both k.calls calls
+      calls_all_beside place (up_ports (fresh w.time x) w.net) (begun w.time x w) (begun w.time y v) w' v' ds es own
+      worlds both k.calls calls
 
   pub starts_all_beside : (places : List ℕ) (w v w' v' : WorldState) (ds es : List Draw) → IsNamed w → WorldsBeside w v
       → AreDrawn answers once ds es → StartsAll places w ds w' → StartsAll places v es v'
       → (ds ≡ es) × WorldsBeside w' v'
-  starts_all_beside [] w v w' v' ds es named is both k l =
-      (k.0 ∙ sym l.0,
-      subst (λ (z : WorldState). WorldsBeside z v') (sym k.1) (subst (WorldsBeside w) (sym l.1) is))
+  starts_all_beside [] w v w' v' ds es named is both k l = (
+    k.0 ∙ sym l.0,
+    subst (λ (z : WorldState). WorldsBeside z v') (sym k.1) (subst (WorldsBeside w) (sym l.1) is),
+  )
   starts_all_beside (place ∷ places) w v w' v' ds es named is both (first, rest, x, d-is, k, k-more)
       (third, fourth, y, e-is, l, l-more) =
       in_order answers once {P = WorldsBeside x y} {Q = WorldsBeside w' v'} ds es first rest third fourth both d-is e-is

@@ -1,5 +1,7 @@
 -- What two systems send that are the same but for time, and what that leaves on the links of two such worlds.
-use Rattle.std.proofs.Common.{◌≡◌, ◌⊎◌, ◌<◌, ◌+◌, ℕ, zero, suc, ℤ, Bool, true, false, List, [], ◌∷◌, ◌++◌, map, Option, Some, None, FitsSigned, w8, slice_get, slice_set, refl, sym, ap, subst, ◌∙◌, inl, inr}
+use Rattle.std.proofs.Common.{◌≡◌, ◌+◌, ℕ, zero, suc, ℤ, Bool, true, false, List, [], ◌∷◌, ◌++◌, Option, Some, None, FitsSigned, w8, slice_get, slice_set, refl, sym, ap, subst, ◌∙◌, inl, inr}
+use Rattle.std.specs.List.{AllZip}
+use Rattle.std.proofs.lemmas.List.Elements.{AllZip-push}
 use Rattle.std.specs.Prelude.{max, if◌then◌else◌}
 use Rattle.gptp_lists.proofs.MappedLemmas.{same_there, some_same}
 use Rattle.gptp_vector.specs.declared.port.PortId.{PortId}
@@ -23,7 +25,7 @@ use Rattle.gptp_model.specs.Sends.{entered, sent_message, written, IsUnlinkedPor
 use Rattle.gptp_model.specs.World.{Channel, Net, receiver, sender, with_queue, world_queue}
 use Rattle.gptp_model.proofs.StayLemmas.{carry_join, sends_one_carry}
 use Rattle.gptp_determinism.specs.BesideTime.{KnowsStamp, SaySame, beside_time, follow_up_beside}
-use Rattle.gptp_determinism.specs.BesideWorlds.{EachTo, FramesBeside, LinksBeside, NetsBeside}
+use Rattle.gptp_determinism.specs.BesideWorlds.{FramesBeside, LinksBeside, NetsBeside}
 use Rattle.gptp_determinism.specs.Named.{AnswersOnce, HaveOwnPorts}
 use Rattle.gptp_determinism.proofs.ContinuesLemmas.{IsTold, SendAlike, told_beside}
 use Rattle.gptp_determinism.proofs.NameLemmas.{ports_kept}
@@ -34,7 +36,7 @@ use Rattle.gptp_determinism.proofs.SpelledLemmas.{wrapped, written_reads}
 
 module _ {X : Type 0} (R : X → X → Type 0) where
   -- the member at the place of one of the other list, and of one of the first
-  pub each_back : (xs ys : List X) (i : ℕ) (y : X) → EachTo R xs ys → slice_get ys i ≡ Some y
+  pub each_back : (xs ys : List X) (i : ℕ) (y : X) → AllZip R xs ys → slice_get ys i ≡ Some y
       → (x : X) × (slice_get xs i ≡ Some x) × R x y
   each_back [] [] i y each there = absurd cc
   each_back [] (z ∷ ys) i y each there = absurd each
@@ -42,7 +44,7 @@ module _ {X : Type 0} (R : X → X → Type 0) where
   each_back (x ∷ xs) (z ∷ ys) zero y each there = (x, refl, subst (R x) (some_same z y there) each.0)
   each_back (x ∷ xs) (z ∷ ys) (suc i) y each there = each_back xs ys i y each.1 there
 
-  pub each_on : (xs ys : List X) (i : ℕ) (x : X) → EachTo R xs ys → slice_get xs i ≡ Some x
+  pub each_on : (xs ys : List X) (i : ℕ) (x : X) → AllZip R xs ys → slice_get xs i ≡ Some x
       → (y : X) × (slice_get ys i ≡ Some y) × R x y
   each_on [] [] i x each there = absurd cc
   each_on [] (y ∷ ys) i x each there = absurd each
@@ -50,27 +52,21 @@ module _ {X : Type 0} (R : X → X → Type 0) where
   each_on (z ∷ xs) (y ∷ ys) zero x each there = (y, refl, subst (λ a. R a y) (some_same z x there) each.0)
   each_on (z ∷ xs) (y ∷ ys) (suc i) x each there = each_on xs ys i x each.1 there
 
-  pub each_at : (xs ys : List X) (i : ℕ) (x y : X) → EachTo R xs ys → slice_get xs i ≡ Some x
+  pub each_at : (xs ys : List X) (i : ℕ) (x y : X) → AllZip R xs ys → slice_get xs i ≡ Some x
       → slice_get ys i ≡ Some y → R x y
   each_at xs ys i x y each here there =
       let (z, z-is, r) = each_back xs ys i y each there in
       subst (λ a. R a y) (same_there xs i z x z-is here) r
 
-  pub each_set : (xs ys : List X) (i : ℕ) (x y : X) → EachTo R xs ys → R x y
-      → EachTo R (slice_set xs i x) (slice_set ys i y)
+  pub each_set : (xs ys : List X) (i : ℕ) (x y : X) → AllZip R xs ys → R x y
+      → AllZip R (slice_set xs i x) (slice_set ys i y)
   each_set [] [] i x y each r = tt
   each_set [] (z ∷ ys) i x y each r = absurd each
   each_set (z ∷ xs) [] i x y each r = absurd each
   each_set (z ∷ xs) (v ∷ ys) zero x y each r = (r, each.1)
   each_set (z ∷ xs) (v ∷ ys) (suc i) x y each r = (each.0, each_set xs ys i x y each.1 r)
 
-  pub each_after : (xs ys : List X) (x y : X) → EachTo R xs ys → R x y → EachTo R (xs ++ x ∷ []) (ys ++ y ∷ [])
-  each_after [] [] x y each r = (r, tt)
-  each_after [] (z ∷ ys) x y each r = absurd each
-  each_after (z ∷ xs) [] x y each r = absurd each
-  each_after (z ∷ xs) (v ∷ ys) x y each r = (each.0, each_after xs ys x y each.1 r)
-
-  pub each_itself : (xs : List X) → ((x : X) → R x x) → EachTo R xs xs
+  pub each_itself : (xs : List X) → ((x : X) → R x x) → AllZip R xs xs
   each_itself [] all = tt
   each_itself (x ∷ xs) all = (all x, each_itself xs all)
 
@@ -102,8 +98,8 @@ follow_ups_say s t own log a b q fits same a-told b-told =
 
 mine_say : (s t : SystemState) (mine : Bool) (own : PortId) (log : ℤ) (a b : Relayed) (q : Port)
     (xs ys : List Sending) → FitsSigned w8 log → told_beside a ≡ told_beside b → IsTold a → IsTold b
-    → EachTo (SendsBeside s t) xs ys
-    → EachTo (SendsBeside s t) (if mine then sync_of own log q ∷ follow_up_of own log a q ∷ xs else xs)
+    → AllZip (SendsBeside s t) xs ys
+    → AllZip (SendsBeside s t) (if mine then sync_of own log q ∷ follow_up_of own log a q ∷ xs else xs)
     (if mine then sync_of own log q ∷ follow_up_of own log b q ∷ ys else ys)
 mine_say s t true own log a b q xs ys fits same a-told b-told rest =
     ((refl, inl refl), (follow_ups_say s t own log a b q fits same a-told b-told, rest))
@@ -111,7 +107,7 @@ mine_say s t false own log a b q xs ys fits same a-told b-told rest = rest
 
 syncs_say : (s t : SystemState) (number : ℕ) (log : ℤ) (a b : Relayed) (p : ℕ) (hs : List Held) (qs : List Port)
     → FitsSigned w8 log → told_beside a ≡ told_beside b → IsTold a → IsTold b
-    → EachTo (SendsBeside s t) (syncs number log a p hs qs) (syncs number log b p hs qs)
+    → AllZip (SendsBeside s t) (syncs number log a p hs qs) (syncs number log b p hs qs)
 syncs_say s t number log a b p [] qs fits same a-told b-told = tt
 syncs_say s t number log a b p (h ∷ hs) [] fits same a-told b-told = tt
 syncs_say s t number log a b p (h ∷ hs) (q ∷ qs) fits same a-told b-told =
@@ -122,22 +118,22 @@ syncs_say s t number log a b p (h ∷ hs) (q ∷ qs) fits same a-told b-told =
 -- what both send is read as the same beside the time
 pub sends_say : (s t s' t' : SystemState) (sends more : List Sending) → beside_time s ≡ beside_time t
     → beside_time s' ≡ beside_time t' → KnowsStamp s → KnowsStamp t → FitsSigned w8 s.params.sync
-    → SendAlike s t sends more → EachTo (SendsBeside s' t') sends more
+    → SendAlike s t sends more → AllZip (SendsBeside s' t') sends more
 sends_say s t s' t' sends more same after one other fits (inl is) =
-    subst (EachTo (SendsBeside s' t') sends) is
+    subst (AllZip (SendsBeside s' t') sends) is
     (each_itself (SendsBeside s' t') sends (λ x. (
       refl,
       inl (ap (λ (v : SystemState). Written (sent_message (trace v) x.head x.body)) after),
     )))
 sends_say s t s' t' sends more same after one other fits (inr k) =
     let others : more ≡ told_by k.others s = k.more_are ∙ sym (ap (told_by k.others) same) in
-    subst (λ (xs : List Sending). EachTo (SendsBeside s' t') xs more) (sym k.sends_are)
-    (subst (EachTo (SendsBeside s' t') (told_by k.told s)) (sym others)
+    subst (λ (xs : List Sending). AllZip (SendsBeside s' t') xs more) (sym k.sends_are)
+    (subst (AllZip (SendsBeside s' t') (told_by k.told s)) (sym others)
     (syncs_say s' t' (clock s) s.params.sync k.told k.others 1 s.held s.ports fits k.same (k.one one) (k.other other)))
 
 -- ---- links
 
-newest_same : (fs gs : List Frame) → EachTo FramesBeside fs gs → newest_due fs ≡ newest_due gs
+newest_same : (fs gs : List Frame) → AllZip FramesBeside fs gs → newest_due fs ≡ newest_due gs
 newest_same [] [] each = refl
 newest_same [] (g ∷ gs) each = absurd each
 newest_same (f ∷ fs) [] each = absurd each
@@ -147,11 +143,11 @@ newest_same (f ∷ (h ∷ fs)) (g ∷ []) each = absurd each.1
 newest_same (f ∷ (h ∷ fs)) (g ∷ (k ∷ gs)) each = newest_same (h ∷ fs) (k ∷ gs) each.1
 
 pub queues_beside : (direction : Direction) (c d : Channel) → LinksBeside c d
-    → EachTo FramesBeside (world_queue direction c) (world_queue direction d)
+    → AllZip FramesBeside (world_queue direction c) (world_queue direction d)
 queues_beside FromA c d is = is.from_a
 queues_beside FromB c d is = is.from_b
 
-pub with_queues_beside : (direction : Direction) (fs gs : List Frame) (c d : Channel) → EachTo FramesBeside fs gs
+pub with_queues_beside : (direction : Direction) (fs gs : List Frame) (c d : Channel) → AllZip FramesBeside fs gs
     → LinksBeside c d → LinksBeside (with_queue direction fs c) (with_queue direction gs d)
 with_queues_beside FromA fs gs c d each is =
     record { a = is.a; b = is.b; bounds = is.bounds; up = is.up; from_a = each; from_b = is.from_b }
@@ -186,7 +182,7 @@ entered_beside place direction c d now a b (Some delay) n m links say is =
           (with_queue direction (gs ++ frame (due_after gs now delay) b ∷ []) d) is.links
           (with_queues_beside direction (fs ++ frame (due_after fs now delay) a ∷ [])
           (gs ++ frame (due_after gs now delay) b ∷ []) c d
-          (each_after FramesBeside fs gs (frame (due_after fs now delay) a) (frame (due_after gs now delay) b) queues
+          (AllZip-push FramesBeside fs gs (frame (due_after fs now delay) a) (frame (due_after gs now delay) b) queues
           frames) links);
       pending =
           ap (λ t. put t (Arrival place direction) n.pending) due
@@ -206,8 +202,8 @@ module _ {F : Type 0} (answers : Bounds → ℕ → F → Option ℕ → F → T
   -- one send in two such worlds, of frames that say the same beside the time
   pub send_beside : (now : ℕ) (from : PortId) (a b : List ℕ) (net other n m : Net) (d e : Draw) (fate f g : F)
       → HaveOwnPorts net.channels → NetsBeside net other → SaySame a b → SendsOne now from a d net n
-      → SendsOne now from b e other m → answers d.bounds d.sent fate d.answer f → answers e.bounds e.sent fate e.answer g
-      → (d ≡ e) × (f ≡ g) × NetsBeside n m
+      → SendsOne now from b e other m → answers d.bounds d.sent fate d.answer f → answers e.bounds e.sent fate e.answer
+      g → (d ≡ e) × (f ≡ g) × NetsBeside n m
   unfolding draw
   send_beside now from a b net other n m d e fate f g own is say k l k-drawn l-drawn =
       let (c, c-here, c-same) = each_back LinksBeside net.channels other.channels l.place l.channel is.links l.here in
@@ -232,8 +228,8 @@ module _ {F : Type 0} (answers : Bounds → ℕ → F → Option ℕ → F → T
             ∙ ap (λ (x : Option ℕ). draw e.bounds e.sent x) answer,
         fates,
         subst (λ (x : Net). NetsBeside x m) (sym after)
-        (subst (NetsBeside (entered l.place l.direction k.channel now a e.answer net)) (sym l.after)
-        (entered_beside l.place l.direction k.channel l.channel now a b e.answer net other links say is)),
+            (subst (NetsBeside (entered l.place l.direction k.channel now a e.answer net)) (sym l.after)
+            (entered_beside l.place l.direction k.channel l.channel now a b e.answer net other links say is)),
       )
 
   -- what is sent from a port at which a link is up isn't without a link in the other world
@@ -253,7 +249,7 @@ module _ {F : Type 0} (answers : Bounds → ℕ → F → Option ℕ → F → T
 
   -- all sends
   pub sends_beside : (now : ℕ) (s t : SystemState) (xs ys : List Sending) (net other n m : Net) (ds es : List Draw)
-      → clock s ≡ clock t → HaveOwnPorts net.channels → NetsBeside net other → EachTo (SendsBeside s t) xs ys
+      → clock s ≡ clock t → HaveOwnPorts net.channels → NetsBeside net other → AllZip (SendsBeside s t) xs ys
       → AreDrawn answers once ds es → SendsAll now s xs ds net n → SendsAll now t ys es other m
       → (ds ≡ es) × NetsBeside n m
   sends_beside now s t [] [] net other n m ds es clocks own is each both k l = (

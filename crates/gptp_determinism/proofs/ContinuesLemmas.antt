@@ -270,7 +270,8 @@ module _ (s' t' : SystemState) (sends more : List Sending) (now : ℕ) (s t : Sy
     (same : beside_time s ≡ beside_time t) where
   -- both tell, in such states
   tell : (u v : SystemState) (a b : Relayed) → beside_time u ≡ beside_time v → told_beside a ≡ told_beside b
-      → (KnowsStamp s → IsTold a) → (KnowsStamp t → IsTold b) → s' ≡ telling u → t' ≡ telling v → sends ≡ told_by a s → more ≡ told_by b t → Same s t s' t' sends more
+      → (KnowsStamp s → IsTold a) → (KnowsStamp t → IsTold b) → s' ≡ telling u → t' ≡ telling v → sends ≡ told_by a s
+      → more ≡ told_by b t → Same s t s' t' sends more
   tell u v a b alike told a-told b-told s-is t-is sends-are more-are = (
     ap beside_time s-is ∙ ap telling alike ∙ sym (ap beside_time t-is),
     inr (record {
@@ -317,7 +318,8 @@ module _ (s' t' : SystemState) (sends more : List Sending) (now : ℕ) (s t : Sy
   relays_by true i j i-is j-is infos fit held k l =
       tell (timer_stopped s) (timer_stopped t) k.told l.told (ap timer_stopped same)
       (told_at_limits i j k.told l.told infos held k.told_is l.told_is)
-      (limits_told i now s k.told i-is k.told_is) (limits_told j now t l.told j-is l.told_is) k.state l.state k.sends_are l.sends_are
+      (limits_told i now s k.told i-is k.told_is) (limits_told j now t l.told j-is l.told_is) k.state l.state
+      k.sends_are l.sends_are
   relays_by false i j i-is j-is infos fit held (inl k) (inl l) =
       tell (timer_stopped s) (timer_stopped t) (relayed i (hop_of i now s)) (relayed j (hop_of j now t))
       (ap timer_stopped same)
@@ -355,14 +357,14 @@ module _ (s' t' : SystemState) (sends more : List Sending) (now : ℕ) (s t : Sy
       (ap (λ (x : SyncInfo). refreshed x now (beside_time s)) infos
       ∙ ap (refreshed (info_beside j) now) same) refl k.becomes l.becomes k.answer_is l.answer_is
   knows_by false i j delay rate way pace answer said infos fit (inl k) (inl l) =
-      heard (knowing i (offset_of i delay rate) rate now s) (knowing j (offset_of j way pace) pace now t) _ _ answer said
-      (ap (λ (x : SyncInfo). known_then x now (beside_time s)) infos
+      heard (knowing i (offset_of i delay rate) rate now s) (knowing j (offset_of j way pace) pace now t) _ _ answer
+      said (ap (λ (x : SyncInfo). known_then x now (beside_time s)) infos
       ∙ ap (known_then (info_beside j) now) same) refl k.becomes l.becomes k.answer_is l.answer_is
   knows_by false i j delay rate way pace answer said infos fit (inl k) (inr l) = absurd (l.unfit (fit.0 k.fits))
   knows_by false i j delay rate way pace answer said infos fit (inr k) (inl l) = absurd (k.unfit (fit.1 l.fits))
   knows_by false i j delay rate way pace answer said infos fit (inr k) (inr l) =
-      heard (forgetting s) (forgetting t) _ _ answer said (ap forgetting same) refl k.becomes l.becomes k.answer_is
-      l.answer_is
+      heard (forgetting s) (forgetting t) _ _ answer said (ap forgetting same) refl k.becomes
+      l.becomes k.answer_is l.answer_is
 
   knows_if : (k-said l-said : Option SyncInfo) (delay rate way pace : ℤ) (answer said : Answer)
       → option_map info_beside k-said ≡ option_map info_beside l-said
@@ -541,7 +543,8 @@ module _ (s' t' : SystemState) (sends more : List Sending) (now : ℕ) (s t : Sy
       record { state = both.0; sends_are = both.1; answer_is = tt }
   timer_once timers.Relay fit k l =
       let both =
-      relays_if s' t' sends more now s t same fit s.known t.known refl refl (ap (λ (x : SystemState). x.known) same) k l in
+      relays_if s' t' sends more now s t same fit s.known t.known refl refl (ap (λ (x : SystemState). x.known) same) k
+      l in
       record { state = both.0; sends_are = both.1; answer_is = tt }
   timer_once timers.Lapse fit k l =
       once s' t' sends more (TimerExpires timers.Lapse) now s t answer said same

@@ -1,7 +1,8 @@
--- Worlds of which the same is true but for the time that systems read and tell, as of two that differ in whether systems
--- go on with it.
-use Rattle.std.specs.Prelude.{◌≡◌, ℕ, ⊤, false, List, [], ◌∷◌, map, Some, FitsSigned, slice_get}
+-- Worlds of which the same is true but for the time that systems read and tell, as of two that differ in whether
+-- systems go on with it.
+use Rattle.std.specs.Prelude.{◌≡◌, ℕ, ⊤, false, List, ◌∷◌, map, Some, FitsSigned, slice_get}
 use Rattle.std.specs.Int.{w8}
+use Rattle.std.specs.List.{AllZip}
 use Rattle.gptp_links.specs.Queue.{Frame}
 use Rattle.gptp_scenario.specs.Network.{NetworkState}
 use Rattle.gptp_scenario.specs.declared.network.SystemSpec.{SystemSpec}
@@ -16,14 +17,7 @@ use Rattle.gptp_model.specs.declared.done.Done.TheVariants.{Quiet, Heard}
 use Rattle.gptp_model.specs.declared.station.Station.{Station}
 use Rattle.gptp_model.specs.World.{Channel, Net, WorldState, world_queue, receiver}
 use Rattle.gptp_determinism.specs.BesideTime.{KnowsStamp, SaySame, beside_time}
-use Rattle.gptp_determinism.specs.ContinuesLaws.{FitAlike, ReceiptsFitAlike, RelaysFitAlike}
-
--- each member of one list is so to the one at its place in the other
-abbrev pub EachTo : {X : Type 0} → (X → X → Type 0) → List X → List X → Type 0
-EachTo R [] [] = ⊤
-EachTo R [] (y ∷ ys) = ⊥
-EachTo R (x ∷ xs) [] = ⊥
-EachTo R (x ∷ xs) (y ∷ ys) = R x y × EachTo R xs ys
+use Rattle.gptp_determinism.specs.ContinuesLaws.{ReceiptsFitAlike, RelaysFitAlike}
 
 -- frames in flight
 pub record FramesBeside (f g : Frame) : Type 0 where
@@ -35,12 +29,12 @@ pub record LinksBeside (c d : Channel) : Type 0 where
   pub b : c.b ≡ d.b
   pub bounds : c.bounds ≡ d.bounds
   pub up : c.up ≡ d.up
-  pub from_a : EachTo FramesBeside c.from_a d.from_a
-  pub from_b : EachTo FramesBeside c.from_b d.from_b
+  pub from_a : AllZip FramesBeside c.from_a d.from_a
+  pub from_b : AllZip FramesBeside c.from_b d.from_b
 
 -- what is between the systems
 pub record NetsBeside (n m : Net) : Type 0 where
-  pub links : EachTo LinksBeside n.channels m.channels
+  pub links : AllZip LinksBeside n.channels m.channels
   pub pending : n.pending ≡ m.pending
 
 -- Systems. What they know of a time is a timestamp, and their sync interval fits its octet: so what they tell is read.
@@ -50,7 +44,7 @@ pub record SystemsBeside (s t : SystemState) : Type 0 where
   pub other : KnowsStamp t
   pub log : FitsSigned w8 s.params.sync
 
--- what systems start with, but for `continues`
+-- what a system starts with, but for `continues`
 abbrev pub setup_beside : Setup → Setup
 setup_beside setup = record setup { continues = false }
 
@@ -60,7 +54,7 @@ pub record StationsBeside (x y : Station) : Type 0 where
   pub system : SystemsBeside x.system y.system
   pub live : x.live ≡ y.live
 
--- networks whose systems differ in `continues` alone
+-- a network, but for that of its systems
 abbrev pub member_beside : SystemSpec → SystemSpec
 member_beside member = record member { continues = false }
 
@@ -70,7 +64,7 @@ network_beside n = record n { systems = map member_beside n.systems }
 pub record WorldsBeside (w v : WorldState) : Type 0 where
   pub time : w.time ≡ v.time
   pub last_change : w.last_change ≡ v.last_change
-  pub stations : EachTo StationsBeside w.stations v.stations
+  pub stations : AllZip StationsBeside w.stations v.stations
   pub net : NetsBeside w.net v.net
 
 -- what is told of two acts is the same, but for the time that a Follow_Up says
@@ -81,13 +75,14 @@ DoneBeside (Heard clock port answer frame) Quiet = ⊥
 DoneBeside (Heard clock port answer frame) (Heard number reached said octets) =
     (clock ≡ number) × (port ≡ reached) × (answer ≡ said) × SaySame frame.items octets.items
 
--- what a system is given with an act is in both worlds such that the numbers on the way of time fit, or in neither
+-- The numbers on the way of time fit in both worlds or in neither, where the timer of a system expires.
 abbrev pub TimersFitAlike : Timer → WorldState → WorldState → Type 0
 TimersFitAlike timers.Relay w v = (place : ℕ) (x y : Station)
     → slice_get w.stations place ≡ Some x → slice_get v.stations place ≡ Some y
     → RelaysFitAlike w.time x.system y.system
 TimersFitAlike timer w v = ⊤
 
+-- So they do where an act is done: those of the frame that is delivered, or of the timer.
 abbrev pub ActsFitAlike : Act → WorldState → WorldState → Type 0
 ActsFitAlike (Deliver link direction) w v = (place : ℕ) (x y : Station) (c d : Channel) (f g : Frame)
     (fs gs : List Frame) → slice_get w.stations place ≡ Some x → slice_get v.stations place ≡ Some y

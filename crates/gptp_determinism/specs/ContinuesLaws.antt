@@ -30,8 +30,8 @@ pub record RelaysFitAlike (now : ℕ) (s t : SystemState) : Type 0 where
   pub held : (i j : SyncInfo) → s.known ≡ Some i → t.known ≡ Some j
       → (HopFits (held_sum i (slave_rate s)) now s ↔ HopFits (held_sum j (slave_rate t)) now t)
 
--- The numbers on the way of time fit in the one as in the other. (A correction has 64 bits: of two that differ by a part
--- of a nanosecond one can be the last that fits.)
+-- The numbers on the way of time fit in the one as in the other. (A correction has 64 bits: of two that differ by a
+-- part of a nanosecond one can be the last that fits.)
 abbrev pub FitAlike : Input → Input → ℕ → SystemState → SystemState → Type 0
 FitAlike (Frame p a) (Frame q b) now s t = ReceiptsFitAlike p a q b s t
 FitAlike (Expires timers.Relay) other now s t = RelaysFitAlike now s t

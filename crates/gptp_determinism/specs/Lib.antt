@@ -1,6 +1,4 @@
 pub mod StepLaws
-pub mod BesideTime
-pub mod ContinuesLaws
 pub mod Named
 pub mod GoingOn
 pub mod ActLaws
@@ -9,3 +7,7 @@ pub mod RunLaws
 pub mod SoFar
 pub mod ActTraceLaws
 pub mod ExistenceLaws
+pub mod BesideTime
+pub mod ContinuesLaws
+pub mod BesideWorlds
+pub mod WorldsBesideLaws

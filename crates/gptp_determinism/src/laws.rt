@@ -13,6 +13,7 @@ ghost use Rattle.gptp_determinism.specs.RunLaws.{LeadsOnce, MeantIsNamed, Played
 ghost use Rattle.gptp_determinism.specs.SoFar.{LeadsBeginSo};
 ghost use Rattle.gptp_determinism.specs.StepLaws.{StepsOnce};
 ghost use Rattle.gptp_determinism.specs.ActTraceLaws.{CoursesAreNamed, CoursesOnce};
+ghost use Rattle.gptp_determinism.specs.WorldsBesideLaws.{ActsBesideTime, BeginsBesideTime, CoursesBesideTime, NextBesideTime, ReadyBesideTime};
 
 use gptp_links::Fate;
 
@@ -22,16 +23,26 @@ pub fn steps_have_one_outcome()
     ensures { StepsOnce }
 {}
 
-/// Whether a system goes on with the time that it read (`continues`) touches that time alone. Of two systems that differ
-/// in it, and so in the time that they read and tell, a step with one input makes two of which the same is true: they
-/// send and answer the same but for the origin and the correction of Follow_Ups, and all their timers run out at the same
-/// times. Systems that start with setups that differ in it alone are such systems. Where a correction reaches the end of
-/// its 64 bits the part of a nanosecond can tell one that fits from one that doesn't: a step is one whose numbers fit in
-/// both systems, or in neither.
+/// Whether a system goes on with the time that it read (`continues`) touches time alone. Two systems that start with
+/// setups that differ in it are the same but for the time that they read and tell, and a step with one input leaves them
+/// so: they send and answer the same but for the origin and the correction of Follow_Ups, and their timers run out at the
+/// same times. That is for steps in which the numbers on the way of time fit in both systems or in neither.
 pub fn continues_touches_time_alone()
     ensures starts { StartsBesideTime }
     ensures steps { StepsBesideTime }
     ensures timers { TimersBesideTime }
+{}
+
+/// So it is with worlds. Those of two networks whose systems differ in `continues` begin the same but for the time that
+/// systems read and tell; the same acts are ready and next in both, and each leaves them so, with the same draws of a
+/// fate that answers in one way, and the same answers. So they take the same way with the same events, as long as the
+/// numbers on the way of time fit in both worlds or in neither.
+pub fn continues_leaves_worlds_alike<F: Fate>()
+    ensures begins { BeginsBesideTime F.answers }
+    ensures ready { ReadyBesideTime }
+    ensures next { NextBesideTime }
+    ensures acts { ActsBesideTime F.answers }
+    ensures courses { CoursesBesideTime F.answers }
 {}
 
 /// In a sound world whose links join two ports each, a clock names one system, and a port one end of one link. So it is
