@@ -1,5 +1,5 @@
 -- The four bridges of examples/ring.toml: a link between two of them goes down at 30 s.
-use Rattle.std.specs.Prelude.{ℕ, ℤ, pos, true, [], ◌∷◌}
+use Rattle.std.specs.Prelude.{ℕ, ℤ, pos, true, false, [], ◌∷◌}
 use Rattle.arrayvec.specs.ArrayVec.{ArrayVec}
 use Rattle.gptp_scenario.specs.Network.{NetworkState, member, wire}
 use Rattle.gptp_scenario.specs.declared.change.Act.TheVariants.{Change as Changing}
