@@ -26,7 +26,7 @@ use Rattle.gptp_system.proofs.SystemLemmas.{stays_system}
 use Rattle.gptp_determinism.specs.ExistenceLaws.{StepsExist}
 use Rattle.gptp_determinism.specs.GoingOn.{HearsOctets}
 use Rattle.gptp_determinism.proofs.DecisionLemmas.{announce_is_judged, Judged}
-use Rattle.gptp_determinism.proofs.MeasuringExistLemmas.{asks_exists, becomes_itself, local_is_time, responds_exists, selects_exists, selects_if_exists, turns_exists}
+use Rattle.gptp_determinism.proofs.MeasuringExistLemmas.{asks_exists, becomes_itself, responds_exists, selects_exists, selects_if_exists, turns_exists}
 use Rattle.gptp_determinism.proofs.ReadLemmas.{frames_are_judged}
 use Rattle.gptp_system.proofs.TakeoverLemmas.{led_fits}
 use Rattle.gptp_determinism.proofs.StepReadyLemmas.{steps_ready}

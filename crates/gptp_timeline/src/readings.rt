@@ -1,6 +1,6 @@
 //! What systems read of time, and by what.
 
-ghost use Rattle.std.specs.Prelude.{◌≡◌, ◌≤◌, ◌<◌, ◌^◌, ◌+ℤ◌, ◌-ℤ◌, IfSome, Some, false, length, unsigned_abs};
+ghost use Rattle.std.specs.Prelude.{◌≡◌, ◌≤◌, ◌<◌, ◌^◌, ◌+ℤ◌, ◌-ℤ◌, IfSome, Some, false, length, pos, unsigned_abs};
 ghost use Rattle.std.specs.List.{list_any};
 ghost use Rattle.std.specs.Option.{option_and_then, option_map, option_map_or};
 ghost use Rattle.gptp_system.specs.Reading.{read_at};
@@ -80,6 +80,13 @@ pub(crate) fn told_by(shown: ScaledNs, base: ScaledNs) -> i128
     shown.value() + base.value()
 }
 
+/// The base of no system.
+fn no_base() -> ScaledNs
+    ensures { result ≡ pos 0 }
+{
+    ScaledNs::default()
+}
+
 /// The base of the system with a clock, live or failed; 0 where there is none.
 fn base_of<F: Fate + Drop>(world: &World<F>, clock: ClockId) -> ScaledNs
     ensures { result ≡ base_of clock world.now.world_core }
@@ -87,7 +94,7 @@ fn base_of<F: Fate + Drop>(world: &World<F>, clock: ClockId) -> ScaledNs
     world.well_formed();
     match world.base(clock) {
         Some(base) => base,
-        None => ScaledNs::default(),
+        None => no_base(),
     }
 }
 

@@ -39,7 +39,7 @@ use Rattle.gptp_scenario.proofs.LogLemmas.{largest_log}
 use Rattle.gptp_settling_time.specs.HowSoon.{BoundsChoice, IsChoiceBound}
 use Rattle.gptp_settling_time.proofs.MomentLemmas.{last_by}
 use Rattle.gptp_setup.proofs.IntervalLemmas.{interval_positive}
-use Rattle.gptp_system.specs.Reading.{held_reading, reading_by}
+use Rattle.gptp_system.specs.Syncing.{held_reading, reading_by}
 use Rattle.gptp_system.specs.State.{can_lead, local_time, SystemState}
 use Rattle.gptp_system.specs.declared.reading.Reading.{Reading}
 use Rattle.gptp_theorem.specs.PlayedLaws.{IsPlayable}

@@ -9,4 +9,4 @@ returns-in-Some g c =
 
 pub returns-in-None : goal.returns-in-None
 returns-in-None g c =
-    c.default.ensures ∙ sym (base_missing c.args.clock c.args.world.now.world_core c.in-None.ensures.none)
+    c.no_base.ensures ∙ sym (base_missing c.args.clock c.args.world.now.world_core c.in-None.ensures.none)

@@ -1,9 +1,15 @@
-use Rattle.std.proofs.Common.{◌≡◌, ◌≤◌, ◌^◌, ◌+ℤ◌, unsigned_abs, subst, ◌∙◌}
+use Rattle.std.proofs.Common.{◌≡◌, ◌≤◌, ◌^◌, ◌+ℤ◌, unsigned_abs, subst, sym, ◌∙◌}
 use Rattle.gptp_scaled.specs.ScaledNs.{FitsScaled}
 use Rattle.gptp_system.specs.State.{local_time}
 use Rattle.gptp_system.specs.Takeover.{told_time}
-use Rattle.gptp_timeline.proofs.DifferenceLemmas.{difference}
+use Rattle.gptp_timeline.proofs.DifferenceLemmas.{difference, difference_fits}
 use Rattle.gptp_timeline.proofs.receipts.error_against.Goals as goal
+
+pub overflow_sub-result-2 : goal.overflow_sub-result-2
+overflow_sub-result-2 c =
+    difference_fits c.value.result c.value-2.result c.told_by.result
+    (subst FitsScaled (sym c.value.ensures.value) c.value.ensures.fits)
+    (subst FitsScaled (sym c.value-2.ensures.value) c.value-2.ensures.fits) c.told_by.ensures.small
 
 pub returns : goal.returns
 returns c =
