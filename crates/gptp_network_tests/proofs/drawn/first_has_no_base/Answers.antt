@@ -1,5 +1,4 @@
-use Rattle.std.proofs.Common.{◌≡◌, ℤ, pos, slice_get, sym, ap, ◌∙◌}
-use Rattle.std.specs.Ordering.{int_eq}
+use Rattle.std.proofs.Common.{◌≡◌, ℤ, pos, slice_get, sym, ap, subst, ◌∙◌}
 use Rattle.std.proofs.lemmas.Bool.Decides.{Decides-int_eq}
 use Rattle.std.proofs.lemmas.Option.{same_Some}
 use Rattle.gptp_model.specs.declared.station.Station.{Station}
@@ -23,5 +22,8 @@ none w base own first zero = record {
 
 pub returns-in-Some : goal.returns-in-Some
 returns-in-Some g c = λ is.
-    none c.args.world.now.world_core c.in-Some.base c.well_formed-2.ensures.sound.wired.clocks c.in-Some.ensures.some
-    ((Decides-int_eq c.in-Some.base (pos 0)).0 is)
+    none c.args.world.now.world_core c.in-Some.base c.well_formed-2.ensures.sound.wired.clocks
+    (subst (λ number. AtSystem number c.args.world.now.world_core (HasBase c.in-Some.base)) c.from.ensures
+    c.in-Some.ensures.some)
+    ((Decides-int_eq c.in-Some.base c.default.result).0 (sym c.eq.ensures ∙ is)
+    ∙ sym c.default.ensures.1 ∙ c.default.ensures.2)
