@@ -72,6 +72,16 @@ def vehicle():
     return (EXAMPLES / "vehicle.toml").read_text()
 
 
+def vehicle_with_clocks(goes_on):
+    """The example with clocks that drift, and that of the gateway 2 ms ahead; all systems may go on with their time."""
+    text, systems = vehicle().split("[[system]]\n", 1)[0], vehicle().split("[[system]]\n")[1:]
+    for system, millionths in zip(systems, (-10, 30, -50, 80, -90, 60), strict=True):
+        phase = "phase = 2_000_000\n" if millionths == 30 else ""
+        continues = "continues = true\n" if goes_on else ""
+        text += f"[[system]]\n{phase}drift = {2_199_023 * millionths}\n{continues}{system}"
+    return text
+
+
 def vehicle_with_timeout():
     """The example, where what a Slave port holds lapses after three sync intervals without time."""
     return vehicle().replace("\ntimeout = 3", "\nsync_timeout = 3\ntimeout = 3", 1)
@@ -156,6 +166,8 @@ def files():
         "sure_line_of_31.toml": line(31, FREQUENT, 400, 400, -FASTEST),
         "vehicle.toml": vehicle(),
         "vehicle_with_timeout.toml": vehicle_with_timeout(),
+        "vehicle_with_clocks.toml": vehicle_with_clocks(False),
+        "vehicle_that_goes_on.toml": vehicle_with_clocks(True),
         "right.certificate": right(),
         "step_too_many.certificate": other(far(257, 256), far(257, 257)),
         "step_too_few.certificate": other(far(256, 255), far(256, 254)),

@@ -55,12 +55,13 @@ class End:
 
 @dataclass(frozen=True)
 class System:
-    """A system: its clock, what it is called, and its other keys."""
+    """A system: its clock, what it is called, its other keys, and whether it goes on with the time that it read."""
 
     clock: str
     name: str = ""
     keys: dict[str, int] = field(default_factory=dict)
     comment: str = ""
+    continues: bool = False
 
 
 @dataclass(frozen=True)
@@ -162,9 +163,12 @@ def _quoted(text: str) -> str:
     return json.dumps(text, ensure_ascii=False).replace("\x7f", "\\u007f")
 
 
-def _keys(section: str, keys: dict[str, int]) -> str:
-    """The keys of a section in the order of the format."""
-    return "".join(f"{key} = {keys[key]}\n" for key in RANGES[section] if key in keys)
+def _keys(section: str, keys: dict[str, int], continues: bool = False) -> str:
+    """The keys of a section in the order of the format, in which `continues` is behind `drift`."""
+    lines = {key: f"{key} = {keys[key]}\n" if key in keys else "" for key in RANGES[section]}
+    if continues:
+        lines["drift"] += "continues = true\n"
+    return "".join(lines.values())
 
 
 def _system_text(system: System) -> str:
@@ -175,7 +179,7 @@ def _system_text(system: System) -> str:
         + (f"# {comment}\n" if comment else "")
         + f'clock = "{system.clock}"\n'
         + (f"name = {_quoted(system.name)}\n" if system.name else "")
-        + _keys("system", system.keys)
+        + _keys("system", system.keys, system.continues)
     )
 
 
@@ -276,7 +280,8 @@ def _whole(section: str, keys: dict[str, Any]) -> dict[str, int]:
 def _system(keys: dict[str, Any], comment: str) -> System:
     """A system of its keys, and of the comment that names its ports."""
     name = keys.get("name")
-    return System(keys["clock"].lower(), name if isinstance(name, str) else "", _whole("system", keys), comment)
+    return System(keys["clock"].lower(), name if isinstance(name, str) else "", _whole("system", keys), comment,
+                  keys.get("continues") is True)
 
 
 def _link(keys: dict[str, Any]) -> Link:

@@ -20,6 +20,8 @@ _UNNAMED = "\0"
 class Node:
     """A system: what it is called, its clock where it is given, its keys, and when it has booted, in ns, where given.
 
+    It goes on with the time that it read where it becomes grandmaster, or doesn't.
+
     One that doesn't relay becomes a system for each of its links; `part` is the number of such a system, from 1.
     """
 
@@ -28,6 +30,7 @@ class Node:
     clock: str | None = None
     start: int | None = None
     relays: bool = True
+    continues: bool = False
     part: int | None = None
     where: str = ""
 
@@ -279,7 +282,8 @@ def _system(node: Node, clock: str, ports: dict[str, int], settings: Settings) -
             raise Refused(f"{node.name} has {keys['ports']} ports, and a link at port {needed}")
     renamed = {number: label for label, number in sorted(ports.items(), key=lambda port: port[1])
                if label != str(number) and not label.startswith(_UNNAMED)}
-    return System(clock, "" if clock_of(node.name) == clock else node.name, keys, ports_comment(renamed))
+    return System(clock, "" if clock_of(node.name) == clock else node.name, keys, ports_comment(renamed),
+                  node.continues)
 
 
 def _link(cable: Cable, a: End, b: End, settings: Settings) -> Link:

@@ -19,8 +19,7 @@ NS_A_METRE = {"copper": 5, "fibre": 5}
 
 _ENDS = ("a", "a_port", "b", "b_port")
 LINK_COLUMNS = (*_ENDS, "min", "max", "jitter", "metres", "medium", "loss")
-# `continues` of a system is here when the program has that key
-SYSTEM_COLUMNS = ("name", "clock", "ppm", *RANGES["system"], "relay", "start")
+SYSTEM_COLUMNS = ("name", "clock", "ppm", *RANGES["system"], "continues", "relay", "start")
 EVENT_COLUMNS = ("at", "kind", "what", *CELLS)
 
 Row = Mapping[str, str]
@@ -86,7 +85,7 @@ def node(row: Row, where: str = "") -> Node:
             raise Refused("there is drift, and ppm too")
         keys["drift"] = in_range("system", "drift", _drift(row))
     start = _moment(row, "start") if row.get("start") else None
-    return Node(row["name"], keys, clock, start, _relays(row), where=where)
+    return Node(row["name"], keys, clock, start, _says(row, "relay", "yes"), _says(row, "continues", "no"), where=where)
 
 
 def happening(row: Row, where: str = "") -> Happening:
@@ -128,12 +127,12 @@ def _moment(row: Row, name: str) -> int:
     return at
 
 
-def _relays(row: Row) -> bool:
-    """Whether a device passes on what it hears."""
-    relay = row.get("relay") or "yes"
-    if relay not in ("yes", "no"):
-        raise Refused(f"relay {relay} isn't yes or no")
-    return relay == "yes"
+def _says(row: Row, name: str, default: str) -> bool:
+    """Whether a column says yes."""
+    word = row.get(name) or default
+    if word not in ("yes", "no"):
+        raise Refused(f"{name} {word} isn't yes or no")
+    return word == "yes"
 
 
 def _delay(row: Row) -> dict[str, int]:

@@ -38,13 +38,13 @@ module _ {F : Type 0} (answers : Bounds → ℕ → F → Option ℕ → F → T
       passes_named until ts drawn f t.after v
       (done_named answers t.told.timed w t.after fate drawn t.told.done is k.was_done) ks
 
-  passes_to_named : (until : ℕ) (ts : List ActTrace) (fate f : F) (w v : WorldState) → IsNamed w
+  pub passes_to_named : (until : ℕ) (ts : List ActTrace) (fate f : F) (w v : WorldState) → IsNamed w
       → PassesTo answers until ts fate f w v → IsNamed v
   passes_to_named until ts fate f w v is k =
       subst (λ (x : WorldState). IsNamed x) (sym k.is)
       (named_at k.between until k.between.last_change (passes_named until ts fate f w k.between is k.passes))
 
-  makes_named : (event : Timed) (ts : List ActTrace) (fate f : F) (w v : WorldState) → IsNamed w
+  pub makes_named : (event : Timed) (ts : List ActTrace) (fate f : F) (w v : WorldState) → IsNamed w
       → Makes answers event ts fate f w v → IsNamed v
   makes_named event ts fate f w v is k =
       done_named answers event k.between v k.drawn f k.done

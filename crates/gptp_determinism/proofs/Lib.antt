@@ -28,3 +28,10 @@ pub mod WayExistLemmas
 pub mod DocumentExistLemmas
 pub mod LineExistLemmas
 pub mod StatedExistLemmas
+pub mod ContinuesLemmas
+pub mod SpelledLemmas
+pub mod BesideSendLemmas
+pub mod BesideCallLemmas
+pub mod BesideActLemmas
+pub mod BesideBeginLemmas
+pub mod BesideRunLemmas

@@ -7,7 +7,7 @@ use Rattle.std.proofs.lemmas.Nat.{div-add-mod', mod_below}
 use Rattle.std.proofs.lemmas.Option.{none-some}
 use Rattle.gptp_vector.specs.declared.vector.Vector.{Vector}
 use Rattle.gptp_vector.specs.Vector.{system_vector}
-use Rattle.gptp_scaled.specs.Stamp.{IsSplit, IsTimestamp, Timestamp}
+use Rattle.gptp_scaled.specs.Stamp.{FitsStamp, IsSplit, IsTimestamp, Timestamp}
 use Rattle.gptp_receipt.specs.declared.held.Held.{Held}
 use Rattle.gptp_roles.specs.Choice.{path_vectors, with_held, IsLeast}
 use Rattle.gptp_roles.proofs.ChoiceLemmas.{least_alone, least_of_held}
@@ -84,7 +84,7 @@ record HasParts (n : ℕ) : Type 0 where
   small : rest < 2 ^ 16
   whole : (stamp.seconds * 1000000000 + stamp.nanos) * 2 ^ 16 + rest ≡ n
 
-has_parts : (n : ℕ) → n < 2 ^ 90 → HasParts n
+has_parts : (n : ℕ) → n < 2 ^ 48 * 1000000000 * 2 ^ 16 → HasParts n
 has_parts n few =
     let units = div-add-mod' n 65536 in
     let less = mod_below n 65536 (omega arith) in
@@ -99,8 +99,8 @@ has_parts n few =
       whole = omega (arith, units, whole);
     }
 
--- a time that a clock can show splits into a timestamp and a rest
-pub split_exists : (x : ℤ) → IsTime x → (t : Timestamp) × (rest : ℕ) × IsSplit x t rest
+-- a time that has a timestamp splits into it and a rest
+pub split_exists : (x : ℤ) → FitsStamp x → (t : Timestamp) × (rest : ℕ) × IsSplit x t rest
 split_exists (pos n) time =
     let high = time.high in
     let parts = has_parts n (omega (arith, ints, high)) in
@@ -108,7 +108,12 @@ split_exists (pos n) time =
     (parts.stamp, parts.rest, record { stamp = parts.is; small = parts.small; whole = omega (arith, ints, whole) })
 split_exists (negsuc n) time = let low = time.low in absurd (omega (arith, ints, low))
 
--- the local clock of a system shows such a time
+-- so does one that a clock can show
+time_fits : (x : ℤ) → IsTime x → FitsStamp x
+time_fits x time =
+    let high = time.high in record { low = time.low; high = omega (arith, ints, high) }
+
+-- the local clock of a system shows one that a clock can show
 pub local_is_time : (s : SystemState) (now : ℕ) → IsReady s → IsMoment now → IsTime (local_time s now)
 local_is_time s now ready moment =
     clock_shows_time s.phase s.drift now ready.phase (omega (arith, moment)) ready.drift
@@ -133,8 +138,8 @@ responds_if_exists : (owed : Option Owed) (p now : ℕ) (s : SystemState) → Is
     → ((one : Owed) → owed ≡ Some one → IsTime one.t2) → (sends : List Sending) × RespondsIf owed p now s sends
 responds_if_exists None p now s time came = ([], refl)
 responds_if_exists (Some one) p now s time came =
-    let arrival = split_exists one.t2 (came one refl) in
-    let departure = split_exists (local_time s now) time in (
+    let arrival = split_exists one.t2 (time_fits one.t2 (came one refl)) in
+    let departure = split_exists (local_time s now) (time_fits (local_time s now) time) in (
       pdelay_response (own s p) one arrival.0 arrival.1 ∷ response_follow_up (own s p) one departure.0 departure.1 ∷ [],
       record {
         came = arrival.0;

@@ -59,11 +59,11 @@ module _ {F : Type 0} (answers : Bounds → ℕ → F → Option ℕ → F → T
         second = two.2;
       }
 
-  -- What is made in two parts is the same, with the same draws, where each part is: the second where the first is.
-  pub in_turn : {X Y : Type 0} (ds es first second third fourth : List Draw) (x y : X) (v u : Y) → AreDrawn ds es
-      → ds ≡ first ++ second → es ≡ third ++ fourth → (AreDrawn first third → (first ≡ third) × (x ≡ y))
-      → (x ≡ y → AreDrawn second fourth → (second ≡ fourth) × (v ≡ u)) → (ds ≡ es) × (v ≡ u)
-  in_turn ds es first second third fourth x y v u both d-is e-is front back =
+  -- What is made in two parts takes the same draws where each part does: the second where this is so of the first.
+  pub in_order : {P Q : Type 0} (ds es first second third fourth : List Draw) → AreDrawn ds es → ds ≡ first ++ second
+      → es ≡ third ++ fourth → (AreDrawn first third → (first ≡ third) × P)
+      → (P → AreDrawn second fourth → (second ≡ fourth) × Q) → (ds ≡ es) × Q
+  in_order ds es first second third fourth both d-is e-is front back =
       let all : AreDrawn (first ++ second) (third ++ fourth) =
       subst (λ (vs : List Draw). AreDrawn (first ++ second) vs) e-is
       (subst (λ (vs : List Draw). AreDrawn vs es) d-is both) in
@@ -72,6 +72,13 @@ module _ {F : Type 0} (answers : Bounds → ℕ → F → Option ℕ → F → T
         d-is ∙ ap (λ (vs : List Draw). vs ++ second) fronts ∙ ap (λ (vs : List Draw). third ++ vs) backs ∙ sym e-is,
         after,
       )
+
+  -- What is made in two parts is the same, with the same draws, where each part is: the second where the first is.
+  pub in_turn : {X Y : Type 0} (ds es first second third fourth : List Draw) (x y : X) (v u : Y) → AreDrawn ds es
+      → ds ≡ first ++ second → es ≡ third ++ fourth → (AreDrawn first third → (first ≡ third) × (x ≡ y))
+      → (x ≡ y → AreDrawn second fourth → (second ≡ fourth) × (v ≡ u)) → (ds ≡ es) × (v ≡ u)
+  in_turn ds es first second third fourth x y v u both d-is e-is front back =
+      in_order {P = x ≡ y} {Q = v ≡ u} ds es first second third fourth both d-is e-is front back
 
   -- ---- one send
 

@@ -14,20 +14,21 @@ use Rattle.gptp_system.specs.declared.answer.Answer.{Answer}
 use Rattle.gptp_system.specs.declared.answer.Answer.TheVariants as answers
 use Rattle.gptp_system.specs.declared.sending.Sending.{Sending}
 use Rattle.gptp_system.specs.Announcing.{aged_at, announced_at, announcement_at, answer_to_heard, answer_to_why, compared, replaces_held, with_priority}
-use Rattle.gptp_system.specs.Input.{Input, PortUp, PortDown, Frame, Priority, Steps}
+use Rattle.gptp_system.specs.Input.{Input, IsTimely, PortUp, PortDown, Frame, Priority, Steps}
 use Rattle.gptp_system.specs.Input.{Expires as TimerExpires}
 use Rattle.gptp_system.specs.Lapse.{lapsed}
 use Rattle.gptp_system.specs.Measuring.{measuring_answer, down, owes, responded, step_at}
 use Rattle.gptp_system.specs.Ready.{IsReady}
 use Rattle.gptp_system.specs.State.{SystemState, clock, held_at, is_capable_at, local_time, number, own, with_peer}
-use Rattle.gptp_system.specs.Steps.{Expires, HearsFrame, HearsMessage}
+use Rattle.gptp_system.specs.Steps.{Expires, HearsFrame, HearsMessage, IsDue}
 use Rattle.gptp_system.specs.Syncing.{is_leading}
 use Rattle.gptp_system.proofs.SystemLemmas.{stays_system}
 use Rattle.gptp_determinism.specs.ExistenceLaws.{StepsExist}
 use Rattle.gptp_determinism.specs.GoingOn.{HearsOctets}
 use Rattle.gptp_determinism.proofs.DecisionLemmas.{announce_is_judged, Judged}
-use Rattle.gptp_determinism.proofs.MeasuringExistLemmas.{asks_exists, becomes_itself, local_is_time, responds_exists, selects_exists, selects_if_exists, turns_exists}
+use Rattle.gptp_determinism.proofs.MeasuringExistLemmas.{asks_exists, becomes_itself, responds_exists, selects_exists, selects_if_exists, turns_exists}
 use Rattle.gptp_determinism.proofs.ReadLemmas.{frames_are_judged}
+use Rattle.gptp_system.proofs.TakeoverLemmas.{led_fits}
 use Rattle.gptp_determinism.proofs.StepReadyLemmas.{steps_ready}
 use Rattle.gptp_determinism.proofs.SyncingExistLemmas.{hears_follow_up_exists, hears_sync_exists, relays_exists, syncs_exists}
 
@@ -83,18 +84,19 @@ hears_exists p (messages.Announce a) now s =
 -- ---- timers
 
 -- a timer that expires
-expires_exists : (timer : Timer) (now : ℕ) (s : SystemState) → IsReady s → IsMoment now
+expires_exists : (timer : Timer) (now : ℕ) (s : SystemState) → IsReady s → IsMoment now → IsDue s timer now
     → (t : SystemState) × (sends : List Sending) × Expires timer now s t sends
-expires_exists (timers.Announce p) now s ready moment =
+expires_exists (timers.Announce p) now s ready moment due =
     (announced_at p now s, announcement_at p s, record { state = refl; sends_are = refl })
-expires_exists (timers.Age p) now s ready moment = selects_exists now (aged_at p now s)
-expires_exists (timers.Pdelay p) now s ready moment = asks_exists p after_interval now s
-expires_exists (timers.Respond p) now s ready moment =
+expires_exists (timers.Age p) now s ready moment due = selects_exists now (aged_at p now s)
+expires_exists (timers.Pdelay p) now s ready moment due = asks_exists p after_interval now s
+expires_exists (timers.Respond p) now s ready moment due =
     let answered = responds_exists p now s ready moment in
     (responded p s, answered.0, record { state = refl; responds = answered.1 })
-expires_exists timers.Sync now s ready moment = syncs_exists (is_leading s) now s (local_is_time s now ready moment)
-expires_exists timers.Relay now s ready moment = relays_exists s.known now s
-expires_exists timers.Lapse now s ready moment = selects_exists now (lapsed s)
+expires_exists timers.Sync now s ready moment due =
+    syncs_exists (is_leading s) now s (led_fits s now ready moment due)
+expires_exists timers.Relay now s ready moment due = relays_exists s.known now s
+expires_exists timers.Lapse now s ready moment due = selects_exists now (lapsed s)
 
 -- ---- frames, which read as messages or are refused
 
@@ -113,20 +115,21 @@ frame_by p octets now s (inr (refused, refuses)) = (
 
 -- ---- all inputs
 
-step_exists : (input : Input) (now : ℕ) (s : SystemState) → IsReady s → IsMoment now → HearsOctets input
+step_exists : (input : Input) (now : ℕ) (s : SystemState) → IsReady s → IsMoment now → IsTimely s now input
+    → HearsOctets input
     → (t : SystemState) × (sends : List Sending) × (answer : Answer) × Steps input now s t sends answer
-step_exists (PortUp p) now s ready moment octets =
+step_exists (PortUp p) now s ready moment timely octets =
     let k = asks_exists p reset_peer now s in (k.0, k.1, answers.Used, k.2)
-step_exists (PortDown p) now s ready moment octets =
+step_exists (PortDown p) now s ready moment timely octets =
     let k = selects_exists now (down p s) in (k.0, k.1, answers.Used, k.2)
-step_exists (Frame p frame) now s ready moment octets = frame_by p frame now s (frames_are_judged frame octets)
-step_exists (TimerExpires timer) now s ready moment octets =
-    let k = expires_exists timer now s ready moment in (k.0, k.1, answers.Used, k.2)
-step_exists (Priority value) now s ready moment octets =
+step_exists (Frame p frame) now s ready moment timely octets = frame_by p frame now s (frames_are_judged frame octets)
+step_exists (TimerExpires timer) now s ready moment timely octets =
+    let k = expires_exists timer now s ready moment timely in (k.0, k.1, answers.Used, k.2)
+step_exists (Priority value) now s ready moment timely octets =
     let k = selects_exists now (with_priority value s) in (k.0, k.1, answers.Used, k.2)
 
 pub steps_exist : StepsExist
 steps_exist input now s system moment timely octets =
-    let k = step_exists input now s system.ready moment octets in
-    let ready = steps_ready input now s k.0 k.1 k.2 system moment k.3 in
+    let k = step_exists input now s system.ready moment timely octets in
+    let ready = steps_ready input now s k.0 k.1 k.2 system moment timely k.3 in
     (k.0, k.1, k.2, k.3, stays_system input now s k.0 k.1 k.2 system ready k.3)

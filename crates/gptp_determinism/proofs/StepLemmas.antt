@@ -36,6 +36,7 @@ use Rattle.gptp_correction.specs.declared.correction.Relayed.{Relayed}
 use Rattle.gptp_correction.specs.Correction.{held_sum}
 use Rattle.gptp_setup.specs.SettlingParams.{has_sync_timeout}
 use Rattle.gptp_system.specs.Lapse.{lapsed}
+use Rattle.gptp_system.specs.Takeover.{leading, told_time}
 use Rattle.gptp_system.specs.Syncing.{delay_at, is_followed, is_leading, root_rate_at, refreshing, said_on, told_by, HearsFollowUpIf, HearsSyncIf, IsOffset, IsToldAtLimits, KeepsIf, KnowsBy, KnowsIf, LeadsTime, RelaysBy, RelaysIf, SyncsIf}
 use Rattle.gptp_determinism.specs.StepLaws.{IsSameStep, SameAnswer}
 
@@ -105,7 +106,7 @@ module _ (t u : SystemState) (xs ys : List Sending) where
 
   leads_once : (now : ℕ) (s : SystemState) → LeadsTime now s t xs → LeadsTime now s u ys → Same t u xs ys
   leads_once now s k l =
-      let split = split_is_exact.only (local_time s now) k.stamp l.stamp k.rest l.rest k.split l.split in (
+      let split = split_is_exact.only (told_time (leading now s) now) k.stamp l.stamp k.rest l.rest k.split l.split in (
         k.state ∙ sym l.state,
         k.sends_are ∙ rw (split.0, split.1) refl ∙ sym l.sends_are,
       )
@@ -217,7 +218,7 @@ module _ (t u : SystemState) (xs ys : List Sending) (a b : Answer) where
   knows_by true info delay rate now s k l =
       let same = offset_once (held_sum info rate) delay rate k.offset l.offset k.offset_is l.offset_is in
       heard_so _ _ k.becomes
-      (subst (λ offset. Becomes (refreshing info offset now s) u ys) (sym same) l.becomes)
+      (subst (λ offset. Becomes (refreshing info offset rate now s) u ys) (sym same) l.becomes)
       k.answer_is l.answer_is
   knows_by false info delay rate now s (inl k) (inl l) = heard_so _ _ k.becomes l.becomes k.answer_is l.answer_is
   knows_by false info delay rate now s (inl k) (inr l) = absurd (l.unfit k.fits)

@@ -20,14 +20,14 @@ use Rattle.gptp_system.specs.declared.port.Port.{Port}
 use Rattle.gptp_system.specs.declared.sending.Sending.{Sending}
 use Rattle.gptp_system.specs.Announcing.{aged_at, aged_by, compared, replaces_held, with_priority}
 use Rattle.gptp_system.specs.Facts.{IsSystem}
-use Rattle.gptp_system.specs.Input.{Input, PortUp, PortDown, Frame, Priority, Steps}
+use Rattle.gptp_system.specs.Input.{Input, IsTimely, PortUp, PortDown, Frame, Priority, Steps}
 use Rattle.gptp_system.specs.Input.{Expires as TimerExpires}
 use Rattle.gptp_system.specs.Lapse.{lapsed}
 use Rattle.gptp_system.specs.Measuring.{answering_done, asking, down, held_if, held_turned, is_turned, owes, owing, turned, Turns, TurnsAndAsks, TurnsIf}
 use Rattle.gptp_system.specs.Ready.{IsReady}
 use Rattle.gptp_system.specs.Selection.{announced_again, SelectsIf}
 use Rattle.gptp_system.specs.State.{SystemState, change, held_at, is_capable_at, local_time, number, own, with_peer}
-use Rattle.gptp_system.specs.Steps.{Expires, HearsFrame, HearsMessage}
+use Rattle.gptp_system.specs.Steps.{Expires, HearsFrame, HearsMessage, IsDue}
 use Rattle.gptp_system.specs.Syncing.{is_leading}
 use Rattle.gptp_system.proofs.FactLemmas.{are_placed}
 use Rattle.gptp_system.proofs.MeasuringLemmas.{down_ready, follow_up_keeps, interval_keeps, response_keeps, step_ready}
@@ -58,6 +58,8 @@ priority_ready value s ready = record {
   recent = ready.recent;
   ports = ready.ports;
   lapses = ready.lapses;
+  told = ready.told;
+  based = ready.based;
 }
 
 -- ---- measuring
@@ -177,40 +179,40 @@ frame_ready p octets now s s' sends answer ready moment placed (inr k) =
     becomes_ready s s' sends ready k.becomes
 
 expires_ready : (timer : Timer) (now : ℕ) (s s' : SystemState) (sends : List Sending) → IsReady s
-    → ArePlaced 1 s'.held → Expires timer now s s' sends → IsReady s'
-expires_ready (timers.Announce p) now s s' sends ready placed k =
+    → IsDue s timer now → ArePlaced 1 s'.held → Expires timer now s s' sends → IsReady s'
+expires_ready (timers.Announce p) now s s' sends ready due placed k =
     subst IsReady (sym k.state)
     (port_ready p (announced_again now) s (λ q is.
     record { log_interval = is.log_interval; waiting = is.waiting }) ready)
-expires_ready (timers.Age p) now s s' sends ready placed k =
+expires_ready (timers.Age p) now s s' sends ready due placed k =
     selects_ready now (aged_at p now s) s' sends (aged_ready p now s ready) placed k
-expires_ready (timers.Pdelay p) now s s' sends ready placed k =
+expires_ready (timers.Pdelay p) now s s' sends ready due placed k =
     asks_ready p after_interval now s s' sends interval_keeps ready placed k
-expires_ready (timers.Respond p) now s s' sends ready placed k =
+expires_ready (timers.Respond p) now s s' sends ready due placed k =
     subst IsReady (sym k.state)
     (port_ready p answering_done s
     (λ q is. record { log_interval = is.log_interval; waiting = λ one none. absurd (none-some one none) }) ready)
-expires_ready timers.Sync now s s' sends ready placed k = syncs_ready (is_leading s) now s s' sends ready k
-expires_ready timers.Relay now s s' sends ready placed k = relays_ready s.known now s s' sends ready k
-expires_ready timers.Lapse now s s' sends ready placed k =
+expires_ready timers.Sync now s s' sends ready due placed k = syncs_ready (is_leading s) now s s' sends ready due k
+expires_ready timers.Relay now s s' sends ready due placed k = relays_ready s.known now s s' sends ready k
+expires_ready timers.Lapse now s s' sends ready due placed k =
     selects_ready now (lapsed s) s' sends (lapsed_ready s ready) placed k
 
 -- where what ports hold was received there
 input_ready : (input : Input) (now : ℕ) (s s' : SystemState) (sends : List Sending) (answer : Answer) → IsReady s
-    → IsMoment now → ArePlaced 1 s'.held → Steps input now s s' sends answer → IsReady s'
-input_ready (PortUp p) now s s' sends answer ready moment placed k =
+    → IsMoment now → IsTimely s now input → ArePlaced 1 s'.held → Steps input now s s' sends answer → IsReady s'
+input_ready (PortUp p) now s s' sends answer ready moment timely placed k =
     asks_ready p reset_peer now s s' sends (λ q. refl) ready placed k
-input_ready (PortDown p) now s s' sends answer ready moment placed k =
+input_ready (PortDown p) now s s' sends answer ready moment timely placed k =
     selects_ready now (down p s) s' sends (down_ready p s ready) placed k
-input_ready (Frame p octets) now s s' sends answer ready moment placed k =
+input_ready (Frame p octets) now s s' sends answer ready moment timely placed k =
     frame_ready p octets now s s' sends answer ready moment placed k
-input_ready (TimerExpires timer) now s s' sends answer ready moment placed k =
-    expires_ready timer now s s' sends ready placed k
-input_ready (Priority value) now s s' sends answer ready moment placed k =
+input_ready (TimerExpires timer) now s s' sends answer ready moment timely placed k =
+    expires_ready timer now s s' sends ready timely placed k
+input_ready (Priority value) now s s' sends answer ready moment timely placed k =
     selects_ready now (with_priority value s) s' sends (priority_ready value s ready) placed k
 
 pub steps_ready : (input : Input) (now : ℕ) (s s' : SystemState) (sends : List Sending) (answer : Answer)
-    → IsSystem s → IsMoment now → Steps input now s s' sends answer → IsReady s'
-steps_ready input now s s' sends answer system moment k =
+    → IsSystem s → IsMoment now → IsTimely s now input → Steps input now s s' sends answer → IsReady s'
+steps_ready input now s s' sends answer system moment timely k =
     let sound = steps_sound input now s s' sends answer k in
-    input_ready input now s s' sends answer system.ready moment (are_placed s' (sound.held system.held)) k
+    input_ready input now s s' sends answer system.ready moment timely (are_placed s' (sound.held system.held)) k

@@ -2,7 +2,7 @@
 use Rattle.std.proofs.Common.{ℕ, ℤ, Bool, true, false, List, [], Option, Some, None, refl, inl, inr}
 use Rattle.gptp_messages.specs.declared.follow_up.FollowUp.{FollowUp}
 use Rattle.gptp_messages.specs.declared.head.Head.{Head}
-use Rattle.gptp_pdelay.specs.Clock.{IsTime}
+use Rattle.gptp_scaled.specs.Stamp.{FitsStamp}
 use Rattle.gptp_correction.specs.declared.correction.Relayed.{Relayed}
 use Rattle.gptp_correction.specs.declared.sync_in.SyncInfo.{SyncInfo}
 use Rattle.gptp_correction.specs.Correction.{held_sum, relayed}
@@ -10,7 +10,8 @@ use Rattle.gptp_setup.specs.SettlingParams.{has_sync_timeout}
 use Rattle.gptp_system.specs.declared.answer.Answer.{Answer}
 use Rattle.gptp_system.specs.declared.answer.Answer.TheVariants as answers
 use Rattle.gptp_system.specs.declared.sending.Sending.{Sending}
-use Rattle.gptp_system.specs.State.{SystemState, local_time}
+use Rattle.gptp_system.specs.State.{SystemState}
+use Rattle.gptp_system.specs.Takeover.{leading, told_time}
 use Rattle.gptp_system.specs.Syncing.{as_received, delay_at, forgetting, hop_of, is_followed, keeping, knowing, offset_of, own_time, root_rate_at, refreshing, restarted, said_on, slave_rate, timer_stopped, telling, told_by}
 use Rattle.gptp_system.specs.Syncing.{HearsFollowUpIf, HearsSyncIf, HopFits, IsOffset, IsToldAtLimits, KeepsIf, KnowsBy, KnowsIf, OffsetFits, RelaysBy, RelaysIf, SyncsIf}
 use Rattle.gptp_determinism.proofs.DecisionLemmas.{bridge_or_not, offset_or_not, Decided}
@@ -19,11 +20,11 @@ use Rattle.gptp_determinism.proofs.MeasuringExistLemmas.{becomes_itself, split_e
 -- ---- timers
 
 -- the Sync timer expires
-pub syncs_exists : (on : Bool) (now : ℕ) (s : SystemState) → IsTime (local_time s now)
+pub syncs_exists : (on : Bool) (now : ℕ) (s : SystemState) → FitsStamp (told_time (leading now s) now)
     → (t : SystemState) × (sends : List Sending) × SyncsIf on now s t sends
 syncs_exists true now s time =
-    let parts = split_exists (local_time s now) time in (
-      telling (restarted now s),
+    let parts = split_exists (told_time (leading now s) now) time in (
+      telling (restarted now (leading now s)),
       told_by (own_time parts.0 parts.1) s,
       record { stamp = parts.0; rest = parts.1; split = parts.2; state = refl; sends_are = refl },
     )
@@ -99,7 +100,7 @@ known_if : (info : SyncInfo) (delay rate : ℤ) (now : ℕ) (s : SystemState) �
     → (t : SystemState) × (sends : List Sending) × (answer : Answer)
     × KnowsBy false info delay rate now s t sends answer
 known_if info delay rate now s (inl fits) =
-    let after = knowing info (offset_of info delay rate) now s in
+    let after = knowing info (offset_of info delay rate) rate now s in
     (after, [], answers.Used, inl (record { fits = fits; becomes = becomes_itself after; answer_is = refl }))
 known_if info delay rate now s (inr unfit) =
     let after = forgetting s in
@@ -109,13 +110,13 @@ knows_by_exists : (on : Bool) (info : SyncInfo) (delay rate : ℤ) (now : ℕ) (
     → (t : SystemState) × (sends : List Sending) × (answer : Answer) × KnowsBy on info delay rate now s t sends answer
 knows_by_exists true info delay rate now s =
     let ahead = offset_if (held_sum info rate) delay rate (offset_or_not (held_sum info rate) delay rate) in (
-      refreshing info ahead.0 now s,
+      refreshing info ahead.0 rate now s,
       [],
       answers.Used,
       record {
         offset = ahead.0;
         offset_is = ahead.1;
-        becomes = becomes_itself (refreshing info ahead.0 now s);
+        becomes = becomes_itself (refreshing info ahead.0 rate now s);
         answer_is = refl;
       },
     )

@@ -7,3 +7,7 @@ pub mod RunLaws
 pub mod SoFar
 pub mod ActTraceLaws
 pub mod ExistenceLaws
+pub mod BesideTime
+pub mod ContinuesLaws
+pub mod BesideWorlds
+pub mod WorldsBesideLaws

@@ -6,12 +6,14 @@ ghost use Rattle.gptp_certificate.specs.Stated.{States};
 ghost use Rattle.gptp_graph.specs.Labelling.{SystemLine};
 ghost use Rattle.gptp_invariants.specs.WorldSettlingInvariant.{SettlingInvariant};
 ghost use Rattle.gptp_determinism.specs.ActLaws.{ActsKeepNames, ActsOnce, ActsOnceDrawn, InitialIsNamed, SoundIsNamed};
+ghost use Rattle.gptp_determinism.specs.ContinuesLaws.{StartsBesideTime, StepsBesideTime, TimersBesideTime};
 ghost use Rattle.gptp_determinism.specs.CourseLaws.{AdvancesOnce, BeginsOnce, NextOnce, StopsOnTheWay};
 ghost use Rattle.gptp_determinism.specs.ExistenceLaws.{ActsExist, BeginningsExist, DocumentsLead, DocumentsUnfold, FramesAreJudged, StepsExist, WaysExist};
 ghost use Rattle.gptp_determinism.specs.RunLaws.{LeadsOnce, MeantIsNamed, PlayedIsNamed, PlaysOnce, ReportsOnce, StatesOnce};
 ghost use Rattle.gptp_determinism.specs.SoFar.{LeadsBeginSo};
 ghost use Rattle.gptp_determinism.specs.StepLaws.{StepsOnce};
 ghost use Rattle.gptp_determinism.specs.ActTraceLaws.{CoursesAreNamed, CoursesOnce};
+ghost use Rattle.gptp_determinism.specs.WorldsBesideLaws.{ActsBesideTime, BeginsBesideTime, CoursesBesideTime, NextBesideTime, ReadyBesideTime};
 
 use gptp_links::Fate;
 
@@ -19,6 +21,28 @@ use gptp_links::Fate;
 /// system, the time and the input.
 pub fn steps_have_one_outcome()
     ensures { StepsOnce }
+{}
+
+/// Whether a system goes on with the time that it read (`continues`) touches time alone. Two systems that start with
+/// setups that differ in it are the same but for the time that they read and tell, and a step with one input leaves them
+/// so: they send and answer the same but for the origin and the correction of Follow_Ups, and their timers run out at the
+/// same times. That is for steps in which the numbers on the way of time fit in both systems or in neither.
+pub fn continues_touches_time_alone()
+    ensures starts { StartsBesideTime }
+    ensures steps { StepsBesideTime }
+    ensures timers { TimersBesideTime }
+{}
+
+/// So it is with worlds. Those of two networks whose systems differ in `continues` begin the same but for the time that
+/// systems read and tell; the same acts are ready and next in both, and each leaves them so, with the same draws of a
+/// fate that answers in one way, and the same answers. So they take the same way with the same events, as long as the
+/// numbers on the way of time fit in both worlds or in neither.
+pub fn continues_leaves_worlds_alike<F: Fate>()
+    ensures begins { BeginsBesideTime F.answers }
+    ensures ready { ReadyBesideTime }
+    ensures next { NextBesideTime }
+    ensures acts { ActsBesideTime F.answers }
+    ensures courses { CoursesBesideTime F.answers }
 {}
 
 /// In a sound world whose links join two ports each, a clock names one system, and a port one end of one link. So it is

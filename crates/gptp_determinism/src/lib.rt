@@ -8,6 +8,9 @@
 //! answer in one way, as generators and lists do. So the lines of a run that stopped before its end are the first of
 //! all its lines (`specs/SoFar.antt`).
 //!
+//! What a step makes of a system, and what happens in a world, doesn't depend on whether systems go on with the time that
+//! they read, but for that time itself (`specs/ContinuesLaws.antt`, `specs/WorldsBesideLaws.antt`).
+//!
 //! That there is an answer is said too (`specs/ExistenceLaws.antt`), of systems and worlds that have what every call
 //! keeps (`specs/GoingOn.antt`), and for fates that answer all that they are asked: each frame is judged, each step is
 //! taken, each act that is ready is done, and each document is played to each time.
@@ -18,8 +21,9 @@
 mod laws;
 
 pub use laws::{
-    acts_exist, acts_have_one_outcome, documents_begin_in_one_way, documents_have_one_outcome,
-    documents_name_one_thing, documents_unfold, every_frame_is_judged, every_step_exists,
-    names_mean_one_thing, one_act_is_next, steps_have_one_outcome, worlds_are_stated,
-    worlds_are_told_in_one_way, worlds_go_on, worlds_go_on_in_one_way, worlds_unfold_in_one_way,
+    acts_exist, acts_have_one_outcome, continues_leaves_worlds_alike, continues_touches_time_alone,
+    documents_begin_in_one_way, documents_have_one_outcome, documents_name_one_thing,
+    documents_unfold, every_frame_is_judged, every_step_exists, names_mean_one_thing,
+    one_act_is_next, steps_have_one_outcome, worlds_are_stated, worlds_are_told_in_one_way,
+    worlds_go_on, worlds_go_on_in_one_way, worlds_unfold_in_one_way,
 };

@@ -26,7 +26,7 @@ pub settled_so : (n : NetworkState) (w : Walk) (at : ℕ) (first followed from_r
     (row : Row) (time : SettlingTime)
     → time ≡ times_by n at w.last_set paths calm sets row (soon + heard + way)
     → row ≡ row_of from_rest first told
-    → from_rest ≡ is_from_rest n at w.paths_before paths standings told soon w.before
+    → from_rest ≡ is_from_rest w.longest at w.paths_before paths told w.before
     → way ≡ way_span paths
     → heard ≡ heard_by n followed told new
     → followed ≡ heard_at_once first w.paths_before told

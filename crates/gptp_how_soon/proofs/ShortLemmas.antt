@@ -227,7 +227,7 @@ module _ (d : DocumentState) (network : IsNetwork d.network) (events : AreEvents
       last_change_most at (filter (λ (t : Timed). sets_bounds t.act) all)
       (λ t member. (there_then before at t is (from_filter (λ (e : Timed). sets_bounds e.act) t all member).0).1) in
       let most : (settling_time n v).watch ≤ 200000000000000 =
-      watch_most n network paths few short at (last_set all) v.calm (sets_link v.told) (row_at n v) (gained_at n v) set
+      watch_most n network paths few short at (last_set all) v.calm (sets_link v.told) (row_at v) (gained_at n v) set
       (omega (arith, r, h, w)) in
       record { span = most; until = omega (arith, most, early) }
 

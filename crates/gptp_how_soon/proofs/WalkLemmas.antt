@@ -1,5 +1,5 @@
 -- A walk stands as the events so far leave a document.
-use Rattle.std.proofs.Common.{◌≡◌, ℕ, List, [], ◌∷◌, ◌++◌, Bool, true, false, cond, filter, map, not, append_assoc, refl, sym, ap, ap₂, subst, ◌∙◌}
+use Rattle.std.proofs.Common.{◌≡◌, max, ℕ, List, [], ◌∷◌, ◌++◌, Bool, true, false, cond, filter, map, not, append_assoc, refl, sym, ap, ap₂, subst, ◌∙◌, arith}
 use Rattle.std.specs.List.{find}
 use Rattle.std.specs.Option.{is_some}
 use Rattle.std.proofs.lemmas.List.{append-nil}
@@ -11,7 +11,7 @@ use Rattle.gptp_scenario.specs.declared.change.Timed.{Timed}
 use Rattle.gptp_topology.specs.Course.{cable_is_used, named}
 use Rattle.gptp_topology.proofs.StandingLemmas.{Stand, stand_first, stand_more}
 use Rattle.gptp_how_soon.specs.Kinds.{sets_bounds, told_by}
-use Rattle.gptp_how_soon.specs.Links.{new_among, standings_after}
+use Rattle.gptp_how_soon.specs.Links.{delay_set, longest_delay, longest_set, new_among, standings_after}
 use Rattle.gptp_how_soon.specs.Systems.{has_clock, system_done, systems_after}
 use Rattle.gptp_how_soon.specs.Times.{last_set, told_at, told_of, view_at}
 use Rattle.gptp_how_soon.specs.Walk.{IsFirstWalk, WalkGoesOn, WalkPasses, view_seen}
@@ -23,6 +23,7 @@ use Rattle.gptp_how_soon.proofs.SystemsLemmas.{systems_first, systems_more}
 -- after the events made before this time, and those of it so far
 pub record WalkStands (n : NetworkState) (made now : List Timed) (w : Walk) : Type 0 where
   pub set : w.last_set ≡ last_set (made ++ now)
+  pub longest : w.longest ≡ longest_delay n (made ++ now)
   pub tables : Stand n (made ++ now) w.tables
   pub systems : w.systems.items ≡ systems_after n (made ++ now)
   pub told : w.told.items ≡ told_of n made now
@@ -49,6 +50,17 @@ set_more events t = ap last_change (filter-append sets events (t ∷ [])) ∙ by
     by true = last_behind (filter sets events) t
     by false = ap last_change (append-nil (filter sets events))
 
+-- ---- the greatest delay that a link has had
+
+longest_more : (events : List Timed) (t : Timed)
+    → longest_set (events ++ t ∷ []) ≡ max (delay_set t.act) (longest_set events)
+longest_more [] t = refl
+longest_more (u ∷ events) t = let rest = longest_more events t in omega (arith, rest)
+
+longer : (n : NetworkState) (events : List Timed) (t : Timed)
+    → max (delay_set t.act) (longest_delay n events) ≡ longest_delay n (events ++ t ∷ [])
+longer n events t = let more = longest_more events t in omega (arith, more)
+
 -- ---- what is seen
 
 told_more : (n : NetworkState) (made now : List Timed) (t : Timed)
@@ -70,9 +82,9 @@ module _ (n : NetworkState) (network : IsNetwork n) where
       λ i. record {
         at = at;
         last_set = so.set i;
+        longest = so.longest i;
         before = w.before;
         paths_before = so.paths i;
-        standings = standings i;
         new = new i;
         told = so.told i;
         paths = crossed_is n network (made ++ now) w.tables so.tables i;
@@ -85,6 +97,7 @@ module _ (n : NetworkState) (network : IsNetwork n) where
   stands_first w is =
       let tables = stand_first n w.tables is.tables in record {
         set = is.set;
+        longest = is.longest ∙ omega arith;
         tables = tables;
         systems = is.systems ∙ systems_first n;
         told = is.told;
@@ -101,6 +114,8 @@ module _ (n : NetworkState) (network : IsNetwork n) where
       let joined : (made ++ now) ++ t ∷ [] ≡ made ++ (now ++ t ∷ []) = append_assoc made now (t ∷ []) in record {
         set = passes.set ∙ ap (cond (sets_bounds t.act) t.at) so.set ∙ sym (set_more (made ++ now) t)
             ∙ ap last_set joined;
+        longest = passes.longest ∙ ap (max (delay_set t.act)) so.longest ∙ longer n (made ++ now) t
+            ∙ ap (longest_delay n) joined;
         tables = subst (λ events. Stand n events new.tables) joined
             (stand_more n network (made ++ now) t old.tables new.tables so.tables passes.tables);
         systems = passes.systems ∙ ap (map (system_done t.act)) so.systems ∙ systems_more n (made ++ now) t
@@ -122,6 +137,7 @@ module _ (n : NetworkState) (network : IsNetwork n) where
   stands_on made now time old new so on =
       let none : made ++ now ≡ (made ++ now) ++ [] = sym (append-nil (made ++ now)) in record {
         set = on.set ∙ so.set ∙ ap last_set none;
+        longest = on.longest ∙ so.longest ∙ ap (longest_delay n) none;
         tables = subst (λ events. Stand n events new.tables) none
             (subst (Stand n (made ++ now)) (sym on.tables) so.tables);
         systems = ap (λ (v : _). v.items) on.systems ∙ so.systems ∙ ap (systems_after n) none;

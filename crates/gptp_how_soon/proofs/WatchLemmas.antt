@@ -26,7 +26,7 @@ watched_longer_then : (d : DocumentState) (before : Option SettlingTime) (at : �
 watched_longer_then d before at s is =
     let n = d.network in
     let v : View = view_at n (events_before before d.events) (events_at at d.events) before at in
-    watched_longer n at v.last_set v.paths v.calm (sets_link v.told) (row_at n v) (gained_at n v) s is
+    watched_longer n at v.last_set v.paths v.calm (sets_link v.told) (row_at v) (gained_at n v) s is
 
 watched_longer_from : (d : DocumentState) (before : Option SettlingTime) (ats : List ℕ) (t : SettlingTime)
     (s : Settling) → In t (settling_times_from d before ats) → t.settling ≡ Some s → s.choice < t.watch

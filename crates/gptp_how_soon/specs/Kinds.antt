@@ -152,9 +152,6 @@ makes_nothing e = is_idle e || is_unused e
 abbrev pub lowers_unused : Told → Bool
 lowers_unused e = is_unused e && is_link_down e
 
-abbrev pub raises_unused : Told → Bool
-raises_unused e = is_unused e && is_link_up e
-
 -- an act sets the bounds of a link, idly or not
 abbrev pub sets_bounds : Act → Bool
 sets_bounds act = elim (what_of act) [ whats.LinkSet ↦ true | _ ↦ false ]
@@ -185,9 +182,10 @@ is_failure_of_same told e = is_fail e && not (is_idle e) && recovers told e.cloc
 abbrev pub fails_and_recovers : List Told → Bool
 fails_and_recovers told = list_any (is_failure_of_same told) told
 
--- What an event tells is heard at once: a link comes up, or, where nothing was heard before, a system gets better.
+-- What an event tells is heard at once, over links that are easy to hear: a link comes up, a system recovers, or, where
+-- nothing was heard before, a system gets better.
 abbrev pub is_heard_too : Bool → Told → Bool
-is_heard_too heard e = is_gain e && (is_link_up e || (is_priority1 e && not heard))
+is_heard_too heard e = is_gain e && (is_link_up e || is_recover e || (is_priority1 e && not heard))
 
 -- There is such an event, or was one, and each that makes something of what stands is such a one.
 abbrev pub are_heard : Bool → List Told → Bool

@@ -1,13 +1,19 @@
--- How the links of a network stand after events, which of them are new at a time, and over which delays vary (profile).
-use Rattle.std.specs.Prelude.{ℕ, ◌*◌, ◌&&◌, ◌||◌, not, nat_le, Bool, false, if◌then◌else◌, List, [], ◌∷◌, ◌++◌, map, filter, Option, Some, None, slice_get}
+-- How the links of a network stand after events, which of them are new at a time, over which delays vary, and the
+-- greatest delay that one has had (profile).
+use Rattle.std.specs.Prelude.{ℕ, ◌*◌, ◌&&◌, not, nat_le, max, Bool, false, if◌then◌else◌, List, [], ◌∷◌, ◌++◌, map, filter, Option, Some, None, slice_get}
 use Rattle.gptp_scenario.specs.Change.{link_after}
 use Rattle.gptp_scenario.specs.InUse.{lives}
 use Rattle.gptp_scenario.specs.Network.{NetworkState}
+use Rattle.gptp_scenario.specs.declared.change.Act.{Act}
+use Rattle.gptp_scenario.specs.declared.change.Act.TheVariants as acts
+use Rattle.gptp_scenario.specs.declared.change.Change.{Change}
+use Rattle.gptp_scenario.specs.declared.change.Change.TheVariants as changes
 use Rattle.gptp_scenario.specs.declared.change.Timed.{Timed}
 use Rattle.gptp_scenario.specs.declared.network.LinkSpec.{LinkSpec}
 use Rattle.gptp_topology.specs.Course.{cable_is_used, cable_of}
 use Rattle.gptp_topology.specs.declared.course.Cable.{Cable}
 use Rattle.gptp_topology.specs.declared.course.Standing.{Standing}
+use Rattle.gptp_topology.specs.Tables.{cables_of}
 
 -- how a link stands after events, and each of a network
 abbrev pub standing_then : NetworkState → List Timed → LinkSpec → Standing
@@ -24,10 +30,6 @@ standings_after n events = map (standing_then n events) n.links
 -- the greatest delay of a link is twice the least or more
 abbrev pub varies : Cable → Bool
 varies c = nat_le (2 * c.bounds.min) c.bounds.max
-
--- a link that is up joins a live system to one that has failed
-abbrev pub is_unanswered : Standing → Bool
-is_unanswered s = s.cable.up && (s.a_lives || s.b_lives) && not (s.a_lives && s.b_lives)
 
 -- A link is new that is in use after the events of a time and wasn't before; at the first time each in use is.
 abbrev pub is_new : NetworkState → List Timed → List Timed → Bool → LinkSpec → Bool
@@ -56,3 +58,33 @@ abbrev pub new_among : Bool → List Standing → List Bool → List Cable
 new_among first [] used = []
 new_among first (s ∷ ss) [] = new_one s (not first && false) ++ new_among first ss []
 new_among first (s ∷ ss) (u ∷ us) = new_one s (not first && u) ++ new_among first ss us
+
+-- ---- the greatest delay
+
+-- that of some links, in ns, or 0
+abbrev pub longest_among : List Cable → ℕ
+longest_among [] = 0
+longest_among (c ∷ cs) = max c.bounds.max (longest_among cs)
+
+-- that which an act lets a link have, or 0
+abbrev pub delay_changed : Change → ℕ
+delay_changed (changes.LinkDown clock port) = 0
+delay_changed (changes.LinkUp clock port) = 0
+delay_changed (changes.LinkSet clock port least greatest loss) = greatest
+delay_changed (changes.Fail clock) = 0
+delay_changed (changes.Recover clock) = 0
+delay_changed (changes.Priority1 clock value) = 0
+delay_changed (changes.Inject clock port octets) = 0
+
+abbrev pub delay_set : Act → ℕ
+delay_set (acts.Change change) = delay_changed change
+delay_set (acts.Deliver link direction) = 0
+delay_set (acts.Expire clock timer) = 0
+
+abbrev pub longest_set : List Timed → ℕ
+longest_set [] = 0
+longest_set (t ∷ ts) = max (delay_set t.act) (longest_set ts)
+
+-- that which a link has had, before all events or by one of these
+abbrev pub longest_delay : NetworkState → List Timed → ℕ
+longest_delay n events = max (longest_among (cables_of n)) (longest_set events)

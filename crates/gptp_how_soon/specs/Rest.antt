@@ -4,14 +4,9 @@
 -- past.
 use Rattle.std.specs.Prelude.{ℕ, ◌+◌, ◌*◌, ◌&&◌, ◌||◌, nat_le, nat_lt, not, Bool, false, if◌then◌else◌, List, Option, Some, None}
 use Rattle.std.specs.List.{list_all, list_any}
-use Rattle.gptp_setup.specs.SettlingParams.{largest_interval}
-use Rattle.gptp_scenario.specs.Network.{NetworkState, pace_of}
-use Rattle.gptp_scenario.specs.SettlingTime.{capability_span}
 use Rattle.gptp_scenario.specs.declared.sync_wait.SyncPaths.{SyncPaths}
-use Rattle.gptp_topology.specs.declared.course.Standing.{Standing}
 use Rattle.gptp_how_soon.specs.Bounds.{way_span}
-use Rattle.gptp_how_soon.specs.Kinds.{are_heard, begins_wider, fails_and_recovers, first_wider_by, is_better, is_gain, is_loss, is_other, is_recovery, is_wider, lowers_unused, makes_nothing, raises_unused, tells_nothing}
-use Rattle.gptp_how_soon.specs.Links.{is_unanswered}
+use Rattle.gptp_how_soon.specs.Kinds.{are_heard, begins_wider, fails_and_recovers, first_wider_by, is_better, is_gain, is_loss, is_other, is_recovery, is_wider, lowers_unused, makes_nothing, tells_nothing}
 use Rattle.gptp_how_soon.specs.declared.bounds.Row.{Row}
 use Rattle.gptp_how_soon.specs.declared.bounds.Row.TheVariants.{AnyPast, Unchanged, Gained}
 use Rattle.gptp_how_soon.specs.declared.bounds.Settling.{Settling}
@@ -19,11 +14,6 @@ use Rattle.gptp_how_soon.specs.declared.bounds.SettlingTime.{SettlingTime}
 use Rattle.gptp_how_soon.specs.declared.kinds.Told.{Told}
 
 -- ---- from rest
-
--- Time 0 is followed where its events, if any, leave it so that nothing is told, and no link that is up then joins a
--- live system to one that has failed.
-abbrev pub is_start_from_rest : List Standing → List Told → Bool
-is_start_from_rest standings told = list_all tells_nothing told && not (list_any is_unanswered standings)
 
 -- what was at the time before has come to rest by this one
 abbrev pub rested_by : SettlingTime → ℕ → Option Settling → Bool
@@ -37,23 +27,14 @@ rested b at = rested_by b at b.settling
 abbrev pub are_events_followed : List Told → Bool
 are_events_followed told = not (list_any is_other told) && not (fails_and_recovers told)
 
--- A link that isn't used is followed as it comes up once all ports that can't be capable have shown it, and what a way
--- took before has passed; and as it goes down where no event of the time is a gain.
-abbrev pub have_shown : NetworkState → SyncPaths → ℕ → Bool
-have_shown n paths_before at = nat_le (capability_span (pace_of n) + way_span paths_before) at
+-- a link that isn't used is followed as it comes up, and as it goes down where no event of the time is a gain
+abbrev pub are_turns_followed : List Told → Bool
+are_turns_followed told = not (list_any lowers_unused told && list_any is_gain told)
 
-abbrev pub are_turns_followed : NetworkState → ℕ → SyncPaths → List Told → Bool
-are_turns_followed n at paths_before told =
-    (not (list_any raises_unused told) || have_shown n paths_before at)
-    && not (list_any lowers_unused told && list_any is_gain told)
-
--- Systems that recover are followed where an announce interval has passed since the time before, all ports that can't
--- be capable have shown it, and no link that isn't used goes down besides.
-abbrev pub are_recoveries_followed : NetworkState → ℕ → ℕ → List Told → ℕ → Bool
-are_recoveries_followed n last at told ready =
-    nat_lt (last + largest_interval (pace_of n)) at
-    && nat_le (capability_span (pace_of n)) (at + ready)
-    && not (list_any lowers_unused told)
+-- Systems that recover are followed where the greatest delay that a link has had has passed since the time before, so
+-- that nothing of what was sent then is in flight, and no link that isn't used goes down besides.
+abbrev pub are_recoveries_followed : ℕ → ℕ → ℕ → List Told → Bool
+are_recoveries_followed longest last at told = nat_lt (last + longest) at && not (list_any lowers_unused told)
 
 -- A link that gets wider is followed as the first event of a time whose others change nothing, where what was before
 -- settles by its wider delays too: two messages of the link take so much longer, and a way does.
@@ -66,15 +47,14 @@ abbrev pub is_wider_followed : SettlingTime → ℕ → SyncPaths → SyncPaths 
 is_wider_followed b at paths_before paths told =
     begins_wider told && settles_wider_by b at paths_before paths (first_wider_by told) b.settling
 
-abbrev pub is_from_rest : NetworkState → ℕ → SyncPaths → SyncPaths → List Standing → List Told → ℕ
-    → Option SettlingTime
-    → Bool
-is_from_rest n at paths_before paths standings told ready None = is_start_from_rest standings told
-is_from_rest n at paths_before paths standings told ready (Some b) =
+-- Time 0 is from rest where its events, if any, leave it so that nothing is told.
+abbrev pub is_from_rest : ℕ → ℕ → SyncPaths → SyncPaths → List Told → Option SettlingTime → Bool
+is_from_rest longest at paths_before paths told None = list_all tells_nothing told
+is_from_rest longest at paths_before paths told (Some b) =
     rested b at
     && are_events_followed told
-    && are_turns_followed n at paths_before told
-    && (not (list_any is_recovery told) || are_recoveries_followed n b.at at told ready)
+    && are_turns_followed told
+    && (not (list_any is_recovery told) || are_recoveries_followed longest b.at at told)
     && (not (list_any is_wider told) || is_wider_followed b at paths_before paths told)
 
 -- ---- rows

@@ -22,21 +22,22 @@ use Rattle.gptp_topology.specs.declared.course.Cable.{Cable}
 use Rattle.gptp_topology.specs.declared.course.Standing.{Standing}
 use Rattle.gptp_how_soon.specs.Bounds.{heard_by, ready, times_by, way_span}
 use Rattle.gptp_how_soon.specs.Kinds.{sets_bounds, sets_link, told_by}
-use Rattle.gptp_how_soon.specs.Links.{new_links, standings_after}
+use Rattle.gptp_how_soon.specs.Links.{longest_delay, new_links, standings_after}
 use Rattle.gptp_how_soon.specs.Rest.{heard_at_once, is_from_rest, row_of}
 use Rattle.gptp_how_soon.specs.Systems.{has_clock, systems_after}
 use Rattle.gptp_how_soon.specs.declared.bounds.SettlingTime.{SettlingTime}
 use Rattle.gptp_how_soon.specs.declared.bounds.Row.{Row}
 use Rattle.gptp_how_soon.specs.declared.kinds.Told.{Told}
 
--- What is seen of a time: when a link was last set; the time before, and what Sync had to cross then; how links
--- stand at it, and those that are new; its events; what Sync has to cross; and whether the network is calm.
+-- What is seen of a time: when a link was last set, and the greatest delay that one has had; the time before, and what
+-- Sync had to cross then; the links that are new at it; its events; what Sync has to cross; and whether the network is
+-- calm.
 pub record View : Type 0 where
   pub at : ℕ
   pub last_set : ℕ
+  pub longest : ℕ
   pub before : Option SettlingTime
   pub paths_before : SyncPaths
-  pub standings : List Standing
   pub new : List Cable
   pub told : List Told
   pub paths : SyncPaths
@@ -58,12 +59,12 @@ heard_at n v = heard_by n (heard_at_once (is_first v) v.paths_before v.told) v.t
 abbrev pub gained_at : NetworkState → View → ℕ
 gained_at n v = ready_at n v + heard_at n v + way_span v.paths
 
-abbrev pub row_at : NetworkState → View → Row
-row_at n v =
-    row_of (is_from_rest n v.at v.paths_before v.paths v.standings v.told (ready_at n v) v.before) (is_first v) v.told
+abbrev pub row_at : View → Row
+row_at v =
+    row_of (is_from_rest v.longest v.at v.paths_before v.paths v.told v.before) (is_first v) v.told
 
 abbrev pub settling_time : NetworkState → View → SettlingTime
-settling_time n v = times_by n v.at v.last_set v.paths v.calm (sets_link v.told) (row_at n v) (gained_at n v)
+settling_time n v = times_by n v.at v.last_set v.paths v.calm (sets_link v.told) (row_at v) (gained_at n v)
 
 -- ---- what is seen
 
@@ -97,9 +98,9 @@ abbrev pub view_at : NetworkState → List Timed → List Timed → Option Settl
 view_at n made now before at = record {
   at = at;
   last_set = last_set (made ++ now);
+  longest = longest_delay n (made ++ now);
   before = before;
   paths_before = sync_paths n made;
-  standings = standings_after n (made ++ now);
   new = new_links n made (made ++ now) (not (is_some before));
   told = told_of n made now;
   paths = sync_paths n (made ++ now);

@@ -1,13 +1,13 @@
 -- How a document stands at each time, as its events come (profile).
-use Rattle.std.specs.Prelude.{◌≡◌, ◌≤◌, ℕ, ◌++◌, ◌∷◌, [], ◌==◌, not, if◌then◌else◌, map, List, Some, None, IsTrue}
+use Rattle.std.specs.Prelude.{◌≡◌, ◌≤◌, ℕ, ◌++◌, ◌∷◌, [], ◌==◌, not, max, if◌then◌else◌, map, List, Some, None, IsTrue}
 use Rattle.std.specs.List.{find}
 use Rattle.std.specs.Option.{is_some}
 use Rattle.gptp_scenario.specs.Network.{NetworkState}
 use Rattle.gptp_scenario.specs.declared.change.Act.{Act}
 use Rattle.gptp_topology.specs.Course.{cable_is_used, named}
-use Rattle.gptp_topology.specs.Tables.{AreFirstTables, TablesActed, are_calm, link_named, marked_paths, neighbours_at}
+use Rattle.gptp_topology.specs.Tables.{AreFirstTables, TablesActed, are_calm, cables_of, link_named, marked_paths, neighbours_at}
 use Rattle.gptp_how_soon.specs.Kinds.{sets_bounds, told_by}
-use Rattle.gptp_how_soon.specs.Links.{new_among}
+use Rattle.gptp_how_soon.specs.Links.{delay_set, longest_among, new_among}
 use Rattle.gptp_how_soon.specs.Systems.{first_system, has_clock, system_done}
 use Rattle.gptp_how_soon.specs.Times.{View, settling_time}
 use Rattle.gptp_how_soon.specs.declared.bounds.SettlingTime.{SettlingTime}
@@ -16,6 +16,7 @@ use Rattle.gptp_how_soon.specs.declared.walk.Walk.{Walk}
 -- before all events
 pub record IsFirstWalk (n : NetworkState) (w : Walk) : Type 0 where
   pub set : w.last_set ≡ 0
+  pub longest : w.longest ≡ longest_among (cables_of n)
   pub tables : AreFirstTables n w.tables
   pub systems : w.systems.items ≡ map first_system n.systems
   pub told : w.told.items ≡ []
@@ -26,6 +27,7 @@ pub record IsFirstWalk (n : NetworkState) (w : Walk) : Type 0 where
 -- an event of this time is passed
 pub record WalkPasses (at : ℕ) (act : Act) (old new : Walk) : Type 0 where
   pub set : new.last_set ≡ (if sets_bounds act then at else old.last_set)
+  pub longest : new.longest ≡ max (delay_set act) old.longest
   pub tables : TablesActed act old.tables new.tables
   pub systems : new.systems.items ≡ map (system_done act) old.systems.items
   pub told : new.told.items
@@ -41,6 +43,7 @@ pub record WalkPasses (at : ℕ) (act : Act) (old new : Walk) : Type 0 where
 -- it goes on to another time, where this is what is told of the one so far
 pub record WalkGoesOn (time : SettlingTime) (old new : Walk) : Type 0 where
   pub set : new.last_set ≡ old.last_set
+  pub longest : new.longest ≡ old.longest
   pub tables : new.tables ≡ old.tables
   pub systems : new.systems ≡ old.systems
   pub told : new.told.items ≡ []
@@ -53,9 +56,9 @@ abbrev pub view_seen : NetworkState → Walk → ℕ → View
 view_seen n w at = record {
   at = at;
   last_set = w.last_set;
+  longest = w.longest;
   before = w.before;
   paths_before = w.paths_before;
-  standings = w.tables.standings.items;
   new = new_among (not (is_some w.before)) w.tables.standings.items w.used_before.items;
   told = w.told.items;
   paths = marked_paths w.tables.marks.items w.tables.nodes.items;

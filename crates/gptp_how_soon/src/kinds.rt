@@ -2,7 +2,7 @@
 
 ghost use Rattle.std.specs.Prelude.{◌≡◌, ◌++◌, ◌∷◌, [], false, OnOk};
 ghost use Rattle.std.specs.List.{list_all, list_any};
-ghost use Rattle.gptp_how_soon.specs.Kinds.{are_heard, begins_wider, first_wider_by, is_wider, kind_of_link_set, wider_by, fails_and_recovers, is_fail, is_recover, is_better, is_failure_of_same, is_gain, is_link_down, is_unused, lowers_unused, makes_nothing, raises_unused, tells_nothing, is_heard_too, is_idle, is_loss, is_other, is_priority1, is_link_up, is_recovery, is_recovery_of, kind_of, kind_of_change, kind_of_failure, kind_of_link_down, kind_of_link_up, kind_of_priority1, kind_of_recovery, recovers, sets_bounds, sets_link, is_link_set, told_by, what_of, what_of_change};
+ghost use Rattle.gptp_how_soon.specs.Kinds.{are_heard, begins_wider, first_wider_by, is_wider, kind_of_link_set, wider_by, fails_and_recovers, is_fail, is_recover, is_better, is_failure_of_same, is_gain, is_link_down, is_unused, lowers_unused, makes_nothing, tells_nothing, is_heard_too, is_idle, is_loss, is_other, is_priority1, is_link_up, is_recovery, is_recovery_of, kind_of, kind_of_change, kind_of_failure, kind_of_link_down, kind_of_link_up, kind_of_priority1, kind_of_recovery, recovers, sets_bounds, sets_link, is_link_set, told_by, what_of, what_of_change};
 
 use crate::systems::System;
 use gptp_scenario::{Act, Change};
@@ -336,13 +336,6 @@ fn lowers_unused(told: &Told) -> bool
     is_unused(told) && is_link_down(told)
 }
 
-/// Whether a link comes up by it that isn't used.
-fn raises_unused(told: &Told) -> bool
-    ensures { result ≡ raises_unused told.now }
-{
-    is_unused(told) && is_link_up(told)
-}
-
 /// Whether a link is set among these events, idle or not.
 pub(crate) fn sets_link(told: &[Told]) -> bool
     ensures { result ≡ sets_link told.now }
@@ -473,13 +466,6 @@ pub(crate) fn any_lowers_unused(told: &[Told]) -> bool
     told.iter().any(|one| lowers_unused(one))
 }
 
-/// Whether a link that isn't used comes up by one of these events.
-pub(crate) fn any_raises_unused(told: &[Told]) -> bool
-    ensures { result ≡ list_any raises_unused told.now }
-{
-    told.iter().any(|one| raises_unused(one))
-}
-
 /// Whether one of these events is a loss.
 pub(crate) fn any_loss(told: &[Told]) -> bool
     ensures { result ≡ list_any is_loss told.now }
@@ -512,7 +498,7 @@ pub(crate) fn any_recovery(told: &[Told]) -> bool
 fn is_heard_too(heard: bool, told: &Told) -> bool
     ensures { result ≡ is_heard_too heard told.now }
 {
-    is_gain(told) && (is_link_up(told) || (is_priority1(told) && !heard))
+    is_gain(told) && (is_link_up(told) || is_recover(told) || (is_priority1(told) && !heard))
 }
 
 /// Whether what these events tell is heard at once.

@@ -1,10 +1,10 @@
-//! Which links are new at a time, and over which delays vary.
+//! Which links are new at a time, over which delays vary, and the greatest delay of links.
 
 ghost use Rattle.std.specs.Prelude.{◌≡◌, ◌++◌, ◌∷◌, [], IfOk, OnOk, map};
-ghost use Rattle.std.specs.List.{list_any};
 ghost use Rattle.gptp_topology.specs.Course.{cable_is_used};
-ghost use Rattle.gptp_how_soon.specs.Links.{is_old_at, is_unanswered, is_used_at, new_among, new_one, varies};
+ghost use Rattle.gptp_how_soon.specs.Links.{delay_changed, delay_set, is_old_at, is_used_at, longest_among, new_among, new_one, varies};
 
+use gptp_scenario::{Act, Change};
 use gptp_topology::{Cable, Standing, is_used};
 use std::alloc::{AllocError, Global};
 
@@ -13,20 +13,6 @@ pub(crate) fn varies(cable: &Cable) -> bool
     ensures { result ≡ varies cable.now }
 {
     2 * u128::from(cable.bounds.min) <= u128::from(cable.bounds.max)
-}
-
-/// Whether a link that is up joins a live system to one that has failed.
-fn is_unanswered(link: &Standing) -> bool
-    ensures { result ≡ is_unanswered link.now }
-{
-    link.cable.up && (link.a_lives || link.b_lives) && !(link.a_lives && link.b_lives)
-}
-
-/// Whether one of these links does.
-pub(crate) fn any_unanswered(standings: &[Standing]) -> bool
-    ensures { result ≡ list_any is_unanswered standings.now }
-{
-    standings.iter().any(|link| is_unanswered(link))
 }
 
 /// Which of these links are in use.
@@ -85,4 +71,55 @@ pub(crate) fn new_links(
         )?;
     }
     Ok(new)
+}
+
+/// The greatest delay of these links, in ns, or 0.
+#[tactic(auto, using(gptp_topology::proofs::BoundLemmas::delay_moves))]
+pub(crate) fn longest_among(cables: &[Cable]) -> u64
+    ensures { result ≡ longest_among cables.now }
+{
+    let mut longest = 0;
+    for cable in cables {
+        longest = cable.bounds.max.max(longest);
+    }
+    longest
+}
+
+/// The delay, in ns, that a change lets a link have at most, or 0.
+fn delay_changed(change: &Change) -> u64
+    ensures { result ≡ delay_changed change.now }
+{
+    match *change {
+        Change::LinkSet {
+            clock: _,
+            port: _,
+            min: _,
+            max,
+            loss: _,
+        } => max,
+        Change::LinkDown { clock: _, port: _ } => 0,
+        Change::LinkUp { clock: _, port: _ } => 0,
+        Change::Fail { clock: _ } => 0,
+        Change::Recover { clock: _ } => 0,
+        Change::Priority1 { clock: _, value: _ } => 0,
+        Change::Inject {
+            clock: _,
+            port: _,
+            octets: _,
+        } => 0,
+    }
+}
+
+/// The same of an act.
+pub(crate) fn delay_set(act: &Act) -> u64
+    ensures { result ≡ delay_set act.now }
+{
+    match act {
+        Act::Change(change) => delay_changed(change),
+        Act::Deliver {
+            link: _,
+            direction: _,
+        } => 0,
+        Act::Expire { clock: _, timer: _ } => 0,
+    }
 }

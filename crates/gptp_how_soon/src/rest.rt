@@ -2,25 +2,15 @@
 
 ghost use Rattle.std.specs.Prelude.{◌≡◌, ◌≤◌, ◌+◌, ◌*◌, nat_lt};
 ghost use Rattle.gptp_how_soon.specs.Bounds.{way_span};
-ghost use Rattle.gptp_how_soon.specs.Rest.{are_events_followed, are_recoveries_followed, are_turns_followed, have_shown, heard_at_once, is_from_rest, is_start_from_rest, is_wider_followed, rested, row_of, settles_wider_by};
+ghost use Rattle.gptp_how_soon.specs.Rest.{are_events_followed, are_recoveries_followed, are_turns_followed, heard_at_once, is_from_rest, is_wider_followed, rested, row_of, settles_wider_by};
 
 use crate::bounds::{Row, SettlingTime, way_span};
 use crate::kinds::{
     Told, all_make_nothing, all_tell_nothing, any_better, any_gain, any_loss, any_lowers_unused,
-    any_other, any_raises_unused, any_recovery, any_wider, are_heard, begins_wider,
-    fails_and_recovers, first_wider_by,
+    any_other, any_recovery, any_wider, are_heard, begins_wider, fails_and_recovers,
+    first_wider_by,
 };
-use crate::links::any_unanswered;
-use gptp_scenario::{Network, SyncPaths};
-use gptp_setup::interval_of;
-use gptp_topology::Standing;
-
-/// Whether time 0 is from rest.
-fn is_start_from_rest(standings: &[Standing], told: &[Told]) -> bool
-    ensures { result ≡ is_start_from_rest standings.now told.now }
-{
-    all_tell_nothing(told) && !any_unanswered(standings)
-}
+use gptp_scenario::SyncPaths;
 
 /// Whether a time is later than another by more than a span.
 fn is_later(last: u64, span: u64, at: u64) -> bool
@@ -46,35 +36,18 @@ fn are_events_followed(told: &[Told]) -> bool
     !any_other(told) && !fails_and_recovers(told)
 }
 
-/// Whether all ports that can't be capable have shown it, and what a way took before has passed.
-fn have_shown(network: &Network, paths_before: SyncPaths, at: u64) -> bool
-    ensures { result ≡ have_shown network.now paths_before at }
-{
-    network.well_formed();
-    let interval = interval_of(network.largest());
-    let capable = (u64::from(network.params().lost) + 5) * interval;
-    let further = (paths_before.systems as u64).saturating_sub(1);
-    u128::from(capable) + u128::from(further) * u128::from(paths_before.delay) <= u128::from(at)
-}
-
 /// Whether links that go down or come up unused are followed.
-fn are_turns_followed(network: &Network, at: u64, paths_before: SyncPaths, told: &[Told]) -> bool
-    ensures { result ≡ are_turns_followed network.now at paths_before told.now }
+fn are_turns_followed(told: &[Told]) -> bool
+    ensures { result ≡ are_turns_followed told.now }
 {
-    (!any_raises_unused(told) || have_shown(network, paths_before, at))
-        && !(any_lowers_unused(told) && any_gain(told))
+    !(any_lowers_unused(told) && any_gain(told))
 }
 
 /// Whether systems that recover are followed.
-fn are_recoveries_followed(network: &Network, last: u64, at: u64, told: &[Told], ready: u64) -> bool
-    ensures { result ≡ are_recoveries_followed network.now last at told.now ready }
+fn are_recoveries_followed(longest: u64, last: u64, at: u64, told: &[Told]) -> bool
+    ensures { result ≡ are_recoveries_followed longest last at told.now }
 {
-    network.well_formed();
-    let interval = interval_of(network.largest());
-    let capable = (u64::from(network.params().lost) + 5) * interval;
-    is_later(last, interval, at)
-        && u128::from(capable) <= u128::from(at) + u128::from(ready)
-        && !any_lowers_unused(told)
+    is_later(last, longest, at) && !any_lowers_unused(told)
 }
 
 /// Whether a choice that stood so much later than a time, in ns, would have stood by another where a link is wider by so
@@ -132,29 +105,26 @@ fn is_wider_followed(
 
 /// Whether a time is from rest.
 pub(crate) fn is_from_rest(
-    network: &Network,
+    longest: u64,
     at: u64,
     paths_before: SyncPaths,
     paths: SyncPaths,
-    standings: &[Standing],
     told: &[Told],
-    ready: u64,
     before: Option<SettlingTime>,
 ) -> bool
     requires few { paths.systems ≤ 512 }
     requires short { paths.delay ≤ 16000000000 }
-    ensures { result ≡ is_from_rest network.now at paths_before paths standings.now told.now ready before }
+    ensures { result ≡ is_from_rest longest at paths_before paths told.now before }
 {
     match before {
         Some(before) => {
             rested(&before, at)
                 && are_events_followed(told)
-                && are_turns_followed(network, at, paths_before, told)
-                && (!any_recovery(told)
-                    || are_recoveries_followed(network, before.at, at, told, ready))
+                && are_turns_followed(told)
+                && (!any_recovery(told) || are_recoveries_followed(longest, before.at, at, told))
                 && (!any_wider(told) || is_wider_followed(&before, at, paths_before, paths, told))
         }
-        None => is_start_from_rest(standings, told),
+        None => all_tell_nothing(told),
     }
 }
 

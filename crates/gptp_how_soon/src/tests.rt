@@ -158,12 +158,12 @@ fn events_at_the_start_leave_it_sharp(rt: HostRuntime) -> Result<(), Fail> {
         "[[event]]\nat = 0\nkind = \"link_down\"\nclock = \"000000000000000a\"\nport = 1\n",
     )?;
     assert_eq!(rt; soon(&cut, 0), Some((1_000_003_050, 1_000_010_250)));
-    // A neighbour of a system that fails then waits for it.
+    // A system fails.
     let failed = ring(
         rt.alloc(),
         "[[event]]\nat = 0\nkind = \"fail\"\nclock = \"000000000000000d\"\n",
     )?;
-    assert_eq!(rt; soon(&failed, 0), Some((15_000_000_820, 15_000_006_220)));
+    assert_eq!(rt; soon(&failed, 0), Some((1_000_002_640, 1_000_008_040)));
     Ok(())
 }
 
@@ -202,6 +202,29 @@ fn a_system_recovers_behind_its_links(rt: HostRuntime) -> Result<(), Fail> {
     assert_eq!(rt;
         soon(&times, 60_000_000_000),
         Some((3_000_003_050, 63_000_010_250))
+    );
+    Ok(())
+}
+
+#[test]
+fn a_system_that_recovers_without_links_is_heard_at_once(rt: HostRuntime) -> Result<(), Fail> {
+    let times = ring(
+        rt.alloc(),
+        "[[event]]\nat = 30000000000\nkind = \"fail\"\nclock = \"000000000000000d\"\n[[event]]\nat = 30000000000\nkind = \"link_down\"\nclock = \"000000000000000d\"\nport = 1\n[[event]]\nat = 30000000000\nkind = \"link_down\"\nclock = \"000000000000000d\"\nport = 2\n[[event]]\nat = 60000000000\nkind = \"recover\"\nclock = \"000000000000000d\"\n",
+    )?;
+    assert_eq!(rt; soon(&times, 60_000_000_000), Some((820, 60_000_006_220)));
+    Ok(())
+}
+
+#[test]
+fn a_system_recovers_once_no_frame_of_before_is_in_flight(rt: HostRuntime) -> Result<(), Fail> {
+    let early = ring(
+        rt.alloc(),
+        "[[event]]\nat = 0\nkind = \"fail\"\nclock = \"000000000000000d\"\n[[event]]\nat = 1000003051\nkind = \"recover\"\nclock = \"000000000000000d\"\n",
+    )?;
+    assert_eq!(rt;
+        soon(&early, 1_000_003_051),
+        Some((3_000_003_050, 4_000_013_301))
     );
     Ok(())
 }

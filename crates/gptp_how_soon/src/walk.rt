@@ -8,7 +8,7 @@ ghost use Rattle.gptp_how_soon.specs.Walk.{IsFirstWalk, WalkGoesOn, WalkPasses, 
 
 use crate::bounds::{SettlingTime, heard, ready, times_by, way_span};
 use crate::kinds::{Told, sets_bounds, sets_link, tell};
-use crate::links::{new_links, used_links};
+use crate::links::{delay_set, longest_among, new_links, used_links};
 use crate::rest::{heard_at_once, is_from_rest, row_of};
 use crate::systems::{System, act_on_systems, first_systems, system_at};
 use gptp_scenario::{Act, Network, SyncPaths};
@@ -22,6 +22,8 @@ pub(crate) struct Walk {
     pub systems: Vec<System>,
     /// When a link was last set; 0 where none was.
     pub last_set: u64,
+    /// The greatest delay that a link has had, in ns.
+    pub longest: u64,
     /// The events of this time.
     pub told: Vec<Told>,
     /// The time before, if there is one.
@@ -50,6 +52,7 @@ impl Walk {
             tables,
             systems,
             last_set: 0,
+            longest: longest_among(cables),
             told: Vec::new(alloc),
             before: None,
             used_before,
@@ -70,6 +73,7 @@ impl Walk {
         if sets_bounds(act) {
             self.last_set = at;
         }
+        self.longest = delay_set(act).max(self.longest);
         Ok(())
     }
 
@@ -109,16 +113,8 @@ impl Walk {
         let ready = ready(network, paths, told, new);
         let followed = heard_at_once(first, self.paths_before, told);
         let gained = ready + heard(network, followed, told, new) + way_span(paths);
-        let from_rest = is_from_rest(
-            network,
-            at,
-            self.paths_before,
-            paths,
-            standings,
-            told,
-            ready,
-            self.before,
-        );
+        let paths_before = self.paths_before;
+        let from_rest = is_from_rest(self.longest, at, paths_before, paths, told, self.before);
         Ok(times_by(
             network,
             at,

@@ -64,7 +64,7 @@ module _ (d : DocumentState) (playable : IsPlayable d) where
       let v : View = view_at n [] now None 0 in
       let it = tells n v s is in
       let bound =
-      bounds_choice n (λ choice. BoundsStart n now choice) now (row_at n v) (gained_at n v) it.calm
+      bounds_choice n (λ choice. BoundsStart n now choice) now (row_at v) (gained_at n v) it.calm
       (λ row. absurd (never_unchanged n now row)) (λ row off. started n now row) in
       record {
         choice = (
@@ -106,7 +106,7 @@ module _ (d : DocumentState) (playable : IsPlayable d) where
     later_so s is =
         let it = tells n v s is in
         let bound =
-        bounds_choice n Sharp (made ++ now) (row_at n v) (gained_at n v) it.calm
+        bounds_choice n Sharp (made ++ now) (row_at v) (gained_at n v) it.calm
         (λ row. let (rest, idle) = unchanged n playable.network all b at late row in
         sharp 0 rest (elim idle [ inl still ↦ inl (still, refl) | inr wider ↦ inr (inl (wider, refl)) ]))
         (λ row off. let (rest, gains) = gained n playable.network all b at late row off in

@@ -3,20 +3,18 @@
 use Rattle.std.proofs.Common.{◌≡◌, ◌<◌, ◌≤◌, ◌⊎◌, inl, inr, ◌+◌, ◌*◌, ℕ, Bool, true, false, cond, suc, List, [], ◌∷◌, ◌++◌, length, filter, refl, sym, ap, ap₂, subst, ◌∙◌, append-nil, append_assoc, arith}
 use Rattle.std.specs.Prelude.{◌==◌, ◌&&◌, ◌||◌, not}
 use Rattle.std.specs.List.{AllByRecursion, list_all, list_any}
-use Rattle.std.proofs.lemmas.Bool.{and_from, and_parts, eq-eqb, false_from_ne_true, ne_eqb, not-true, or_cases, or_parts}
+use Rattle.std.proofs.lemmas.Bool.{and_from, and_parts, eq-eqb, false_from_ne_true, ne_eqb, not-true, or_cases, or_from, or_parts}
 use Rattle.std.proofs.lemmas.Bool.Decides.{nat_tests}
 use Rattle.gptp_lists.specs.Members.{In}
 use Rattle.gptp_lists.proofs.SystemSpecLemmas.{In-map, In-slice_get}
 use Rattle.gptp_vector.specs.declared.port.PortId.{PortId}
 use Rattle.gptp_links.specs.declared.bounds.Bounds.{Bounds}
 use Rattle.gptp_setup.specs.Intervals.{interval_of}
-use Rattle.gptp_setup.specs.SettlingParams.{largest_interval}
 use Rattle.gptp_setup.specs.declared.setup.Params.{Params}
 use Rattle.gptp_scenario.specs.Calm.{IsLive, NothingLapses}
 use Rattle.gptp_scenario.specs.Change.{link_acted, link_after, with_up}
 use Rattle.gptp_scenario.specs.InUse.{lives}
 use Rattle.gptp_scenario.specs.Network.{IsNetwork, NetworkState, pace_of}
-use Rattle.gptp_scenario.specs.SettlingTime.{capability_span}
 use Rattle.gptp_scenario.specs.SyncWait.{sync_paths}
 use Rattle.gptp_scenario.specs.declared.change.Act.{Act}
 use Rattle.gptp_scenario.specs.declared.change.Act.TheVariants as acts
@@ -31,16 +29,17 @@ use Rattle.gptp_network.proofs.PassLemmas.{kept, passes_at}
 use Rattle.gptp_topology.specs.Course.{cable_is_used, cable_of, named}
 use Rattle.gptp_topology.specs.declared.course.Cable.{Cable}
 use Rattle.gptp_how_soon.specs.Bounds.{asked_again, is_again, is_hard_to_hear, ready, two_exchanges}
-use Rattle.gptp_how_soon.specs.Kinds.{are_heard, is_better, is_gain, is_heard_too, is_idle, is_link_up, is_loss, is_other, is_priority1, is_recovery, is_recovery_of, is_unused, lowers_unused, makes_nothing, raises_unused, recovers, what_of, begins_wider, first_wider_by, is_wider, wider_by}
+use Rattle.gptp_how_soon.specs.Kinds.{are_heard, is_better, is_gain, is_heard_too, is_idle, is_link_up, is_loss, is_other, is_priority1, is_recover, is_recovery, is_recovery_of, is_unused, lowers_unused, makes_nothing, recovers, what_of, begins_wider, first_wider_by, is_wider, wider_by}
 use Rattle.gptp_how_soon.specs.Links.{is_new, new_links, standing_then, varies}
 use Rattle.gptp_how_soon.specs.Times.{told_at, told_of}
 use Rattle.gptp_how_soon.specs.declared.kinds.Told.{Told}
-use Rattle.gptp_settling_time.specs.Gains.{AreSparedBy, ChangesNothing, IsNoWorse, IsSparedBy, JoinsLive, LeavesCapable, SparesFailed, TakesNothing, UsesNoLink, exchanged_again_from}
+use Rattle.gptp_settling_time.specs.Gains.{AreSparedBy, ChangesNothing, HasDelaysWithin, IsNoWorse, IsSparedBy, JoinsLive, LeavesCapable, SparesFailed, TakesNothing, UsesNoLink, exchanged_again_from}
 use Rattle.gptp_settling_time.specs.HowSoon.{AfterIdleEvents, AreGainEvents, AreHeardEvents, EachEvent, IsGainEvent, IsGainToo, IsHeardEvent, IsHeardToo, IsIdleEvent, TurnsUnused, way_span, AreWiderEvents}
-use Rattle.gptp_settling_time.specs.InTurn.{BettersClock, BringsUp, MakesNothing, TurnsInVain}
+use Rattle.gptp_settling_time.specs.InTurn.{AddsHeard, BettersClock, BringsUp, MakesNothing, RecoversAlone, TurnsInVain}
+use Rattle.gptp_settling_time.proofs.DelayWithinLemmas.{within_before}
 use Rattle.gptp_settling_time.proofs.SamePathsLemmas.{idle_paths, turned_paths}
 use Rattle.gptp_how_soon_laws.proofs.CalmLemmas.{lives_to, three_from, three_parts, used_cable}
-use Rattle.gptp_how_soon_laws.proofs.KindLemmas.{Gains, RaisesLink, TurnsBroken, gain_gains, gain_is_not_idle, idle_changes, nothing_or_gain, unused_turns, wider_widens}
+use Rattle.gptp_how_soon_laws.proofs.KindLemmas.{Gains, RaisesLink, gain_gains, gain_is_not_idle, idle_changes, nothing_or_gain, unused_turns, wider_widens}
 use Rattle.gptp_how_soon_laws.proofs.MoreLemmas.{IsMore, Leaves, more_delay, more_live, more_lives, more_on, one_more, same_more}
 use Rattle.gptp_how_soon_laws.proofs.NamedLemmas.{end_first}
 
@@ -56,12 +55,17 @@ none_any p xs x none member = false_from_ne_true (p x) (λ is.
 
 -- ---- what failed systems sent is gone
 
--- after events that are long over
-spared_past : (n : NetworkState) (time : ℕ) (made events : List Timed) → 0 < time
-    → AllByRecursion (λ (t : Timed). t.at + largest_interval (pace_of n) < time) events → AreSparedBy n made events time
-spared_past n time made [] positive past = positive
-spared_past n time made (event ∷ events) positive past =
-    (inl past.0, spared_past n time (made ++ event ∷ []) events positive past.1)
+-- after events that are over by more than a link takes
+spared_past : (n : NetworkState) (most time : ℕ) (made events : List Timed) → 0 < time
+    → HasDelaysWithin n (made ++ events) most → AllByRecursion (λ (t : Timed). t.at + most < time) events
+    → AreSparedBy n made events time
+spared_past n most time made [] positive within past = positive
+spared_past n most time made (event ∷ events) positive within past =
+    let joined : HasDelaysWithin n ((made ++ event ∷ []) ++ events) most =
+    subst (λ es. HasDelaysWithin n es most) (sym (append_assoc made (event ∷ []) events)) within in (
+      inl (most, within_before n (made ++ event ∷ []) events most joined, past.0),
+      spared_past n most time (made ++ event ∷ []) events positive joined past.1,
+    )
 
 -- after one event more
 spared_more : (n : NetworkState) (time : ℕ) (made events : List Timed) (event : Timed) → AreSparedBy n made events time
@@ -99,6 +103,15 @@ ready_again p paths told (c ∷ cs) again =
     ap₂ (λ none test. cond none 0 (cond test (asked_again p paths) (two_exchanges p paths)))
     (not_none c (c ∷ cs) (inl refl)) again
 
+-- none is again that is easy to hear
+none_again : (told : List Told) (cs : List Cable) → list_any (is_hard_to_hear told) cs ≡ false
+    → list_any (is_again told) cs ≡ false
+none_again told [] soft = refl
+none_again told (c ∷ cs) soft =
+    let (one, rest) = or_parts (is_hard_to_hear told c) (list_any (is_hard_to_hear told) cs) soft in
+    or_from (is_again told c) (list_any (is_again told) cs) (or_parts (is_again told c) (varies c) one).0
+    (none_again told cs rest)
+
 -- ---- the events of a time
 
 module _ (n : NetworkState) (network : IsNetwork n) (time : ℕ) (first events : List Timed) where
@@ -123,15 +136,14 @@ module _ (n : NetworkState) (network : IsNetwork n) (time : ℕ) (first events :
 
   -- where a system recovers
   pub record AreFollowed : Type 0 where
-    pub past : AllByRecursion (λ (t : Timed). t.at + largest_interval (pace_of n) < time) first
-    pub capable : capability_span (pace_of n) ≤ time + start
+    pub most : ℕ
+    pub within : HasDelaysWithin n first most
+    pub past : AllByRecursion (λ (t : Timed). t.at + most < time) first
     pub turns : list_any lowers_unused tolds ≡ false
 
   -- where a link turns that isn't used
-  pub record AreTurnsFollowed : Type 0 where
-    pub raised : list_any raises_unused tolds ≡ true
-        → capability_span (pace_of n) + way_span (sync_paths n first) ≤ time
-    pub lowered : list_any lowers_unused tolds ≡ true → list_any is_gain tolds ≡ false
+  abbrev pub AreTurnsFollowed : Type 0
+  AreTurnsFollowed = list_any lowers_unused tolds ≡ true → list_any is_gain tolds ≡ false
 
   -- an event of the time that takes nothing away
   pub record IsTold (e : Told) : Type 0 where
@@ -170,7 +182,7 @@ module _ (n : NetworkState) (network : IsNetwork n) (time : ℕ) (first events :
   leaves_gain made (acts.Change (changes.Priority1 number value)) gains = tt
   leaves_gain made (acts.Change (changes.Inject clock port octets)) gains = tt
 
-  leaves_turned : (made : List Timed) (act : Act) → TurnsBroken n network made act → Leaves n made act
+  leaves_turned : (made : List Timed) (act : Act) → TurnsUnused n made act → Leaves n made act
   leaves_turned made (acts.Deliver link direction) broken = tt
   leaves_turned made (acts.Expire clock timer) broken = tt
   leaves_turned made (acts.Change (changes.LinkDown clock port)) broken = inr broken
@@ -203,49 +215,24 @@ module _ (n : NetworkState) (network : IsNetwork n) (time : ℕ) (first events :
 
   module _ (turns : AreTurnsFollowed) (made : List Timed) (event : Timed) (here : event.at ≡ time)
       (among : In (told_at n made event.act) tolds) where
-    -- a link turns that isn't used, before any gain
-    turned : sync_paths n made ≡ sync_paths n first → (act : Act) → event.act ≡ act
-        → is_unused (told_at n made act) ≡ true → TurnsBroken n network made act → TurnsUnused n made event act
-    turned same (acts.Deliver link direction) e is broken = absurd broken
-    turned same (acts.Expire clock timer) e is broken = absurd broken
-    turned same (acts.Change (changes.LinkDown clock port)) e is broken = broken
-    turned same (acts.Change (changes.LinkUp clock port)) e is broken =
-        let raised : raises_unused (told_at n made event.act) ≡ true =
-        ap (λ a. raises_unused (told_at n made a)) e ∙ ap (λ test. test && true) is in
-        let shown = turns.raised (passes_at raises_unused tolds (told_at n made event.act) among raised) in (
-          broken,
-          subst (λ (p : SyncPaths). capability_span (pace_of n) + way_span p ≤ event.at) (sym same)
-              (subst (λ at. capability_span (pace_of n) + way_span (sync_paths n first) ≤ at) (sym here) shown),
-        )
-    turned same (acts.Change (changes.LinkSet clock port least greatest loss)) e is broken = absurd broken
-    turned same (acts.Change (changes.Fail number)) e is broken = absurd broken
-    turned same (acts.Change (changes.Recover number)) e is broken = absurd broken
-    turned same (acts.Change (changes.Priority1 number value)) e is broken = absurd broken
-    turned same (acts.Change (changes.Inject clock port octets)) e is broken = absurd broken
-
-    idles : sync_paths n made ≡ sync_paths n first → makes_nothing (told_at n made event.act) ≡ true
-        → IsIdleEvent n made event
-    idles same nothing =
+    idles : makes_nothing (told_at n made event.act) ≡ true → IsIdleEvent n made event
+    idles nothing =
         elim (or_cases (is_idle (told_at n made event.act)) (is_unused (told_at n made event.act)) nothing) [
           | inl idle ↦ inl (idle_changes n network made event.act idle)
-          | inr unused ↦ inr (turned same event.act refl unused (unused_turns n network made event.act unused))
+          | inr unused ↦ inr (unused_turns n network made event.act unused)
         ]
 
     -- behind a gain
     turned_late : list_any is_gain tolds ≡ true → (act : Act) → event.act ≡ act
-        → is_unused (told_at n made act) ≡ true → TurnsBroken n network made act → TurnsInVain n made event next act
+        → is_unused (told_at n made act) ≡ true → TurnsUnused n made act → TurnsInVain n made event next act
     turned_late gained (acts.Deliver link direction) e is broken = absurd broken
     turned_late gained (acts.Expire clock timer) e is broken = absurd broken
     turned_late gained (acts.Change (changes.LinkDown clock port)) e is broken =
         let lowered : lowers_unused (told_at n made event.act) ≡ true =
         ap (λ a. lowers_unused (told_at n made a)) e ∙ ap (λ test. test && true) is in
-        let none = turns.lowered (passes_at lowers_unused tolds (told_at n made event.act) among lowered) in
+        let none = turns (passes_at lowers_unused tolds (told_at n made event.act) among lowered) in
         let no : true ≡ false = sym gained ∙ none in absurd cc
-    turned_late gained (acts.Change (changes.LinkUp clock port)) e is broken =
-        let raised : raises_unused (told_at n made event.act) ≡ true =
-        ap (λ a. raises_unused (told_at n made a)) e ∙ ap (λ test. test && true) is in
-        let shown = turns.raised (passes_at raises_unused tolds (told_at n made event.act) among raised) in
-        (broken, omega (arith, shown))
+    turned_late gained (acts.Change (changes.LinkUp clock port)) e is broken = broken
     turned_late gained (acts.Change (changes.LinkSet clock port least greatest loss)) e is broken = absurd broken
     turned_late gained (acts.Change (changes.Fail number)) e is broken = absurd broken
     turned_late gained (acts.Change (changes.Recover number)) e is broken = absurd broken
@@ -428,17 +415,23 @@ module _ (n : NetworkState) (network : IsNetwork n) (time : ℕ) (first events :
       gains_system : IsGainEvent n next made event
       gains_system =
           let some = passes_at is_recovery tolds (told_at n made event.act) is.among recovery in
-          let facts = followed some in
-          let soon = facts.capable in
           subst (λ a. TakesNothing n made a × LeavesCapable n made event next a) (sym act) (
             tt,
             (
               failed,
-              inr (omega (arith, soon)),
               subst (AreSparedBy n [] made) (sym here) (so_far.spared some),
               asks_again (list_any (is_again tolds) news) refl,
             ),
           )
+
+      -- where what is told over new links is heard at once it uses none
+      pub returns : list_any (is_hard_to_hear tolds) news ≡ false → RecoversAlone n made event next
+      returns soft = record {
+        number = number;
+        act = act;
+        alone = uses_none (none_again tolds news soft);
+        capable = subst (LeavesCapable n made event next) act gains_system.1;
+      }
 
     -- a priority1 gets better
     module _ (number value : ℕ) (act : event.act ≡ acts.Change (changes.Priority1 number value))
@@ -458,6 +451,15 @@ module _ (n : NetworkState) (network : IsNetwork n) (time : ℕ) (first events :
         later = omega (arith, here);
       }
 
+    -- who recovers had failed
+    recovery_so : (number : ℕ) → event.act ≡ acts.Change (changes.Recover number)
+        → is_gain (told_at n made (acts.Change (changes.Recover number))) ≡ true
+        → is_recovery (told_at n made event.act) ≡ true
+    recovery_so number same gain =
+        ap (λ a. is_recovery (told_at n made a)) same
+        ∙ ap not (gain_is_not_idle number (what_of (acts.Change (changes.Recover number)))
+        (told_at n made (acts.Change (changes.Recover number))).kind gain)
+
     gains_so : (act : Act) → event.act ≡ act → is_gain (told_at n made act) ≡ true → Gains n network made act
         → IsGainEvent n next made event
     gains_so (acts.Deliver link direction) same gain gains = absurd gains
@@ -467,10 +469,7 @@ module _ (n : NetworkState) (network : IsNetwork n) (time : ℕ) (first events :
     gains_so (acts.Change (changes.LinkSet clock port least greatest loss)) same gain gains = absurd gains
     gains_so (acts.Change (changes.Fail number)) same gain gains = absurd gains
     gains_so (acts.Change (changes.Recover number)) same gain gains =
-        gains_system number same gains
-        (ap (λ a. is_recovery (told_at n made a)) same
-        ∙ ap not (gain_is_not_idle number (what_of (acts.Change (changes.Recover number)))
-        (told_at n made (acts.Change (changes.Recover number))).kind gain))
+        gains_system number same gains (recovery_so number same gain)
     gains_so (acts.Change (changes.Priority1 number value)) same gain gains = gains_clock number value same gains
     gains_so (acts.Change (changes.Inject clock port octets)) same gain gains = absurd gains
 
@@ -502,7 +501,7 @@ module _ (n : NetworkState) (network : IsNetwork n) (time : ℕ) (first events :
 
     -- a link that isn't used comes up, and none goes down
     spares_turn : list_any lowers_unused tolds ≡ false → (act : Act) → event.act ≡ act
-        → is_unused (told_at n made act) ≡ true → TurnsBroken n network made act → IsSparedBy n made event time
+        → is_unused (told_at n made act) ≡ true → TurnsUnused n made act → IsSparedBy n made event time
     spares_turn none (acts.Deliver link direction) same turns broken = absurd broken
     spares_turn none (acts.Expire clock timer) same turns broken = absurd broken
     spares_turn none (acts.Change (changes.LinkDown clock port)) same turns broken =
@@ -539,30 +538,33 @@ module _ (n : NetworkState) (network : IsNetwork n) (time : ℕ) (first events :
 
     -- ---- what is heard at once
 
-    -- a link comes up; or a priority1 gets better, where nothing was heard before
+    -- a link comes up, or a system recovers; or a priority1 gets better, where nothing was heard before
     heard_so : (heard : Bool) (act : Act) → event.act ≡ act → is_heard_too heard (told_at n made act) ≡ true
         → list_any (is_hard_to_hear tolds) news ≡ false
-        → BringsUp n made event next
+        → AddsHeard n made event next
         ⊎ ((heard ≡ false) × (list_any is_better tolds ≡ true)
         × ((sync_paths n made).systems ≤ 255 → BettersClock n made event next))
     heard_so heard act same too soft =
         let e = told_at n made act in
-        let (gain, rest) = and_parts (is_gain e) (is_link_up e || (is_priority1 e && not heard)) too in
+        let (gain, rest) = and_parts (is_gain e) (is_link_up e || is_recover e || (is_priority1 e && not heard)) too in
         by act same gain rest (gain_gains n network made act gain)
       where
         by : (act : Act) → event.act ≡ act → is_gain (told_at n made act) ≡ true
-            → (is_link_up (told_at n made act) || (is_priority1 (told_at n made act) && not heard)) ≡ true
+            → (is_link_up (told_at n made act) || is_recover (told_at n made act)
+            || (is_priority1 (told_at n made act) && not heard)) ≡ true
             → Gains n network made act
-            → BringsUp n made event next
+            → AddsHeard n made event next
             ⊎ ((heard ≡ false) × (list_any is_better tolds ≡ true)
             × ((sync_paths n made).systems ≤ 255 → BettersClock n made event next))
         by (acts.Deliver link direction) same gain rest gains = absurd gains
         by (acts.Expire clock timer) same gain rest gains = absurd gains
         by (acts.Change (changes.LinkDown clock port)) same gain rest gains = absurd gains
-        by (acts.Change (changes.LinkUp clock port)) same gain rest gains = inl (brings clock port same gains soft)
+        by (acts.Change (changes.LinkUp clock port)) same gain rest gains =
+            inl (inl (brings clock port same gains soft))
         by (acts.Change (changes.LinkSet clock port least greatest loss)) same gain rest gains = absurd gains
         by (acts.Change (changes.Fail number)) same gain rest gains = absurd gains
-        by (acts.Change (changes.Recover number)) same gain rest gains = absurd cc
+        by (acts.Change (changes.Recover number)) same gain rest gains =
+            inl (inr (returns number same gains (recovery_so number same gain) soft))
         by (acts.Change (changes.Priority1 number value)) same gain rest gains =
             let better : is_better (told_at n made event.act) ≡ true =
             ap (λ a. is_better (told_at n made a)) same ∙ ap (λ test. test && true) gain in
@@ -577,14 +579,14 @@ module _ (n : NetworkState) (network : IsNetwork n) (time : ℕ) (first events :
         → list_any (is_hard_to_hear tolds) news ≡ false
         → (list_any is_better tolds ≡ true → (sync_paths n made).systems ≤ 255) → IsHeardEvent n next made event
     heard_first too soft few = elim (heard_so false event.act refl too soft) [
-      | inl up ↦ inl up
+      | inl adds ↦ inl adds
       | inr (none, better, by) ↦ inr (by (few better))
     ]
 
     pub heard_then : is_heard_too true (told_at n made event.act) ≡ true
-        → list_any (is_hard_to_hear tolds) news ≡ false → BringsUp n made event next
+        → list_any (is_hard_to_hear tolds) news ≡ false → AddsHeard n made event next
     heard_then too soft = elim (heard_so true event.act refl too soft) [
-      | inl up ↦ up
+      | inl adds ↦ adds
       | inr (none, better, by) ↦ absurd cc
     ]
 
@@ -592,15 +594,14 @@ module _ (n : NetworkState) (network : IsNetwork n) (time : ℕ) (first events :
 
   -- each makes nothing of what stands
   pub each_idle : AreTurnsFollowed → (made left : List Timed) → AllByRecursion (λ (t : Timed). t.at ≡ time) left
-      → AllByRecursion (λ (e : Told). In e tolds) (told_of n made left) → sync_paths n made ≡ sync_paths n first
+      → AllByRecursion (λ (e : Told). In e tolds) (told_of n made left)
       → list_all makes_nothing (told_of n made left) ≡ true → EachEvent (IsIdleEvent n) made left
-  each_idle turns made [] now among same nothing = tt
-  each_idle turns made (event ∷ left) now among same nothing =
+  each_idle turns made [] now among nothing = tt
+  each_idle turns made (event ∷ left) now among nothing =
       let (one, rest) =
       and_parts (makes_nothing (told_at n made event.act))
       (list_all makes_nothing (told_of n (made ++ event ∷ []) left)) nothing in
-      let idle = idles turns made event now.0 among.0 same one in
-      (idle, each_idle turns (made ++ event ∷ []) left now.1 among.1 (idle_ways made event idle ∙ same) rest)
+      (idles turns made event now.0 among.0 one, each_idle turns (made ++ event ∷ []) left now.1 among.1 rest)
 
   -- each changes nothing
   each_still : (made left : List Timed) → list_all is_idle (told_of n made left) ≡ true
@@ -636,7 +637,7 @@ module _ (n : NetworkState) (network : IsNetwork n) (time : ℕ) (first events :
   pub all_idle : AreTurnsFollowed → AllByRecursion (λ (t : Timed). t.at ≡ time) events
       → list_all makes_nothing tolds ≡ true → EachEvent (IsIdleEvent n) first events
   all_idle turns now nothing =
-      each_idle turns first events now (all_from (λ (e : Told). In e tolds) tolds (λ e member. member)) refl nothing
+      each_idle turns first events now (all_from (λ (e : Told). In e tolds) tolds (λ e member. member)) nothing
 
   module _ (off : NothingLapses n.params) (turns : AreTurnsFollowed)
       (followed : list_any is_recovery tolds ≡ true → AreFollowed) where
@@ -661,19 +662,18 @@ module _ (n : NetworkState) (network : IsNetwork n) (time : ℕ) (first events :
     -- the first that makes something of what stands is a gain, if there is one
     after_idle : (made left : List Timed) → made ++ left ≡ all
         → AllByRecursion (λ (t : Timed). t.at ≡ time) left → IsSoFar made
-        → AllByRecursion IsTold (told_of n made left) → sync_paths n made ≡ sync_paths n first
+        → AllByRecursion IsTold (told_of n made left)
         → list_all makes_nothing (told_of n made left) ≡ false → AfterIdleEvents n (AreGainEvents n next) made left
-    after_idle made [] are now so_far each same some = absurd cc
-    after_idle made (event ∷ left) are now so_far each same some =
+    after_idle made [] are now so_far each some = absurd cc
+    after_idle made (event ∷ left) are now so_far each some =
         let later = later_than made event left are each.1 in
         let on = so_on followed made event now.0 so_far each.0 later in
         let more = append_assoc made (event ∷ []) left ∙ are in
         elim each.0.kind [
           | inl nothing ↦
-              let idle = idles turns made event now.0 each.0.among same nothing in
               inr (
-                idle,
-                after_idle (made ++ event ∷ []) left more now.1 on each.1 (idle_ways made event idle ∙ same)
+                idles turns made event now.0 each.0.among nothing,
+                after_idle (made ++ event ∷ []) left more now.1 on each.1
                     (ap (λ test. test && list_all makes_nothing (told_of n (made ++ event ∷ []) left)) (sym nothing)
                     ∙ some),
               )
@@ -685,7 +685,7 @@ module _ (n : NetworkState) (network : IsNetwork n) (time : ℕ) (first events :
         ]
 
     module _ (soft : list_any (is_hard_to_hear tolds) news ≡ false) where
-      -- behind what was heard links come up
+      -- behind what was heard links come up, and systems recover
       each_heard : list_any is_gain tolds ≡ true → (made left : List Timed) → made ++ left ≡ all
           → AllByRecursion (λ (t : Timed). t.at ≡ time) left → IsSoFar made
           → AllByRecursion IsTold (told_of n made left) → are_heard true (told_of n made left) ≡ true
@@ -704,7 +704,7 @@ module _ (n : NetworkState) (network : IsNetwork n) (time : ℕ) (first events :
               ≡ true
               → (are_heard true (told_of n (made ++ event ∷ []) left) ≡ true
               → EachEvent (IsHeardToo n next) (made ++ event ∷ []) left)
-              → (is_heard_too true (told_at n made event.act) ≡ true → BringsUp n made event next)
+              → (is_heard_too true (told_at n made event.act) ≡ true → AddsHeard n made event next)
               → IsHeardToo n next made event × EachEvent (IsHeardToo n next) (made ++ event ∷ []) left
           by true is heard rest one =
               (inr (idles_late turns made event now.0 each.0.among off gained is), rest heard)
@@ -743,12 +743,13 @@ module _ (n : NetworkState) (network : IsNetwork n) (time : ℕ) (first events :
               → (IsHeardEvent n next made event × EachEvent (IsHeardToo n next) (made ++ event ∷ []) left)
               ⊎ (IsIdleEvent n made event × AfterIdleEvents n (AreHeardEvents n next) (made ++ event ∷ []) left)
           by true is heard rest others one =
-              let idle = idles turns made event now.0 each.0.among same is in inr (idle, rest idle heard)
+              let idle = idles turns made event now.0 each.0.among is in inr (idle, rest idle heard)
           by false is heard rest others one =
               let e = told_at n made event.act in
               let (too, more) =
               and_parts (is_heard_too false e) (are_heard true (told_of n (made ++ event ∷ []) left)) heard in
-              let (gain, which) = and_parts (is_gain e) (is_link_up e || (is_priority1 e && not false)) too in
+              let (gain, which) =
+              and_parts (is_gain e) (is_link_up e || is_recover e || (is_priority1 e && not false)) too in
               inl (one too, others gain more)
 
   -- ---- the bound
@@ -760,12 +761,13 @@ module _ (n : NetworkState) (network : IsNetwork n) (time : ℕ) (first events :
     begins : IsSoFar first
     begins = record {
       more = same_more n first;
-      spared = λ recovers. spared_past n time [] first positive (followed recovers).past;
+      spared = λ recovers.
+          let facts = followed recovers in spared_past n facts.most time [] first positive facts.within facts.past;
     }
 
     pub all_gained : list_all makes_nothing tolds ≡ false → AfterIdleEvents n (AreGainEvents n next) first events
     all_gained some =
-        after_idle off turns followed first events refl now begins (all_told no_loss no_wider no_other) refl some
+        after_idle off turns followed first events refl now begins (all_told no_loss no_wider no_other) some
 
     pub all_heard : list_any (is_hard_to_hear tolds) news ≡ false
         → (list_any is_better tolds ≡ true → (sync_paths n first).systems ≤ 255) → are_heard false tolds ≡ true

@@ -32,6 +32,7 @@ use Rattle.gptp_how_soon_laws.proofs.CalmLemmas.{lives_from, cable_used}
 use Rattle.gptp_how_soon_laws.proofs.NamedLemmas.{LinkNamed, SystemNamed, end_first, named_link, named_system}
 use Rattle.gptp_links.specs.declared.bounds.Bounds.{Bounds}
 use Rattle.gptp_topology.specs.Course.{cable_is_used}
+use Rattle.gptp_settling_time.specs.HowSoon.{TurnsUnused}
 use Rattle.gptp_settling_time.specs.InTurn.{IsWithin, WidensLink}
 
 -- ---- kinds
@@ -348,12 +349,6 @@ module _ (n : NetworkState) (network : IsNetwork n) (made : List Timed) where
   Gains (acts.Change (changes.Priority1 number value)) = IsNoWorse n made number value
   Gains act = ⊥
 
-  -- an end has failed of the link that turns
-  abbrev pub TurnsBroken : Act → Type 0
-  TurnsBroken (acts.Change (changes.LinkDown clock port)) = EndHasFailed n made (port_id clock port)
-  TurnsBroken (acts.Change (changes.LinkUp clock port)) = EndHasFailed n made (port_id clock port)
-  TurnsBroken act = ⊥
-
   abbrev link_at : Act → Option Standing
   link_at act = find (is_standing_named act) (standings_after n made)
 
@@ -489,7 +484,7 @@ module _ (n : NetworkState) (network : IsNetwork n) (made : List Timed) where
             (ap (λ (p : PortId). p.clock) ends.b) (ap (λ (x : Standing). x.b_lives) one.is ∙ b))
       ])
 
-  pub unused_turns : (act : Act) → is_unused (told_at n made act) ≡ true → TurnsBroken act
+  pub unused_turns : (act : Act) → is_unused (told_at n made act) ≡ true → TurnsUnused n made act
   unused_turns (acts.Deliver link direction) is = absurd cc
   unused_turns (acts.Expire clock timer) is = absurd cc
   unused_turns (acts.Change (changes.LinkDown clock port)) is =

@@ -1,5 +1,5 @@
 -- What is told of a time, by its row, is so by its events.
-use Rattle.std.proofs.Common.{◌≡◌, ◌<◌, ◌≤◌, ◌⊎◌, inl, inr, ◌+◌, ◌*◌, ℕ, Bool, true, false, cond, List, [], ◌∷◌, ◌++◌, Option, Some, None, length, filter, slice_get, refl, sym, ap, ap₂, subst, ◌∙◌, arith}
+use Rattle.std.proofs.Common.{◌≡◌, ◌<◌, ◌≤◌, ◌⊎◌, inl, inr, ◌+◌, ◌*◌, ℕ, Bool, true, false, cond, List, [], ◌∷◌, ◌++◌, Option, Some, None, length, filter, map, slice_get, refl, sym, ap, ap₂, subst, ◌∙◌, arith}
 use Rattle.std.specs.Prelude.{◌==◌, ◌&&◌, ◌||◌, not, nat_le, nat_lt, max, if◌then◌else◌}
 use Rattle.std.specs.List.{AllByRecursion, list_all, list_any}
 use Rattle.std.proofs.lemmas.Bool.{and_parts, eqb-false, eqb-true, not-true, or_cases, or_from, or_parts}
@@ -8,14 +8,12 @@ use Rattle.gptp_lists.specs.Members.{In}
 use Rattle.gptp_lists.proofs.MappedLemmas.{some_same}
 use Rattle.gptp_lists.proofs.SystemSpecLemmas.{In-map, In-slice_get}
 use Rattle.gptp_setup.specs.SettlingParams.{largest_interval}
-use Rattle.gptp_vector.specs.declared.port.PortId.{PortId}
-use Rattle.gptp_scenario.specs.Calm.{IsLive, IsUsed, NothingLapses}
+use Rattle.gptp_scenario.specs.Calm.{IsUsed, NothingLapses}
 use Rattle.gptp_scenario.specs.Change.{link_after}
-use Rattle.gptp_scenario.specs.InUse.{lives}
-use Rattle.gptp_scenario.proofs.AfterLemmas.{after_keeps}
 use Rattle.gptp_scenario.specs.Network.{IsNetwork, NetworkState, pace_of}
+use Rattle.gptp_scenario.specs.Prompt.{DelayFitsInterval}
 use Rattle.gptp_scenario.specs.SettlingAtOnce.{settling_span_at_once}
-use Rattle.gptp_scenario.specs.SettlingTime.{capability_span, settling_span_with}
+use Rattle.gptp_scenario.specs.SettlingTime.{settling_span_with}
 use Rattle.gptp_scenario.specs.SyncWait.{sync_paths}
 use Rattle.gptp_scenario.specs.declared.change.Act.{Act}
 use Rattle.gptp_scenario.specs.declared.change.Act.TheVariants as acts
@@ -27,9 +25,9 @@ use Rattle.gptp_network.proofs.PassLemmas.{kept}
 use Rattle.gptp_topology.specs.Course.{cable_of}
 use Rattle.gptp_topology.specs.declared.course.Cable.{Cable}
 use Rattle.gptp_how_soon.specs.Bounds.{asked_again, choice_by, choice_of_row, is_again, is_hard_to_hear, ready, settled, two_exchanges}
-use Rattle.gptp_how_soon.specs.Kinds.{are_heard, fails_and_recovers, is_better, is_gain, is_idle, is_loss, is_other, is_recover, is_recovery, is_recovery_of, lowers_unused, makes_nothing, raises_unused, recovers, sets_link, tells_nothing, begins_wider, first_wider_by, is_wider}
-use Rattle.gptp_how_soon.specs.Links.{is_new, is_unanswered, new_links, standing_then, standings_after, varies}
-use Rattle.gptp_how_soon.specs.Rest.{are_events_followed, are_recoveries_followed, are_turns_followed, have_shown, heard_at_once, is_from_rest, rested, rested_by, is_wider_followed, settles_wider_by}
+use Rattle.gptp_how_soon.specs.Kinds.{are_heard, fails_and_recovers, is_better, is_gain, is_idle, is_loss, is_other, is_recover, is_recovery, is_recovery_of, lowers_unused, makes_nothing, recovers, sets_link, tells_nothing, begins_wider, first_wider_by, is_wider}
+use Rattle.gptp_how_soon.specs.Links.{delay_set, is_new, longest_among, longest_delay, longest_set, new_links, varies}
+use Rattle.gptp_how_soon.specs.Rest.{are_events_followed, are_recoveries_followed, are_turns_followed, heard_at_once, is_from_rest, rested, rested_by, is_wider_followed, settles_wider_by}
 use Rattle.gptp_how_soon.specs.Times.{View, events_at, gained_at, is_calm, ready_at, row_at, settling_time, told_at, told_of, view_at}
 use Rattle.gptp_how_soon.specs.declared.bounds.Row.{Row}
 use Rattle.gptp_how_soon.specs.declared.bounds.Row.TheVariants.{AnyPast, Unchanged, Gained}
@@ -39,11 +37,12 @@ use Rattle.gptp_how_soon.specs.declared.kinds.Kind.{Kind}
 use Rattle.gptp_how_soon.specs.declared.kinds.Told.{Told}
 use Rattle.gptp_how_soon.specs.declared.kinds.What.{What}
 use Rattle.gptp_how_soon.specs.declared.kinds.What.TheVariants as whats
-use Rattle.gptp_settling_time.specs.HowSoon.{AreReadyAtStart, AreStartEvents, BoundsChoice, BoundsGains, BoundsStart, EachEvent, IsIdleEvent, StartsQuietly, way_span, AreWiderEvents}
-use Rattle.gptp_settling_time.specs.InTurn.{NoneUnanswered, NoneUsed, TellsNothing, UsedVaryLittle}
+use Rattle.gptp_settling_time.specs.Gains.{HasDelaysWithin}
+use Rattle.gptp_settling_time.specs.HowSoon.{AreReadyAtStart, AreStartEvents, BoundsChoice, BoundsGains, BoundsStart, EachEvent, IsIdleEvent, way_span, AreWiderEvents}
+use Rattle.gptp_settling_time.specs.InTurn.{NoneUsed, TellsNothing, UsedVaryLittle}
 use Rattle.gptp_settling_time.proofs.CutLemmas.{IsBy, all_by}
 use Rattle.gptp_settling_time.proofs.MomentLemmas.{all_at}
-use Rattle.gptp_how_soon_laws.proofs.CalmLemmas.{calm_so, lives_from, lives_to, used_cable}
+use Rattle.gptp_how_soon_laws.proofs.CalmLemmas.{calm_so, used_cable}
 use Rattle.gptp_how_soon_laws.proofs.GainedLemmas.{AreFollowed, AreTurnsFollowed, all_gained, all_heard, all_idle, all_wider, none_any, not_none}
 use Rattle.gptp_how_soon_laws.proofs.KindLemmas.{told}
 
@@ -80,7 +79,7 @@ bounds_choice n Sharp events row gained calm unchanged is_gained =
 -- what is told of a calm network
 pub record IsTelling (n : NetworkState) (v : View) (s : Settling) : Type 0 where
   pub calm : v.calm ≡ true
-  pub choice : s.choice ≡ choice_by n v.paths (row_at n v) (gained_at n v)
+  pub choice : s.choice ≡ choice_by n v.paths (row_at v) (gained_at n v)
   pub roles : s.roles ≡ s.choice
   pub rest : s.choice ≤ s.rest
   pub exact : max (v.at + s.choice) (v.last_set + largest_interval (pace_of n))
@@ -91,7 +90,7 @@ pub tells : (n : NetworkState) (v : View) (s : Settling) → (settling_time n v)
 tells n v s is = by v.calm refl is
   where
     it : Settling
-    it = settled n v.at v.last_set v.paths (sets_link v.told) (choice_by n v.paths (row_at n v) (gained_at n v))
+    it = settled n v.at v.last_set v.paths (sets_link v.told) (choice_by n v.paths (row_at v) (gained_at n v))
 
     by : (calm : Bool) → v.calm ≡ calm → (if calm then Some it else None) ≡ Some s → IsTelling n v s
     by true calm told =
@@ -157,36 +156,6 @@ all_tell_so n made (event ∷ events) quiet =
     (list_all tells_nothing (told_of n (made ++ event ∷ []) events)) quiet in
     (tells_so n made event.act one, all_tell_so n (made ++ event ∷ []) events rest)
 
--- nobody waits for a failed system
-both_live : (up a b : Bool) → (up && (a || b) && not (a && b)) ≡ false → up ≡ true
-    → (a ≡ true → b ≡ true) × (b ≡ true → a ≡ true)
-both_live false a b is on = absurd cc
-both_live true true true is on = (λ live. live, λ live. live)
-both_live true true false is on = absurd cc
-both_live true false true is on = absurd cc
-both_live true false false is on = (λ live. live, λ live. live)
-
-answered : (n : NetworkState) (now : List Timed) → list_any is_unanswered (standings_after n now) ≡ false
-    → NoneUnanswered n now
-answered n now none place v there up =
-    let one =
-    none_any is_unanswered (standings_after n now) (standing_then n now v) none
-    (In-map (standing_then n now) v n.links (In-slice_get v n.links place there)) in
-    let (a_to_b, b_to_a) =
-    both_live (link_after now v).up (lives n.systems now v.a.clock) (lives n.systems now v.b.clock) one up in
-    let ends = after_keeps now v in (
-      λ live. subst (λ (p : PortId). IsLive n.systems now p.clock) (sym ends.b)
-          (lives_to n now v.b.clock
-          (a_to_b (lives_from n now v.a.clock (subst (λ (p : PortId). IsLive n.systems now p.clock) ends.a live)))),
-      λ live. subst (λ (p : PortId). IsLive n.systems now p.clock) (sym ends.a)
-          (lives_to n now v.a.clock
-          (b_to_a (lives_from n now v.b.clock (subst (λ (p : PortId). IsLive n.systems now p.clock) ends.b live)))),
-    )
-
-starts_quietly : (n : NetworkState) (now : List Timed) → AreStartEvents now → NoneUnanswered n now → StartsQuietly n now
-starts_quietly n [] quiet none = tt
-starts_quietly n (event ∷ events) quiet none = (quiet, none)
-
 -- nobody recovers
 no_recovery : (clock : ℕ) (what : What) (kind : Kind) → tells_nothing (told clock what kind) ≡ true
     → is_recover (told clock what kind) ≡ false
@@ -246,9 +215,9 @@ vary_little n now es soft place v there used =
 
 -- nothing is told
 starts : (n : NetworkState) (now : List Timed) → list_all tells_nothing (told_of n [] now) ≡ true
-    → list_any is_unanswered (standings_after n now) ≡ false → BoundsStart n now (gained_at n (view_at n [] now None 0))
-starts n now quiet none = (
-  starts_quietly n now (all_tell_so n [] now quiet) (answered n now none),
+    → BoundsStart n now (gained_at n (view_at n [] now None 0))
+starts n now quiet = (
+  all_tell_so n [] now quiet,
   (
     start,
     soon (length (new_links n [] now true) == 0) refl,
@@ -280,19 +249,16 @@ starts n now quiet none = (
     by false is = inl (vary_little n now (told_of n [] now) is, omega arith)
 
 -- time 0 with its row
-pub started : (n : NetworkState) (now : List Timed) → row_at n (view_at n [] now None 0) ≡ Gained
+pub started : (n : NetworkState) (now : List Timed) → row_at (view_at n [] now None 0) ≡ Gained
     → BoundsStart n now (gained_at n (view_at n [] now None 0))
 started n now row =
     let v = view_at n [] now None 0 in
-    let from = begun_from (is_from_rest n v.at v.paths_before v.paths v.standings v.told (ready_at n v) v.before) row in
-    let (quiet, none) =
-    and_parts (list_all tells_nothing v.told) (not (list_any is_unanswered v.standings)) from in
-    starts n now quiet (not-true (list_any is_unanswered v.standings) none)
+    starts n now (begun_from (is_from_rest v.longest v.at v.paths_before v.paths v.told v.before) row)
 
-pub never_unchanged : (n : NetworkState) (now : List Timed) → row_at n (view_at n [] now None 0) ≡ Unchanged → ⊥
+pub never_unchanged : (n : NetworkState) (now : List Timed) → row_at (view_at n [] now None 0) ≡ Unchanged → ⊥
 never_unchanged n now row =
     let v = view_at n [] now None 0 in
-    never_begun (is_from_rest n v.at v.paths_before v.paths v.standings v.told (ready_at n v) v.before) row
+    never_begun (is_from_rest v.longest v.at v.paths_before v.paths v.told v.before) row
 
 -- ---- later
 
@@ -320,6 +286,40 @@ over_before last most time [] late by = tt
 over_before last most time (event ∷ events) late by =
     let one = by.0 in (omega (arith, one, late), over_before last most time events late by.1)
 
+-- no link of them takes longer than the longest
+longest_there : (w : LinkSpec) (ws : List LinkSpec) → In w ws → w.bounds.max ≤ longest_among (map cable_of ws)
+longest_there w [] member = absurd member
+longest_there w (x ∷ ws) (inl same) =
+    let here : w.bounds.max ≡ x.bounds.max = ap (λ (y : LinkSpec). y.bounds.max) same in omega (arith, here)
+longest_there w (x ∷ ws) (inr member) = let rest = longest_there w ws member in omega (arith, rest)
+
+fits_so : (most : ℕ) (act : Act) → delay_set act ≤ most → DelayFitsInterval most act
+fits_so most (acts.Deliver link direction) fits = tt
+fits_so most (acts.Expire clock timer) fits = tt
+fits_so most (acts.Change (changes.LinkDown clock port)) fits = tt
+fits_so most (acts.Change (changes.LinkUp clock port)) fits = tt
+fits_so most (acts.Change (changes.LinkSet clock port least greatest loss)) fits = fits
+fits_so most (acts.Change (changes.Fail number)) fits = tt
+fits_so most (acts.Change (changes.Recover number)) fits = tt
+fits_so most (acts.Change (changes.Priority1 number value)) fits = tt
+fits_so most (acts.Change (changes.Inject clock port octets)) fits = tt
+
+set_within : (most : ℕ) (events others : List Timed) → longest_set (events ++ others) ≤ most
+    → AllByRecursion (λ (t : Timed). DelayFitsInterval most t.act) events
+set_within most [] others less = tt
+set_within most (event ∷ events) others less = (
+  fits_so most event.act (omega (arith, less)),
+  set_within most events others (omega (arith, less)),
+)
+
+longest_within : (n : NetworkState) (events others : List Timed)
+    → HasDelaysWithin n events (longest_delay n (events ++ others))
+longest_within n events others = record {
+  links = λ place v there.
+      let here = longest_there v n.links (In-slice_get v n.links place there) in omega (arith, here);
+  sets = set_within (longest_delay n (events ++ others)) events others (omega arith);
+}
+
 module _ (n : NetworkState) (network : IsNetwork n) (events : List Timed) (b : SettlingTime) (at : ℕ)
     (late : b.at < at) where
   abbrev made : List Timed
@@ -337,36 +337,26 @@ module _ (n : NetworkState) (network : IsNetwork n) (events : List Timed) (b : S
     pub others : list_any is_other v.told ≡ false
     pub turns : AreTurnsFollowed n network at made now
     pub followed : list_any is_recovery v.told ≡ true
-        → are_recoveries_followed n b.at at v.told (ready_at n v) ≡ true
+        → are_recoveries_followed v.longest b.at at v.told ≡ true
     pub wider : list_any is_wider v.told ≡ true → is_wider_followed b at v.paths_before v.paths v.told ≡ true
 
-  turns_so : are_turns_followed n at v.paths_before v.told ≡ true → AreTurnsFollowed n network at made now
+  turns_so : are_turns_followed v.told ≡ true → AreTurnsFollowed n network at made now
   turns_so is =
-      let (rise, fall) =
-      and_parts (not (list_any raises_unused v.told) || have_shown n v.paths_before at)
-      (not (list_any lowers_unused v.told && list_any is_gain v.told)) is in
-      record {
-        raised = λ some. elim (or_cases (not (list_any raises_unused v.told)) (have_shown n v.paths_before at) rise) [
-          | inl none ↦
-              let no : true ≡ false = sym some ∙ not-true (list_any raises_unused v.told) none in absurd cc
-          | inr shown ↦ at_most (capability_span (pace_of n) + way_span (sync_paths n made)) at shown
-        ];
-        lowered = not_both (list_any lowers_unused v.told) (list_any is_gain v.told)
-            (not-true (list_any lowers_unused v.told && list_any is_gain v.told) fall);
-      }
+      not_both (list_any lowers_unused v.told) (list_any is_gain v.told)
+      (not-true (list_any lowers_unused v.told && list_any is_gain v.told) is)
 
-  from_rest : is_from_rest n at v.paths_before v.paths v.standings v.told (ready_at n v) (Some b) ≡ true → IsFromRest
+  from_rest : is_from_rest v.longest at v.paths_before v.paths v.told (Some b) ≡ true → IsFromRest
   from_rest is =
       let (four, fourth) =
       and_parts
-      (rested b at && are_events_followed v.told && are_turns_followed n at v.paths_before v.told
-      && (not (list_any is_recovery v.told) || are_recoveries_followed n b.at at v.told (ready_at n v)))
+      (rested b at && are_events_followed v.told && are_turns_followed v.told
+      && (not (list_any is_recovery v.told) || are_recoveries_followed v.longest b.at at v.told))
       (not (list_any is_wider v.told) || is_wider_followed b at v.paths_before v.paths v.told) is in
       let (three, third) =
-      and_parts (rested b at && are_events_followed v.told && are_turns_followed n at v.paths_before v.told)
-      (not (list_any is_recovery v.told) || are_recoveries_followed n b.at at v.told (ready_at n v)) four in
+      and_parts (rested b at && are_events_followed v.told && are_turns_followed v.told)
+      (not (list_any is_recovery v.told) || are_recoveries_followed v.longest b.at at v.told) four in
       let (two, turns_are) =
-      and_parts (rested b at && are_events_followed v.told) (are_turns_followed n at v.paths_before v.told) three in
+      and_parts (rested b at && are_events_followed v.told) (are_turns_followed v.told) three in
       let (rest, events_are) = and_parts (rested b at) (are_events_followed v.told) two in
       let (known, apart) =
       and_parts (not (list_any is_other v.told)) (not (fails_and_recovers v.told)) events_are in
@@ -375,7 +365,7 @@ module _ (n : NetworkState) (network : IsNetwork n) (events : List Timed) (b : S
         others = not-true (list_any is_other v.told) known;
         turns = turns_so turns_are;
         followed = λ recovers. elim (or_cases (not (list_any is_recovery v.told))
-            (are_recoveries_followed n b.at at v.told (ready_at n v)) third) [
+            (are_recoveries_followed v.longest b.at at v.told) third) [
               | inl none ↦
                   let no : true ≡ false = sym recovers ∙ not-true (list_any is_recovery v.told) none in absurd cc
               | inr are ↦ are
@@ -387,17 +377,15 @@ module _ (n : NetworkState) (network : IsNetwork n) (events : List Timed) (b : S
             ];
       }
 
-  recoveries : are_recoveries_followed n b.at at v.told (ready_at n v) ≡ true → AreFollowed n network at made now
+  recoveries : are_recoveries_followed v.longest b.at at v.told ≡ true → AreFollowed n network at made now
   recoveries is =
-      let past_test : Bool = nat_lt (b.at + largest_interval (pace_of n)) at in
-      let capable_test : Bool = nat_le (capability_span (pace_of n)) (at + ready_at n v) in
-      let (two, turns) = and_parts (past_test && capable_test) (not (list_any lowers_unused v.told)) is in
-      let (past, capable) = and_parts past_test capable_test two in
-      let over : b.at + largest_interval (pace_of n) < at = grind (arith, nat_tests) in
-      let late_enough : capability_span (pace_of n) ≤ at + ready_at n v = grind (arith, nat_tests) in
+      let past_test : Bool = nat_lt (b.at + v.longest) at in
+      let (past, turns) = and_parts past_test (not (list_any lowers_unused v.told)) is in
+      let over : b.at + v.longest < at = grind (arith, nat_tests) in
       record {
-        past = over_before b.at (largest_interval (pace_of n)) at made over (all_by b.at events);
-        capable = late_enough;
+        most = v.longest;
+        within = longest_within n made now;
+        past = over_before b.at v.longest at made over (all_by b.at events);
         turns = not-true (list_any lowers_unused v.told) turns;
       }
 
@@ -421,12 +409,12 @@ module _ (n : NetworkState) (network : IsNetwork n) (events : List Timed) (b : S
       below : (x y : ℕ) → nat_lt x y ≡ true → x < y
       below x y test = grind (arith, nat_tests)
 
-  pub unchanged : row_at n v ≡ Unchanged
+  pub unchanged : row_at v ≡ Unchanged
       → (rest : HasComeToRest b at)
       × (EachEvent (IsIdleEvent n) made now ⊎ AreWiderEvents n (b.at + rest.settling.choice) at made now)
   unchanged row =
       let (from, which) =
-      unchanged_from (is_from_rest n at v.paths_before v.paths v.standings v.told (ready_at n v) (Some b))
+      unchanged_from (is_from_rest v.longest at v.paths_before v.paths v.told (Some b))
       (list_all makes_nothing v.told || begins_wider v.told) (list_any is_loss v.told) row in
       let facts = from_rest from in (
         facts.rested,
@@ -455,11 +443,11 @@ module _ (n : NetworkState) (network : IsNetwork n) (events : List Timed) (b : S
           let no : true ≡ false = sym begins ∙ none in
           absurd cc
 
-  pub gained : row_at n v ≡ Gained → NothingLapses n.params
+  pub gained : row_at v ≡ Gained → NothingLapses n.params
       → HasComeToRest b at × BoundsGains n made now at (ready_at n v) (gained_at n v)
   gained row off =
       let (from, none, which) =
-      gained_from (is_from_rest n at v.paths_before v.paths v.standings v.told (ready_at n v) (Some b))
+      gained_from (is_from_rest v.longest at v.paths_before v.paths v.told (Some b))
       (list_all makes_nothing v.told || begins_wider v.told) (list_any is_loss v.told) row in
       let facts = from_rest from in
       let (some, narrow) = or_parts (list_all makes_nothing v.told) (begins_wider v.told) which in (

@@ -19,7 +19,7 @@ use Rattle.gptp_how_soon.specs.declared.bounds.SettlingTime.{SettlingTime}
 use Rattle.gptp_settling_time.specs.HowSoon.{NoneBetween}
 
 -- The offset that an act at a time leaves a near system, if it leaves one by a Follow_Up, is within the time error of
--- the system's way of its clock less its best's.
+-- the system's way of its clock less what its best tells.
 abbrev pub IsExact : Params → WorldState → ℕ → WorldState → Done → Type 0
 IsExact p w time w' done = (steps number error : ℕ) (offset ahead : ℤ)
     → LeavesOffset number offset w' done

@@ -23,9 +23,10 @@ use Rattle.gptp_pdelay_machine.specs.Setting.{Setting}
 use Rattle.gptp_pdelay_machine.specs.Silence.{InvUnanswered}
 use Rattle.gptp_invariants.specs.DelayLinkView.{LinkPlace, asker_view}
 use Rattle.gptp_invariants.specs.WorldNews.{AreSilentBy, IsSilentBy}
-use Rattle.gptp_invariants.specs.FailedUnanswered.{IsSilent, IsUnansweredAt, StandsUnanswered, silent_setting, silent_view}
+use Rattle.gptp_invariants.specs.FailedUnanswered.{IsNeverAnswered, IsSilent, IsUnansweredAt, StandsUnanswered, silent_setting, silent_view}
 use Rattle.gptp_invariants.proofs.DelayLinkCallLemmas.{at_own}
 use Rattle.gptp_invariants.proofs.WorldBeforeLemmas.{IsAsBefore, as_was, calls_before, stood}
+use Rattle.gptp_invariants.proofs.FailedNeverAnsweredLemmas.{never_changed, told_never}
 use Rattle.gptp_invariants.proofs.FailedUnansweredCallLemmas.{CallStep, call_seen, view_stays}
 
 -- ---- one call
@@ -107,9 +108,10 @@ changed_stood at w s = record {
 
 pub changed_silent : (p : SettlingParams) (start : ℕ) (w : WorldState) → AreSilentBy p start w
     → AreSilentBy p start (record w { last_change = w.time })
-changed_silent p start w silent at s =
-    let (change, one, soon) = silent at (changed_stood at w s) in
-    (change, changed_one (change + largest_interval p) at w one, soon)
+changed_silent p start w silent at s = elim (silent at (changed_stood at w s)) [
+  | inl never ↦ inl (never_changed at w never)
+  | inr (change, one, soon) ↦ inr (change, changed_one (change + largest_interval p) at w one, soon)
+]
 
 -- ---- another link comes up
 
@@ -156,9 +158,32 @@ module _ (p : SettlingParams) (start : ℕ) (at : LinkPlace) (place : ℕ) (chan
     }
 
     pub up_silences : IsSilentBy p start at w'
-    up_silences =
-        let (change, one, soon) = silent at was in (change, through (change + largest_interval p) one, soon)
+    up_silences = elim (silent at was) [
+      | inl never ↦ inl (never_through never)
+      | inr (change, one, soon) ↦ inr (change, through (change + largest_interval p) one, soon)
+    ]
       where
+        stays : Stays brought k.between
+        stays = calls_if_live_stay k.place_a (PortUp channel.a.port) brought k.first k.between setups k.at_a
+
+        never_through : IsNeverAnswered at w → IsNeverAnswered at w'
+        never_through is =
+            let begun : IsNeverAnswered at brought = record {
+              link = record {
+                channel = is.link.channel;
+                here = get-set_other w.net.channels place at.link raised other ∙ is.link.here;
+                up = is.link.up;
+                asking = is.link.asking;
+                answering = is.link.answering;
+              };
+              mute = is.mute;
+              unmeasured = is.unmeasured;
+            } in
+            told_never at k.place_b (PortUp channel.b.port) (λ n. tt) (λ n. tt) k.between k.second w'
+            (stays_clocks brought k.between stays clocks)
+            (told_never at k.place_a (PortUp channel.a.port) (λ n. tt) (λ n. tt) brought k.first k.between clocks begun
+            k.at_a) k.at_b
+
         through : (gone : ℕ) → IsSilent gone at w → IsSilent gone at w'
         through gone is =
             live_silent gone at k.place_b channel.b k.between k.second w' named_b
@@ -188,9 +213,6 @@ module _ (p : SettlingParams) (start : ℕ) (at : LinkPlace) (place : ℕ) (chan
             first =
                 live_silent gone at k.place_a channel.a brought k.first k.between named_a clocks begun
                 (no_end brought joins begun.link FromA) k.at_a
-
-            stays : Stays brought k.between
-            stays = calls_if_live_stay k.place_a (PortUp channel.a.port) brought k.first k.between setups k.at_a
 
             on : JoinTheSame w.net.channels k.between.net.channels
             on = join_on w.net.channels brought.net.channels k.between.net.channels joins stays.links

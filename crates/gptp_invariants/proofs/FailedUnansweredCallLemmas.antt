@@ -1,7 +1,9 @@
 -- What a call, and a frame that leaves its lane, make of the link and of the port that asks.
 use Rattle.std.proofs.Common.{◌≡◌, ◌≢◌, ℕ, true, List, Some, slice_get, refl, sym, ap, ◌∙◌}
+use Rattle.gptp_lists.specs.Members.{In}
 use Rattle.gptp_vector.specs.declared.port.PortId.{PortId}
 use Rattle.gptp_links.specs.Fate.{Draw}
+use Rattle.gptp_links.specs.Queue.{Frame}
 use Rattle.gptp_pdelay.specs.Clock.{local_clock}
 use Rattle.gptp_system.specs.declared.answer.Answer.{Answer}
 use Rattle.gptp_setup.specs.declared.setup.Setup.{Setup}
@@ -12,7 +14,7 @@ use Rattle.gptp_system.specs.State.{clock}
 use Rattle.gptp_model.specs.declared.station.Station.{Station}
 use Rattle.gptp_model.specs.Act.{Calls, in_state}
 use Rattle.gptp_model.specs.Sound.{HaveOwnClocks}
-use Rattle.gptp_model.specs.World.{WorldState, receiver, sender}
+use Rattle.gptp_model.specs.World.{WorldState, receiver, sender, world_queue}
 use Rattle.gptp_lists.proofs.MappedLemmas.{same_there}
 use Rattle.gptp_lists.proofs.PlaceLemmas.{get-set_other}
 use Rattle.gptp_model.proofs.StayLemmas.{sender_same}
@@ -81,6 +83,8 @@ pub record CallStep (place : ℕ) (input : Input) (gone : ℕ) (at : LinkPlace) 
   pub after : IsUnansweredAt at w'
   pub settled : silent_setting at w' after ≡ silent_setting at w l
   pub old : IsOldBy gone at w' after
+  pub fewer : (f : Frame) → In f (world_queue (other_direction at.direction) after.channel)
+      → In f (world_queue (other_direction at.direction) l.channel)
   pub time : w'.time ≡ w.time
   pub setup : after.asking.station.setup ≡ l.asking.station.setup
   pub part : PartStep place input w.time at.asking l.asking.station.system (sender at.direction l.channel).port
@@ -119,6 +123,7 @@ module _ (gone : ℕ) (at : LinkPlace) (place : ℕ) (input : Input) (w : WorldS
     after = relinked at w w' l lane end.after answering;
     settled = relinked_settled at w w' l lane end.after answering end.setup refl;
     old = λ f member. old f (lane.shrinks.fewer f member);
+    fewer = lane.shrinks.fewer;
     time = ap (λ (v : WorldState). v.time) k.is;
     setup = end.setup;
     part = end.part;

@@ -106,7 +106,7 @@ module _ (gone : ℕ) (at : LinkPlace) (link : ℕ) (direction : Direction) (oct
   abbrev emptied : WorldState
   emptied = record w { net = k.net }
 
-  lane : LaneShrinks at w emptied l
+  pub lane : LaneShrinks at w emptied l
   lane =
       takes_shrink at.link (other_direction at.direction) link direction w.time octets k.channel w.net k.net
       l.channel l.here
@@ -134,12 +134,15 @@ module _ (gone : ℕ) (at : LinkPlace) (link : ℕ) (direction : Direction) (oct
   abbrev Arrives : Type 0
   Arrives = (link ≡ at.link) × (direction ≡ other_direction at.direction)
 
-  is_old : Arrives → w.time ≤ gone
-  is_old (same, way) =
+  pub flies_there : Arrives → In (frame w.time octets) (world_queue (other_direction at.direction) l.channel)
+  flies_there (same, way) =
       let one : k.channel ≡ l.channel =
       same_there w.net.channels link k.channel l.channel k.takes.here
       (ap (slice_get w.net.channels) same ∙ l.here) in
-      old (frame w.time octets) (subst (In (frame w.time octets)) (λ i. world_queue (way i) (one i)) among)
+      subst (In (frame w.time octets)) (λ i. world_queue (way i) (one i)) among
+
+  is_old : Arrives → w.time ≤ gone
+  is_old here = old (frame w.time octets) (flies_there here)
 
   -- the two ends are of two clocks
   ends_apart : (sender at.direction l.channel).clock ≢ (receiver at.direction l.channel).clock
@@ -150,7 +153,7 @@ module _ (gone : ℕ) (at : LinkPlace) (link : ℕ) (direction : Direction) (oct
       (l.answering.named ∙ sym e ∙ sym l.asking.named))
 
   -- what reaches the port arrives there
-  arrives : at.asking ≡ k.place → (sender at.direction l.channel).port ≡ port.port → Arrives
+  pub arrives : at.asking ≡ k.place → (sender at.direction l.channel).port ≡ port.port → Arrives
   arrives same number = (here, by (which_way direction at.direction))
     where
       own_station : k.station ≡ l.asking.station
@@ -184,7 +187,7 @@ module _ (gone : ℕ) (at : LinkPlace) (link : ℕ) (direction : Direction) (oct
   -- ---- what is seen
 
   module _ (told : Answer) (calls : Calls k.place (FrameHeard port.port octets) emptied draws told w') where
-    step : CallStep k.place (FrameHeard port.port octets) gone at emptied w' less
+    pub step : CallStep k.place (FrameHeard port.port octets) gone at emptied w' less
     step =
         call_seen gone at k.place (FrameHeard port.port octets) emptied draws told w' calls sound.wired.clocks less
         less_old (λ same number. octets_fit)
@@ -198,7 +201,7 @@ module _ (gone : ℕ) (at : LinkPlace) (link : ℕ) (direction : Direction) (oct
     settled : silent_setting at w' step.after ≡ silent_setting at w l
     settled = step.settled ∙ less_settled
 
-    number_same : (sender at.direction l.channel).port ≡ (sender at.direction lane.new).port
+    pub number_same : (sender at.direction l.channel).port ≡ (sender at.direction lane.new).port
     number_same = ap (λ (p : PortId). p.port) (sym (same_sender at w emptied l lane l.asking l.answering))
 
     -- the port hears what arrives, or its measuring stays

@@ -93,9 +93,11 @@ pub mod DelayFirstAtLemmas
 pub mod DelayFirstUpLemmas
 pub mod FailedUnansweredStandLemmas
 pub mod FailedUnansweredLaneLemmas
+pub mod UnmeasuredLemmas
 pub mod FailedUnansweredCallLemmas
 pub mod FailedUnansweredExpiryLemmas
 pub mod FailedUnansweredDeliveryLemmas
+pub mod FailedNeverAnsweredLemmas
 pub mod FailedUnansweredActLemmas
 pub mod FailedSilentLemmas
 pub mod WorldBeforeLemmas
@@ -122,7 +124,7 @@ pub mod SyncFollowTreeLemmas
 pub mod SyncFollowHeardLemmas
 pub mod SyncFollowSettingLemmas
 pub mod SyncFollowCallLemmas
-pub mod SyncFollowSizeLemmas
+pub mod SyncFollowBaseLemmas
 pub mod SyncFollowWayLemmas
 pub mod SyncFollowRightLemmas
 pub mod SyncFollowStepLemmas

@@ -21,6 +21,7 @@ use Rattle.gptp_scenario.specs.Network.{IsNetwork, NetworkState, pace_of}
 use Rattle.gptp_scenario.specs.SettlingTime.{settling_span_with}
 use Rattle.gptp_system.specs.declared.answer.Answer.TheVariants as answers
 use Rattle.gptp_system.specs.State.{SystemState, clock, local_time}
+use Rattle.gptp_system.specs.Takeover.{told_time}
 use Rattle.gptp_error_laws.specs.TimeError.{time_error_at}
 use Rattle.gptp_model.proofs.SoundLemmas.{acts_sound}
 use Rattle.gptp_model.specs.Acts.{Acts, TellsHearing, at}
@@ -227,9 +228,9 @@ module _ (link : ℕ) (direction : Direction) (w w' : WorldState) (draws : List 
       is_ahead.shows.state ∙ ap (λ (x : Station). x.system) (sym followed.own_is) in
       let clocks : ahead
       ≡ local_time followed.follower.own.station.system w.time
-      -ℤ local_time is_ahead.shows_root.station.system w.time =
+      -ℤ told_time is_ahead.shows_root.station.system w.time =
       is_ahead.is
-      ∙ (λ i. local_time (own i) w.time -ℤ local_time (is_ahead.shows_root.state i) w.time) in
+      ∙ (λ i. local_time (own i) w.time -ℤ told_time (is_ahead.shows_root.state i) w.time) in
       subst (λ e. AreWithin e offset ahead) (ap (time_error_at way.way) (sym long) ∙ sym way.is)
       (subst (AreWithin (time_error_at way.way (suc steps)) offset) (sym clocks) exact)
 

@@ -3,7 +3,9 @@ use Rattle.std.proofs.Common.{◌≡◌, ◌≢◌, ◌⊎◌, ◌≤◌, ◌+�
 use Rattle.std.specs.Option.{option_map_or}
 use Rattle.std.specs.Prelude.{◌==◌}
 use Rattle.std.proofs.lemmas.List.{append-nil}
+use Rattle.gptp_graph.specs.Best.{IsBest}
 use Rattle.gptp_graph.specs.Distance.{IsDistance}
+use Rattle.gptp_graph.specs.Snapshot.{System}
 use Rattle.gptp_graph.proofs.ParentLemmas.{no_parent_at_zero}
 use Rattle.gptp_vector.specs.declared.port.PortId.{PortId}
 use Rattle.gptp_links.specs.declared.bounds.Bounds.{Bounds}
@@ -33,7 +35,7 @@ use Rattle.gptp_sync_machine.specs.Acts.{FollowerActs, hears}
 use Rattle.gptp_sync_machine.specs.Follower.{FollowerSetting}
 use Rattle.gptp_sync_machine.specs.Invariant.{FollowerInvariant}
 use Rattle.gptp_invariants.specs.SyncFollowView.{follower_view, tells}
-use Rattle.gptp_invariants.specs.SyncFollowers.{HasWay, IsFollower, follower, follower_setting, state_above, follower_state}
+use Rattle.gptp_invariants.specs.SyncFollowers.{HasWay, IsFollower, base_at, follower, follower_setting, state_above, follower_state}
 use Rattle.gptp_invariants.specs.DelayLinkView.{LinkPlace, link_frame_view, link_lane_view, other_direction}
 use Rattle.gptp_invariants.specs.ChoiceSaid.{said_at}
 use Rattle.gptp_invariants.specs.WorldStanding.{snapshot_of}
@@ -47,7 +49,8 @@ use Rattle.gptp_invariants.proofs.SyncFollowHeardLemmas.{hears_seen}
 use Rattle.gptp_invariants.proofs.SyncFollowLaneLemmas.{lane_seen}
 use Rattle.gptp_invariants.proofs.SyncFollowSayLemmas.{heard_tells_none}
 use Rattle.gptp_invariants.proofs.SyncFollowSettingLemmas.{own_shown, residence_is}
-use Rattle.gptp_invariants.proofs.SyncFollowStepLemmas.{RelayStops, apart, inv_on, others, root_stays, slave_stays, step_seen, way_was}
+use Rattle.gptp_invariants.proofs.SyncFollowStepLemmas.{RelayStops, apart, inv_on, k as next_setting, others, root_stays, slave_stays, step_seen, way_was}
+use Rattle.gptp_invariants.proofs.SyncFollowBaseLemmas.{GoesOn, calls_go_on}
 use Rattle.gptp_invariants.proofs.SyncFollowTreeLemmas.{FollowedBefore, followed_before, slave_is, takes_time, well_formed}
 use Rattle.gptp_invariants.proofs.DelayLinkLemmas.{IsOrderly, net_orderly, sender_opposite, sound_orderly}
 use Rattle.gptp_invariants.proofs.DelayPoppedLemmas.{queue_left, queue_set, which_way}
@@ -228,10 +231,13 @@ module _ (p : SettlingParams) (settled longest : ℕ) (w : WorldState) (is : IsS
             (follower at emptied left)
         kept_by (inr elsewhere) =
             let g = f at left in
-            inv_on p settled longest w emptied is is_left takes_keeps refl at g left (was at left).a (was at left).b
-            (was at left).bounds steps h' carries
-            (others p settled longest w emptied is is_left takes_keeps refl at g left (was at left).a (was at left).b
-            (was at left).bounds steps h' []
+            let same_base : (number : ℕ) (best : System) → IsBest (snapshot_of w) number best
+            → GoesOn (base_at w.stations best.clock) (base_at emptied.stations best.clock) =
+            λ number best is_best. inl refl in
+            inv_on p settled longest w emptied is is_left takes_keeps refl same_base at g left
+            (was at left).a (was at left).b (was at left).bounds steps h' carries
+            (others p settled longest w emptied is is_left takes_keeps refl same_base at g left
+            (was at left).a (was at left).b (was at left).bounds steps h' []
             (elsewhere.lane ∙ sym (append-nil (world_queue at.direction g.channel))) (λ x none. absurd none)
             (record {
               sync_in = ap (λ (y : SystemState). y.sync_in) (sym (state_is at left));
@@ -265,6 +271,13 @@ module _ (p : SettlingParams) (settled longest : ℕ) (w : WorldState) (is : IsS
 
     keeps : KeepsNetwork w w'
     keeps = keeps_on w emptied w' takes_keeps keeps_left
+
+    goes : (number : ℕ) (best : System) → IsBest (snapshot_of w) number best
+        → GoesOn (base_at w.stations best.clock) (base_at w'.stations best.clock)
+    goes number best is_best =
+        calls_go_on p settled longest d.place (FrameHeard port octets) w emptied draws told w' is refl c keeps_left
+        number
+        best is_best
 
     time : w'.time ≡ w.time
     time = ap (λ (v : WorldState). v.time) c.is
@@ -320,10 +333,10 @@ module _ (p : SettlingParams) (settled longest : ℕ) (w : WorldState) (is : IsS
       from_is = sender_same at.direction g.channel left.channel (was at left).a (was at left).b
 
       abbrev h : HasWay p.params at w g steps
-      h = way_was p settled longest w w' is is' keeps time at g f' a b bounds steps h'
+      h = way_was p settled longest w w' is is' keeps time goes at g f' a b bounds steps h'
 
       abbrev k : FollowerSetting
-      k = follower_setting p.params settled longest at w g steps h
+      k = next_setting p settled longest w w' is is' keeps time goes at g f' a b bounds steps h'
 
       own_is : ((at.answering ≡ d.place) × (x ≡ s) × (x' ≡ s')) ⊎ ((at.answering ≢ d.place) × (x' ≡ x))
       own_is = elim seen.own [
@@ -362,7 +375,8 @@ module _ (p : SettlingParams) (settled longest : ℕ) (w : WorldState) (is : IsS
       elsewhere_acts : CameElsewhere at left
           → FollowerActs k tells (follower at w g) (follower_view w.time at.direction f'.channel x')
       elsewhere_acts elsewhere =
-          step_seen p settled longest w w' is is' keeps time at g f' a b bounds steps h' d.place s s' c.sends seen.news
+          step_seen p settled longest w w' is is' keeps time goes at g f' a b bounds steps h' d.place s s' c.sends
+          seen.news
           (seen.queue_is ∙ ap (λ q. q ++ seen.news) elsewhere.lane)
           (λ y member. subst (λ (z : Bounds). w.time + z.min ≤ y.due) (was at left).bounds (seen.late y member))
           (seen.said ∙ ap (λ q. said_at s' q c.sends) from_is) seen.quiet same own_is
@@ -377,7 +391,7 @@ module _ (p : SettlingParams) (settled longest : ℕ) (w : WorldState) (is : IsS
           nothing : seen.news ≡ []
           nothing =
               seen.quiet
-              (λ there. apart p settled longest w w' is is' keeps time at g f' a b bounds
+              (λ there. apart p settled longest w w' is is' keeps time goes at g f' a b bounds
               (there ∙ sym (place_is at left came)))
 
           on_time : (due : ℕ) → x.relay ≡ Some due → (w.time ≤ due) × (due ≤ w.time + x.params.residence)
@@ -408,8 +422,8 @@ module _ (p : SettlingParams) (settled longest : ℕ) (w : WorldState) (is : IsS
                     (subst (λ n. Steps (FrameHeard n octets) w.time x x' c.sends told) number
                     (subst (λ y. Steps (FrameHeard port octets) w.time y x' c.sends told) (sym before)
                     (subst (λ y. Steps (FrameHeard port octets) w.time s y c.sends told) (sym now) c.steps)))
-                    (root_stays p settled longest w w' is is' keeps time at g f' a b bounds)
-                    (slave_stays p settled longest w w' is is' keeps time at g f' a b bounds)
+                    (root_stays p settled longest w w' is is' keeps time goes at g f' a b bounds)
+                    (slave_stays p settled longest w w' is is' keeps time goes at g f' a b bounds)
                     (own_shown p settled longest w is at g steps h w.time)
                     (ap (λ (y : Params). y.residence) (is.world.known.set at.answering g.own.station g.own.here).params
                     ∙ sym (residence_is p settled longest w is at g steps h))
@@ -419,7 +433,7 @@ module _ (p : SettlingParams) (settled longest : ℕ) (w : WorldState) (is : IsS
       follows_on : FollowerInvariant (follower_setting p.params settled longest at w' f' steps h') tells
           (follower at w' f')
       follows_on =
-          inv_on p settled longest w w' is is' keeps time at g f' a b bounds steps h' carries (by (which at left))
+          inv_on p settled longest w w' is is' keeps time goes at g f' a b bounds steps h' carries (by (which at left))
         where
           by : CameHere at left ⊎ CameElsewhere at left
               → FollowerActs k tells (follower at w g) (follower_view w.time at.direction f'.channel x')

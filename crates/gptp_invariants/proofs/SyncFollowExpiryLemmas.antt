@@ -1,8 +1,13 @@
 -- An expiry in a settled world keeps what is claimed of the time that is carried in it.
-use Rattle.std.proofs.Common.{◌≡◌, ◌≢◌, ◌⊎◌, ◌<◌, ◌+◌, ℕ, Bool, true, false, List, [], Some, refl, sym, ap, subst, ◌∙◌, inl, inr}
+use Rattle.std.proofs.Common.{◌≡◌, ◌≢◌, ◌⊎◌, ◌<◌, ◌+◌, ℕ, Bool, true, false, List, [], Some, refl, sym, ap, subst, ◌∙◌, inl, inr, zero, suc, arith}
 use Rattle.std.proofs.lemmas.Option.{none-some}
+use Rattle.std.specs.List.{list_any}
 use Rattle.gptp_lists.specs.Members.{In}
 use Rattle.gptp_graph.specs.Distance.{IsDistance}
+use Rattle.gptp_graph.specs.Best.{IsBest}
+use Rattle.gptp_graph.specs.Snapshot.{System}
+use Rattle.gptp_graph.specs.Parent.{ParentLink}
+use Rattle.gptp_graph.proofs.ParentLemmas.{IsParent-unique}
 use Rattle.gptp_vector.specs.declared.port.PortId.{PortId}
 use Rattle.gptp_links.specs.Fate.{Draw}
 use Rattle.gptp_setup.specs.declared.setup.Params.{Params}
@@ -13,8 +18,8 @@ use Rattle.gptp_system.specs.declared.answer.Answer.{Answer}
 use Rattle.gptp_system.specs.Input.{Input, Steps, Expires as TimerExpires}
 use Rattle.gptp_system.specs.Messages.{AreSent}
 use Rattle.gptp_system.specs.Selection.{kept_if}
-use Rattle.gptp_system.specs.State.{SystemState, clock, due}
-use Rattle.gptp_system.specs.Syncing.{LeadsTime, is_leading}
+use Rattle.gptp_system.specs.State.{SystemState, clock, due, is_mine}
+use Rattle.gptp_system.specs.Syncing.{LeadsTime, is_leading, own_time}
 use Rattle.gptp_system.proofs.SentLemmas.{steps_send}
 use Rattle.gptp_model.proofs.SteadyLemmas.{same_clock}
 use Rattle.gptp_model.specs.Act.{Calls, TimerRunsOut, in_state}
@@ -24,7 +29,7 @@ use Rattle.gptp_model.specs.World.{WorldState, sender}
 use Rattle.gptp_sync_machine.specs.Follower.{FollowerSetting}
 use Rattle.gptp_sync_machine.specs.Invariant.{FollowerInvariant}
 use Rattle.gptp_invariants.specs.SyncFollowView.{tells}
-use Rattle.gptp_invariants.specs.SyncFollowers.{HasWay, IsFollower, follower, follower_setting, state_above}
+use Rattle.gptp_invariants.specs.SyncFollowers.{HasWay, IsFollower, follower, follower_setting, state_above, base_at, follower_clock, parent_link, told_base}
 use Rattle.gptp_invariants.specs.DelayLinkView.{LinkPlace}
 use Rattle.gptp_invariants.specs.ChoiceSaid.{said_at}
 use Rattle.gptp_invariants.specs.WorldStanding.{snapshot_of}
@@ -32,9 +37,10 @@ use Rattle.gptp_invariants.specs.SyncTimed.{AllMeasureRight, CarriesTime, IsSett
 use Rattle.gptp_invariants.proofs.ChoiceCalmKeptLemmas.{KeepsNetwork, calls_keep, expires_keep, same_snapshot}
 use Rattle.gptp_invariants.proofs.SyncFollowCallLemmas.{CallSeen, call_seen}
 use Rattle.gptp_invariants.proofs.SyncFollowHearLemmas.{StaysPut, stays_put}
-use Rattle.gptp_invariants.proofs.SyncFollowRightLemmas.{TellsRight, leader_right, relay_right}
+use Rattle.gptp_invariants.proofs.SyncFollowBaseLemmas.{GoesOn, base_above, calls_go_on, none_told}
+use Rattle.gptp_invariants.proofs.SyncFollowRightLemmas.{TellsRight, leader_right, relay_right, tells_goes_on}
 use Rattle.gptp_invariants.proofs.SyncFollowSayLemmas.{NoneTells, SendsOn, relays_send, syncs_tell, timer_tells_none}
-use Rattle.gptp_invariants.proofs.SyncFollowStepLemmas.{RelayStops, inv_on, step_seen, way_was}
+use Rattle.gptp_invariants.proofs.SyncFollowStepLemmas.{RelayStops, base_goes_on, inv_on, k as next_setting, step_seen, way_was}
 use Rattle.gptp_invariants.proofs.SyncFollowTreeLemmas.{WasBefore, was_before}
 use Rattle.gptp_invariants.proofs.DelayLinkExpiryLemmas.{expires_due, expires_timely}
 use Rattle.gptp_invariants.proofs.SyncTimeStepLemmas.{StaysKnown, Stops, expires}
@@ -116,6 +122,13 @@ module _ (p : SettlingParams) (settled longest : ℕ) (w w' : WorldState) (is : 
   same_timer : (one other : Timer) → TimerExpires one ≡ TimerExpires other → one ≡ other
   same_timer one other q = cc
 
+  -- the best of each component goes on to tell the same
+  goes : (number : ℕ) (best : System) → IsBest (snapshot_of w) number best
+      → GoesOn (base_at w.stations best.clock) (base_at w'.stations best.clock)
+  goes number best is_best =
+      calls_go_on p settled longest place (TimerExpires timer) w at_rest draws e.answer w' is refl e.calls keeps_rest
+      number best is_best
+
   -- what it makes of the system that is called
   moves : s'.root ≡ s.root → s'.slave ≡ s.slave → StaysPut s s' ⊎ RelayStops w.time s s'
   moves root slave = by (expires timer w.time s s' e.calls.sends e.calls.steps)
@@ -160,10 +173,10 @@ module _ (p : SettlingParams) (settled longest : ℕ) (w w' : WorldState) (is : 
     }
 
     abbrev h : HasWay p.params at w f steps
-    h = way_was p settled longest w w' is is' keeps time at f f' seen.a seen.b seen.bounds steps h'
+    h = way_was p settled longest w w' is is' keeps time goes at f f' seen.a seen.b seen.bounds steps h'
 
     abbrev kset : FollowerSetting
-    kset = follower_setting p.params settled longest at w f steps h
+    kset = next_setting p settled longest w w' is is' keeps time goes at f f' seen.a seen.b seen.bounds steps h'
 
     abbrev port : PortId
     port = sender at.direction f.channel
@@ -179,25 +192,62 @@ module _ (p : SettlingParams) (settled longest : ℕ) (w w' : WorldState) (is : 
         none_sent none octets member =
             absurd (subst (λ xs. In octets (said_at s' port xs)) none member)
 
-        leading : (is_leading s ≡ true) × LeadsTime w.time s s' e.calls.sends → TellsRight kset w.time s e.calls.sends
-        leading (leads_it, told) =
-            subst (λ y. TellsRight kset w.time y e.calls.sends) above
-            (leader_right p settled longest w is at f steps h s' e.calls.sends
-            (subst (λ y. is_leading y ≡ true) (sym above) leads_it)
-            (subst (λ y. LeadsTime w.time y s' e.calls.sends) (sym above) told))
+        -- where it is the root, the base is the one that it has afterwards
+        its_base : steps ≡ 0 → kset.base ≡ told_base s'
+        its_base none = by_zero steps h' none
+          where
+            was : WasBefore place (TimerExpires timer) at_rest draws e.answer w' e.calls at.asking
+                (sender at.direction f'.channel).clock f'.above
+            was =
+                was_before place (TimerExpires timer) at_rest draws e.answer w' e.calls at.asking
+                (sender at.direction f'.channel).clock f'.above
+
+            after : f'.above.station.system ≡ s'
+            after = elim was.which [
+              | inl (same, before, now) ↦ ap (λ (y : Station). y.system) now
+              | inr (other, still) ↦ absurd (other here)
+            ]
+
+            by_zero : (n : ℕ) → HasWay p.params at w' f' n → n ≡ 0 → kset.base ≡ told_base s'
+            by_zero zero way is_zero =
+                let (parent, up, follows, there, way_is, phase_is) = way.is in
+                let one = IsParent-unique (snapshot_of w') (follower_clock at w' f') parent
+                (parent_link at.direction f'.channel) follows f'.parent in
+                base_above p settled longest w' is' at f'
+                (subst (λ (l : ParentLink). IsDistance (snapshot_of w') l.clock 0) one there.0) ∙ ap told_base after
+            by_zero (suc n) way is_zero = absurd (omega (arith, is_zero))
+
+        leading : (is_leading s ≡ true) × LeadsTime w.time s s' e.calls.sends
+            → NoneTells (said_at s' port e.calls.sends) ⊎ TellsRight kset w.time s e.calls.sends
+        leading (leads_it, told) = by_master (list_any is_mine s.held) refl
+          where
+            by_master : (b : Bool) → list_any is_mine s.held ≡ b
+                → NoneTells (said_at s' port e.calls.sends) ⊎ TellsRight kset w.time s e.calls.sends
+            by_master true master =
+                inr (subst (λ y. TellsRight kset w.time y e.calls.sends) above
+                (leader_right p settled longest w is at f steps h kset.base s' e.calls.sends its_base
+                (subst (λ y. is_leading y ≡ true) (sym above) leads_it)
+                (subst (λ (y : SystemState). list_any is_mine y.held ≡ true) (sym above) master)
+                (subst (λ y. LeadsTime w.time y s' e.calls.sends) (sym above) told)))
+            by_master false none =
+                inl (none_sent (told.sends_are
+                ∙ none_told (clock s) s.params.sync (own_time told.stamp told.rest) 1 s.held s.ports none))
 
         sending : s.relay ≡ Some w.time → SendsOn w.time s s' e.calls.sends → TellsRight kset w.time s e.calls.sends
         sending runs told =
             subst (λ y. TellsRight kset w.time y e.calls.sends) above
+            (tells_goes_on (follower_setting p.params settled longest at w f steps h) kset.base w.time
+            (state_above at w f) e.calls.sends
+            (base_goes_on p settled longest w w' is is' keeps time goes at f f' seen.a seen.b seen.bounds)
             (relay_right p settled longest w is right carries at f steps h s' e.calls.sends
             (subst (λ (y : SystemState). y.relay ≡ Some w.time) (sym above) runs)
-            (subst (λ y. SendsOn w.time y s' e.calls.sends) (sym above) told))
+            (subst (λ y. SendsOn w.time y s' e.calls.sends) (sym above) told)))
 
         by : (t : Timer) → Steps (TimerExpires t) w.time s s' e.calls.sends e.answer
             → AreSent s w.time (TimerExpires t) e.calls.sends → due t s ≡ Some w.time
             → NoneTells (said_at s' port e.calls.sends) ⊎ TellsRight kset w.time s e.calls.sends
         by timers.Sync k all runs = elim (syncs_tell w.time s s' e.calls.sends e.answer k) [
-          | inl told ↦ inr (leading told)
+          | inl told ↦ leading told
           | inr none ↦ inl (none_sent none)
         ]
         by timers.Relay k all runs = elim (relays_send w.time s s' e.calls.sends e.answer k) [
@@ -218,8 +268,8 @@ module _ (p : SettlingParams) (settled longest : ℕ) (w w' : WorldState) (is : 
     follows_on : FollowerInvariant (follower_setting p.params settled longest at w' f' steps h') tells
         (follower at w' f')
     follows_on =
-        inv_on p settled longest w w' is is' keeps time at f f' seen.a seen.b seen.bounds steps h' carries
-        (step_seen p settled longest w w' is is' keeps time at f f' seen.a seen.b seen.bounds steps h' place s s'
+        inv_on p settled longest w w' is is' keeps time goes at f f' seen.a seen.b seen.bounds steps h' carries
+        (step_seen p settled longest w w' is is' keeps time goes at f f' seen.a seen.b seen.bounds steps h' place s s'
         e.calls.sends seen.news seen.queue_is seen.late seen.said seen.quiet same seen.own seen.above
         (λ here. moves) speaks)
 

@@ -1,7 +1,7 @@
 -- A Follow_Up that is used leaves an offset that is exact.
 use Rattle.std.proofs.Common.{◌≡◌, ◌≢◌, ◌⊎◌, ◌≤◌, ℕ, suc, ℤ, Bool, true, false, List, ◌∷◌, map, Option, Some, None, slice_get, slice_set, refl, sym, ap, subst, ◌∙◌, inl, inr, arith, eqb-true}
 use Rattle.std.specs.Option.{option_map, option_map_or}
-use Rattle.std.specs.Prelude.{◌==◌, ◌-ℤ◌, pos, if◌then◌else◌}
+use Rattle.std.specs.Prelude.{◌==◌, ◌-ℤ◌, pos, if◌then◌else◌, ◌+ℤ◌}
 use Rattle.std.proofs.lemmas.Bool.Decides.{nat_tests}
 use Rattle.std.proofs.lemmas.Option.{none-some, same_Some}
 use Rattle.gptp_lists.proofs.MappedLemmas.{same_there}
@@ -25,14 +25,16 @@ use Rattle.gptp_system.specs.declared.sending.Sending.{Sending}
 use Rattle.gptp_system.specs.Input.{Frame as FrameHeard, Steps}
 use Rattle.gptp_system.specs.State.{SystemState, is_capable_at, local_time}
 use Rattle.gptp_system.specs.Syncing.{HearsFollowUpIf, IsOffset, KnowsBy, KnowsIf, OffsetFits, delay_at, is_slave_at, offset_of, root_rate_at, said_on, slave_delay, slave_rate}
+use Rattle.gptp_system.specs.Takeover.{told_time}
 use Rattle.gptp_error_laws.specs.TimeError.{time_error_at}
+use Rattle.gptp_error_laws.specs.WayLaws.{shown_at}
 use Rattle.gptp_model.specs.Act.{Delivers, Hears, in_state}
 use Rattle.gptp_model.specs.Acts.{TellsHearing}
 use Rattle.gptp_model.specs.declared.done.Done.{Done}
 use Rattle.gptp_model.specs.declared.done.Done.TheVariants.{Heard, Quiet}
 use Rattle.gptp_model.specs.declared.station.Station.{Station}
 use Rattle.gptp_model.specs.World.{WorldState, port_id, world_queue, receiver}
-use Rattle.gptp_sync_machine.specs.Follower.{FollowerSetting, from, own_clock, root_clock}
+use Rattle.gptp_sync_machine.specs.Follower.{FollowerSetting, from, own_clock, root_told}
 use Rattle.gptp_sync_machine.specs.Messages.{FollowUp, IsOneMessage}
 use Rattle.gptp_sync_machine.specs.Right.{IsHeldAt, IsMeasuredAt}
 use Rattle.gptp_sync_machine.proofs.ModestLemmas.{rates_are_held, ways_are_modest}
@@ -45,6 +47,7 @@ use Rattle.gptp_invariants.specs.WorldStanding.{snapshot_of}
 use Rattle.gptp_invariants.specs.SyncTimed.{AllMeasureRight, CarriesTime, IsSettledFrom}
 use Rattle.gptp_invariants.specs.SyncTimedLaws.{IsRootOf, OffsetsAreExact}
 use Rattle.gptp_invariants.specs.ChoiceView.{port_identity_number}
+use Rattle.gptp_invariants.proofs.SyncFollowBaseLemmas.{base_of}
 use Rattle.gptp_invariants.proofs.SyncFollowDeliveryLemmas.{opposite_same}
 use Rattle.gptp_invariants.proofs.SyncFollowOctetLemmas.{told_alone}
 use Rattle.gptp_invariants.proofs.SyncFollowPartLemmas.{clock_shown}
@@ -188,6 +191,11 @@ module _ (p : SettlingParams) (settled longest : ℕ) (w : WorldState) (is : IsS
       subst (IsMeasuredAt h.way steps (root_rate_at x n)) same_delay
       (subst (λ r. IsMeasuredAt h.way steps r (slave_delay x)) same_rate (right place f steps h))
 
+  -- its root tells time, and the offset is within the time error of the way, less what is told
+  abbrev IsExact : ℤ → Type 0
+  IsExact offset = (ahead : ℤ) × (k.base ≡ Some ahead) × AreWithin (time_error_at h.way (suc steps)) offset
+      (own_clock k w.time -ℤ root_told k ahead w.time)
+
   module _ (s' : SystemState) (used : IsUsed n m x s') (late : from k ≤ w.time) where
     abbrev sync : KeptSync
     sync = used.kept
@@ -207,48 +215,50 @@ module _ (p : SettlingParams) (settled longest : ℕ) (w : WorldState) (is : IsS
 
     -- with a rate that the laws allow
     exact_with : (held : ℤ) → IsHeldAt h.way steps m.rate (root_rate_at x n) held
-        → AreWithin (time_error_at h.way (suc steps))
-        (offset_of (record (together m sync) { rate = held }) (delay_at x n) (root_rate_at x n))
-        (own_clock k w.time -ℤ root_clock k w.time)
+        → IsExact (offset_of (record (together m sync) { rate = held }) (delay_at x n) (root_rate_at x n))
     exact_with held allowed =
         offset_is_exact k tells (follower place w f) (link_frame_view (frame w.time octets)) (map link_frame_view rest)
         (port_identity_number sync.source) sync.sequence (told_in m) sync.ingress (root_rate_at x n) (delay_at x n) held
         (is_setting p settled longest w is place f steps h) (carries.follow place f steps h)
         (ap (map link_frame_view) front) refl late one (ap (option_map kept_sync) used.keeps) measured allowed
 
-    pub offset_exact : (offset : ℤ) → s'.offset ≡ Some offset
-        → AreWithin (time_error_at h.way (suc steps)) offset (own_clock k w.time -ℤ root_clock k w.time)
+    pub offset_exact : (offset : ℤ) → s'.offset ≡ Some offset → IsExact offset
     offset_exact offset left = by (used.offset offset left)
       where
         by : (OffsetFits (together m sync) (delay_at x n) (root_rate_at x n)
             × (offset ≡ offset_of (together m sync) (delay_at x n) (root_rate_at x n)))
             ⊎ (offset ≡ offset_of (held_sum (together m sync) (root_rate_at x n)) (delay_at x n) (root_rate_at x n))
-            → AreWithin (time_error_at h.way (suc steps)) offset (own_clock k w.time -ℤ root_clock k w.time)
+            → IsExact offset
         by (inl (fits, same)) =
-            subst (λ o. AreWithin (time_error_at h.way (suc steps)) o (own_clock k w.time -ℤ root_clock k w.time))
-            (sym same)
+            subst IsExact (sym same)
             (exact_with m.rate (rates_are_held.as_told h.way steps m.rate (root_rate_at x n) fits.receipt.rate))
         by (inr same) =
-            subst (λ o. AreWithin (time_error_at h.way (suc steps)) o (own_clock k w.time -ℤ root_clock k w.time))
-            (sym same)
+            subst IsExact (sym same)
             (exact_with (held_sum (together m sync) (root_rate_at x n)).rate
             (rates_are_held.by_limits h.way steps m.rate (root_rate_at x n)
             (ways_are_modest h.way steps (documented p settled longest w is place f steps h)
             (let same_length = long p settled longest w is place f steps h in omega (arith, same_length))
             (let less = few p settled longest w is place f steps h in omega (arith, less)))))
 
-  -- the clocks are those of the system and of its root
-  pub clocks_are : (root : Station) → IsRootOf w (follower_clock place w f) root
-      → own_clock k w.time -ℤ root_clock k w.time ≡ local_time x w.time -ℤ local_time root.system w.time
-  clocks_are root r =
-      let parts = follower_parts p.params w in
-      let own = own_shown p settled longest w is place f steps h w.time in
-      let root_is : root_clock k w.time ≡ local_time root.system w.time =
-      way_leads_to.root parts (snapshot_of w) (suc steps) (follower_clock place w f) w.time r.best h.way h.phase
-      (well_formed p settled longest w is) r.is_best h.is
-      ∙ ap (λ c. local_clock (parts.phase c) (parts.drift c) w.time) (sym r.named)
-      ∙ sym (clock_shown p.params w is.world.sound is.measured r.place root r.here w.time) in
-      λ i. sym own i -ℤ root_is i
+  -- the clock is that of the system, and what is told what its root tells
+  module _ (root : Station) (r : IsRootOf w (follower_clock place w f) root) where
+    pub clocks_are : (ahead : ℤ) → k.base ≡ Some ahead
+        → own_clock k w.time -ℤ root_told k ahead w.time ≡ local_time x w.time -ℤ told_time root.system w.time
+    clocks_are ahead base =
+        let parts = follower_parts p.params w in
+        let own = own_shown p settled longest w is place f steps h w.time in
+        let root_is : shown_at h.way h.phase 0 w.time ≡ local_time root.system w.time =
+        way_leads_to.root parts (snapshot_of w) (suc steps) (follower_clock place w f) w.time r.best h.way h.phase
+        (well_formed p settled longest w is) r.is_best h.is
+        ∙ ap (λ c. local_clock (parts.phase c) (parts.drift c) w.time) (sym r.named)
+        ∙ sym (clock_shown p.params w is.world.sound is.measured r.place root r.here w.time) in
+        let its = base_of p settled longest w is place f root r ahead base in
+        λ i. sym own i -ℤ (root_is i +ℤ sym its i)
+
+    pub exact_of : (offset : ℤ) → IsExact offset
+        → AreWithin (time_error_at h.way (suc steps)) offset (local_time x w.time -ℤ told_time root.system w.time)
+    exact_of offset (ahead, base, exact) =
+        subst (AreWithin (time_error_at h.way (suc steps)) offset) (clocks_are ahead base) exact
 
 -- ---- an act
 
@@ -340,7 +350,7 @@ offsets_are_exact p settled longest link direction w draws done w' place f steps
     subst (λ o. Reads o (messages.FollowUp m)) once.octets_are reads in
     let here = used_here p settled longest w is place f link direction k.octets draws k.answer w' d
     (once.clock_is ∙ ap (λ c. (receiver direction c).clock) channels) m read after there (sym once.answer_is) in
-    subst (AreWithin (time_error_at h.way (suc steps)) offset)
-    (clocks_are p settled longest w is right carries place f steps h k.octets here.rest here.front m read root is_root)
+    exact_of p settled longest w is right carries place f steps h k.octets here.rest here.front m read root is_root
+    offset
     (offset_exact p settled longest w is right carries place f steps h k.octets here.rest here.front m read after.system
     here.used late offset left)

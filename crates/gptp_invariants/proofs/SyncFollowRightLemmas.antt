@@ -1,11 +1,13 @@
 -- What the parent of a system tells is right, where it may come after what comes is right: a root tells its own clock,
 -- and a bridge what it knows.
-use Rattle.std.proofs.Common.{◌≡◌, ◌⊎◌, ◌<◌, ◌≤◌, ◌+◌, ◌*◌, ℕ, zero, suc, ℤ, true, List, Some, refl, sym, ap, subst, ◌∙◌, inl, inr, arith, eqb-true}
+use Rattle.std.proofs.Common.{◌≡◌, ◌⊎◌, ◌<◌, ◌≤◌, ◌+◌, ◌*◌, ℕ, zero, suc, ℤ, true, List, Some, refl, sym, ap, subst, ◌∙◌, inl, inr, arith, eqb-true, Option, None, ◌+ℤ◌, if◌then◌else◌}
 use Rattle.std.specs.Prelude.{◌==◌}
+use Rattle.std.specs.List.{list_any}
 use Rattle.std.proofs.lemmas.Bool.{and_parts}
 use Rattle.gptp_graph.specs.Distance.{IsDistance, IsNear}
 use Rattle.gptp_graph.specs.Parent.{IsParent, ParentLink}
 use Rattle.gptp_graph.specs.Snapshot.{IsWellFormed, Snapshot, System}
+use Rattle.gptp_graph.specs.SettledChoice.{IsBestIdentity}
 use Rattle.gptp_graph.proofs.ParentLemmas.{IsParent-unique, LeadsNearer-distance}
 use Rattle.gptp_graph.proofs.SystemLemmas.{same_identity}
 use Rattle.gptp_graph.proofs.TreeLemmas.{best_has_no_parent}
@@ -18,21 +20,23 @@ use Rattle.gptp_correction.specs.declared.sync_in.SyncInfo.{SyncInfo}
 use Rattle.gptp_correction.specs.Correction.{bridge, carried, carried_on, held_sum, relayed, BridgeFits}
 use Rattle.gptp_setup.specs.SettlingParams.{SettlingParams}
 use Rattle.gptp_system.specs.declared.sending.Sending.{Sending}
-use Rattle.gptp_system.specs.State.{SystemState, can_lead, clock, local_time}
+use Rattle.gptp_system.specs.State.{SystemState, can_lead, clock, local_time, is_mine}
 use Rattle.gptp_system.specs.Syncing.{HopFits, IsRelayed, IsSentOn, IsToldAtLimits, LeadsTime, hop_of, is_leading, own_time, slave_delay, slave_rate, told_by}
+use Rattle.gptp_system.specs.Takeover.{base_after}
 use Rattle.gptp_model.specs.declared.station.Station.{Station}
 use Rattle.gptp_model.specs.World.{WorldState, sender}
 use Rattle.gptp_error_laws.specs.TimeError.{Way}
-use Rattle.gptp_sync_machine.specs.Follower.{FollowerSetting, from, own_clock, root_clock}
+use Rattle.gptp_error_laws.specs.WayLaws.{shown_at}
+use Rattle.gptp_sync_machine.specs.Follower.{FollowerSetting, from, own_clock}
 use Rattle.gptp_sync_machine.specs.Follower as followers
 use Rattle.gptp_sync_machine.specs.FollowerLaws.{IsParentOf}
 use Rattle.gptp_sync_machine.specs.Right.{IsHeldAt, IsMeasuredAt, FollowUpIsRight}
-use Rattle.gptp_sync_machine.specs.Tree.{IsWayTo, Parts}
+use Rattle.gptp_sync_machine.specs.Tree.{IsWayTo, Parts, follower_of}
 use Rattle.gptp_sync_machine.proofs.ModestLemmas.{rates_are_held, ways_are_modest}
 use Rattle.gptp_sync_machine.proofs.TellingLemmas.{parent_tells_right, parents_numbers_fit, root_tells}
 use Rattle.gptp_sync_machine.proofs.TreeLemmas.{parents_are_parents, way_ends_at_parent}
 use Rattle.gptp_invariants.specs.SyncFollowView.{tells}
-use Rattle.gptp_invariants.specs.SyncFollowers.{HasWay, IsFollower, follower, follower_clock, follower_setting, parent_link, follower_parts, state_above, follower_state}
+use Rattle.gptp_invariants.specs.SyncFollowers.{HasWay, IsFollower, follower, follower_clock, follower_setting, parent_link, follower_parts, state_above, follower_state, base_at, told_base}
 use Rattle.gptp_invariants.specs.DelayLinkView.{LinkPlace}
 use Rattle.gptp_invariants.specs.ChoiceSettled.{IsSettledSystem}
 use Rattle.gptp_invariants.specs.WorldStanding.{snapshot_of, standing_system}
@@ -41,10 +45,11 @@ use Rattle.gptp_invariants.proofs.SyncFollowOctetLemmas.{ToldFits}
 use Rattle.gptp_invariants.proofs.SyncFollowPartLemmas.{clock_shown}
 use Rattle.gptp_invariants.proofs.SyncFollowSayLemmas.{SendsOn}
 use Rattle.gptp_invariants.proofs.SyncFollowSettingLemmas.{is_setting, own_shown, residence_is}
-use Rattle.gptp_invariants.proofs.SyncFollowSizeLemmas.{origin_fits}
-use Rattle.gptp_invariants.proofs.SyncFollowTreeLemmas.{well_formed}
-use Rattle.gptp_invariants.proofs.SyncFollowWayLemmas.{Follows, correction_small, documented, few, follows_parent, long, own_time_fits, root_time_fits, short_way}
+use Rattle.gptp_invariants.proofs.SyncFollowBaseLemmas.{GoesOn, right_goes_on, root_above, taken_over}
+use Rattle.gptp_invariants.proofs.SyncFollowTreeLemmas.{well_formed, same_root, settled_system}
+use Rattle.gptp_invariants.proofs.SyncFollowWayLemmas.{Follows, correction_small, documented, few, follows_parent, long, own_time_fits}
 use Rattle.gptp_invariants.proofs.WorldSystemLemmas.{live_there}
+use Rattle.gptp_roles.specs.Selection.{clock_of}
 
 -- ---- what is sent on
 
@@ -142,25 +147,39 @@ pub record TellsRight (k : FollowerSetting) (now : ℕ) (s : SystemState) (sends
   pub told : Relayed
   pub small : told.origin.nanos < 1000000000
   pub are : sends ≡ told_by told s
-  pub right : from k ≤ now + (followers.parent_link k).most → FollowUpIsRight k.way k.phase k.place told now
+  pub right : from k ≤ now + (followers.parent_link k).most → FollowUpIsRight k.way k.phase k.base k.place told now
   pub fits : from k ≤ now + (followers.parent_link k).most → ToldFits told
 
--- its own time, where it leads
+-- what is right goes on being so
+pub tells_goes_on : (k : FollowerSetting) (after : Option ℤ) (now : ℕ) (s : SystemState) (sends : List Sending)
+    → GoesOn k.base after → TellsRight k now s sends → TellsRight (record k { base = after }) now s sends
+tells_goes_on k after now s sends goes t = record {
+  told = t.told;
+  small = t.small;
+  are = t.are;
+  right = λ late. right_goes_on k.way k.phase k.base after k.place t.told now goes (t.right late);
+  fits = t.fits;
+}
+
+-- its own time, where it leads: by the base that it has then
 pub leader_right : (p : SettlingParams) (settled longest : ℕ) (w : WorldState) → IsSettledFrom p settled longest w
-    → (at : LinkPlace) (f : IsFollower at w) (steps : ℕ) (h : HasWay p.params at w f steps) (s' : SystemState)
-    (sends : List Sending) → is_leading (state_above at w f) ≡ true → LeadsTime w.time (state_above at w f) s' sends
-    → TellsRight (follower_setting p.params settled longest at w f steps h) w.time (state_above at w f) sends
-leader_right p settled longest w is at f (suc steps) h s' sends leading k =
+    → (at : LinkPlace) (f : IsFollower at w) (steps : ℕ) (h : HasWay p.params at w f steps) (base : Option ℤ)
+    (s' : SystemState) (sends : List Sending) → (steps ≡ 0 → base ≡ told_base s')
+    → is_leading (state_above at w f) ≡ true → list_any is_mine (state_above at w f).held ≡ true
+    → LeadsTime w.time (state_above at w f) s' sends
+    → TellsRight (record (follower_setting p.params settled longest at w f steps h) { base = base }) w.time
+    (state_above at w f) sends
+leader_right p settled longest w is at f (suc steps) h base s' sends told leading master k =
     let (l, above, follows, to, way_is, phase_is) = (way_above p settled longest w is at f (suc steps) h).leads_there in
     absurd (leads_alone p settled longest w is at f leading l
     (subst (λ v. IsParent (snapshot_of w) v l) (sym f.above.named) follows))
-leader_right p settled longest w is at f zero h s' sends leading k = record {
+leader_right p settled longest w is at f zero h base s' sends told leading master k = record {
   told = own_time k.stamp k.rest;
   small = k.split.stamp.nanos;
   are = k.sends_are;
   right = λ late.
-      root_tells (follower_setting p.params settled longest at w f zero h) k.stamp k.rest w.time refl
-      (subst (λ t. IsSplit t k.stamp k.rest) shown k.split);
+      root_tells (record (follower_setting p.params settled longest at w f zero h) { base = base }) ahead k.stamp k.rest
+      w.time refl base_is (subst (λ t. IsSplit (t +ℤ ahead) k.stamp k.rest) shown k.split);
   fits = λ late. record {
     origin = k.split.stamp;
     correction = let small = k.split.small in record { sfits = omega (arith, small) };
@@ -168,8 +187,15 @@ leader_right p settled longest w is at f zero h s' sends leading k = record {
   };
 }
   where
-    shown : local_time (state_above at w f) w.time
-        ≡ root_clock (follower_setting p.params settled longest at w f zero h) w.time
+    ahead : ℤ
+    ahead = base_after w.time (state_above at w f)
+
+    base_is : base ≡ Some ahead
+    base_is =
+        told refl ∙ ap told_base k.state
+        ∙ ap (λ b. if b then Some ahead else None) (taken_over (state_above at w f) master)
+
+    shown : local_time (state_above at w f) w.time ≡ shown_at h.way h.phase 0 w.time
     shown =
         let x = follower_parts p.params w in
         clock_shown p.params w is.world.sound is.measured at.asking f.above.station f.above.here w.time
@@ -224,11 +250,21 @@ module _ (p : SettlingParams) (settled longest : ℕ) (w : WorldState) (is : IsS
   abbrev k2 : FollowerSetting
   k2 = follower_setting p.params settled longest at2 w f2 steps h2
 
+  -- both have one root
+  roots_agree : s2.root ≡ (follower_state at w f).root
+  roots_agree =
+      same_root (snapshot_of w) (clock s2) s2.root (follower_state at w f).root (well_formed p settled longest w is)
+      (settled_system p settled longest w is at2 f2).root
+      (subst (λ v. IsBestIdentity (snapshot_of w) v (follower_state at w f).root)
+      (sym f.above.named ∙ ap clock bridge_is) (root_above p settled longest w is at f))
+
   is_parent : IsParentOf k2 kset
   is_parent =
-      parents_are_parents (follower_parts p.params w) (snapshot_of w) steps (follower_clock at w f) settled longest
-      (parent_link at.direction f.channel) k2.parent kset.parent up.way h.way h.phase h.phase f.parent up.leads_there
-      h.is
+      subst (λ root. IsParentOf (follower_of up.way h.phase (base_at w.stations (clock_of root)) steps k2.parent settled
+      longest) kset) (sym roots_agree)
+      (parents_are_parents (follower_parts p.params w) (snapshot_of w) steps (follower_clock at w f) settled longest
+      (parent_link at.direction f.channel) k2.parent kset.parent up.way h.way h.phase h.phase kset.base f.parent
+      up.leads_there h.is)
 
   module _ (info : SyncInfo) (known : s2.known ≡ Some info) (relay : s2.relay ≡ Some w.time)
       (late : from kset ≤ w.time + (followers.parent_link kset).most) where
@@ -240,11 +276,11 @@ module _ (p : SettlingParams) (settled longest : ℕ) (w : WorldState) (is : IsS
 
     -- what it tells with a rate that the laws allow is right
     told_right : (held : ℤ) → IsHeldAt h2.way steps info.rate (slave_rate s2) held
-        → FollowUpIsRight kset.way kset.phase kset.place
+        → FollowUpIsRight kset.way kset.phase kset.base kset.place
         (relayed (record info { rate = held }) (hop_of (record info { rate = held }) w.time s2)) w.time
     told_right held allowed =
         let used : SyncInfo = record info { rate = held } in
-        subst (λ t. FollowUpIsRight kset.way kset.phase kset.place
+        subst (λ t. FollowUpIsRight kset.way kset.phase kset.base kset.place
         (relayed used (bridge used (slave_delay s2) (slave_rate s2) t)) w.time) (sym own)
         (parent_tells_right k2 tells kset (follower at2 w f2) info (slave_rate s2) (slave_delay s2) held
         (is_setting p settled longest w is at2 f2 steps h2) (is_setting p settled longest w is at f (suc steps) h)
@@ -286,15 +322,13 @@ module _ (p : SettlingParams) (settled longest : ℕ) (w : WorldState) (is : IsS
 
     -- what is told is right, and its numbers fit
     abbrev IsGood : Relayed → Type 0
-    IsGood told = FollowUpIsRight kset.way kset.phase kset.place told w.time
+    IsGood told = FollowUpIsRight kset.way kset.phase kset.base kset.place told w.time
         × ((told.origin.nanos < 1000000000) → ToldFits told)
 
-    room : (told : Relayed) → FollowUpIsRight kset.way kset.phase kset.place told w.time
+    room : (told : Relayed) → FollowUpIsRight kset.way kset.phase kset.base kset.place told w.time
         → BridgeFitsTold told → told.origin.nanos < 1000000000 → ToldFits told
     room told is_right fits small = record {
-      origin = origin_fits h.way (short_way p settled longest w is at f (suc steps) h) h.phase (suc steps) told w.time
-          (let same = long p settled longest w is at f (suc steps) h in omega (arith, same))
-          (root_time_fits p settled longest w is at f (suc steps) h w.time is.shown) small is_right;
+      origin = is_right.origin;
       correction = fits.correction;
       rate = fits.rate;
     }

@@ -39,7 +39,7 @@ module _ (p : SettlingParams) (settled longest : ℕ) (w : WorldState) (is : IsS
   pub is_setting : IsSetting k
   is_setting =
       ways_are_settings x g steps number settled longest
-      (port_identity_number (sender at.direction f.channel)) h.way h.phase fit
+      (port_identity_number (sender at.direction f.channel)) h.way h.phase _ fit
       h.is
 
   pub residence_is : k.way.residence ≡ p.params.residence

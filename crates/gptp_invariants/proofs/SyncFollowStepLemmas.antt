@@ -8,6 +8,8 @@ use Rattle.gptp_lists.proofs.MappedLemmas.{same_there}
 use Rattle.gptp_lists.proofs.SystemSpecLemmas.{In-right}
 use Rattle.gptp_lists.proofs.PlaceLemmas.{same_place}
 use Rattle.gptp_graph.specs.SettledChoice.{IsBestIdentity}
+use Rattle.gptp_graph.specs.Best.{IsBest}
+use Rattle.gptp_graph.specs.Snapshot.{System}
 use Rattle.gptp_vector.specs.declared.port.PortId.{PortId}
 use Rattle.gptp_messages.specs.Frame.{PortFits}
 use Rattle.gptp_links.specs.declared.bounds.Bounds.{Bounds}
@@ -27,13 +29,14 @@ use Rattle.gptp_sync_machine.specs.Right.{FollowUpIsRight}
 use Rattle.gptp_sync_machine.specs.Tree.{IsWayTo, follower_of}
 use Rattle.gptp_sync_machine.proofs.FollowerLemmas.{inv_kept}
 use Rattle.gptp_invariants.specs.SyncFollowView.{follower_view, kept_sync, tells}
-use Rattle.gptp_invariants.specs.SyncFollowers.{HasWay, IsFollower, follower, follower_clock, follower_setting, follower_parts, state_above, follower_state}
+use Rattle.gptp_invariants.specs.SyncFollowers.{HasWay, IsFollower, base_at, root_base, follower, follower_clock, follower_setting, follower_parts, state_above, follower_state}
 use Rattle.gptp_invariants.specs.DelayLinkView.{LinkPlace, link_frame_view}
 use Rattle.gptp_invariants.specs.ChoiceSaid.{said_at}
 use Rattle.gptp_invariants.specs.WorldStanding.{snapshot_of}
 use Rattle.gptp_invariants.specs.SyncTimed.{CarriesTime, IsSettledFrom}
 use Rattle.gptp_invariants.specs.ChoiceView.{port_identity_number}
 use Rattle.gptp_invariants.proofs.ChoiceCalmKeptLemmas.{KeepsNetwork, same_snapshot}
+use Rattle.gptp_invariants.proofs.SyncFollowBaseLemmas.{GoesOn, best, invariant_goes_on, is_best, root_clock_is}
 use Rattle.gptp_invariants.proofs.SyncFollowHeardLemmas.{put_unmoved}
 use Rattle.gptp_invariants.proofs.SyncFollowHearLemmas.{StaysPut}
 use Rattle.gptp_invariants.proofs.SyncFollowLaneLemmas.{in_order, lane_seen, order_behind}
@@ -47,6 +50,7 @@ use Rattle.gptp_invariants.proofs.DelayLinkLemmas.{receiver_same}
 use Rattle.gptp_invariants.proofs.DelaySentLemmas.{octets_of}
 use Rattle.gptp_invariants.proofs.WorldStandsLemmas.{ends_differ}
 use Rattle.gptp_invariants.proofs.SyncLaneLemmas.{own_fits}
+use Rattle.gptp_roles.specs.Selection.{clock_of}
 
 -- the Relay timer of a system expires
 pub record RelayStops (now : ℕ) (s s' : SystemState) : Type 0 where
@@ -55,7 +59,9 @@ pub record RelayStops (now : ℕ) (s s' : SystemState) : Type 0 where
   pub relay : s'.relay ≡ None
 
 module _ (p : SettlingParams) (settled longest : ℕ) (w w' : WorldState) (is : IsSettledFrom p settled longest w)
-    (is' : IsSettledFrom p settled longest w') (keeps : KeepsNetwork w w') (time : w'.time ≡ w.time) (at : LinkPlace)
+    (is' : IsSettledFrom p settled longest w') (keeps : KeepsNetwork w w') (time : w'.time ≡ w.time)
+    (goes : (number : ℕ) (best : System) → IsBest (snapshot_of w) number best
+    → GoesOn (base_at w.stations best.clock) (base_at w'.stations best.clock)) (at : LinkPlace)
     (f : IsFollower at w) (f' : IsFollower at w') (a : f'.channel.a ≡ f.channel.a) (b : f'.channel.b ≡ f.channel.b)
     (bounds : f'.channel.bounds ≡ f.channel.bounds) where
   abbrev x : SystemState
@@ -85,6 +91,15 @@ module _ (p : SettlingParams) (settled longest : ℕ) (w w' : WorldState) (is : 
       slave_is p settled longest w' is' at f' ∙ ap (λ (q : PortId). Some q.port) same_to
       ∙ sym (slave_is p settled longest w is at f)
 
+  -- its root goes on to tell the same, if it told time
+  pub base_goes_on : GoesOn (root_base w x) (root_base w' x')
+  base_goes_on =
+      let is_clock = root_clock_is p settled longest w is at f in
+      subst (λ n. GoesOn (base_at w.stations n) (base_at w'.stations (clock_of x'.root))) (sym is_clock)
+      (subst (λ n. GoesOn (base_at w.stations (best p settled longest w is at f).clock) (base_at w'.stations n))
+      (sym (ap clock_of root_stays ∙ is_clock))
+      (goes (clock x) (best p settled longest w is at f) (is_best p settled longest w is at f)))
+
   -- the two ends are of two systems
   pub apart : at.asking ≢ at.answering
   apart same =
@@ -108,8 +123,9 @@ module _ (p : SettlingParams) (settled longest : ℕ) (w w' : WorldState) (is : 
           same_to h'.is));
     }
 
+    -- its setting then, by the base that its root has afterwards
     abbrev pub k : FollowerSetting
-    k = follower_setting p.params settled longest at w f steps way_was
+    k = record (follower_setting p.params settled longest at w f steps way_was) { base = root_base w' x' }
 
     abbrev pub after : Follower
     after = follower_view w.time at.direction f'.channel x'
@@ -118,11 +134,13 @@ module _ (p : SettlingParams) (settled longest : ℕ) (w w' : WorldState) (is : 
     pub inv_on : CarriesTime p.params settled longest w → FollowerActs k tells (follower at w f) after
         → FollowerInvariant (follower_setting p.params settled longest at w' f' steps h') tells (follower at w' f')
     inv_on carries acts =
-        let kept = inv_kept k tells (follower at w f) after acts (carries.follow at f steps way_was) in
+        let kept = inv_kept k tells (follower at w f) after acts
+        (invariant_goes_on (follower_setting p.params settled longest at w f steps way_was) (root_base w' x')
+        (follower at w f) base_goes_on (carries.follow at f steps way_was)) in
         subst (λ t. FollowerInvariant (follower_setting p.params settled longest at w' f' steps h') tells
         (follower_view t at.direction f'.channel x')) (sym time)
         (subst (λ (q : PortId). FollowerInvariant
-        (follower_of h'.way h'.phase steps (port_identity_number q) settled longest) tells after)
+        (follower_of h'.way h'.phase (root_base w' x') steps (port_identity_number q) settled longest) tells after)
         (sym same_from) kept)
 
     -- ---- what is sent
@@ -223,7 +241,7 @@ module _ (p : SettlingParams) (settled longest : ℕ) (w w' : WorldState) (is : 
                 sent = pair_sends k.parent t.told news here;
                 in_time = in_time;
                 right = λ from_then.
-                    subst (λ told. FollowUpIsRight k.way k.phase k.place told w.time)
+                    subst (λ told. FollowUpIsRight k.way k.phase k.base k.place told w.time)
                     (sym (here.exact (t.fits from_then)))
                     (t.right from_then);
               })
@@ -236,7 +254,7 @@ module _ (p : SettlingParams) (settled longest : ℕ) (w w' : WorldState) (is : 
       (said : octets_of news ≡ said_at s' (sender at.direction f.channel) sends)
       (quiet : at.asking ≢ place → news ≡ []) (same : clock s' ≡ clock s) where
     abbrev kset : FollowerSetting
-    kset = follower_setting p.params settled longest at w f steps (way_was steps h')
+    kset = k steps h'
 
     none_seen : news ≡ [] → AreMute tells (map link_frame_view news)
     none_seen none = none_mute news [] (ap octets_of none) (λ o member. absurd member)

@@ -1,6 +1,5 @@
 -- The ways of a world: as long as distances are, over short links; and a parent with a parent follows that.
-use Rattle.std.proofs.Common.{◌≡◌, ◌⊎◌, ◌<◌, ◌≤◌, ◌^◌, ◌+◌, ◌*◌, ℕ, zero, suc, true, List, Option, None, Some, length, slice_get, refl, sym, ap, subst, ◌∙◌, inl, inr, arith}
-use Rattle.std.specs.Option.{option_map_or}
+use Rattle.std.proofs.Common.{◌≡◌, ◌⊎◌, ◌<◌, ◌≤◌, ◌^◌, ◌+◌, ◌*◌, ℕ, zero, suc, true, Some, length, slice_get, refl, sym, ap, subst, ◌∙◌, inl, inr, arith}
 use Rattle.std.proofs.Math.Nat.{mul-le-mul}
 use Rattle.std.proofs.lemmas.Bool.{cases_lt}
 use Rattle.gptp_graph.specs.Distance.{IsDistance, IsNear}
@@ -8,16 +7,14 @@ use Rattle.gptp_graph.specs.Parent.{IsParent, ParentLink}
 use Rattle.gptp_graph.specs.Snapshot.{IsWellFormed, PortIdentity, Snapshot, System, port_of}
 use Rattle.gptp_graph.proofs.DistanceLemmas.{IsDistance-unique}
 use Rattle.gptp_graph.proofs.LinkLemmas.{Joins-sym}
-use Rattle.gptp_lists.proofs.MappedLemmas.{mapped}
 use Rattle.gptp_pdelay.specs.Clock.{IsDrift, IsTime}
 use Rattle.gptp_pdelay.proofs.ClockLemmas.{clock_shows_time}
-use Rattle.gptp_setup.specs.declared.setup.Setup.{Setup}
 use Rattle.gptp_setup.specs.SettlingParams.{SettlingParams}
 use Rattle.gptp_system.specs.State.{clock}
 use Rattle.gptp_model.specs.declared.station.Station.{Station}
 use Rattle.gptp_model.specs.World.{WorldState, receiver, sender}
-use Rattle.gptp_error_laws.specs.TimeError.{WayLink, Way, drift_at, link_at}
-use Rattle.gptp_error_laws.specs.WayLaws.{IsDocumented, shown_at}
+use Rattle.gptp_error_laws.specs.TimeError.{WayLink, Way, link_at}
+use Rattle.gptp_error_laws.specs.WayLaws.{IsDocumented}
 use Rattle.gptp_error_laws.proofs.LongerLemmas.{link_same}
 use Rattle.gptp_sync_machine.specs.Follower.{own_clock}
 use Rattle.gptp_sync_machine.specs.Right.{most_correction_at}
@@ -25,13 +22,11 @@ use Rattle.gptp_sync_machine.specs.Tree.{IsWayTo, Parts, last_link}
 use Rattle.gptp_sync_machine.specs.TreeLaws.{ArePartsOf}
 use Rattle.gptp_sync_machine.proofs.SizeLemmas.{corrections_are_small}
 use Rattle.gptp_sync_machine.proofs.TreeLemmas.{way_ends_at_parent, way_leads_to}
-use Rattle.gptp_invariants.specs.ChoiceCalm.{clock_place, setups_of}
-use Rattle.gptp_invariants.specs.SyncFollowers.{HasWay, IsFollower, follower_clock, follower_setting, parent_link, follower_parts, set_up_with, follower_state}
+use Rattle.gptp_invariants.specs.SyncFollowers.{HasWay, IsFollower, follower_clock, follower_setting, parent_link, follower_parts, follower_state}
 use Rattle.gptp_invariants.specs.DelayLinkView.{LinkPlace}
 use Rattle.gptp_invariants.specs.WorldStanding.{live_stations, snapshot_of}
 use Rattle.gptp_invariants.specs.SyncTimed.{IsSettledFrom}
 use Rattle.gptp_invariants.proofs.SyncFollowSettingLemmas.{fit, is_setting, own_shown}
-use Rattle.gptp_invariants.proofs.SyncFollowSizeLemmas.{IsShortWay}
 use Rattle.gptp_invariants.proofs.SyncFollowTreeLemmas.{well_formed}
 use Rattle.gptp_invariants.proofs.WorldStandsLemmas.{sender_lives}
 use Rattle.gptp_invariants.proofs.WorldSystemLemmas.{clock_lives, live_from}
@@ -70,25 +65,6 @@ links_short x g (suc steps) clock longest w phase fits (parent, above, follows, 
         (parent, above, follows, is, w_is, phase_is) in
         subst (λ (l : WayLink). l.most ≤ longest) (sym same) (fits.short (port_of clock parent.own_port))
 
--- its first clock has the phase of a system
-first_phase : (x : Parts) (g : Snapshot) (steps clock most : ℕ) (w : Way) (phase : ℕ → ℕ)
-    → ((number : ℕ) → x.phase number ≤ most) → IsWayTo x g steps clock w phase → phase 0 ≤ most
-first_phase x g zero clock most w phase each (is, w_is, phase_is) = subst (λ n. n ≤ most) (sym phase_is) (each clock)
-first_phase x g (suc steps) clock most w phase each (parent, above, follows, is, w_is, phase_is) =
-    first_phase x g steps parent.clock most above phase each is
-
-phases_fit : (stations : List Station)
-    → ((place : ℕ) (station : Station) → slice_get stations place ≡ Some station → station.setup.phase ≤ 10 ^ 18)
-    → (number : ℕ) → set_up_with (λ setup. setup.phase) 0 stations number ≤ 10 ^ 18
-phases_fit stations each number = by (slice_get (setups_of stations) (clock_place stations number)) refl
-  where
-    by : (found : Option Setup) → slice_get (setups_of stations) (clock_place stations number) ≡ found
-        → option_map_or (λ (setup : Setup). setup.phase) found 0 ≤ 10 ^ 18
-    by None is = omega arith
-    by (Some setup) is =
-        let (station, there, same) = mapped (λ (x : Station). x.setup) stations _ setup is in
-        subst (λ (x : Setup). x.phase ≤ 10 ^ 18) same (each (clock_place stations number) station there)
-
 -- ---- the way of a system that follows
 
 module _ (p : SettlingParams) (settled longest : ℕ) (w : WorldState) (is : IsSettledFrom p settled longest w)
@@ -124,24 +100,15 @@ module _ (p : SettlingParams) (settled longest : ℕ) (w : WorldState) (is : IsS
       links_short x g (suc steps) (follower_clock at w f) longest h.way h.phase
       (fit p settled longest w is at f steps h) h.is
 
-  pub short_way : IsShortWay h.way
-  short_way = record {
-    documented = documented;
-    few = let less = few in let same = long in omega (arith, less, same);
-    links = λ i on.
-        let short = link_short i (omega (arith, on, long)) in
-        let limit = is.limit in
-        omega (arith, short, limit);
-    turnaround = let most = is.pace.params.ranges.params.turnaround in omega (arith, most, common.1);
-    residence = let most = is.pace.params.ranges.params.residence in omega (arith, most, common.2);
-  }
-
   -- corrections on it have 63 bits
   pub correction_small : most_correction_at h.way (suc steps) < 2 ^ 63
   correction_small =
       let within = corrections_are_small h.way longest (suc steps) link_short in
-      let turnaround = short_way.turnaround in
-      let residence = short_way.residence in
+      let params = is.pace.params.ranges.params in
+      let most_turnaround = params.turnaround in
+      let most_residence = params.residence in
+      let turnaround : h.way.turnaround ≤ 1000000000 = omega (arith, most_turnaround, common.1) in
+      let residence : h.way.residence ≤ 1000000000 = omega (arith, most_residence, common.2) in
       let limit = is.limit in
       let less = few in
       let each : 131072 * (2 * longest + h.way.turnaround + h.way.residence + 1) ≤ 524288131072000 =
@@ -151,14 +118,7 @@ module _ (p : SettlingParams) (settled longest : ℕ) (w : WorldState) (is : IsS
       ≤ 255 * 524288131072000 = mul-le-mul most_steps each in
       omega (arith, within, product)
 
-  -- its clocks show times
-  pub root_time_fits : (t : ℕ) → t ≤ 10 ^ 18 → IsTime (shown_at h.way h.phase 0 t)
-  root_time_fits t early =
-      clock_shows_time (h.phase 0) (drift_at h.way 0) t
-      (first_phase x g (suc steps) (follower_clock at w f) (10 ^ 18) h.way h.phase
-      (phases_fit w.stations (λ place station here. (is.world.sound.wired.setups place station here).phase)) h.is)
-      early (documented.drifts 0 (omega arith))
-
+  -- its own clock shows times
   pub own_time_fits : (t : ℕ) → t ≤ w.time
       → IsTime (own_clock (follower_setting p.params settled longest at w f steps h) t)
   own_time_fits t before =

@@ -296,14 +296,14 @@ knows_by : (b : Bool) (info : SyncInfo) (delay rate : ℤ) (now : ℕ) (s s' : S
     (answer : Answer) → has_sync_timeout s.params ≡ b → info.origin.nanos < 1000000000
     → KnowsBy b info delay rate now s s' sends answer → Learns s s'
 knows_by true info delay rate now s s' sends answer has small k =
-    learns s (refreshing info k.offset now s) s' k.becomes.state refl (λ on. refl)
+    learns s (refreshing info k.offset rate now s) s' k.becomes.state refl (λ on. refl)
     (λ due on runs. ap (λ (o : Option ℕ). Some (unwrap_or o (now + s.params.residence))) runs)
-    (λ knows. now_known (refreshing info k.offset now s) info refl small
+    (λ knows. now_known (refreshing info k.offset rate now s) info refl small
     (λ due is. lapse_leads s.params s.root s.slave now due is))
 knows_by false info delay rate now s s' sends answer has small (inl k) =
     let offset = offset_of info delay rate in
-    learns s (knowing info offset now s) s' k.becomes.state refl (λ on. refl) (λ due on. absurd (never on has))
-    (λ knows. now_known (knowing info offset now s) info refl small knows.lapses)
+    learns s (knowing info offset rate now s) s' k.becomes.state refl (λ on. refl) (λ due on. absurd (never on has))
+    (λ knows. now_known (knowing info offset rate now s) info refl small knows.lapses)
 knows_by false info delay rate now s s' sends answer has small (inr k) =
     learns s (forgetting s) s' k.becomes.state refl (λ on. absurd (never on has)) (λ due on. absurd (never on has))
     (λ knows. none_known (forgetting s) has refl knows.lapses)

@@ -42,15 +42,22 @@ later_ready p start later at w more (inl (first, (l, by))) = inl (first, (l, ome
 later_ready p start later at w more (inr (gone, since, l, past, by)) =
     inr (gone, since, l, omega (arith, past, more), omega (arith, by, more))
 
+-- and so is what is silent
+pub silent_by_later : (p : SettlingParams) (start later : ℕ) (w : WorldState) → start ≤ later → AreSilentBy p start w
+    → AreSilentBy p later w
+silent_by_later p start later w more silent at s = elim (silent at s) [
+  | inl never ↦ inl never
+  | inr (change, one, soon) ↦ inr (change, one, omega (arith, soon, more))
+]
+
 pub ready_later : ReadyIsReadyLater
-ready_later p start later w more ready silent =
-    (λ at stands. later_ready p start later at w more (ready at stands), still)
-  where
-    still : AreSilentBy p later w
-    still at s = let (change, one, soon) = silent at s in (change, one, omega (arith, soon, more))
+ready_later p start later w more ready silent = (
+  λ at stands. later_ready p start later at w more (ready at stands),
+  silent_by_later p start later w more silent,
+)
 
 pub unanswered_silent : UnansweredIsSilent
-unanswered_silent p start w silent soon at s = (w.last_change, silent at s, soon)
+unanswered_silent p start w silent soon at s = inr (w.last_change, silent at s, soon)
 
 -- an act at its time
 pub news_done : {F : Type 0} (answers : Bounds → ℕ → F → Option ℕ → F → Type 0) → NewsAreDone answers

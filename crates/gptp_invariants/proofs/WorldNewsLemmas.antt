@@ -72,7 +72,8 @@ use Rattle.gptp_invariants.proofs.DelayCapableKeptLemmas.{no_change, stood}
 use Rattle.gptp_invariants.proofs.WorldBeforeLemmas.{none_anew, stood_earlier}
 use Rattle.gptp_invariants.proofs.DelayClaimedCapableLemmas.{clock_has, linked_or_off, used_if}
 use Rattle.gptp_invariants.proofs.FailedSilentLemmas.{become_incapable, silence_goes_on, silence_kept}
-use Rattle.gptp_invariants.specs.FailedUnanswered.{StandsUnanswered}
+use Rattle.gptp_invariants.specs.FailedUnanswered.{IsUnansweredAt, StandsUnanswered}
+use Rattle.gptp_invariants.proofs.FailedNeverAnsweredLemmas.{never_acts, never_capable, never_later}
 use Rattle.gptp_invariants.specs.WorldStanding.{live_stations}
 use Rattle.gptp_invariants.proofs.DelayChangeKeptLemmas.{acts_measured, later_measured}
 use Rattle.gptp_invariants.proofs.WorldGreatestDelayLemmas.{delay_of_used, delay_short}
@@ -230,21 +231,26 @@ link_used at w l =
     (clock_has w.stations at.answering l.answering.station _ l.answering.here l.answering.live l.answering.named)
 
 -- the port that is unanswered isn't capable
-silent_off : (p : SettlingParams) (start : ℕ) (w : WorldState) → KeepPace p → IsWorld p w → AreSilentBy p start w
+pub silent_off : (p : SettlingParams) (start : ℕ) (w : WorldState) → KeepPace p → IsWorld p w → AreSilentBy p start w
     → start ≤ w.time
     → (at : LinkPlace) (s : StandsUnanswered at w) (q : Port)
     → number s.asking.station.system.ports (sender at.direction s.channel).port ≡ Some q → is_capable q.peer ≡ false
-silent_off p start w pace is silent late at s q there =
-    let (change, one, soon) = silent at s in
-    let l = one.link in
-    let channel : s.channel ≡ l.channel = same_there w.net.channels at.link s.channel l.channel s.here l.here in
-    let station : s.asking.station ≡ l.asking.station =
-    same_there w.stations at.asking s.asking.station l.asking.station s.asking.here l.asking.here in
-    let port : q ≡ l.asking.state =
-    some_same q l.asking.state
-    (sym there ∙ (λ i. number (station i).system.ports (sender at.direction (channel i)).port) ∙ l.asking.there) in
-    ap (λ (x : Port). is_capable x.peer) port
-    ∙ become_incapable at p change w is.sound is.known pace.requests one (omega (arith, soon, late))
+silent_off p start w pace is silent late at s q there = elim (silent at s) [
+  | inl never ↦ same_port never.link (never_capable at w never)
+  | inr (change, one, soon) ↦
+      same_port one.link
+      (become_incapable at p change w is.sound is.known pace.requests one (omega (arith, soon, late)))
+]
+  where
+    same_port : (l : IsUnansweredAt at w) → is_capable l.asking.state.peer ≡ false → is_capable q.peer ≡ false
+    same_port l incapable =
+        let channel : s.channel ≡ l.channel = same_there w.net.channels at.link s.channel l.channel s.here l.here in
+        let station : s.asking.station ≡ l.asking.station =
+        same_there w.stations at.asking s.asking.station l.asking.station s.asking.here l.asking.here in
+        let port : q ≡ l.asking.state =
+        some_same q l.asking.state
+        (sym there ∙ (λ i. number (station i).system.ports (sender at.direction (channel i)).port) ∙ l.asking.there) in
+        ap (λ (x : Port). is_capable x.peer) port ∙ incapable
 
 -- where all live none is
 pub none_silent : (p : SettlingParams) (start : ℕ) (w : WorldState) → AllLive w → AreSilentBy p start w
@@ -496,17 +502,28 @@ called_live place input w draws answer w' k live other station there =
     get-set_all (λ (x : Station). x.live ≡ true) w.stations place k.station (in_state k.after k.station) k.here k.live
     live other station (ap (λ (v : WorldState). slice_get v.stations other) (sym k.is) ∙ there)
 
-acts_silent : (p : SettlingParams) (start : ℕ) (act : Act) (w : WorldState) (draws : List Draw) (done : Done)
+pub acts_silent : (p : SettlingParams) (start : ℕ) (act : Act) (w : WorldState) (draws : List Draw) (done : Done)
     (w' : WorldState)
     → IsNoChange act → Acts act w draws done w' → IsWorld p w → LinkIsMeasured w → AreSilentBy p start w
     → AreSilentBy p start w'
 acts_silent p start act w draws done w' none k is measured silent at s =
     let calm = no_change act none in
-    let (change, one, soon) = silent at (none_anew at act w w' draws done calm k s) in (
-      change,
-      silence_kept at (change + largest_interval p) p act w w' draws done is.sound measured is.known calm k one,
-      soon,
-    )
+    elim (silent at (none_anew at act w w' draws done calm k s)) [
+      | inl never ↦ inl (never_acts at act w draws done w' none k is.sound measured never)
+      | inr (change, one, soon) ↦ inr (
+        change,
+        silence_kept at (change + largest_interval p) p act w w' draws done is.sound measured is.known calm k one,
+        soon,
+      )
+    ]
+
+-- it is so still as time passes
+pub silent_later : (p : SettlingParams) (start time : ℕ) (w : WorldState) → AreSilentBy p start w
+    → AreSilentBy p start (at_time time w)
+silent_later p start time w silent at s = elim (silent at (stood_earlier at time w s)) [
+  | inl never ↦ inl (never_later at time w never)
+  | inr (change, one, soon) ↦ inr (change, silence_goes_on at (change + largest_interval p) time w one, soon)
+]
 
 pub news_are_kept : NewsAreKept
 news_are_kept p start act w draws done w' none octet k news =
@@ -568,10 +585,7 @@ news_go_on p start time w later first news =
     let sound = later_sound w time w.last_change is.sound first in
     let is' = time_stays p w time later sound is in
     let sound' = sound_later w time news.sound in
-    let silent' : AreSilentBy p start (at_time time w) =
-    λ at s.
-    let (change, one, soon) = news.silent at (stood_earlier at time w s) in
-    (change, silence_goes_on at (change + largest_interval p) time w one, soon) in
+    let silent' = silent_later p start time w news.silent in
     let step : MachineSteps says_announce (view w) (view (at_time time w)) = inl
     (record { time = time; later = later; is = refl }) in
     record {

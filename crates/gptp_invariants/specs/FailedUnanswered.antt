@@ -1,17 +1,31 @@
 -- A world as the machine of gptp_pdelay_machine sees a port of a live station on a link whose other end has failed.
-use Rattle.std.specs.Prelude.{◌≡◌, ◌≤◌, ◌+◌, ℕ, true, false, List, Some, slice_get}
+use Rattle.std.specs.Prelude.{◌≡◌, ◌≤◌, ◌+◌, ℕ, Bool, true, false, List, Some, None, slice_get}
 use Rattle.gptp_lists.specs.Members.{In}
 use Rattle.gptp_links.specs.Queue.{Frame}
+use Rattle.gptp_pdelay.specs.Peer.{PeerState}
+use Rattle.gptp_pdelay.specs.declared.progress.Progress.{Progress}
+use Rattle.gptp_pdelay.specs.declared.progress.Progress.TheVariants.{Closed, Sent, Answered}
 use Rattle.gptp_setup.specs.Intervals.{interval_of}
 use Rattle.gptp_setup.specs.SettlingParams.{SettlingParams, largest_interval}
 use Rattle.gptp_system.specs.Measures.{measure_at}
 use Rattle.gptp_system.specs.State.{clock}
 use Rattle.gptp_model.specs.declared.station.Station.{Station}
 use Rattle.gptp_model.specs.World.{Channel, WorldState, world_queue, receiver, sender}
+use Rattle.gptp_pdelay_machine.specs.Messages.{Reply}
 use Rattle.gptp_pdelay_machine.specs.Setting.{Setting}
 use Rattle.gptp_pdelay_machine.specs.Silence.{InvUnanswered, Unanswered}
 use Rattle.gptp_invariants.specs.DelayMeasured.{StationIsLiveAt}
-use Rattle.gptp_invariants.specs.DelayLinkView.{IsEndAmong, LinkPlace, asker_view, other_direction, setting_view}
+use Rattle.gptp_invariants.specs.DelayLinkView.{IsEndAmong, LinkPlace, asker_view, other_direction, reads_as_reply, setting_view}
+
+-- a response is recorded
+abbrev pub is_answered : Progress → Bool
+is_answered Closed = false
+is_answered (Sent request) = false
+is_answered (Answered request response) = true
+
+-- no exchange was full, and no response is recorded
+abbrev pub IsUnmeasured : PeerState → Type 0
+IsUnmeasured p = (p.last ≡ None) × (is_answered p.progress ≡ false)
 
 -- the station at a place has failed, and has this clock
 pub record IsFailedAmong (place number : ℕ) (stations : List Station) : Type 0 where
@@ -60,6 +74,13 @@ pub record IsSilent (gone : ℕ) (at : LinkPlace) (w : WorldState) : Type 0 wher
   pub link : IsUnansweredAt at w
   pub old : IsOldBy gone at w link
   pub inv : InvUnanswered (silent_setting at w link) gone (silent_view at w link)
+
+-- The port there has never been answered: it has measured nothing, and no reply to it is in flight.
+pub record IsNeverAnswered (at : LinkPlace) (w : WorldState) : Type 0 where
+  pub link : IsUnansweredAt at w
+  pub mute : (f : Frame) → In f (world_queue (other_direction at.direction) link.channel) → (r : Reply)
+      → reads_as_reply f.octets r → ⊥
+  pub unmeasured : IsUnmeasured link.asking.state.peer
 
 -- wherever all stands so, old frames are gone the largest announce interval after the last change
 abbrev pub FailedNeighboursAreSilent : SettlingParams → WorldState → Type 0

@@ -14,6 +14,7 @@ use Rattle.gptp_scenario.specs.SettlingTime.{settling_span_with}
 use Rattle.gptp_scenario.specs.declared.sync_wait.SyncPaths.{SyncPaths}
 use Rattle.gptp_system.specs.declared.answer.Answer.TheVariants as answers
 use Rattle.gptp_system.specs.State.{SystemState, local_time}
+use Rattle.gptp_system.specs.Takeover.{told_time}
 use Rattle.gptp_error_laws.specs.TimeError.{Way, time_error}
 use Rattle.gptp_model.specs.Acts.{at}
 use Rattle.gptp_model.specs.declared.done.Done.{Done}
@@ -31,7 +32,7 @@ use Rattle.gptp_invariants.specs.WorldStanding.{snapshot_of}
 abbrev pub exact_span : ℕ → ℕ → SettlingParams → SyncPaths → ℕ → ℕ
 exact_span m steps p paths n = settling_span_with p paths m + steps * (p.params.threshold + p.params.residence)
 
--- how far the clock of a live system is ahead, at a time, of that of the best of its component
+-- how far the clock of a live system is ahead, at a time, of what the best of its component tells
 pub record IsAhead (w : WorldState) (number time : ℕ) (amount : ℤ) : Type 0 where
   pub own : SystemState
   pub shows : ShowsLive number w own
@@ -39,7 +40,7 @@ pub record IsAhead (w : WorldState) (number time : ℕ) (amount : ℤ) : Type 0 
   pub is_best : IsBest (snapshot_of w) number best
   pub root : SystemState
   pub shows_root : ShowsLive best.clock w root
-  pub is : amount ≡ local_time own time -ℤ local_time root time
+  pub is : amount ≡ local_time own time -ℤ told_time root time
 
 -- The time error of a system so many steps from its root: that of its way, over its parent and the parents of that, in
 -- units of 2^-16 ns. The delays of links are those between which frames are drawn.

@@ -1,7 +1,7 @@
 -- The systems of a world that follow a parent, and what their ways are made of, as the machine of gptp_sync_machine
 -- asks.
-use Rattle.std.specs.Prelude.{◌≡◌, ◌&&◌, ◌||◌, ℕ, suc, pos, true, if◌then◌else◌, List, [], ◌∷◌, Some, slice_get}
-use Rattle.std.specs.Option.{option_map_or}
+use Rattle.std.specs.Prelude.{◌≡◌, ◌&&◌, ◌||◌, ℕ, suc, ℤ, pos, true, if◌then◌else◌, List, [], ◌∷◌, Option, Some, None, slice_get}
+use Rattle.std.specs.Option.{option_and_then, option_map_or}
 use Rattle.gptp_graph.specs.Distance.{IsNear}
 use Rattle.gptp_graph.specs.Parent.{ParentLink, IsParent}
 use Rattle.gptp_graph.specs.Snapshot.{PortIdentity, System}
@@ -10,7 +10,9 @@ use Rattle.gptp_links.specs.declared.link.Direction.{Direction}
 use Rattle.gptp_setup.specs.declared.setup.Params.{Params}
 use Rattle.gptp_setup.specs.declared.setup.Setup.{Setup}
 use Rattle.gptp_setup.specs.Intervals.{interval_of}
+use Rattle.gptp_roles.specs.Selection.{clock_of}
 use Rattle.gptp_system.specs.State.{SystemState}
+use Rattle.gptp_system.specs.Takeover.{reads_own}
 use Rattle.gptp_error_laws.specs.TimeError.{Way}
 use Rattle.gptp_model.specs.declared.station.Station.{Station}
 use Rattle.gptp_model.specs.World.{Channel, WorldState, receiver, sender}
@@ -48,6 +50,21 @@ follower_parts p w = record {
   turnaround = p.turnaround;
   residence = p.residence;
 }
+
+-- ---- what a root tells
+
+-- by how much what a system tells is ahead of its clock, once it has taken over
+abbrev pub told_base : SystemState → Option ℤ
+told_base s = if reads_own s.reads then Some s.base else None
+
+-- that of the system with a clock
+abbrev pub base_at : List Station → ℕ → Option ℤ
+base_at stations number =
+    option_and_then (λ (station : Station). told_base station.system) (slice_get stations (clock_place stations number))
+
+-- that of the root of a system
+abbrev pub root_base : WorldState → SystemState → Option ℤ
+root_base w s = base_at w.stations (clock_of s.root)
 
 -- ---- systems that follow
 
@@ -93,8 +110,10 @@ pub record HasWay (p : Params) (at : LinkPlace) (w : WorldState) (f : IsFollower
   pub phase : ℕ → ℕ
   pub is : IsWayTo (follower_parts p w) (snapshot_of w) (suc steps) (follower_clock at w f) way phase
 
--- the setting that it then has, in a network that is settled from a time on, where no delay is above the longest
+-- the setting that it then has, in a network that is settled from a time on, where no delay is above the longest, and
+-- the root tells time by the base that it has
 abbrev pub follower_setting : (p : Params) (settled longest : ℕ) (at : LinkPlace) (w : WorldState)
     (f : IsFollower at w) (steps : ℕ) → HasWay p at w f steps → FollowerSetting
 follower_setting p settled longest at w f steps h =
-    follower_of h.way h.phase steps (port_identity_number (sender at.direction f.channel)) settled longest
+    follower_of h.way h.phase (root_base w (follower_state at w f)) steps
+    (port_identity_number (sender at.direction f.channel)) settled longest

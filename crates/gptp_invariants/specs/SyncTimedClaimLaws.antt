@@ -11,6 +11,7 @@ use Rattle.gptp_scenario.specs.declared.change.Timed.{Timed}
 use Rattle.gptp_scenario.specs.Network.{IsNetwork, NetworkState, pace_of}
 use Rattle.gptp_system.specs.declared.answer.Answer.TheVariants as answers
 use Rattle.gptp_system.specs.State.{local_time}
+use Rattle.gptp_system.specs.Takeover.{told_time}
 use Rattle.gptp_error_laws.specs.TimeError.{time_error_at}
 use Rattle.gptp_model.specs.Acts.{Acts, TellsHearing, at}
 use Rattle.gptp_model.specs.Course.{Begun, WasDone}
@@ -75,7 +76,7 @@ AllLater = (w : WorldState) (time : ℕ)
 -- ---- offsets
 
 -- Where a system that follows uses a Follow_Up, the offset that this leaves, if it leaves one, is what the clock of the
--- system shows less what its root's does, within the time error of the system's way. That holds once a calm network has
+-- system shows less what its root tells, within the time error of the system's way. That holds once a calm network has
 -- settled and the time has passed that frames take down that way.
 abbrev pub CalmOffsetsAreExact : Type 0
 CalmOffsetsAreExact = (p : SettlingParams) (m settled link : ℕ) (direction : Direction) (w : WorldState)
@@ -90,7 +91,7 @@ CalmOffsetsAreExact = (p : SettlingParams) (m settled link : ℕ) (direction : D
     → IsRootOf w (follower_clock place w f) root
     → slice_get w'.stations place.answering ≡ Some after → after.system.offset ≡ Some offset
     → AreWithin (time_error_at h.way (suc steps)) offset
-    (local_time (follower_state place w f) w.time -ℤ local_time root.system w.time)
+    (local_time (follower_state place w f) w.time -ℤ told_time root.system w.time)
 
 -- In words that name no place: what an act delivers leaves exact offsets, in every world of a network.
 abbrev pub ReceiptsAreExact : {F : Type 0} → (Bounds → ℕ → F → Option ℕ → F → Type 0) → Type 0

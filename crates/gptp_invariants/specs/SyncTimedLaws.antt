@@ -17,6 +17,7 @@ use Rattle.gptp_scenario.specs.declared.change.Act.TheVariants.{Deliver}
 use Rattle.gptp_scenario.specs.declared.change.Timed.{Timed}
 use Rattle.gptp_system.specs.declared.answer.Answer.TheVariants as answers
 use Rattle.gptp_system.specs.State.{clock, local_time}
+use Rattle.gptp_system.specs.Takeover.{told_time}
 use Rattle.gptp_error_laws.specs.TimeError.{time_error_at}
 use Rattle.gptp_model.specs.Acts.{Acts, TellsHearing, at}
 use Rattle.gptp_model.specs.Course.{WasDone}
@@ -86,7 +87,7 @@ AreFollowUp octets = (m : FollowUp) × Reads octets (messages.FollowUp m)
 
 -- Where a Follow_Up is used by a system that follows, from when on what comes left the root in the settled network: the
 -- offset that it leaves, if it leaves one, is within the time error of the way of the system of what its clock shows
--- then less what the root's clock does.
+-- then less what the root tells.
 abbrev pub OffsetsAreExact : Type 0
 OffsetsAreExact = (p : SettlingParams) (settled longest link : ℕ) (direction : Direction) (w : WorldState)
     (draws : List Draw)
@@ -100,7 +101,7 @@ OffsetsAreExact = (p : SettlingParams) (settled longest link : ℕ) (direction :
     → IsRootOf w (follower_clock place w f) root
     → slice_get w'.stations place.answering ≡ Some after → after.system.offset ≡ Some offset
     → AreWithin (time_error_at h.way (suc steps)) offset
-    (local_time (follower_state place w f) w.time -ℤ local_time root.system w.time)
+    (local_time (follower_state place w f) w.time -ℤ told_time root.system w.time)
 
 -- ---- settled worlds
 

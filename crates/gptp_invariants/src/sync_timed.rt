@@ -27,7 +27,7 @@ pub fn carried_time_is_kept<F: Fate>()
 {}
 
 /// Where a Follow_Up is used from when on what comes is right, the offset that it leaves is within the time error of
-/// the way of the system of its clock less its root's.
+/// the way of the system of its clock less what its root tells.
 pub fn offsets_are_exact()
     ensures { OffsetsAreExact }
 {}

@@ -22,7 +22,7 @@ pub fn all_is_claimed<F: Fate>()
 {}
 
 /// Once a calm network has settled, and frames have had the time to come down the way of a system, each Follow_Up that
-/// it uses leaves an offset that is within the time error of that way of its clock less its root's.
+/// it uses leaves an offset that is within the time error of that way of its clock less what its root tells.
 pub fn calm_offsets_are_exact()
     ensures { CalmOffsetsAreExact }
 {}

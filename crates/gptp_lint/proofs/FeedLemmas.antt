@@ -156,6 +156,7 @@ key_has_none names.Variance = refl
 key_has_none names.Priority2 = refl
 key_has_none names.Phase = refl
 key_has_none names.Drift = refl
+key_has_none names.Continues = refl
 key_has_none names.Ports = refl
 key_has_none names.A = refl
 key_has_none names.APort = refl

@@ -21,12 +21,12 @@ network_keys =
 abbrev pub system_keys_1 : List (List ℕ)
 system_keys_1 =
     codes "clock" ∷ codes "priority1" ∷ codes "class" ∷ codes "accuracy" ∷ codes "variance" ∷ codes "priority2"
-    ∷ codes "phase" ∷ codes "drift" ∷ codes "ports" ∷ []
+    ∷ codes "phase" ∷ codes "drift" ∷ codes "continues" ∷ codes "ports" ∷ []
 
 abbrev pub system_keys_2 : List (List ℕ)
 system_keys_2 =
     codes "clock" ∷ codes "priority1" ∷ codes "class" ∷ codes "accuracy" ∷ codes "variance" ∷ codes "priority2"
-    ∷ codes "phase" ∷ codes "drift" ∷ codes "ports" ∷ codes "announce" ∷ []
+    ∷ codes "phase" ∷ codes "drift" ∷ codes "continues" ∷ codes "ports" ∷ codes "announce" ∷ []
 
 abbrev pub is_two : ℤ → Bool
 is_two (pos n) = n == 2

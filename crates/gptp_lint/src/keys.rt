@@ -36,6 +36,7 @@ const SYSTEM: &[&str] = &[
     "priority2",
     "phase",
     "drift",
+    "continues",
     "ports",
 ];
 
@@ -49,6 +50,7 @@ const SYSTEM_2: &[&str] = &[
     "priority2",
     "phase",
     "drift",
+    "continues",
     "ports",
     "announce",
 ];

@@ -16,6 +16,7 @@ setup_of pace member = record {
   ports = member.ports;
   phase = member.phase;
   drift = member.drift;
+  continues = member.continues;
   intervals = member.intervals;
   largest = pace.largest;
   params = pace.params;

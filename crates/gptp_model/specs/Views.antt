@@ -55,6 +55,10 @@ pub record ShowsLive (number : ℕ) (w : WorldState) (s : SystemState) : Type 0 
 abbrev pub ShowsTime : ℕ → ℤ → ℕ → Station → Type 0
 ShowsTime time shown place station = shown ≡ local_time station.system time
 
+-- a system, live or not, has this base
+abbrev pub HasBase : ℤ → ℕ → Station → Type 0
+HasBase base place station = base ≡ station.system.base
+
 -- a live system follows this root, so many steps away, over the port with this number
 pub record FollowsRoot (root steps : ℕ) (slave : Option ℕ) (place : ℕ) (station : Station) : Type 0 where
   pub live : station.live ≡ true

@@ -257,9 +257,11 @@ system_is version announce t =
     (natural_is PHASE t) (λ phase.
     step (whole_at DRIFT t) (whole (codes "drift") (neg_ℤ (pos 219902325)) (pos 219902325) (Some (pos 0)) t) _ _
     (whole_is DRIFT t) (λ drift.
+    step (flag_at names.Continues false t) (flag (codes "continues") false t) _ _
+    (flag_is names.Continues false t) (λ continues.
     step (natural_at PORTS t) (natural (codes "ports") 0 16 (Some 1) t) _ _ (natural_is PORTS t) (λ ports.
     step (read_intervals version ports announce t) (intervals version ports announce t) _ _
-    (intervals_are version ports announce t) (λ logs. refl))))))))))
+    (intervals_are version ports announce t) (λ logs. refl)))))))))))
 
 put_system_is : (s : System) (n : NetworkState)
     → forget (put_system s n) ≡ tested (system_fault n (member_of s)) (with_system (member_of s) n)

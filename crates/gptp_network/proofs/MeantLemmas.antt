@@ -34,7 +34,7 @@ use Rattle.gptp_network.specs.Members.{each_of, limited, needed}
 use Rattle.gptp_network.specs.Params.{network_of, network_of_section, params_of}
 use Rattle.gptp_network.specs.Snapshot.{events_by, IsSnapshot}
 use Rattle.gptp_network.specs.Systems.{identity_of, member_of, system_of, with_system_of, with_systems}
-use Rattle.gptp_network.specs.Values.{array_at, clock, key_in, kind_of, natural, octets, octets_of_text, spelled_octets, table_at, text, whole}
+use Rattle.gptp_network.specs.Values.{array_at, clock, flag, key_in, kind_of, natural, octets, octets_of_text, spelled_octets, table_at, text, whole}
 use Rattle.gptp_network.specs.declared.events.Event.{Event}
 use Rattle.gptp_network.specs.declared.fault.DocumentFault.{DocumentFault}
 use Rattle.gptp_network.specs.declared.fault.DocumentFault.TheVariants.{EventOrder, MissingKey, OutOfRange}
@@ -140,13 +140,14 @@ system_read version announce t =
     next HasIdentity (natural (codes "priority2") 0 255 (Some 248) t) _ (λ priority2 of_priority2.
     next HasIdentity (natural (codes "phase") 0 1000000000000000000 (Some 0) t) _ (λ phase of_phase.
     next HasIdentity (whole (codes "drift") _ _ _ t) _ (λ drift of_drift.
+    next HasIdentity (flag (codes "continues") false t) _ (λ continues of_continues.
     next HasIdentity (natural (codes "ports") 0 16 (Some 1) t) _ (λ ports of_ports.
     next HasIdentity (intervals version ports announce t) _ (λ logs of_logs.
     given HasIdentity _ (identity_below priority1 class accuracy variance priority2 name
     (octet_read (codes "priority1") 246 t (omega arith) priority1 of_priority1)
     (octet_read (codes "class") 248 t (omega arith) class of_class)
     (octet_read (codes "accuracy") 254 t (omega arith) accuracy of_accuracy)
-    (octet_read (codes "priority2") 248 t (omega arith) priority2 of_priority2))))))))))))
+    (octet_read (codes "priority2") 248 t (omega arith) priority2 of_priority2)))))))))))))
 
 -- ---- the network
 

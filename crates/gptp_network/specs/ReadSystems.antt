@@ -1,5 +1,5 @@
 -- The sections `[[system]]`, or why they are refused and where (profile).
-use Rattle.std.specs.Prelude.{ℕ, ℤ, int_lt, if◌then◌else◌, List, [], ◌∷◌, Option, Some, None, Result, Ok}
+use Rattle.std.specs.Prelude.{ℕ, ℤ, int_lt, false, if◌then◌else◌, List, [], ◌∷◌, Option, Some, None, Result, Ok}
 use Rattle.toml.specs.Data.{Data, Members, as_table}
 use Rattle.gptp_roles.specs.Selection.{clock_of}
 use Rattle.gptp_scenario.specs.Network.{NetworkState, system_fault, with_system}
@@ -9,7 +9,7 @@ use Rattle.gptp_network.specs.Faults.{◌>>=◌}
 use Rattle.gptp_network.specs.Found.{system_from}
 use Rattle.gptp_network.specs.ReadIntervals.{read_intervals}
 use Rattle.gptp_network.specs.ReadMembers.{limited_in, needed_in, read_each, section_in}
-use Rattle.gptp_network.specs.Reading.{clock_at, kind_at, natural_at, whole_at}
+use Rattle.gptp_network.specs.Reading.{clock_at, flag_at, kind_at, natural_at, whole_at}
 use Rattle.gptp_network.specs.Systems.{identity_of, member_of}
 use Rattle.gptp_network.specs.Why.{told}
 use Rattle.gptp_network.specs.declared.keys.Name.TheVariants as names
@@ -31,6 +31,7 @@ read_system version announce t = do
   priority2 ← natural_at PRIORITY2 t
   phase ← natural_at PHASE t
   drift ← whole_at DRIFT t
+  continues ← flag_at names.Continues false t
   ports ← natural_at PORTS t
   logs ← read_intervals version ports announce t
   Ok (record {
@@ -38,6 +39,7 @@ read_system version announce t = do
     ports = ports;
     phase = phase;
     drift = drift;
+    continues = continues;
     intervals = record { items = logs };
   })
 

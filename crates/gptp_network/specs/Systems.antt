@@ -1,5 +1,5 @@
 -- The sections `[[system]]` (profile).
-use Rattle.std.specs.Prelude.{ℕ, ℤ, pos, neg_ℤ, codes, ◌∷◌, ◌++◌, Some, Result, Ok}
+use Rattle.std.specs.Prelude.{ℕ, ℤ, pos, neg_ℤ, false, codes, ◌∷◌, ◌++◌, Some, Result, Ok}
 use Rattle.byteorder.specs.Endian.{big_bytes, big_number}
 use Rattle.toml.specs.Data.{Data, Members, as_table}
 use Rattle.gptp_scenario.specs.Network.{NetworkState, member, with_system, system_fault}
@@ -7,7 +7,7 @@ use Rattle.gptp_scenario.specs.declared.network.SystemSpec.{SystemSpec}
 use Rattle.gptp_network.specs.Faults.{◌>>=◌, tested}
 use Rattle.gptp_network.specs.Intervals.{intervals}
 use Rattle.gptp_network.specs.Members.{needed, limited, each_of}
-use Rattle.gptp_network.specs.Values.{clock, natural, whole, kind_of, array_at}
+use Rattle.gptp_network.specs.Values.{clock, flag, natural, whole, kind_of, array_at}
 use Rattle.gptp_network.specs.declared.fault.DocumentFault.{DocumentFault}
 use Rattle.gptp_network.specs.declared.systems.System.{System}
 
@@ -28,6 +28,7 @@ system_of version announce t = do
   priority2 ← natural (codes "priority2") 0 255 (Some 248) t
   phase ← natural (codes "phase") 0 1000000000000000000 (Some 0) t
   drift ← whole (codes "drift") (neg_ℤ (pos 219902325)) (pos 219902325) (Some (pos 0)) t
+  continues ← flag (codes "continues") false t
   ports ← natural (codes "ports") 0 16 (Some 1) t
   logs ← intervals version ports announce t
   Ok (record {
@@ -35,11 +36,12 @@ system_of version announce t = do
     ports = ports;
     phase = phase;
     drift = drift;
+    continues = continues;
     intervals = record { items = logs };
   })
 
 abbrev pub member_of : System → SystemSpec
-member_of s = member s.identity s.ports s.phase s.drift s.intervals
+member_of s = member s.identity s.ports s.phase s.drift s.continues s.intervals
 
 -- the network with one more system
 unfoldable pub with_system_of : ℕ → Data → NetworkState → Result NetworkState DocumentFault

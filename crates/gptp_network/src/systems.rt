@@ -19,7 +19,7 @@ use crate::keys::{
 };
 use crate::members::{limited_in, needed_in, section_in};
 use crate::place::{Place, Section};
-use crate::values::{clock, natural, whole};
+use crate::values::{clock, flag, natural, whole};
 use crate::why::{Refusal, Why, other_kind};
 use arrayvec::ArrayVec;
 use gptp_scenario::{Network, NetworkFault};
@@ -33,6 +33,7 @@ pub(crate) struct System {
     pub ports: u8,
     pub phase: u64,
     pub drift: i32,
+    pub continues: bool,
     pub intervals: ArrayVec<i8, 16>,
 }
 
@@ -100,6 +101,7 @@ fn system_of(version: u64, announce: i8, table: &Table) -> Result<System, Why>
     let priority2 = octet(table, PRIORITY2)?;
     let phase = natural(table, PHASE)?;
     let drift = drift(table, DRIFT)?;
+    let continues = flag(table, Name::Continues, false)?;
     let ports = octet(table, PORTS)?;
     let intervals = intervals(version, ports, announce, table)?;
     let identity = identity_of(priority1, class, accuracy, variance, priority2, name);
@@ -108,6 +110,7 @@ fn system_of(version: u64, announce: i8, table: &Table) -> Result<System, Why>
         ports,
         phase,
         drift,
+        continues,
         intervals,
     })
 }
@@ -174,6 +177,7 @@ fn add_member(network: &mut Network, system: System) -> Result<(), NetworkFault>
         system.ports,
         system.phase,
         system.drift,
+        system.continues,
         system.intervals,
     )
 }

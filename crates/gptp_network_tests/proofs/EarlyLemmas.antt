@@ -2,7 +2,7 @@
 use Rattle.std.proofs.Common.{◌≡◌, ◌<◌, ◌+◌, ◌*◌, ℕ, zero, suc, true, List, [], ◌∷◌, Some, slice_get, refl, sym, subst, inl, inr, arith}
 use Rattle.std.proofs.lemmas.Option.{none-some, same_Some}
 use Rattle.gptp_setup.specs.SettlingParams.{SettlingParams}
-use Rattle.gptp_scenario.specs.Calm.{AllRest, IsLive}
+use Rattle.gptp_scenario.specs.Calm.{AllRest}
 use Rattle.gptp_scenario.specs.Change.{link_after}
 use Rattle.gptp_scenario.specs.Network.{IsNetwork, pace_of, wire}
 use Rattle.gptp_scenario.specs.SyncWait.{sync_paths}
@@ -16,8 +16,8 @@ use Rattle.gptp_invariants.specs.WorldEncodableLaws.{SetsAnOctet}
 use Rattle.gptp_model.specs.World.{port_id}
 use Rattle.gptp_theorem.specs.PlayedLaws.{IsPlayable}
 use Rattle.gptp_settling_time.specs.HowSoon.{IsChoiceBound, two_exchanges, way_span}
-use Rattle.gptp_settling_time.specs.InTurn.{NoneUnanswered, UsedVaryLittle}
-use Rattle.gptp_network_tests.specs.Pair.{end_station, first_member, pair_network, pair_pace, pair_paths, second_member}
+use Rattle.gptp_settling_time.specs.InTurn.{UsedVaryLittle}
+use Rattle.gptp_network_tests.specs.Pair.{pair_network, pair_pace, pair_paths}
 use Rattle.gptp_network_tests.specs.Soon.{early_document}
 use Rattle.gptp_network_tests.proofs.PairLemmas.{pace_is}
 
@@ -53,22 +53,6 @@ paths_then : sync_paths pair_network events ≡ pair_paths
 unfolding path_systems
 paths_then = refl
 
-first_lives : IsLive pair_network.systems events 1
-first_lives = record { place = 0; system = end_station first_member; there = refl; clock = refl; live = refl }
-
-second_lives : IsLive pair_network.systems events 2
-second_lives = record { place = 1; system = end_station second_member; there = refl; clock = refl; live = refl }
-
-answered : NoneUnanswered pair_network events
-answered zero v there up =
-    subst (λ (x : LinkSpec).
-    (IsLive pair_network.systems events (link_after events x).a.clock
-    → IsLive pair_network.systems events (link_after events x).b.clock)
-    × (IsLive pair_network.systems events (link_after events x).b.clock
-    → IsLive pair_network.systems events (link_after events x).a.clock)) (same_Some link v there)
-    ((λ lives. second_lives), (λ lives. first_lives))
-answered (suc place) v there up = absurd (none-some v there)
-
 little : UsedVaryLittle pair_network events
 little zero v there used =
     subst (λ (x : LinkSpec). (link_after events x).bounds.max < 2 * (link_after events x).bounds.min)
@@ -83,7 +67,7 @@ early_bound = (
     refl,
     (
       record { links = links_rest; lapses = inl refl },
-      inr (refl, inr (((tt, tt), answered), (1000002000, inl ready, inl (little, is)))),
+      inr (refl, inr ((tt, tt), (1000002000, inl ready, inl (little, is)))),
     ),
   ),
 )

@@ -1,5 +1,5 @@
 -- The four bridges of examples/ring.toml: a link between two of them goes down at 30 s.
-use Rattle.std.specs.Prelude.{ℕ, ℤ, pos, true, [], ◌∷◌}
+use Rattle.std.specs.Prelude.{ℕ, ℤ, pos, true, false, [], ◌∷◌}
 use Rattle.arrayvec.specs.ArrayVec.{ArrayVec}
 use Rattle.gptp_scenario.specs.Network.{NetworkState, member, wire}
 use Rattle.gptp_scenario.specs.declared.change.Act.TheVariants.{Change as Changing}
@@ -16,7 +16,7 @@ abbrev pub both_each_second : ArrayVec ℤ
 both_each_second = record { items = pos 0 ∷ pos 0 ∷ [] }
 
 abbrev pub bridge : ℕ → SystemSpec
-bridge identity = member identity 2 0 (pos 0) both_each_second
+bridge identity = member identity 2 0 (pos 0) false both_each_second
 
 -- over 80 m of fibre a frame takes 390 to 410 ns
 abbrev pub fibre : ℕ → ℕ → ℕ → ℕ → ℕ → LinkSpec

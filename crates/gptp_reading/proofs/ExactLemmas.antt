@@ -1,16 +1,16 @@
 -- What is read is exact in every world of a network, once it has been calm for long enough.
 use Rattle.std.proofs.Common.{◌≡◌, ◌≤◌, ◌+◌, ◌*◌, ◌^◌, ℕ, suc, ℤ, true, false, List, ◌∷◌, Option, Some, None, slice_get, refl, sym, ap, subst, ◌∙◌, arith, eqb-true}
 use Rattle.std.specs.Option.{option_map_or}
-use Rattle.std.specs.Prelude.{◌==◌, ◌<◌, IsSome}
+use Rattle.std.specs.Prelude.{◌==◌, IsSome}
 use Rattle.std.proofs.lemmas.Option.{none-some, same_Some}
 use Rattle.gptp_graph.specs.Best.{IsBest}
 use Rattle.gptp_graph.specs.Distance.{IsNear}
 use Rattle.gptp_graph.specs.Parent.{IsParent}
 use Rattle.gptp_graph.specs.PathBound.{BoundsPaths}
+use Rattle.gptp_graph.specs.Snapshot.{System}
 use Rattle.gptp_lists.proofs.MappedLemmas.{same_there}
 use Rattle.gptp_lists.proofs.PlaceLemmas.{get-set_same}
 use Rattle.gptp_scaled.specs.Counts.{AreWithin}
-use Rattle.gptp_correction.specs.SyncIn.{together}
 use Rattle.gptp_error_laws.specs.TimeError.{Way, reading_error_at}
 use Rattle.gptp_messages.specs.declared.follow_up.FollowUp.{FollowUp}
 use Rattle.gptp_messages.specs.declared.message.Message.TheVariants as messages
@@ -28,7 +28,8 @@ use Rattle.gptp_system.specs.declared.answer.Answer.{Answer}
 use Rattle.gptp_system.specs.declared.answer.Answer.TheVariants as answers
 use Rattle.gptp_system.specs.declared.sending.Sending.{Sending}
 use Rattle.gptp_system.specs.Input.{Frame as FrameHeard, Steps}
-use Rattle.gptp_system.specs.State.{SystemState, clock, local_time}
+use Rattle.gptp_system.specs.State.{SystemState, clock}
+use Rattle.gptp_system.specs.Takeover.{told_time}
 use Rattle.gptp_model.proofs.SoundLemmas.{acts_sound}
 use Rattle.gptp_model.proofs.SteadyLemmas.{same_clock}
 use Rattle.gptp_model.specs.Act.{Hears, in_state}
@@ -47,7 +48,7 @@ use Rattle.gptp_sync_machine.proofs.TreeLemmas.{way_ends_at_parent}
 use Rattle.gptp_invariants.specs.ChoiceCalm.{clock_place, sync_paths_of}
 use Rattle.gptp_invariants.specs.WorldCalmFor.{IsCalmFor, span_over}
 use Rattle.gptp_invariants.specs.WorldSettlingInvariant.{KeepsAll}
-use Rattle.gptp_invariants.specs.SyncFollowers.{HasWay, IsFollower, follower_clock, follower_setting, follower_parts, follower_state}
+use Rattle.gptp_invariants.specs.SyncFollowers.{HasWay, IsFollower, base_at, follower_clock, follower_setting, follower_parts, follower_state}
 use Rattle.gptp_invariants.specs.DelayLinkView.{LinkPlace, other_direction}
 use Rattle.gptp_invariants.specs.WorldStanding.{snapshot_of}
 use Rattle.gptp_invariants.specs.SyncTimed.{AllMeasureRight, CarriesTime, IsSettledFrom}
@@ -65,13 +66,12 @@ use Rattle.gptp_invariants.proofs.SyncFollowWayLemmas.{Follows, follows_parent}
 use Rattle.gptp_invariants.proofs.ChoiceFoundLemmas.{place_is}
 use Rattle.gptp_invariants.proofs.DelayLinkLemmas.{sender_opposite}
 use Rattle.gptp_invariants.proofs.DelayMeasuredLinkLemmas.{claimed_measured}
-use Rattle.gptp_invariants.proofs.SyncTimeStepLemmas.{knows_on}
 use Rattle.gptp_invariants.proofs.WorldWayLemmas.{one_way}
 use Rattle.gptp_theorem.specs.Headline.{HasComeDown, WorldIsCalm, UsesFollowUp}
 use Rattle.gptp_theorem.proofs.HeadlineLemmas.{quiet_as}
 use Rattle.gptp_reading.specs.Reading.{IsBestsTime, IsReadingErrorOf, reading}
 use Rattle.gptp_reading.specs.Readings.{LeavesReading, LeavesTime, WorldsHaveReadings, WorldsLeaveTime, WorldsReadExactly}
-use Rattle.gptp_reading.proofs.UsedLemmas.{IsUsedBy, has_reading, leaves_time, used_by, used_exactly}
+use Rattle.gptp_reading.proofs.UsedLemmas.{IsUsedBy, has_base, has_reading, leaves_time, used_by, used_exactly}
 
 -- ---- who uses a Follow_Up
 
@@ -256,20 +256,18 @@ module _ (link : ℕ) (direction : Direction) (w w' : WorldState) (draws : List 
   left : system ≡ by_whom.after
   left = left_is link direction w w' draws number done is.world.sound k by_whom system shows
 
-  -- the timestamp that is known has nanoseconds
-  small : by_whom.message.origin.nanos < 1000000000
-  small =
-      let knows = is.world.known.time by_whom.place by_whom.station by_whom.there by_whom.live in
-      let port = (receiver direction by_whom.channel).port in
-      let after = knows_on (FrameHeard port by_whom.octets) w.time by_whom.station.system by_whom.after by_whom.sends
-      answers.Used by_whom.steps knows in
-      after.stamped (together by_whom.message here.used.kept) here.used.left.known
-
   has_reading_there : (moment : ℕ) → IsSome (reading system moment)
   has_reading_there moment =
       subst (λ (y : SystemState). IsSome (reading y moment)) (sym left)
       (has_reading p settled p.params.threshold w is right carries followed.at followed.follower steps has_way
-      by_whom.octets here.rest here.front by_whom.message by_whom.reads by_whom.after here.used from_then small moment)
+      by_whom.octets here.rest here.front by_whom.message by_whom.reads by_whom.after here.used from_then moment)
+
+  has_base_there : (best : System) → IsBest (snapshot_of w) number best
+      → (ahead : ℤ) × (base_at w.stations best.clock ≡ Some ahead)
+  has_base_there best is_best =
+      has_base p settled p.params.threshold w is right carries followed.at followed.follower steps has_way
+      by_whom.octets here.rest here.front by_whom.message by_whom.reads by_whom.after here.used from_then best
+      (subst (λ n. IsBest (snapshot_of w) n best) (sym named_so) is_best)
 
   module _ (later error : ℕ) (read shown : ℤ) (reads_it : reading system (w.time + later) ≡ Some read)
       (error_is : error ≡ reading_error_at way steps later) (best : IsBestsTime w number (w.time + later) shown) where
@@ -288,8 +286,8 @@ module _ (link : ℕ) (direction : Direction) (w w' : WorldState) (draws : List 
         has_way by_whom.octets here.rest here.front by_whom.message by_whom.reads by_whom.after here.used from_then
         later best.shows.station root read
         (subst (λ (y : SystemState). reading y (w.time + later) ≡ Some read) left reads_it) in
-        let root_time : local_time best.shows.station.system (w.time + later) ≡ shown =
-        sym (best.is ∙ ap (λ (y : SystemState). local_time y (w.time + later)) best.shows.state) in
+        let root_time : told_time best.shows.station.system (w.time + later) ≡ shown =
+        sym (best.is ∙ ap (λ (y : SystemState). told_time y (w.time + later)) best.shows.state) in
         subst (λ e. AreWithin e read shown) (sym error_is)
         (subst (AreWithin (reading_error_at way steps later) read) root_time exact)
 
@@ -336,6 +334,12 @@ module _ (link : ℕ) (direction : Direction) (w w' : WorldState) (draws : List 
   pub has_reading_here : (moment : ℕ) → IsSome (reading system moment)
   has_reading_here =
       has_reading_there link direction w w' draws number done p settled steps system way phase k uses shows is_settled
+      measured (carries m settled calm_by already early) come_late near leads
+
+  pub has_base_here : (best : System) → IsBest (snapshot_of w) number best
+      → (ahead : ℤ) × (base_at w.stations best.clock ≡ Some ahead)
+  has_base_here =
+      has_base_there link direction w w' draws number done p settled steps system way phase k uses shows is_settled
       measured (carries m settled calm_by already early) come_late near leads
 
   pub reads_exactly : (later error : ℕ) (read shown : ℤ) → reading system (w.time + later) ≡ Some read
@@ -423,6 +427,30 @@ worlds_have_readings answers timed fate fate_after w w' done all k moment p m st
         let (claimed, carries) = all_alike (at timed.at w) now p calm.of u.place u.station u.there in
         has_reading_here link direction (at timed.at w) w' k.draws number done p m steps s way phase acts uses shows
         claimed carries (calm_then p w timed.at calm) bounded come (omega (arith, moment)) near leads time
+    by (Expire name timer) (quiet, rest) = absurd (subst (UsesFollowUp number) quiet uses)
+    by (Changing change) (quiet, rest) = absurd (subst (UsesFollowUp number) quiet uses)
+
+-- In such a world the best of a system that uses a Follow_Up has taken over, and so has a base.
+pub worlds_have_bases : {F : Type 0} (answers : Bounds → ℕ → F → Option ℕ → F → Type 0) (timed : Timed)
+    (fate fate_after : F) (w w' : WorldState) (done : Done) → WorldInvariant w
+    → WasDone answers timed fate fate_after w w' done → timed.at ≤ 10 ^ 18 → (p : SettlingParams)
+    (m steps number : ℕ) (s : SystemState) (way : Way) (phase : ℕ → ℕ) → WorldIsCalm p w
+    → BoundsPaths (snapshot_of w) m → HasComeDown p m (suc steps) timed.at w → UsesFollowUp number done
+    → ShowsLive number w' s → IsNear (snapshot_of w) number
+    → IsWayTo (follower_parts p.params w) (snapshot_of w) (suc steps) number way phase → (best : System)
+    → IsBest (snapshot_of w) number best → (ahead : ℤ) × (base_at w.stations best.clock ≡ Some ahead)
+worlds_have_bases answers timed fate fate_after w w' done all k moment p m steps number s way phase calm bounded come
+    uses shows near leads best is_best =
+    by timed.act k.acts
+  where
+    by : (act : Act) → Acts act (at timed.at w) k.draws done w'
+        → (ahead : ℤ) × (base_at w.stations best.clock ≡ Some ahead)
+    by (Deliver link direction) acts =
+        let now = all_later w timed.at k.ready.timely.now k.ready.timely.first all in
+        let u = user link direction (at timed.at w) w' k.draws number done acts uses in
+        let (claimed, carries) = all_alike (at timed.at w) now p calm.of u.place u.station u.there in
+        has_base_here link direction (at timed.at w) w' k.draws number done p m steps s way phase acts uses shows
+        claimed carries (calm_then p w timed.at calm) bounded come (omega (arith, moment)) near leads best is_best
     by (Expire name timer) (quiet, rest) = absurd (subst (UsesFollowUp number) quiet uses)
     by (Changing change) (quiet, rest) = absurd (subst (UsesFollowUp number) quiet uses)
 

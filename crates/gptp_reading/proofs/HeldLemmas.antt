@@ -3,9 +3,10 @@ use Rattle.std.proofs.Common.{◌≡◌, ℤ, Option, Some, None, ap}
 use Rattle.std.specs.Option.{option_and_then, option_map}
 use Rattle.std.proofs.lemmas.Option.{same_Some}
 use Rattle.gptp_correction.specs.declared.sync_in.SyncInfo.{SyncInfo}
-use Rattle.gptp_system.specs.Reading.{read_at, reading_by}
+use Rattle.gptp_system.specs.Reading.{read_at}
 use Rattle.gptp_system.specs.State.{SystemState, local_time}
 use Rattle.gptp_system.specs.declared.reading.Reading.{Reading}
+use Rattle.gptp_system.specs.Syncing.{reading_by}
 use Rattle.gptp_reading.specs.ReadingLaws.{HeldIsRead}
 
 -- by what is known, and by the offset

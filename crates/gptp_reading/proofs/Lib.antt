@@ -4,6 +4,7 @@ pub mod TellingLemmas
 pub mod UsedLemmas
 pub mod ExactLemmas
 pub mod RunLemmas
+pub mod BaseLemmas
 pub mod AgeLemmas
 pub mod LapseLemmas
 pub mod OffsetLemmas

@@ -17,7 +17,7 @@ use Rattle.gptp_error_laws.specs.TimeError.{jitter_at, rates_error_at, time_erro
 use Rattle.gptp_sync_machine.specs.Messages.{Message, Sync, FollowUp, IsOneMessage}
 use Rattle.gptp_sync_machine.specs.Right.{IsHeldAt, IsMeasuredAt, FollowUpIsRight, at_rate, info_of, most_correction_at}
 use Rattle.gptp_sync_machine.specs.RightLaws.{IsOnWay}
-use Rattle.gptp_sync_machine.specs.Follower.{Follower, IsSetting, FollowerSync, FollowerSetting, from, own_clock, root_clock}
+use Rattle.gptp_sync_machine.specs.Follower.{Follower, IsSetting, FollowerSync, FollowerSetting, from, own_clock, root_told}
 use Rattle.gptp_sync_machine.specs.Flows.{AreCarried, Arrival, FramesFlow}
 use Rattle.gptp_sync_machine.specs.Acts.{kept_at_ingress}
 use Rattle.gptp_sync_machine.specs.Invariant.{FollowerInvariant, IsKept}
@@ -27,7 +27,7 @@ use Rattle.gptp_reading.proofs.WayLemmas.{later_within, reading_is_right}
 
 -- what is known was told on the way
 on_way : (k : FollowerSetting) (told : Relayed) (sent came heard : ℕ) → IsSetting k → AreCarried k sent came heard
-    → FollowUpIsRight k.way k.phase k.place told sent → IsOnWay k.way k.phase k.place told sent came
+    → FollowUpIsRight k.way k.phase k.base k.place told sent → IsOnWay k.way k.phase k.base k.place told sent came
 on_way k told sent came heard is carried right = record {
   documented = is.documented;
   on_way = is.on_way;
@@ -44,7 +44,7 @@ pub record IsAsSent (k : FollowerSetting) (told : Relayed) (ingress : ℤ) (hear
   pub sent : ℕ
   pub came : ℕ
   pub carried : AreCarried k sent came heard
-  pub right : FollowUpIsRight k.way k.phase k.place told sent
+  pub right : FollowUpIsRight k.way k.phase k.base k.place told sent
   pub ingress_is : ingress ≡ own_clock k came
 
 module _ (k : FollowerSetting) (says : List ℕ → Message → Type 0) where
@@ -76,7 +76,7 @@ module _ (k : FollowerSetting) (says : List ℕ → Message → Type 0) where
             sent = is_told.sent;
             came = is_told.came;
             carried = subst (λ t. AreCarried k is_told.sent is_told.came t) now is_told.carried;
-            right = subst (λ (m : Relayed). FollowUpIsRight k.way k.phase k.place m is_told.sent)
+            right = subst (λ (m : Relayed). FollowUpIsRight k.way k.phase k.base k.place m is_told.sent)
                 (told_is (one.only (FollowUp k.parent sequence' told') said)) is_told.right;
             ingress_is = ingress_is (sym keeps ∙ at) ∙ ap (λ c. own_clock k c) (came_is is_told.kept_is);
           }
@@ -102,29 +102,33 @@ module _ (k : FollowerSetting) (says : List ℕ → Message → Type 0) where
       → IsOneMessage says front.octets (FollowUp source sequence told)
       → s.kept ≡ Some (kept_at_ingress source sequence ingress) → IsMeasuredAt k.way k.place rate delay
       → IsHeldAt k.way k.place told.rate rate held
-      → AreWithin (33550000 * time_error_at k.way (suc k.place)
+      → (ahead : ℤ) × (k.base ≡ Some ahead)
+      × AreWithin (33550000 * time_error_at k.way (suc k.place)
       + rates_error_at k.way k.place * (later + jitter_at k.way k.place))
       (pos 33550000
       *ℤ read_after (info_of (at_rate told held) ingress) delay rate (own_clock k (s.time + later) -ℤ ingress))
-      (pos 33550000 *ℤ root_clock k (s.time + later))
+      (pos 33550000 *ℤ root_told k ahead (s.time + later))
   reading_is_exact s front rest source sequence told ingress rate delay held later is inv was now late one keeps
       measured held_at =
       let t = told_as_sent s front rest source sequence told ingress inv was now late one keeps in
       let carried = t.carried in
-      let right = reading_is_right k.way k.phase k.place told t.sent t.came (s.time + later) rate delay held
+      let right = reading_is_right k.way k.phase k.base k.place told t.sent t.came (s.time + later) rate delay held
       (on_way k told t.sent t.came s.time is carried t.right) measured held_at (omega (arith, carried.behind)) in
       let wide = later_within (33550000 * time_error_at k.way (suc k.place)) (rates_error_at k.way k.place)
       (s.time + later - t.came) (later + jitter_at k.way k.place)
       (pos 33550000
       *ℤ read_after (info_of (at_rate told held) (own_clock k t.came)) delay rate
       (own_clock k (s.time + later) -ℤ own_clock k t.came))
-      (pos 33550000 *ℤ root_clock k (s.time + later))
-      (omega (arith, carried.long, carried.behind, carried.short)) right in
-      subst (λ x. AreWithin (33550000 * time_error_at k.way (suc k.place)
-      + rates_error_at k.way k.place * (later + jitter_at k.way k.place))
-      (pos 33550000
-      *ℤ read_after (info_of (at_rate told held) x) delay rate (own_clock k (s.time + later) -ℤ x))
-      (pos 33550000 *ℤ root_clock k (s.time + later))) (sym t.ingress_is) wide
+      (pos 33550000 *ℤ root_told k right.0 (s.time + later))
+      (omega (arith, carried.long, carried.behind, carried.short)) right.2 in (
+        right.0,
+        right.1,
+        subst (λ x. AreWithin (33550000 * time_error_at k.way (suc k.place)
+            + rates_error_at k.way k.place * (later + jitter_at k.way k.place))
+            (pos 33550000
+            *ℤ read_after (info_of (at_rate told held) x) delay rate (own_clock k (s.time + later) -ℤ x))
+            (pos 33550000 *ℤ root_told k right.0 (s.time + later))) (sym t.ingress_is) wide,
+      )
 
 -- ---- the numbers of an offset fit
 
@@ -158,7 +162,7 @@ pub offset_fits : (k : FollowerSetting) (told : Relayed) (ingress rate delay hel
 offset_fits k told ingress rate delay held heard is t measured held_at short shown stamp =
     let own = own_clock k t.came in
     let info = info_of (at_rate told held) own in
-    let fits = bridge_numbers_fit k.way k.phase k.place told t.sent t.came t.came rate delay held
+    let fits = bridge_numbers_fit k.way k.phase k.base k.place told t.sent t.came t.came rate delay held
     (on_way k told t.sent t.came heard is t.carried t.right) measured (omega arith, omega arith) held_at short shown
     shown in
     let same : scaled_by (held +ℤ rate) (passage (bridge info delay rate own))

@@ -5,6 +5,9 @@ use Rattle.std.specs.Prelude.{◌<◌, IsSome, if◌then◌else◌}
 use Rattle.std.proofs.lemmas.Bool.Decides.{nat_tests}
 use Rattle.std.proofs.lemmas.Int.{ints, clamps}
 use Rattle.std.proofs.lemmas.Option.{none-some, same_Some}
+use Rattle.gptp_graph.specs.Best.{IsBest}
+use Rattle.gptp_graph.specs.Snapshot.{System}
+use Rattle.gptp_graph.proofs.BestLemmas.{IsBest-unique}
 use Rattle.gptp_scaled.specs.Counts.{AreWithin}
 use Rattle.gptp_scaled.specs.Rate.{FitsRate, scaled_by}
 use Rattle.gptp_scaled.specs.Stamp.{scaled_of}
@@ -22,31 +25,33 @@ use Rattle.gptp_system.specs.declared.answer.Answer.{Answer}
 use Rattle.gptp_system.specs.declared.answer.Answer.TheVariants as answers
 use Rattle.gptp_system.specs.declared.sending.Sending.{Sending}
 use Rattle.gptp_system.specs.Input.{Frame as FrameHeard, Steps}
-use Rattle.gptp_system.specs.State.{SystemState, is_capable_at, lapse_of, local_time}
-use Rattle.gptp_system.specs.Reading.{read_at, reading_by}
-use Rattle.gptp_system.specs.Syncing.{HearsFollowUpIf, IsOffset, OffsetFits, KnowsBy, KnowsIf, delay_at, is_slave_at, offset_of, root_rate_at, said_on, slave_delay, slave_rate}
+use Rattle.gptp_system.specs.State.{SystemState, clock, is_capable_at, lapse_of, local_time}
+use Rattle.gptp_system.specs.Reading.{read_at}
+use Rattle.gptp_system.specs.Syncing.{reading_by, HearsFollowUpIf, IsOffset, OffsetFits, KnowsBy, KnowsIf, delay_at, is_slave_at, offset_of, root_rate_at, said_on, slave_delay, slave_rate}
+use Rattle.gptp_system.specs.Takeover.{told_time}
 use Rattle.gptp_error_laws.specs.TimeError.{jitter_at, rates_error_at, reading_error_at, time_error_at}
+use Rattle.gptp_error_laws.specs.WayLaws.{shown_at}
 use Rattle.gptp_model.specs.declared.station.Station.{Station}
 use Rattle.gptp_model.specs.World.{WorldState, world_queue, receiver}
-use Rattle.gptp_sync_machine.specs.Follower.{FollowerSetting, from, own_clock, root_clock}
+use Rattle.gptp_sync_machine.specs.Follower.{FollowerSetting, from, own_clock, root_told}
 use Rattle.gptp_sync_machine.specs.Messages.{FollowUp, IsOneMessage}
 use Rattle.gptp_sync_machine.specs.Right.{IsHeldAt, IsMeasuredAt, at_rate, info_of}
 use Rattle.gptp_sync_machine.proofs.ModestLemmas.{rates_are_held, ways_are_modest}
 use Rattle.gptp_sync_machine.proofs.TreeLemmas.{way_leads_to}
 use Rattle.gptp_invariants.specs.SyncFollowView.{kept_sync, tells, told_in}
-use Rattle.gptp_invariants.specs.SyncFollowers.{HasWay, IsFollower, follower, follower_clock, follower_setting, follower_parts, follower_state}
+use Rattle.gptp_invariants.specs.SyncFollowers.{HasWay, IsFollower, base_at, follower, follower_clock, follower_setting, follower_parts, follower_state}
 use Rattle.gptp_invariants.specs.DelayLinkView.{LinkPlace, link_frame_view}
 use Rattle.gptp_invariants.specs.WorldStanding.{snapshot_of}
 use Rattle.gptp_invariants.specs.SyncTimed.{AllMeasureRight, CarriesTime, IsSettledFrom}
 use Rattle.gptp_invariants.specs.SyncTimedLaws.{IsRootOf}
 use Rattle.gptp_invariants.specs.ChoiceView.{port_identity_number}
+use Rattle.gptp_invariants.proofs.SyncFollowBaseLemmas.{base_of, best as root_of, is_best as is_root, root_clock_is}
 use Rattle.gptp_invariants.proofs.SyncFollowOctetLemmas.{told_alone}
 use Rattle.gptp_invariants.proofs.SyncFollowOffsetLemmas.{IsUsed, is_used}
 use Rattle.gptp_invariants.proofs.SyncFollowPartLemmas.{clock_shown}
 use Rattle.gptp_invariants.proofs.SyncFollowSettingLemmas.{is_setting, own_shown}
-use Rattle.gptp_invariants.proofs.SyncFollowSizeLemmas.{origin_fits}
 use Rattle.gptp_invariants.proofs.SyncFollowTreeLemmas.{slave_is, well_formed}
-use Rattle.gptp_invariants.proofs.SyncFollowWayLemmas.{correction_small, documented, few, long, own_time_fits, root_time_fits, short_way}
+use Rattle.gptp_invariants.proofs.SyncFollowWayLemmas.{correction_small, documented, few, long, own_time_fits}
 use Rattle.gptp_invariants.proofs.SyncHeardLemmas.{heard_as}
 use Rattle.gptp_invariants.proofs.SyncTimeStepLemmas.{can_lapse}
 use Rattle.gptp_reading.specs.Reading.{read_after, reading}
@@ -271,29 +276,19 @@ module _ (p : SettlingParams) (settled longest : ℕ) (w : WorldState) (is : IsS
       (port_identity_number sync.source) sync.sequence (told_in m) sync.ingress (carries.follow place f steps h)
       (ap (map link_frame_view) front) refl late one (ap (option_map kept_sync) used.keeps)
 
-  numbers_fit : m.origin.nanos < 1000000000 → OffsetFits (held_sum said (root_rate_at x n)) (delay_at x n)
-      (root_rate_at x n)
-  numbers_fit small =
-      let carried = sent_as.carried in
-      let before = carried.behind in
-      let span = carried.long in
-      let shown = is.shown in
-      let length_is = long p settled longest w is place f steps h in
-      let root_time = root_time_fits p settled longest w is place f steps h sent_as.sent
-      (omega (arith, before, span, shown)) in
-      let stamp = origin_fits h.way (short_way p settled longest w is place f steps h) h.phase steps (told_in m)
-      sent_as.sent (omega (arith, length_is)) root_time small sent_as.right in
+  numbers_fit : OffsetFits (held_sum said (root_rate_at x n)) (delay_at x n) (root_rate_at x n)
+  numbers_fit =
       offset_fits k (told_in m) sync.ingress (root_rate_at x n) (delay_at x n) held w.time
       (is_setting p settled longest w is place f steps h) sent_as measured allowed
       (correction_small p settled longest w is place f steps h)
-      (own_time_fits p settled longest w is place f steps h sent_as.came before) stamp
+      (own_time_fits p settled longest w is place f steps h sent_as.came sent_as.carried.behind) sent_as.right.origin
 
-  pub has_reading : m.origin.nanos < 1000000000 → (t : ℕ) → IsSome (reading s' t)
-  has_reading small t =
+  pub has_reading : (t : ℕ) → IsSome (reading s' t)
+  has_reading t =
       reads_by said s' used.left.known t (by (has_sync_timeout x.params) refl)
     where
       by : (b : Bool) → has_sync_timeout x.params ≡ b → (offset : ℤ) × (s'.offset ≡ Some offset)
-      by true on = used.left.fits on (numbers_fit small)
+      by true on = used.left.fits on numbers_fit
       by false off = used.left.some off
 
   -- ---- what is read
@@ -303,16 +298,31 @@ module _ (p : SettlingParams) (settled longest : ℕ) (w : WorldState) (is : IsS
       read_after (info_of (at_rate (told_in m) held) sync.ingress) (delay_at x n) (root_rate_at x n)
       (own_clock k t -ℤ sync.ingress)
 
-  exact : (later : ℕ)
-      → AreWithin (33550000 * time_error_at h.way (suc steps)
+  exact : (later : ℕ) → (ahead : ℤ) × (k.base ≡ Some ahead)
+      × AreWithin (33550000 * time_error_at h.way (suc steps)
       + rates_error_at h.way steps * (later + jitter_at h.way steps))
-      (pos 33550000 *ℤ read_then (w.time + later)) (pos 33550000 *ℤ root_clock k (w.time + later))
+      (pos 33550000 *ℤ read_then (w.time + later)) (pos 33550000 *ℤ root_told k ahead (w.time + later))
   exact later =
       reading_is_exact k tells (follower place w f) (link_frame_view (frame w.time octets)) (map link_frame_view rest)
       (port_identity_number sync.source) sync.sequence (told_in m) sync.ingress (root_rate_at x n)
       (delay_at x n) held later
       (is_setting p settled longest w is place f steps h) (carries.follow place f steps h)
       (ap (map link_frame_view) front) refl late one (ap (option_map kept_sync) used.keeps) measured allowed
+
+  -- the best has taken over, and so has a base
+  pub has_base : (best : System) → IsBest (snapshot_of w) (follower_clock place w f) best
+      → (ahead : ℤ) × (base_at w.stations best.clock ≡ Some ahead)
+  has_base best is_best =
+      let said_time = exact 0 in
+      let same : root_of p settled longest w is place f ≡ best =
+      IsBest-unique (snapshot_of w) (clock x) (root_of p settled longest w is place f) best
+      (well_formed p settled longest w is) (is_root p settled longest w is place f)
+      (subst (λ n. IsBest (snapshot_of w) n best) (sym f.own.named) is_best) in (
+        said_time.0,
+        ap (base_at w.stations)
+            (ap (λ (y : System). y.clock) (sym same) ∙ sym (root_clock_is p settled longest w is place f))
+            ∙ said_time.1,
+      )
 
   -- by the state that is left
   read_is : (offset : ℤ) (t : ℕ) → s'.offset ≡ Some offset
@@ -329,33 +339,38 @@ module _ (p : SettlingParams) (settled longest : ℕ) (w : WorldState) (is : IsS
       sym (used.left.clock t ∙ own_shown p settled longest w is place f steps h t) in
       λ i. received_is i +ℤ scaled_by (rate_is i) (shown_is i -ℤ sync.ingress)
 
-  -- the clock of the root
-  root_is : (t : ℕ) (root : Station) → IsRootOf w (follower_clock place w f) root
-      → root_clock k t ≡ local_time root.system t
-  root_is t root r =
+  -- what the root tells
+  root_is : (t : ℕ) (root : Station) → IsRootOf w (follower_clock place w f) root → (ahead : ℤ)
+      → k.base ≡ Some ahead → root_told k ahead t ≡ told_time root.system t
+  root_is t root r ahead base =
       let parts = follower_parts p.params w in
+      let clock_is : shown_at h.way h.phase 0 t ≡ local_time root.system t =
       way_leads_to.root parts (snapshot_of w) (suc steps) (follower_clock place w f) t r.best h.way h.phase
       (well_formed p settled longest w is) r.is_best h.is
       ∙ ap (λ c. local_clock (parts.phase c) (parts.drift c) t) (sym r.named)
-      ∙ sym (clock_shown p.params w is.world.sound is.measured r.place root r.here t)
+      ∙ sym (clock_shown p.params w is.world.sound is.measured r.place root r.here t) in
+      let base_is = base_of p settled longest w is place f root r ahead base in
+      λ i. clock_is i +ℤ sym base_is i
 
   by_offset : (later : ℕ) (root : Station) → IsRootOf w (follower_clock place w f) root → (offset : ℤ)
       → s'.offset ≡ Some offset
       → AreWithin (reading_error_at h.way steps later)
       (read_at (reading_by s' said offset) (local_time s' (w.time + later)))
-      (local_time root.system (w.time + later))
+      (told_time root.system (w.time + later))
   by_offset later root r offset is_offset =
       let t = w.time + later in
+      let said_time = exact later in
       let whole = in_units (time_error_at h.way (suc steps)) (rates_error_at h.way steps)
-      (later + jitter_at h.way steps) (read_then t) (root_clock k t) (exact later) in
+      (later + jitter_at h.way steps) (read_then t) (root_told k said_time.0 t) said_time.2 in
       subst (AreWithin (reading_error_at h.way steps later)
-      (read_at (reading_by s' said offset) (local_time s' t))) (root_is t root r)
-      (subst (λ y. AreWithin (reading_error_at h.way steps later) y (root_clock k t)) (read_is offset t is_offset)
+      (read_at (reading_by s' said offset) (local_time s' t))) (root_is t root r said_time.0 said_time.1)
+      (subst (λ y. AreWithin (reading_error_at h.way steps later) y (root_told k said_time.0 t))
+      (read_is offset t is_offset)
       whole)
 
   pub used_exactly : (later : ℕ) (root : Station) → IsRootOf w (follower_clock place w f) root → (read : ℤ)
       → reading s' (w.time + later) ≡ Some read
-      → AreWithin (reading_error_at h.way steps later) read (local_time root.system (w.time + later))
+      → AreWithin (reading_error_at h.way steps later) read (told_time root.system (w.time + later))
   used_exactly later root r read reads_it =
       by s'.offset refl
       (sym (ap (option_and_then (λ (known : SyncInfo). option_map
@@ -364,9 +379,9 @@ module _ (p : SettlingParams) (settled longest : ℕ) (w : WorldState) (is : IsS
     where
       by : (o : Option ℤ) → s'.offset ≡ o
           → option_map (λ offset. read_at (reading_by s' said offset) (local_time s' (w.time + later))) o ≡ Some read
-          → AreWithin (reading_error_at h.way steps later) read (local_time root.system (w.time + later))
+          → AreWithin (reading_error_at h.way steps later) read (told_time root.system (w.time + later))
       by None is_none none = absurd (none-some read none)
       by (Some offset) is_offset some =
-          subst (λ y. AreWithin (reading_error_at h.way steps later) y (local_time root.system (w.time + later)))
+          subst (λ y. AreWithin (reading_error_at h.way steps later) y (told_time root.system (w.time + later)))
           (same_Some (read_at (reading_by s' said offset) (local_time s' (w.time + later))) read some)
           (by_offset later root r offset is_offset)

@@ -1,5 +1,5 @@
 -- What is read on a way, where what was told there was right.
-use Rattle.std.proofs.Common.{◌≡◌, ℕ, suc, ◌*◌, ◌+◌, ◌-◌, ◌≤◌, ℤ, pos, ◌+ℤ◌, ◌-ℤ◌, ◌*ℤ◌, arith}
+use Rattle.std.proofs.Common.{◌≡◌, ℕ, suc, ◌*◌, ◌+◌, ◌-◌, ◌≤◌, ℤ, pos, ◌+ℤ◌, ◌-ℤ◌, ◌*ℤ◌, Option, Some, arith}
 use Rattle.std.proofs.lemmas.Int.{ints}
 use Rattle.std.proofs.Math.Nat.{mul-le-mul_left}
 use Rattle.gptp_scaled.specs.Rate.{FitsRate}
@@ -11,9 +11,9 @@ use Rattle.gptp_correction.specs.declared.correction.Relayed.{Relayed}
 use Rattle.gptp_error_laws.specs.TimeError.{Way, clock_at, drift_at, link_at, rates_error_at, time_error_at}
 use Rattle.gptp_error_laws.specs.WayLaws.{shown_at}
 use Rattle.gptp_error_laws.proofs.WayLemmas.{adds, ceil_reaches, error_before, error_behind, link_grows}
-use Rattle.gptp_sync_machine.specs.Right.{IsMeasuredAt, at_rate, info_of, sent_error_at}
+use Rattle.gptp_sync_machine.specs.Right.{IsMeasuredAt, at_rate, info_of, sent_error_at, told_at}
 use Rattle.gptp_sync_machine.specs.RightLaws.{IsOnWay}
-use Rattle.gptp_sync_machine.proofs.RightLemmas.{held_on_way, over_link, rate_behind, sent_error_is}
+use Rattle.gptp_sync_machine.proofs.RightLemmas.{both_moved, held_on_way, over_link, rate_behind, sent_error_is}
 use Rattle.gptp_reading.specs.Reading.{read_after}
 use Rattle.gptp_reading.specs.ReadingLaws.{ReadingIsRight}
 use Rattle.gptp_reading.proofs.HopLemmas.{reading_is_within}
@@ -44,13 +44,14 @@ in_units error rates span x y within =
 
 -- ---- what is read
 
-read_within : (w : Way) (phase : ℕ → ℕ) (i : ℕ) (told : Relayed) (sent came now : ℕ) (rate delay : ℤ)
-    → IsOnWay w phase i told sent came → IsMeasuredAt w i rate delay → FitsRate (told.rate +ℤ rate) → came ≤ now
+read_within : (w : Way) (phase : ℕ → ℕ) (base : Option ℤ) (i : ℕ) (told : Relayed) (sent came now : ℕ) (rate delay : ℤ)
+    → IsOnWay w phase base i told sent came → IsMeasuredAt w i rate delay → FitsRate (told.rate +ℤ rate) → came ≤ now
     → let ingress = shown_at w phase (suc i) came in
-    AreWithin (33550000 * time_error_at w (suc i) + rates_error_at w i * (now - came))
+    (ahead : ℤ) × (base ≡ Some ahead)
+    × AreWithin (33550000 * time_error_at w (suc i) + rates_error_at w i * (now - came))
     (pos 33550000 *ℤ read_after (info_of told ingress) delay rate (shown_at w phase (suc i) now -ℤ ingress))
-    (pos 33550000 *ℤ shown_at w phase 0 now)
-read_within w phase i told sent came now rate delay on measured fits later =
+    (pos 33550000 *ℤ told_at w phase ahead now)
+read_within w phase base i told sent came now rate delay on measured fits later =
     let l = link_at w i in
     let ingress = shown_at w phase (suc i) came in
     let info = info_of told ingress in
@@ -64,16 +65,22 @@ read_within w phase i told sent came now rate delay on measured fits later =
     let added = read_after info delay rate (pos count.count) -ℤ (scaled_of told.origin +ℤ told.correction) in
     let within = reading_is_within l.least l.most w.turnaround (clock_at w 0) (clock_at w i) (clock_at w (suc i))
     (error_before w i) (rates_error_at w i) passing span count.count passed.count info delay rate
-    (over_link w phase i told sent came rate delay on measured)
-    (rate_behind w phase i told sent came rate delay on measured fits)
+    (over_link w phase base i told sent came rate delay on measured)
+    (rate_behind w phase base i told sent came rate delay on measured fits)
     (clock_counts.rate (drift_at w (suc i)) drifts) (omega (arith, on.long)) (omega (arith, on.short, on.long))
     count.counted (rw parts at passed.counted) in
     let sum = adds (sent_error_at w i) _ (33550000 * time_error_at w (suc i) + rates_error_at w i * span)
-    (scaled_of told.origin) told.correction added (shown_at w phase 0 sent) (shown_at w phase 0 now) passed.count
-    (omega (arith, sent_error_is w i, error_behind w i, link_grows w i)) passed.is on.right.time within in
-    rw (count.is) (record { low = omega (arith, ints, sum.low); high = omega (arith, ints, sum.high) })
+    (scaled_of told.origin) told.correction added (told_at w phase on.right.ahead sent)
+    (told_at w phase on.right.ahead now) passed.count
+    (omega (arith, sent_error_is w i, error_behind w i, link_grows w i))
+    (both_moved (shown_at w phase 0 sent) (shown_at w phase 0 now) on.right.ahead passed.count passed.is) on.right.time
+    within in (
+      on.right.ahead,
+      on.right.base_is,
+      rw (count.is) (record { low = omega (arith, ints, sum.low); high = omega (arith, ints, sum.high) }),
+    )
 
 pub reading_is_right : ReadingIsRight
-reading_is_right w phase i told sent came now rate delay held on measured at later =
-    read_within w phase i (at_rate told held) sent came now rate delay
-    (held_on_way w phase i told sent came rate delay held on measured at) measured at.fits later
+reading_is_right w phase base i told sent came now rate delay held on measured at later =
+    read_within w phase base i (at_rate told held) sent came now rate delay
+    (held_on_way w phase base i told sent came rate delay held on measured at) measured at.fits later

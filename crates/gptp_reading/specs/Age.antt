@@ -69,8 +69,7 @@ pub record ReadsWithin (acts : List ActTrace) (number span time error : ℕ) (sh
 -- What is read is exact. Let a run of a document, in a network that has a syncReceiptTimeout, end in a calm world that
 -- has waited for a Sync. Take a near system that has a Slave port, and follows a root that may be grandmaster. Where a
 -- Sync has had the time to come down the system's way before that wait, it has a reading as the run ends, which a
--- Follow_Up left it no longer ago than the wait. It is within the reading error for the wait of what the clock of the
--- best shows.
+-- Follow_Up left it no longer ago than the wait. It is within the reading error for the wait of what the best tells.
 abbrev pub RunsReadLately : {F : Type 0} → (Bounds → ℕ → F → Option ℕ → F → Type 0) → Type 0
 RunsReadLately {F} answers = (d : DocumentState) (until : ℕ) (fate : F) (start w : WorldState) (acts : List ActTrace)
     (p : SettlingParams) (earlier steps number port error : ℕ) (s : SystemState) (shown : ℤ)

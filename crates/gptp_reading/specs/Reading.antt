@@ -8,8 +8,10 @@ use Rattle.gptp_scaled.specs.Rate.{scaled_by}
 use Rattle.gptp_correction.specs.declared.sync_in.SyncInfo.{SyncInfo}
 use Rattle.gptp_correction.specs.Correction.{sync_received}
 use Rattle.gptp_setup.specs.declared.setup.Params.{Params}
-use Rattle.gptp_system.specs.Reading.{read_at, reading_by}
+use Rattle.gptp_system.specs.Reading.{read_at}
 use Rattle.gptp_system.specs.State.{SystemState, local_time}
+use Rattle.gptp_system.specs.Syncing.{reading_by}
+use Rattle.gptp_system.specs.Takeover.{told_time}
 use Rattle.gptp_error_laws.specs.TimeError.{Way, reading_error_at}
 use Rattle.gptp_model.specs.Views.{ShowsLive}
 use Rattle.gptp_model.specs.World.{WorldState}
@@ -32,13 +34,14 @@ reading s time =
     option_and_then (λ known. option_map (λ offset. read_at (reading_by s known offset) (local_time s time)) s.offset)
     s.known
 
--- What the clock of the best of a system's component shows at a time. It counts on too, whatever becomes of the best.
+-- What the best of a system's component tells at a time, by the base that it has. That counts on too, whatever becomes
+-- of the best.
 pub record IsBestsTime (w : WorldState) (number time : ℕ) (shown : ℤ) : Type 0 where
   pub best : System
   pub is_best : IsBest (snapshot_of w) number best
   pub root : SystemState
   pub shows : ShowsLive best.clock w root
-  pub is : shown ≡ local_time root time
+  pub is : shown ≡ told_time root time
 
 -- ---- how far that may be off
 

@@ -1,5 +1,5 @@
 -- How exact what is read is: over one link, on a way, and at a system that follows its parent.
-use Rattle.std.specs.Prelude.{◌≡◌, ℕ, suc, ◌+◌, ◌-◌, ◌*◌, ◌≤◌, ℤ, pos, ◌+ℤ◌, ◌-ℤ◌, ◌*ℤ◌, List, ◌∷◌, Some}
+use Rattle.std.specs.Prelude.{◌≡◌, ℕ, suc, ◌+◌, ◌-◌, ◌*◌, ◌≤◌, ℤ, pos, ◌+ℤ◌, ◌-ℤ◌, ◌*ℤ◌, List, ◌∷◌, Option, Some}
 use Rattle.gptp_graph.specs.Snapshot.{PortIdentity}
 use Rattle.gptp_scaled.specs.Counts.{AreWithin, IsClockRate, IsCounted}
 use Rattle.gptp_scaled.specs.Stamp.{scaled_of}
@@ -10,14 +10,15 @@ use Rattle.gptp_error_laws.specs.HopLaws.{IsOverLink, IsRateBehind}
 use Rattle.gptp_error_laws.specs.TimeError.{Way, hop_error, jitter_at, rates_error_at, time_error_at}
 use Rattle.gptp_error_laws.specs.WayLaws.{shown_at}
 use Rattle.gptp_sync_machine.specs.Acts.{kept_at_ingress}
-use Rattle.gptp_sync_machine.specs.Follower.{Follower, IsSetting, FollowerSetting, from, own_clock, root_clock}
+use Rattle.gptp_sync_machine.specs.Follower.{Follower, IsSetting, FollowerSetting, from, own_clock, root_told}
 use Rattle.gptp_sync_machine.specs.Invariant.{FollowerInvariant}
 use Rattle.gptp_sync_machine.specs.Messages.{Message, FollowUp, IsOneMessage}
-use Rattle.gptp_sync_machine.specs.Right.{IsHeldAt, IsMeasuredAt, at_rate, info_of}
+use Rattle.gptp_sync_machine.specs.Right.{IsHeldAt, IsMeasuredAt, at_rate, info_of, told_at}
 use Rattle.gptp_sync_machine.specs.RightLaws.{IsOnWay}
-use Rattle.gptp_system.specs.Reading.{held_reading, read_at}
+use Rattle.gptp_system.specs.Reading.{read_at}
 use Rattle.gptp_system.specs.State.{SystemState, local_time}
 use Rattle.gptp_system.specs.declared.reading.Reading.{Reading}
+use Rattle.gptp_system.specs.Syncing.{held_reading}
 use Rattle.gptp_reading.specs.Reading.{read_after, reading}
 
 -- What is read so long after a Sync came over a link is the root's time then: within the link's part of the time error,
@@ -35,14 +36,16 @@ ReadingIsWithin = (least most turnaround root up own above behind delay span cou
 -- Where what was told on a way was right, what is read so long after the Sync came is within the time error there, and
 -- within the error of the rate so far times that span.
 abbrev pub ReadingIsRight : Type 0
-ReadingIsRight = (w : Way) (phase : ℕ → ℕ) (i : ℕ) (told : Relayed) (sent came now : ℕ)
+ReadingIsRight = (w : Way) (phase : ℕ → ℕ) (base : Option ℤ) (i : ℕ) (told : Relayed) (sent came now : ℕ)
     (rate delay held : ℤ)
-    → IsOnWay w phase i told sent came → IsMeasuredAt w i rate delay → IsHeldAt w i told.rate rate held → came ≤ now
+    → IsOnWay w phase base i told sent came → IsMeasuredAt w i rate delay → IsHeldAt w i told.rate rate held
+    → came ≤ now
     → let ingress = shown_at w phase (suc i) came in
-    AreWithin (33550000 * time_error_at w (suc i) + rates_error_at w i * (now - came))
+    (ahead : ℤ) × (base ≡ Some ahead)
+    × AreWithin (33550000 * time_error_at w (suc i) + rates_error_at w i * (now - came))
     (pos 33550000
     *ℤ read_after (info_of (at_rate told held) ingress) delay rate (shown_at w phase (suc i) now -ℤ ingress))
-    (pos 33550000 *ℤ shown_at w phase 0 now)
+    (pos 33550000 *ℤ told_at w phase ahead now)
 
 -- At each Follow_Up that belongs to the Sync that is kept, from when on what comes is right: what is read from it at
 -- any later time is within the time error, and within the error of the rate so far times the span since, to which the
@@ -56,11 +59,12 @@ ReadingIsExact says = (k : FollowerSetting) (s : Follower) (front : LaneFrame) (
     → IsOneMessage says front.octets (FollowUp source sequence told)
     → s.kept ≡ Some (kept_at_ingress source sequence ingress) → IsMeasuredAt k.way k.place rate delay
     → IsHeldAt k.way k.place told.rate rate held
-    → AreWithin (33550000 * time_error_at k.way (suc k.place)
+    → (ahead : ℤ) × (k.base ≡ Some ahead)
+    × AreWithin (33550000 * time_error_at k.way (suc k.place)
     + rates_error_at k.way k.place * (later + jitter_at k.way k.place))
     (pos 33550000
     *ℤ read_after (info_of (at_rate told held) ingress) delay rate (own_clock k (s.time + later) -ℤ ingress))
-    (pos 33550000 *ℤ root_clock k (s.time + later))
+    (pos 33550000 *ℤ root_told k ahead (s.time + later))
 
 -- what a system holds of the Follow_Up that it used last is what it reads by
 abbrev pub HeldIsRead : Type 0

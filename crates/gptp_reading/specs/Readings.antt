@@ -47,9 +47,10 @@ pub record LeavesTime (time : ℕ) (s : SystemState) : Type 0 where
 
 -- The theorem on time at any moment: where an act is done in a calm world once so long has passed, and a near system
 -- other than its component's best uses a Follow_Up by it, what the system reads from then on, at any time, is within
--- its reading error of what the clock of the best then shows. The reading error (`reading_error_at`) is the time error
--- of the system's way, and what the error of the rate makes of the time since the Follow_Up and of the jitter of the
--- last link. It may be long after: then the best may have failed, and the network may have become another.
+-- its reading error of what the best then tells, by the base that it has as the act is done. The reading error
+-- (`reading_error_at`) is the time error of the system's way, and what the error of the rate makes of the time since
+-- the Follow_Up and of the jitter of the last link. It may be long after: then the best may have failed, and the
+-- network may have become another.
 abbrev pub HeadlineOnReadings : WorldState → ℕ → WorldState → Done → Type 0
 HeadlineOnReadings w time w' done = (p : SettlingParams) (m steps number later error : ℕ) (read shown : ℤ)
     → WorldIsCalm p w → BoundsPaths (snapshot_of w) m → HasComeDown p m (suc steps) time w
@@ -91,7 +92,7 @@ RunsReadExactly {F} answers = (d : DocumentState) (until : ℕ) (fate : F) (star
 
 -- A run may end at any time. Where it ends in a calm world, what a near system reads there is exact by each Follow_Up
 -- that it used once a Sync had had the time to come down from when the network was settled. For one that was used no
--- longer ago than a span it is within the reading error for that span of what the clock of the best shows.
+-- longer ago than a span it is within the reading error for that span of what the best tells.
 abbrev pub RunsReadInTime : {F : Type 0} → (Bounds → ℕ → F → Option ℕ → F → Type 0) → Type 0
 RunsReadInTime {F} answers = (d : DocumentState) (until : ℕ) (fate : F) (start w : WorldState) (acts : List ActTrace)
     (act : ActTrace) (p : SettlingParams) (m steps number earlier later error : ℕ) (read shown : ℤ)

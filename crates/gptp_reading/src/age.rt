@@ -18,7 +18,7 @@ pub fn runs_hear_in_time<F: Fate>()
 {}
 
 /// Once a Sync has had the time to come down the way of such a system, and that wait is over, it reads within its reading
-/// error for the wait of what the clock of the best shows.
+/// error for the wait of what the best tells.
 pub fn runs_read_lately<F: Fate>()
     ensures { RunsReadLately F.answers }
 {}

@@ -29,11 +29,17 @@ pub record NetworkState : Type 0 where
 abbrev pub without_members : Params → NetworkState
 without_members params = record { params = params; systems = []; links = [] }
 
--- a system of this identity, with so many ports, whose clock has this phase and drift, and whose ports announce at
--- these intervals
-abbrev pub member : ℕ → ℕ → ℕ → ℤ → ArrayVec ℤ → SystemSpec
-member identity ports phase drift intervals =
-    record { identity = identity; ports = ports; phase = phase; drift = drift; intervals = intervals }
+-- a system of this identity, with so many ports, whose clock has this phase and drift, which goes on with the time that
+-- it read where it becomes grandmaster, or doesn't, and whose ports announce at these intervals
+abbrev pub member : ℕ → ℕ → ℕ → ℤ → Bool → ArrayVec ℤ → SystemSpec
+member identity ports phase drift continues intervals = record {
+  identity = identity;
+  ports = ports;
+  phase = phase;
+  drift = drift;
+  continues = continues;
+  intervals = intervals;
+}
 
 -- the link with this number
 abbrev pub wire : ℕ → PortId → PortId → ℕ → ℕ → ℕ → Bool → LinkSpec

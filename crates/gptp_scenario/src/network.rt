@@ -35,6 +35,7 @@ pub(crate) struct SystemSpec {
     pub ports: u8,
     pub phase: u64,
     pub drift: i32,
+    pub continues: bool,
     pub intervals: ArrayVec<i8, 16>,
 }
 
@@ -95,8 +96,9 @@ impl Network {
     }
 
     /// Adds a system with that identity and so many ports, 0 to 16, whose local clock is that phase ahead at time 0, 0
-    /// to 10^18 ns, and runs faster by that drift, -219,902,325 to 219,902,325 in units of 2^-41. Its ports announce at
-    /// these intervals, one for each in their order, as logarithms to base 2 of seconds, -4 to 4.
+    /// to 10^18 ns, and runs faster by that drift, -219,902,325 to 219,902,325 in units of 2^-41. It goes on with the
+    /// time that it read where it becomes grandmaster, or doesn't. Its ports announce at these intervals, one for each in
+    /// their order, as logarithms to base 2 of seconds, -4 to 4.
     ///
     /// Refused, in this order, with `TooMany` where there are 512 systems, `OutOfRange` also where the intervals aren't
     /// as many as the ports, `Timing` where the interval of requests is above one of them, `DuplicateClock` where
@@ -108,12 +110,15 @@ impl Network {
         ports: u8,
         phase: u64,
         drift: i32,
+        continues: bool,
         intervals: ArrayVec<i8, 16>,
     ) -> Result<(), NetworkFault>
-        ensures passed { OnOk result (system_fault self.old (member identity ports phase drift intervals) ≡ None) }
+        ensures passed { OnOk result
+            (system_fault self.old (member identity ports phase drift continues intervals) ≡ None) }
         ensures refused { IfErr result
-            (IsRefusal (system_fault self.old (member identity ports phase drift intervals))) }
-        ensures added { OnOk result (self.new ≡ with_system (member identity ports phase drift intervals) self.old) }
+            (IsRefusal (system_fault self.old (member identity ports phase drift continues intervals))) }
+        ensures added { OnOk result
+            (self.new ≡ with_system (member identity ports phase drift continues intervals) self.old) }
         ensures kept { OnErr result (self.new ≡ self.old) }
     {
         let member = SystemSpec {
@@ -121,6 +126,7 @@ impl Network {
             ports,
             phase,
             drift,
+            continues,
             intervals,
         };
         match self.system_fault(&member) {
@@ -207,6 +213,17 @@ impl Network {
                     intervals,
                 ))
             }
+            None => None,
+        }
+    }
+
+    /// Whether the system at a place, from 0, goes on with the time that it read where it becomes grandmaster, as it was
+    /// given.
+    pub fn continues_at(&self, place: usize) -> Option<bool>
+        ensures { result ≡ option_map (λ m. m.continues) (slice_get self.now.systems place) }
+    {
+        match self.systems.as_slice().get(place) {
+            Some(member) => Some(member.continues),
             None => None,
         }
     }

@@ -55,7 +55,7 @@ use Rattle.gptp_invariants.proofs.ChoiceSeenLaneLemmas.{lane_there}
 use Rattle.gptp_invariants.proofs.ChoiceSettlesAsMachineLemmas.{kept_back}
 use Rattle.gptp_invariants.proofs.DelayLinkLemmas.{sender_opposite}
 use Rattle.gptp_invariants.proofs.WorldGreatestDelayLemmas.{delay_of_used}
-use Rattle.gptp_invariants.proofs.WorldNewsLemmas.{news_are_kept, news_go_on}
+use Rattle.gptp_invariants.proofs.WorldNewsLemmas.{news_are_kept, news_go_on, silent_off}
 use Rattle.gptp_invariants.proofs.WorldStandsLemmas.{stands_well}
 use Rattle.gptp_invariants.proofs.WorldWayLemmas.{IsWay, one_way, way_of}
 use Rattle.gptp_settling_time.specs.Starts.{DelaysVaryLittle}
@@ -64,11 +64,9 @@ use Rattle.gptp_links.specs.declared.bounds.Bounds.{Bounds}
 use Rattle.gptp_system.specs.State.{own}
 use Rattle.gptp_pdelay_machine.specs.Setting.{Setting}
 use Rattle.gptp_invariants.specs.ChoiceCalm.{AreCapableFrom, network_with}
-use Rattle.gptp_invariants.specs.FailedUnanswered.{StandsUnanswered}
 use Rattle.gptp_invariants.proofs.ChoiceCalmFactLemmas.{facts, frame_from}
 use Rattle.gptp_invariants.proofs.ChoicePlaceLemmas.{IsPortAt, IsStationAt}
 use Rattle.gptp_invariants.proofs.DelayClaimedCapableLemmas.{linked_or_off}
-use Rattle.gptp_invariants.proofs.FailedSilentLemmas.{become_incapable}
 use Rattle.gptp_invariants.proofs.WorldStandsLemmas.{used_up}
 use Rattle.gptp_model.proofs.BareLemmas.{bare}
 use Rattle.gptp_setup.specs.SettlingParams.{largest_interval}
@@ -252,23 +250,6 @@ same_start p m start w w' keeps =
 
 -- ---- ports are capable from the start on
 
--- the port that is unanswered isn't capable
-pub silent_off : (p : SettlingParams) (start : ℕ) (w : WorldState) → IsNews p start w → start ≤ w.time
-    → (at : LinkPlace) (s : StandsUnanswered at w) (q : Port)
-    → number s.asking.station.system.ports (sender at.direction s.channel).port ≡ Some q → is_capable q.peer ≡ false
-silent_off p start w news late at s q there =
-    let (change, one, soon) = news.silent at s in
-    let l = one.link in
-    let channel : s.channel ≡ l.channel = same_there w.net.channels at.link s.channel l.channel s.here l.here in
-    let station : s.asking.station ≡ l.asking.station =
-    same_there w.stations at.asking s.asking.station l.asking.station s.asking.here l.asking.here in
-    let port : q ≡ l.asking.state =
-    some_same q l.asking.state
-    (sym there ∙ (λ i. number (station i).system.ports (sender at.direction (channel i)).port) ∙ l.asking.there) in
-    ap (λ (x : Port). is_capable x.peer) port
-    ∙ become_incapable at p change w news.world.sound news.world.known news.pace.requests one
-    (omega (arith, soon, late))
-
 -- over each link that is up between two live systems, loses nothing and is good, what is told is heard
 abbrev pub AreHeard : SettlingParams → ℕ → WorldState → Type 0
 AreHeard p start w = (at : LinkPlace) → LinkStandsAt at w → IsHeardAt p start at w
@@ -314,8 +295,8 @@ module _ (p : SettlingParams) (start : ℕ) (w : WorldState) (news : IsNews p st
             (shown.each i h q stands there).on
             (linked_capable late place station here i q to there joins
             (way_of w (port_identity_number (own station.system (suc i))) to joins));
-        unlinked = λ none. elim (linked_or_off p w world (silent_off p start w news late) place station here lives
-            i q there) [
+        unlinked = λ none. elim (linked_or_off p w world
+            (silent_off p start w news.pace world news.silent late) place station here lives i q there) [
               | inl linked ↦ absurd (none linked)
               | inr off ↦ (shown.each i h q stands there).off off
             ];

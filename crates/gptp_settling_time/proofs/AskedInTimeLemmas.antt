@@ -14,7 +14,7 @@ use Rattle.gptp_setup.specs.declared.setup.Params.{Params}
 use Rattle.gptp_setup.specs.declared.timer.Timer.{Timer}
 use Rattle.gptp_setup.specs.declared.timer.Timer.TheVariants as timers
 use Rattle.gptp_setup.specs.Intervals.{interval_of}
-use Rattle.gptp_setup.specs.SettlingParams.{SettlingParams, largest_interval}
+use Rattle.gptp_setup.specs.SettlingParams.{SettlingParams}
 use Rattle.gptp_scenario.specs.declared.change.Act.{Act}
 use Rattle.gptp_scenario.specs.declared.change.Act.TheVariants.{Deliver, Expire, Change as Changing}
 use Rattle.gptp_scenario.specs.declared.change.Change.{Change}
@@ -41,6 +41,7 @@ use Rattle.gptp_invariants.specs.DelayMeasured.{LinkIsMeasured}
 use Rattle.gptp_invariants.specs.DelayLinkView.{LinkPlace, RequestSaysWhatFits, asked_at, link_frame_view, other_direction, reads_as_request}
 use Rattle.gptp_invariants.specs.FailedUnanswered.{IsOldBy, IsUnansweredAt, StandsUnanswered, silent_view}
 use Rattle.gptp_invariants.specs.WorldKnown.{IsKnown}
+use Rattle.gptp_invariants.specs.WorldShort.{IsShort}
 use Rattle.gptp_invariants.proofs.DelayEndLemmas.{HearsWhatFits}
 use Rattle.gptp_invariants.proofs.DelayLinkLaneLemmas.{GrowsIn, IsAlone, sends_grow}
 use Rattle.gptp_invariants.proofs.DelayLinkCallLemmas.{asker_timer, at_own}
@@ -278,12 +279,12 @@ module _ (gone : ℕ) (at : LinkPlace) (place : ℕ) (input : Input) (w : WorldS
 
 -- ---- it begins
 
--- just after a change all is old that is in flight, and due by the largest announce interval later
-pub are_asked_begin : (p : SettlingParams) (w : WorldState) → IsSound w → LinkIsMeasured w → IsKnown p w
-    → w.last_change ≡ w.time → AreAskedInTime (w.last_change + largest_interval p) w
-are_asked_begin p w sound measured known changed at s =
+-- just after a change all is old that is in flight, and due by the longest delay later
+pub are_asked_begin : (p : SettlingParams) (most : ℕ) (w : WorldState) → IsSound w → LinkIsMeasured w → IsKnown p w
+    → IsShort most w → w.last_change ≡ w.time → AreAskedInTime (w.last_change + most) w
+are_asked_begin p most w sound measured known short changed at s =
     let l = ports_seen at w sound measured s in
-    let near = known.near at.link l.channel l.here in
+    let near = short at.link l.channel l.here in
     record {
       link = l;
       asked = (timers_known at p w l sound known).asked;

@@ -1,5 +1,6 @@
 -- The world of a document begins, or has rested.
-use Rattle.std.proofs.Common.{◌≡◌, ◌≤◌, ◌+◌, ◌*◌, ℕ, false, List, [], Option, Some, slice_get, refl, sym, ap, subst, ◌∙◌, inl, arith}
+use Rattle.std.proofs.Common.{◌≡◌, ◌≤◌, ◌+◌, ◌*◌, ℕ, false, List, [], length, Option, Some, slice_get, refl, sym, ap, subst, ◌∙◌, inl, arith}
+use Rattle.std.specs.List.{range_with_len}
 use Rattle.gptp_graph.specs.PathBound.{path_bound}
 use Rattle.gptp_links.specs.declared.bounds.Bounds.{Bounds}
 use Rattle.gptp_setup.specs.SettlingParams.{SettlingParams, largest_interval, longest_span}
@@ -24,6 +25,7 @@ use Rattle.gptp_invariants.proofs.DelayStartFirstLemmas.{start_lives}
 use Rattle.gptp_invariants.proofs.WorldClaimLemmas.{claim_begins}
 use Rattle.gptp_invariants.proofs.ChoiceSettlesAsMachineLemmas.{paths_bound}
 use Rattle.gptp_invariants.proofs.WorldOutlineLemmas.{starts_are_last}
+use Rattle.gptp_invariants.proofs.WorldShortLemmas.{initially_short, starts_short}
 use Rattle.gptp_invariants.proofs.ChoiceRestSoundLemmas.{rest_sound_beside_failed}
 use Rattle.gptp_invariants.proofs.WorldStartNewsLemmas.{start_news}
 use Rattle.gptp_theorem.specs.PlayedLaws.{IsPlayable}
@@ -70,6 +72,9 @@ module _ {F : Type 0} (answers : Bounds → ℕ → F → Option ℕ → F → T
       stands = stands;
       unset = subst (λ since. IsUnsetSince p since w) stands.last (unset_known p w claim.world);
       slow = begun_none_faster answers n fate fate_after w sound.wired.setups k;
+      short = λ most within.
+          starts_short most (range_with_len 0 (length n.systems)) (initial n) w k.draws
+          (initially_short most n within.links) k.starts;
       asked = λ time spared. (
         0,
         spared,

@@ -12,7 +12,7 @@ use Rattle.gptp_model.specs.World.{Channel, WorldState, world_queue}
 use Rattle.gptp_pdelay_machine.specs.Lanes.{LaneFrame}
 use Rattle.gptp_bmca_machine.specs.Frame.{AnnounceFrame, Lane}
 use Rattle.gptp_invariants.specs.ChoiceSettlesAsMachine.{IsWorld}
-use Rattle.gptp_invariants.specs.ChoiceView.{frame_view, lane_place, lane_view, port_identity_number}
+use Rattle.gptp_invariants.specs.ChoiceView.{frame_view, lane_place, lane_view, port_identity_number, view}
 use Rattle.gptp_invariants.specs.DelayLinkView.{IsLinkOf, LinkPlace, asker_view, link_frame_view, link_lane_view, other_direction, waits_view}
 use Rattle.gptp_invariants.proofs.ChoiceSeenLaneLemmas.{lane_there}
 use Rattle.gptp_invariants.proofs.WorldWayLemmas.{one_way}
@@ -28,6 +28,48 @@ lane_frame f = record { due = f.due; octets = f.octets }
 same_frames : (frames : List Frame) → map lane_frame (map frame_view frames) ≡ map link_frame_view frames
 same_frames [] = refl
 same_frames (f ∷ frames) = ap (λ rest. link_frame_view f ∷ rest) (same_frames frames)
+
+-- ---- one link
+
+-- where its ports measure as they did, and its lanes stood so, the same is seen of it
+module _ (at : LinkPlace) (w w' : WorldState) (l : IsLinkOf at w) (whole : HasSameParts at w w' l)
+    (time : w'.time ≡ w.time)
+    (stood : (direction : Direction)
+    → slice_get (view w).lanes (lane_place at.link direction) ≡ Some (lane_view direction whole.after.channel)) where
+  frames_same : (direction : Direction)
+      → link_lane_view direction whole.after.channel ≡ link_lane_view direction l.channel
+  frames_same direction =
+      let new_lane = lane_view direction whole.after.channel in
+      let old_lane = lane_view direction l.channel in
+      let one : new_lane ≡ old_lane =
+      same_Some new_lane old_lane
+      (sym (stood direction) ∙ lane_there w.net.channels at.link direction l.channel l.here) in
+      sym (same_frames (world_queue direction whole.after.channel))
+      ∙ ap (λ (x : Lane). map lane_frame x.frames) one
+      ∙ same_frames (world_queue direction l.channel)
+
+  pub seen_same : IsSameLink at w w' l
+  seen_same =
+      let asking = whole.asking in
+      let answering = whole.answering in
+      let setup = whole.setup in
+      let out = frames_same at.direction in
+      let back = frames_same (other_direction at.direction) in
+      record {
+        after = whole.after;
+        settled = whole.settled;
+        seen = λ i. record {
+          pair = record {
+            time = time i;
+            asker = asker_view (interval_of (setup i).params.pdelay) (asking i);
+            waits = waits_view (answering i);
+            out = out i;
+            back = back i;
+          };
+          last = (asking i).peer.last;
+        };
+        bounds = whole.bounds;
+      }
 
 -- ---- the link comes up
 
@@ -49,42 +91,10 @@ module _ (p : SettlingParams) (w : WorldState) (is : IsWorld p w) (place : ℕ) 
       tells_parts PortUp of_up p w is place channel (record channel { up = true }) (brought_up place channel w.net) here
       refl refl refl draws w' k at beside l
 
-  frames_same : (direction : Direction)
-      → link_lane_view direction whole.after.channel ≡ link_lane_view direction l.channel
-  frames_same direction =
-      let new_lane = lane_view direction whole.after.channel in
-      let old_lane = lane_view direction l.channel in
-      let there = lane_there w'.net.channels at.link direction whole.after.channel whole.after.here in
-      let stood = raised.lanes (lane_place at.link direction) new_lane there (λ way same.
-      beside (one_way w is.sound is.encodable at.link place direction way l.channel channel l.here here
-      (ap port_identity_number (sym (whole.begins direction)) ∙ same)).same_link) in
-      let one : new_lane ≡ old_lane =
-      same_Some new_lane old_lane
-      (sym stood ∙ lane_there w.net.channels at.link direction l.channel l.here) in
-      sym (same_frames (world_queue direction whole.after.channel))
-      ∙ ap (λ (x : Lane). map lane_frame x.frames) one
-      ∙ same_frames (world_queue direction l.channel)
-
   pub beside_same : IsSameLink at w w' l
   beside_same =
-      let asking = whole.asking in
-      let answering = whole.answering in
-      let setup = whole.setup in
-      let time = raised.time in
-      let out = frames_same at.direction in
-      let back = frames_same (other_direction at.direction) in
-      record {
-        after = whole.after;
-        settled = whole.settled;
-        seen = λ i. record {
-          pair = record {
-            time = time i;
-            asker = asker_view (interval_of (setup i).params.pdelay) (asking i);
-            waits = waits_view (answering i);
-            out = out i;
-            back = back i;
-          };
-          last = (asking i).peer.last;
-        };
-        bounds = whole.bounds;
-      }
+      seen_same at w w' l whole raised.time (λ direction.
+      raised.lanes (lane_place at.link direction) (lane_view direction whole.after.channel)
+      (lane_there w'.net.channels at.link direction whole.after.channel whole.after.here) (λ way same.
+      beside (one_way w is.sound is.encodable at.link place direction way l.channel channel l.here here
+      (ap port_identity_number (sym (whole.begins direction)) ∙ same)).same_link))

@@ -11,7 +11,6 @@ use Rattle.gptp_links.specs.Queue.{Frame}
 use Rattle.gptp_scenario.specs.declared.change.Act.{Act}
 use Rattle.gptp_scenario.specs.declared.change.Act.TheVariants.{Deliver, Expire, Change as Changing}
 use Rattle.gptp_scenario.specs.declared.change.Change.{Change}
-use Rattle.gptp_setup.specs.SettlingParams.{SettlingParams, largest_interval}
 use Rattle.gptp_setup.specs.declared.timer.Timer.{Timer}
 use Rattle.gptp_system.specs.declared.answer.Answer.{Answer}
 use Rattle.gptp_system.specs.Input.{Expires as TimerExpires, Frame as FrameHeard, Input}
@@ -27,7 +26,7 @@ use Rattle.gptp_model.specs.World.{Channel, Net, WorldState, receiver, sender, w
 use Rattle.gptp_model.proofs.StayLemmas.{begins_same, calls_carry, sender_same, takes_carry}
 use Rattle.gptp_invariants.specs.DelayLinkView.{LinkPlace}
 use Rattle.gptp_invariants.specs.FailedUnanswered.{IsFailedAmong}
-use Rattle.gptp_invariants.specs.WorldKnown.{IsKnown}
+use Rattle.gptp_invariants.specs.WorldShort.{IsShort}
 use Rattle.gptp_invariants.proofs.DelayElsewhereLemmas.{calls_orderly}
 use Rattle.gptp_invariants.proofs.DelayLinkLemmas.{IsOrderly, receiver_same, sender_opposite}
 use Rattle.gptp_invariants.proofs.FailedUnansweredCallLemmas.{failed_apart}
@@ -50,11 +49,11 @@ IsGoneBetween gone at w = (s : StandsFailed at w) → (direction : Direction) (f
 abbrev pub AreGoneBetween : ℕ → WorldState → Type 0
 AreGoneBetween gone w = (at : LinkPlace) → IsGoneBetween gone at w
 
--- just after a change that is so of the largest announce interval
-pub gone_begins : (p : SettlingParams) (w : WorldState) → IsKnown p w → w.last_change ≡ w.time
-    → AreGoneBetween (w.last_change + largest_interval p) w
-gone_begins p w known changed at s direction f member =
-    let due = (known.near at.link s.channel s.here).dues direction f member in omega (arith, due, changed)
+-- just after a change that is so of the longest delay
+pub gone_begins : (most : ℕ) (w : WorldState) → IsShort most w → w.last_change ≡ w.time
+    → AreGoneBetween (w.last_change + most) w
+gone_begins most w short changed at s direction f member =
+    let due = (short at.link s.channel s.here).dues direction f member in omega (arith, due, changed)
 
 pub gone_later : (gone time : ℕ) (w : WorldState) → AreGoneBetween gone w → AreGoneBetween gone (at_time time w)
 gone_later gone time w all at s =

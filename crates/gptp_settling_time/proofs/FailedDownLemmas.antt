@@ -47,7 +47,7 @@ use Rattle.gptp_invariants.specs.ChoiceSettlesAsMachine.{IsWorld}
 use Rattle.gptp_invariants.specs.ChoiceView.{lane_view, says_announce, span_at, station_view, system_view, view}
 use Rattle.gptp_invariants.specs.DelayLinkView.{IsLinkOf, LinkPlace, asker_view, link_lane_view, other_direction, waits_view}
 use Rattle.gptp_invariants.specs.DelayMeasured.{LinkStandsAt, StationIsLiveAt}
-use Rattle.gptp_invariants.specs.FailedUnanswered.{IsFailedAmong, IsSilent, IsUnansweredAt, StandsUnanswered, silent_setting, silent_view}
+use Rattle.gptp_invariants.specs.FailedUnanswered.{IsFailedAmong, IsNeverAnswered, IsSilent, IsUnansweredAt, StandsUnanswered, silent_setting, silent_view}
 use Rattle.gptp_invariants.specs.WorldNews.{AreSilentBy, IsNews}
 use Rattle.gptp_invariants.specs.WorldSettlingInvariant.{KeepsAll}
 use Rattle.gptp_invariants.specs.WorldSound.{IsSoundWorld}
@@ -57,7 +57,9 @@ use Rattle.gptp_invariants.proofs.ChoiceSeenLaneLemmas.{lane_from, lane_there}
 use Rattle.gptp_invariants.proofs.DelayClaimedCapableLemmas.{clock_has, used_if}
 use Rattle.gptp_invariants.proofs.FailedUnansweredCallLemmas.{CallStep, call_seen, view_stays}
 use Rattle.gptp_invariants.proofs.WorldWayLemmas.{way_of}
-use Rattle.gptp_settling_time.proofs.AlwaysClaimedLemmas.{IsClaimedAlways, lane_at, same_start, silent_off}
+use Rattle.gptp_invariants.proofs.FailedNeverAnsweredLemmas.{told_never}
+use Rattle.gptp_invariants.proofs.WorldNewsLemmas.{silent_off}
+use Rattle.gptp_settling_time.proofs.AlwaysClaimedLemmas.{IsClaimedAlways, lane_at, same_start}
 use Rattle.gptp_settling_time.proofs.FailedUpLemmas.{delay_set, used_set}
 use Rattle.gptp_settling_time.proofs.LinkStoodLemmas.{second_still, stood_in, stood_untold, used_elsewhere}
 use Rattle.gptp_settling_time.proofs.LinkUpLemmas.{lane_set}
@@ -250,7 +252,7 @@ module _ (p : SettlingParams) (start : ℕ) (w : WorldState) (news : IsNews p st
               let places = shown.places in
               let (q, there) = member_there station.system.ports i (omega arith) in
               let (h, holds) = member_there station.system.held i (omega (arith, most, places)) in
-              let off = silent_off p start w news late place_there (record {
+              let off = silent_off p start w news.pace is news.silent late place_there (record {
                 channel = channel;
                 here = here;
                 up = up;
@@ -468,10 +470,30 @@ module _ (p : SettlingParams) (start : ℕ) (w : WorldState) (news : IsNews p st
               (same_there w.stations k.place_a station k.station_a there k.is_a.here) ∙ k.is_a.named)
               is.sound.wired.clocks begun (no_end taken joins begun.link FromA) k.at_a
 
+      never_at : IsNeverAnswered at w → IsNeverAnswered at w'
+      never_at one =
+          told_never at k.place_b (PortDown channel.b.port) (λ n. tt) (λ n. tt) k.between k.second w'
+          (stays_clocks taken k.between stays is.sound.wired.clocks)
+          (told_never at k.place_a (PortDown channel.a.port) (λ n. tt) (λ n. tt) taken k.first k.between
+          is.sound.wired.clocks
+          (record {
+            link = record {
+              channel = one.link.channel;
+              here = get-set_other w.net.channels place at.link (lost channel) apart ∙ one.link.here;
+              up = one.link.up;
+              asking = one.link.asking;
+              answering = one.link.answering;
+            };
+            mute = one.mute;
+            unmeasured = one.unmeasured;
+          })
+          k.at_a) k.at_b
+
     pub down_silent : AreSilentBy p start w'
-    down_silent at s =
-        let (change, one, soon) = news.silent at (before at s) in
-        (change, silent_at at s (change + largest_interval p) one, soon)
+    down_silent at s = elim (news.silent at (before at s)) [
+      | inl never ↦ inl (never_at at s never)
+      | inr (change, one, soon) ↦ inr (change, silent_at at s (change + largest_interval p) one, soon)
+    ]
 
     -- ---- what is held and in flight
 

@@ -1,5 +1,5 @@
 -- A link of which an end has failed comes up: what is claimed of the world stays.
-use Rattle.std.proofs.Common.{◌≡◌, ◌≢◌, ◌≤◌, ◌+◌, ℕ, zero, suc, Bool, true, false, List, [], ◌∷◌, Some, slice_get, slice_set, refl, sym, ap, subst, ◌∙◌, inl, inr, arith}
+use Rattle.std.proofs.Common.{◌≡◌, ◌≢◌, ◌+◌, ℕ, zero, suc, Bool, true, false, List, [], ◌∷◌, Some, slice_get, slice_set, refl, sym, ap, subst, ◌∙◌, inl, inr}
 use Rattle.std.specs.Prelude.{if◌then◌else◌, max}
 use Rattle.std.proofs.lemmas.Option.{none-some, same_Some}
 use Rattle.gptp_lists.specs.Members.{In}
@@ -11,9 +11,7 @@ use Rattle.gptp_links.specs.declared.link.Direction.{Direction}
 use Rattle.gptp_links.specs.declared.link.Direction.TheVariants.{FromA, FromB}
 use Rattle.gptp_links.specs.Fate.{Draw}
 use Rattle.gptp_links.specs.Queue.{Frame}
-use Rattle.gptp_pdelay.specs.Peer.{is_capable}
 use Rattle.gptp_scenario.specs.Calm.{NothingLapses}
-use Rattle.gptp_scenario.specs.SettlingTime.{capability_span}
 use Rattle.gptp_scenario.specs.declared.change.Act.TheVariants.{Change as Changing}
 use Rattle.gptp_scenario.specs.declared.change.Change.TheVariants.{LinkUp}
 use Rattle.gptp_setup.specs.declared.setup.Params.{Params}
@@ -35,7 +33,7 @@ use Rattle.gptp_invariants.specs.ChoiceSettlesAsMachine.{IsWorld}
 use Rattle.gptp_invariants.specs.ChoiceView.{lane_view, port_identity_number, station_view, view}
 use Rattle.gptp_invariants.specs.DelayLinkView.{IsEndOf, LinkPlace, other_direction}
 use Rattle.gptp_invariants.specs.DelayMeasured.{LinkStandsAt}
-use Rattle.gptp_invariants.specs.FailedUnanswered.{FailedNeighboursAreSilent, IsSilent, StandsUnanswered}
+use Rattle.gptp_invariants.specs.FailedUnanswered.{FailedNeighboursAreSilent, IsSilent, StandsUnanswered, IsNeverAnswered, IsUnmeasured}
 use Rattle.gptp_invariants.specs.WorldNews.{AreSilentBy}
 use Rattle.gptp_invariants.specs.WorldSettlingInvariant.{KeepsAll}
 use Rattle.gptp_invariants.specs.WorldSound.{IsSoundWorld}
@@ -59,7 +57,6 @@ use Rattle.gptp_settling_time.proofs.RaisedLemmas.{IsRaised, raised, unmeasured_
 use Rattle.gptp_settling_time.proofs.NewsSoonLemmas.{IsNewsFrom, from_silent, from_sound}
 use Rattle.gptp_settling_time.proofs.StandsLikeLemmas.{StandsLike, claims_like, expects_none, from_like}
 use Rattle.gptp_settling_time.proofs.StandsStillLemmas.{StandsStill, changed_still, claims_stand, from_stands}
-use Rattle.gptp_settling_time.proofs.UntoldLemmas.{unmeasured_off}
 
 -- ---- a link that isn't in use becomes another that isn't
 
@@ -220,20 +217,19 @@ module _ (p : SettlingParams) (w : WorldState) (is : IsWorld p w) (place : ℕ) 
       ends_now : (direction : Direction) → sender direction one.link.channel ≡ sender direction channel
       ends_now = raised_ends w place channel w' here keeps at.link place_is one.link.channel one.link.here
 
-      incapable : is_capable one.link.asking.state.peer ≡ false
-      incapable = by (sender at.direction one.link.channel).port refl e.there
+      unmeasured : IsUnmeasured one.link.asking.state.peer
+      unmeasured = by (sender at.direction one.link.channel).port refl e.there
         where
           e : IsEndOf at.asking (sender at.direction one.link.channel) w'
           e = one.link.asking
 
           by : (n : ℕ) → (sender at.direction one.link.channel).port ≡ n
-              → number e.station.system.ports n ≡ Some e.state → is_capable e.state.peer ≡ false
+              → number e.station.system.ports n ≡ Some e.state → IsUnmeasured e.state.peer
           by zero numbered there = absurd (none-some e.state there)
           by (suc i) numbered there =
-              unmeasured_off e.state.peer
-              (unmeasured_then p w is place channel here down draws w' k is'.sound.wired.clocks at.direction at.asking
+              unmeasured_then p w is place channel here down draws w' k is'.sound.wired.clocks at.direction at.asking
               e.station e.here e.live (e.named ∙ ap (λ (q : PortId). q.clock) (ends_now at.direction)) i e.state
-              (ap (λ (q : PortId). q.port) (sym (ends_now at.direction)) ∙ numbered) there)
+              (ap (λ (q : PortId). q.port) (sym (ends_now at.direction)) ∙ numbered) there
 
       abbrev back : Direction
       back = other_direction at.direction
@@ -311,29 +307,21 @@ module _ (p : SettlingParams) (w : WorldState) (is : IsWorld p w) (place : ℕ) 
           (λ ways. failed_there k.place_a k.station_a k.is_a.here
           (k.is_a.named ∙ ap (λ d. (sender d channel).clock) ways)) begun k.at_a) k.at_b
 
-      silent_always : (other : ℕ) → IsSilent other at w'
-      silent_always other =
-          let mute = mute_then in
-          let channel_is : one.link.channel ≡ mute.now =
-          same_there w'.net.channels at.link one.link.channel mute.now one.link.here mute.now_here in
+      never_answered : IsNeverAnswered at w'
+      never_answered =
+          let none_flies = mute_then in
+          let channel_is : one.link.channel ≡ none_flies.now =
+          same_there w'.net.channels at.link one.link.channel none_flies.now one.link.here none_flies.now_here in
           record {
             link = one.link;
-            old = λ f member. absurd (mute.none f (subst (λ c. In f (world_queue back c)) channel_is member));
-            inv = record {
-              lost = one.inv.lost;
-              counts = λ capable. absurd (let both : true ≡ false = sym capable ∙ incapable in cc);
-            };
+            mute = λ f member r says.
+                absurd (none_flies.none f (subst (λ c. In f (world_queue back c)) channel_is member));
+            unmeasured = unmeasured;
           }
 
-    pub up_silent : (start : ℕ) → capability_span p ≤ start → FailedNeighboursAreSilent p w' → AreSilentBy p start w
-        → AreSilentBy p start w'
-    up_silent start late silent' silent at s = elim (same_place at.link place) [
-      | inl same ↦ (
-        0,
-        silent_always at same s (w'.last_change + largest_interval p) (silent' at s)
-            (0 + largest_interval p),
-        omega (arith, late),
-      )
+    pub up_silent : (start : ℕ) → FailedNeighboursAreSilent p w' → AreSilentBy p start w → AreSilentBy p start w'
+    up_silent start silent' silent at s = elim (same_place at.link place) [
+      | inl same ↦ inl (never_answered at same s (w'.last_change + largest_interval p) (silent' at s))
       | inr apart ↦ up_silences p start at place channel w draws w' is.sound.wired.clocks is.sound.wired.setups
           is.sound.wired.apart here apart k silent s
     ]
@@ -342,7 +330,6 @@ module _ (p : SettlingParams) (w : WorldState) (is : IsWorld p w) (place : ℕ) 
 
 module _ (p : SettlingParams) (start owner port : ℕ) (w : WorldState) (draws : List Draw) (done : Done)
     (w' : WorldState) (is : IsWorld p w) (claim' : KeepsAll p w') (nothing : NothingLapses p.params)
-    (late : capability_span p ≤ start)
     (dead : (place : ℕ) (channel : Channel) → IsChannel (port_id owner port) place w.net channel
     → channel_is_used (live_stations w.stations) (record channel { up = true }) ≡ false)
     (acts : Acts (Changing (LinkUp owner port)) w draws done w') where
@@ -370,7 +357,7 @@ module _ (p : SettlingParams) (start owner port : ℕ) (w : WorldState) (draws :
     silent_then =
         up_silent p w is k.place k.channel k.is.here down
         (dead k.place k.channel (record { here = k.is.here; joined = k.is.joined })) draws w' claim'.world told start
-        late claim'.silent
+        claim'.silent
 
   sound_then : IsSoundWorld w → IsSoundWorld w'
   sound_then = sound_gains p (LinkUp owner port) w draws done w' tt tt acts is claim'.world

@@ -18,8 +18,9 @@ use Rattle.gptp_network.specs.Document.{DocumentState}
 use Rattle.gptp_network.specs.Events.{AreInOrder}
 use Rattle.gptp_network.specs.Snapshot.{events_by}
 use Rattle.gptp_settling_time.specs.HowSoon.{AfterIdleEvents, AreGainEvents, AreHeardEvents, AreReadyAtStart, AreStartEvents, BoundsEvents, BoundsStart, EachEvent, IsChoiceBound, IsChoiceBoundAfter, IsGainEvent, IsGainToo, IsHeardEvent, IsHeardToo, IsIdleEvent, TurnsUnused, events_at, way_span, AreWiderEvents}
-use Rattle.gptp_settling_time.specs.InTurn.{AnyPast, AreCapableSoon, BeginsBy, EventLeads, Gained, HasSettledAnyhow, HasSettledHeard, HasSettledSince, Heard, LeadOn, LeavesSettled, MakesNothing, NoneUnanswered, Past, SettlesAfter, SettlesByEvents, Starting, StartsWith, TellsNothing, TurnsInVain, UsedVaryLittle, WidensLink}
+use Rattle.gptp_settling_time.specs.InTurn.{AnyPast, AreCapableSoon, BeginsBy, EventLeads, Gained, HasSettledAnyhow, HasSettledHeard, HasSettledSince, Heard, LeadOn, LeavesSettled, MakesNothing, Past, SettlesAfter, SettlesByEvents, Starting, StartsWith, TellsNothing, TurnsInVain, UsedVaryLittle, WidensLink}
 use Rattle.gptp_settling_time.proofs.CutLemmas.{IsBy, all_by}
+use Rattle.gptp_settling_time.proofs.MadeLemmas.{adds_later}
 use Rattle.gptp_settling_time.proofs.MomentLemmas.{all_at, last_by, parted}
 use Rattle.gptp_settling_time.proofs.SamePathsLemmas.{idle_paths, turned_paths}
 
@@ -100,13 +101,13 @@ module _ (n : NetworkState) (made : List Timed) (event : Timed) where
 
   heard_leads : (past : Past) (next : ℕ) → HasSettled n made past event.at → IsHeardEvent n next made event
       → EventLeads n made past event (Heard next)
-  heard_leads AnyPast next settled (inl up) = (settled, inl up)
+  heard_leads AnyPast next settled (inl adds) = (settled, inl adds)
   heard_leads AnyPast next settled (inr better) = (settled, inr (inl better))
   heard_leads Starting next settled heard = absurd settled
-  heard_leads (Gained start) next settled (inl up) = (settled, inl up)
+  heard_leads (Gained start) next settled (inl adds) = (settled, inl adds)
   heard_leads (Gained start) next settled (inr better) = (settled, inr (inl better))
-  heard_leads (Heard start) next settled (inl up) =
-      let capable = up.capable in inl (omega (arith, settled, capable), up)
+  heard_leads (Heard start) next settled (inl adds) =
+      let later = adds_later n made event next adds in inl (omega (arith, settled, later), adds)
   heard_leads (Heard start) next settled (inr better) = inr (inl (settled, inl better))
 
   -- what makes nothing of what stands leads from a network that has settled to one that has settled by then, as if its
@@ -131,8 +132,8 @@ module _ (n : NetworkState) (made : List Timed) (event : Timed) where
     same_paths (inl nothing) = idle_paths n network made event nothing
     same_paths (inr turns) = turned_paths n made event turns
 
-    turns_in_vain : (act : Act) → TurnsUnused n made event act → TurnsInVain n made event since act
-    turns_in_vain (Changing (LinkUp number port)) (failed, late) = (failed, omega (arith, late))
+    turns_in_vain : (act : Act) → TurnsUnused n made act → TurnsInVain n made event since act
+    turns_in_vain (Changing (LinkUp number port)) failed = failed
     turns_in_vain (Changing (LinkDown number port)) failed = (failed, omega arith)
     turns_in_vain (Changing (LinkSet number port min max loss)) none = absurd none
     turns_in_vain (Changing (Fail number)) none = absurd none
@@ -183,8 +184,8 @@ module _ (n : NetworkState) (network : IsNetwork n) where
   heard_lead : (next : ℕ) (made now : List Timed) → EachEvent (IsHeardToo n next) made now
       → LeadOn n made (Heard next) now (Heard next)
   heard_lead next made [] each = refl
-  heard_lead next made (event ∷ now) (inl up, each) =
-      (Heard next, inl (omega arith, up), heard_lead next (made ++ event ∷ []) now each)
+  heard_lead next made (event ∷ now) (inl adds, each) =
+      (Heard next, inl (omega arith, adds), heard_lead next (made ++ event ∷ []) now each)
   heard_lead next made (event ∷ now) (inr nothing, each) =
       (Heard next, inr (inr (nothing, refl)), heard_lead next (made ++ event ∷ []) now each)
 
@@ -418,7 +419,7 @@ module _ (n : NetworkState) (network : IsNetwork n) (off : NothingLapses n.param
 
   -- by a start with such events
   module _ (event : Timed) (events : List Timed) (at : AllByRecursion (IsBy 0) (event ∷ events)) (ready : ℕ)
-      (each : AreStartEvents (event ∷ events)) (answered : NoneUnanswered n (event ∷ events))
+      (each : AreStartEvents (event ∷ events))
       (soon : AreReadyAtStart n (event ∷ events) ready) where
     abbrev all_now : List Timed
     all_now = event ∷ events
@@ -428,7 +429,6 @@ module _ (n : NetworkState) (network : IsNetwork n) (off : NothingLapses n.param
     starts_with made one are zero tells = record {
       now = zero;
       tells = tells;
-      answered = subst (NoneUnanswered n) (sym are) answered;
       capable = subst (λ es. AreCapableSoon n es (suc ready)) (sym are) (capable_soon all_now ready soon);
     }
 
@@ -460,8 +460,8 @@ module _ (n : NetworkState) (network : IsNetwork n) (off : NothingLapses n.param
   started_so : (now : List Timed) (choice : ℕ) → AllByRecursion (IsBy 0) now → BoundsStart n now choice
       → IsFollowedTo n now 0 choice
   started_so [] choice at is = started choice is
-  started_so (event ∷ events) choice at ((each, answered), (ready, soon, is)) =
-      started_with event events at ready each answered soon choice is
+  started_so (event ∷ events) choice at (each, (ready, soon, is)) =
+      started_with event events at ready each soon choice is
 
   bound_calm : (earlier : List ℕ) (time choice : ℕ) → IsChoiceBoundAfter n all earlier time choice
       → IsCalm n (events_by time all)

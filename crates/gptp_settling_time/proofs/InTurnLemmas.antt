@@ -49,7 +49,7 @@ use Rattle.gptp_theorem.proofs.SnapshotLemmas.{snapshots_stand}
 use Rattle.gptp_theorem.proofs.SyncPathLemmas.{paths_stand}
 use Rattle.gptp_settling_time.specs.Exactly.{SettlesBy}
 use Rattle.gptp_settling_time.specs.Gains.{ChangesNothing, IsIdleAfter, LeavesCapable, TakesNothing}
-use Rattle.gptp_settling_time.specs.InTurn.{ActsFindSettledInTurn, AnyPast, BeginsBy, BettersClock, BringsUp, EventLeads, Gained, Heard, LeadOn, LeavesSettled, MakesNothing, Past, SettlesAfter, SettlesByEvents, Starting, TurnsInVain, WidensFrom}
+use Rattle.gptp_settling_time.specs.InTurn.{ActsFindSettledInTurn, AddsHeard, AnyPast, BeginsBy, BettersClock, BringsUp, EventLeads, Gained, Heard, LeadOn, LeavesSettled, MakesNothing, Past, RecoversAlone, SettlesAfter, SettlesByEvents, Starting, TurnsInVain, WidensFrom}
 use Rattle.gptp_settling_time.proofs.AlwaysClaimedLemmas.{IsClaimedAlways, since_later}
 use Rattle.gptp_settling_time.proofs.BegunLemmas.{begun_keeps, begun_last, rested_sound}
 use Rattle.gptp_settling_time.proofs.ClaimedToLemmas.{IsClaimedTo, claimed_act, claimed_later, claimed_settled}
@@ -62,10 +62,11 @@ use Rattle.gptp_settling_time.proofs.IdleLemmas.{idle_still}
 use Rattle.gptp_settling_time.proofs.KeptToLemmas.{IsNewsTo, KeepsTo, keeps_act, keeps_later, news_act_to, news_later_to}
 use Rattle.gptp_settling_time.proofs.LaterLemmas.{AreSteps, steps_more}
 use Rattle.gptp_settling_time.proofs.LinkUpLemmas.{link_up_claimed}
-use Rattle.gptp_settling_time.proofs.MadeLemmas.{anyway_ready, made_keeps, made_known, made_last, made_time, news_news, rest_news}
+use Rattle.gptp_settling_time.proofs.MadeLemmas.{adds_later, anyway_ready, had_failed, made_alone, made_keeps, made_known, made_last, made_time, news_news, rest_news, uses_none}
 use Rattle.gptp_settling_time.proofs.NewsClaimedLemmas.{news_claimed, news_on, news_settled}
 use Rattle.gptp_settling_time.proofs.NewsSoonLemmas.{IsNewsFrom, from_later, from_sound, news_now}
 use Rattle.gptp_settling_time.proofs.PassLemmas.{passes_to}
+use Rattle.gptp_settling_time.proofs.RecoverAloneLemmas.{recovered_claimed}
 use Rattle.gptp_settling_time.proofs.RestClaimedLemmas.{AreOn, rest_claimed, rest_on, rest_settled}
 use Rattle.gptp_settling_time.proofs.SettledClaimedLemmas.{settled_claimed}
 use Rattle.gptp_settling_time.proofs.SettledSeenLemmas.{HasSettledSeen, always_settled}
@@ -172,6 +173,37 @@ module _ {F : Type 0} (answers : Bounds → ℕ → F → Option ℕ → F → T
           news_then;
     }
 
+  -- it lets a system recover that uses no link
+  module _ (start next : ℕ) (claim : IsClaimedAlways p start then) (ahead : start ≤ next) (sound : IsSoundWorld w)
+      (back : RecoversAlone n made event next) where
+    recovers : Acts (Changing (Recover back.number)) then k.draws done w'
+    recovers = subst (λ act. Acts act then k.draws done w') back.act k.acts
+
+    takes : TakesNothing n made event.act
+    takes = subst (TakesNothing n made) (sym back.act) tt
+
+    news_back : IsNews p next w'
+    news_back =
+        made_alone answers d playable made event fate fate_after w w' done is fit k keeps sound takes start next
+        back.number (let one = sym back.act ∙ is.act in cc) ahead back.alone back.capable claim.news.ready
+        claim.news.silent
+
+    recovered : IsClaimedTo d more next w'
+    recovered = record {
+      keeps = after;
+      since = recovered_claimed p start next back.number then k.draws done w' claim after.claim.world
+          after.claim.measured ahead recovers
+          (had_failed answers d playable made event fate fate_after w w' done is fit k keeps sound takes back.number
+          back.capable.0 recovers)
+          (uses_none answers d playable made event fate fate_after w w' done is fit k keeps back.number back.alone)
+          news_back;
+    }
+
+  added : (start next : ℕ) → IsClaimedAlways p start then → start ≤ next → IsSoundWorld w → AddsHeard n made event next
+      → IsClaimedTo d more next w'
+  added start next claim ahead sound (inl up) = brought_up start next claim ahead sound up
+  added start next claim ahead sound (inr back) = recovered start next claim ahead sound back
+
   near_then : (sync_paths n made).systems ≤ 255 → AllAreNear (snapshot_of then)
   near_then few v known =
       let world = keeps_then.claim.world in
@@ -224,8 +256,8 @@ module _ {F : Type 0} (answers : Bounds → ℕ → F → Option ℕ → F → T
   module _ (start : ℕ) (off : NothingLapses n.params) where
     turned_news : (change : Change) → is.change ≡ change → TurnsInVain n made event start (Changing change)
         → IsNewsFrom p start then → IsNewsFrom p start w'
-    turned_news (LinkUp number port) same (failed, late) news =
-        raised_from p start number port then k.draws done w' keeps_then.claim.world after.claim off late
+    turned_news (LinkUp number port) same failed news =
+        raised_from p start number port then k.draws done w' keeps_then.claim.world after.claim off
         (unused_so n made then keeps_then.stands keeps_then.claim.world.sound (port_id number port) failed)
         (came_so (LinkUp number port) same) news
     turned_news (LinkDown number port) same (failed, late) news =
@@ -240,8 +272,8 @@ module _ {F : Type 0} (answers : Bounds → ℕ → F → Option ℕ → F → T
 
     turned_claimed : (change : Change) → is.change ≡ change → TurnsInVain n made event start (Changing change)
         → IsClaimedAlways p start then → IsClaimedAlways p start w'
-    turned_claimed (LinkUp number port) same (failed, late) =
-        raised_claimed p start number port then k.draws done w' keeps_then.claim.world after.claim off late
+    turned_claimed (LinkUp number port) same failed =
+        raised_claimed p start number port then k.draws done w' keeps_then.claim.world after.claim off
         (unused_so n made then keeps_then.stands keeps_then.claim.world.sound (port_id number port) failed)
         (came_so (LinkUp number port) same)
     turned_claimed (LinkDown number port) same (failed, late) =
@@ -329,9 +361,9 @@ module _ {F : Type 0} (answers : Bounds → ℕ → F → Option ℕ → F → T
         let claim = rest_claimed p then keeps_then.claim sound_then late in
         let on = rest_on p then keeps_then.claim sound_then late in
         elim brings [
-          | inl up ↦
-              let capable = up.capable in
-              brought_up (suc event.at) next claim (omega (arith, capable)) sound up
+          | inl adds ↦
+              let later = adds_later n made event next adds in
+              added (suc event.at) next claim (omega (arith, later)) sound adds
           | inr (inl better) ↦ bettered (suc event.at) next claim on (omega arith) sound
               (rest_settled p then keeps_then.claim sound_then late) better
           | inr (inr (inl leaves)) ↦
@@ -359,9 +391,9 @@ module _ {F : Type 0} (answers : Bounds → ℕ → F → Option ℕ → F → T
         let claim = news_claimed p start then news late in
         let on = news_on p start then news late in
         elim brings [
-          | inl up ↦
-              let capable = up.capable in
-              brought_up (suc event.at) next claim (omega (arith, capable)) (from_sound p start w so.news) up
+          | inl adds ↦
+              let later = adds_later n made event next adds in
+              added (suc event.at) next claim (omega (arith, later)) (from_sound p start w so.news) adds
           | inr (inl better) ↦ bettered (suc event.at) next claim on (omega arith) (from_sound p start w so.news)
               (news_settled p start then news late) better
           | inr (inr (inl leaves)) ↦
@@ -373,9 +405,9 @@ module _ {F : Type 0} (answers : Bounds → ℕ → F → Option ℕ → F → T
               widened_to start next (from_sound p start w so.news) news.ready news.silent
               (news_settled p start then news late) wide
         ]
-    leads_to_heard (Heard start) next (inl (ahead, brings)) so =
-        brought_up start next (since_later p start event.at w k.ready.timely.now k.ready.timely.first so.since) ahead
-        so.since.news.sound brings
+    leads_to_heard (Heard start) next (inl (ahead, adds)) so =
+        added start next (since_later p start event.at w k.ready.timely.now k.ready.timely.first so.since) ahead
+        so.since.news.sound adds
     leads_to_heard (Heard start) next (inr (inl (settled, makes))) so =
         let claim = since_later p start event.at w k.ready.timely.now k.ready.timely.first so.since in
         let late : start + pred (path_bound (snapshot_of then)) * delay_in then ≤ event.at =

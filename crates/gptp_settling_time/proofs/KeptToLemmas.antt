@@ -18,16 +18,19 @@ use Rattle.gptp_world.specs.Transitions.{ActTrace}
 use Rattle.gptp_world.proofs.SettlingInvariantLemmas.{next_octet}
 use Rattle.gptp_network.specs.Document.{DocumentState}
 use Rattle.gptp_invariants.specs.WorldSettlingInvariant.{KeepsAll}
+use Rattle.gptp_invariants.specs.WorldShort.{IsShort}
 use Rattle.gptp_invariants.proofs.DelayCapableKeptLemmas.{no_change as no_change_is}
 use Rattle.gptp_invariants.proofs.WorldClaimLemmas.{claim_kept, claim_later}
+use Rattle.gptp_invariants.proofs.WorldShortLemmas.{acts_short, later_short}
 use Rattle.gptp_theorem.specs.Reached.{StandsAsPlanned}
 use Rattle.gptp_theorem.proofs.SettlingInvariantLemmas.{least_of}
 use Rattle.gptp_theorem.proofs.KeptLemmas.{acts_stand, time_stands}
 use Rattle.gptp_theorem.proofs.PlayedLemmas.{no_change}
 use Rattle.gptp_settling_time.specs.ExactInTurn.{last_set}
-use Rattle.gptp_settling_time.specs.Gains.{AreSparedBy}
+use Rattle.gptp_settling_time.specs.Gains.{AreSparedBy, HasDelaysWithin}
 use Rattle.gptp_settling_time.proofs.AskedInTimeLemmas.{AreAskedInTime, are_asked_acts, are_asked_later}
 use Rattle.gptp_settling_time.proofs.BetweenFailedLemmas.{AreGoneBetween, gone_acts, gone_later}
+use Rattle.gptp_settling_time.proofs.DelayWithinLemmas.{itself_fits}
 use Rattle.gptp_settling_time.proofs.NewsSoonLemmas.{IsNewsFrom, from_done, from_later}
 use Rattle.gptp_settling_time.proofs.SinceSetLemmas.{IsUnsetSince, unset_acts, unset_later}
 use Rattle.gptp_settling_time.proofs.TimedNewsLemmas.{IsTimed, timed_act, timed_later}
@@ -41,6 +44,7 @@ pub record KeepsTo (d : DocumentState) (events : List Timed) (w : WorldState) : 
   pub claim : KeepsAll (pace_of d.network) w
   pub stands : StandsAsPlanned d.network events w
   pub slow : NoneFaster (least_of d) w
+  pub short : (most : ℕ) → HasDelaysWithin d.network events most → IsShort most w
   pub asked : (time : ℕ) → AreSparedBy d.network [] events time → WereAskedInTime time w
   pub unset : IsUnsetSince (pace_of d.network) (last_set events) w
 
@@ -63,6 +67,7 @@ module _ (d : DocumentState) (events : List Timed) where
     claim = claim_later (pace_of d.network) w time later first keeps.claim;
     stands = time_stands d.network events w time keeps.stands;
     slow = keeps.slow;
+    short = λ most within. later_short most time w later (keeps.short most within);
     asked = λ by spared.
         let (gone, past, asked, all) = keeps.asked by spared in
         (gone, past, are_asked_later gone time w later asked, gone_later gone time w all);
@@ -115,6 +120,10 @@ module _ (d : DocumentState) (events : List Timed) where
           slow = stays_none_faster (least_of d) w t.after
               (done_stays answers timed fate drawn w t.after t.told.done keeps.claim.world.sound.wired.setups was)
               keeps.slow;
+          short = λ most within.
+              acts_short most timed.act (at timed.at w) t.after was.draws t.told.done
+              (itself_fits most timed.act (no_change next.item timed.act w next.act))
+              (later_short most timed.at w was.ready.timely.now (keeps.short most within)) was.acts;
           asked = asked_act keeps;
           unset = unset_acts (pace_of d.network) (last_set events) timed.act (at timed.at w) was.draws t.told.done
               t.after (no_change next.item timed.act w next.act) was.acts

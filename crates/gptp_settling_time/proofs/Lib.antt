@@ -7,6 +7,7 @@ pub mod AskedElsewhereLemmas
 pub mod RestartLemmas
 pub mod AsksSoonLemmas
 pub mod RecoverLemmas
+pub mod RecoverAloneLemmas
 pub mod UpSoonLemmas
 pub mod TimedNewsLemmas
 pub mod SoonOffsetLemmas
@@ -16,6 +17,7 @@ pub mod GainLemmas
 pub mod PassLemmas
 pub mod LaterLemmas
 pub mod SinceSetLemmas
+pub mod DelayWithinLemmas
 pub mod KeptToLemmas
 pub mod PrioritySparedLemmas
 pub mod MadeLemmas

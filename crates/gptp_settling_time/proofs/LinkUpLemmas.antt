@@ -37,13 +37,14 @@ use Rattle.gptp_invariants.proofs.ChoiceSeenLaneLemmas.{lane_there}
 use Rattle.gptp_invariants.proofs.DelayFirstUpLemmas.{sender_up}
 use Rattle.gptp_invariants.proofs.WorldGreatestDelayLemmas.{delay_of_used}
 use Rattle.gptp_invariants.proofs.WorldSoundCallLemmas.{tells_keep}
+use Rattle.gptp_invariants.specs.FailedUnanswered.{IsUnmeasured}
+use Rattle.gptp_invariants.proofs.UnmeasuredLemmas.{unmeasured_off}
 use Rattle.gptp_settling_time.proofs.AlwaysClaimedLemmas.{AreHeard, IsClaimedAlways}
 use Rattle.gptp_settling_time.proofs.BesideUpLemmas.{beside_same}
 use Rattle.gptp_settling_time.proofs.HeardLemmas.{IsHeardAt, IsToldAt, heard_elsewhere, stays_on}
 use Rattle.gptp_settling_time.proofs.LinkStoodLemmas.{exchange_over, raised_bare, raised_ends, stood_in, stood_untold, up_first, used_elsewhere}
 use Rattle.gptp_settling_time.proofs.OrderedLemmas.{IsOrderedAt, IsTimelyAt, VariesLittle, opposite, turned}
 use Rattle.gptp_settling_time.proofs.RaisedLemmas.{IsRaised, raised, unmeasured_then}
-use Rattle.gptp_settling_time.proofs.UntoldLemmas.{IsUnmeasured, unmeasured_off}
 use Rattle.gptp_settling_time.proofs.StartLemmas.{not_answered}
 use Rattle.std.proofs.Common.{if◌then◌else◌}
 use Rattle.gptp_graph.specs.Snapshot.{clocks}

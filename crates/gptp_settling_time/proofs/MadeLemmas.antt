@@ -1,5 +1,5 @@
 -- An event of a document is made: what the world keeps, and from when on it is one since news.
-use Rattle.std.proofs.Common.{◌≡◌, ◌≢◌, ◌⊎◌, ◌∙◌, ◌<◌, ◌≤◌, ◌+◌, ◌*◌, max, ℕ, List, [], ◌∷◌, ◌++◌, append_assoc, append-nil, Option, Some, slice_get, refl, inl, inr, sym, ap, subst, arith}
+use Rattle.std.proofs.Common.{◌≡◌, ◌≢◌, ◌⊎◌, ◌∙◌, ◌<◌, ◌≤◌, ◌+◌, ◌*◌, max, ℕ, false, List, [], ◌∷◌, ◌++◌, append_assoc, append-nil, Option, Some, slice_get, refl, inl, inr, sym, ap, subst, arith}
 use Rattle.gptp_lists.proofs.MappedLemmas.{alike, same_there}
 use Rattle.gptp_links.specs.declared.bounds.Bounds.{Bounds}
 use Rattle.gptp_links.specs.declared.link.Direction.{Direction}
@@ -17,7 +17,6 @@ use Rattle.gptp_scenario.specs.declared.change.Change.TheVariants.{LinkDown, Lin
 use Rattle.gptp_scenario.specs.declared.change.Timed.{Timed}
 use Rattle.gptp_scenario.specs.declared.network.LinkSpec.{LinkSpec}
 use Rattle.gptp_scenario.specs.declared.sync_wait.SyncPaths.{SyncPaths}
-use Rattle.gptp_system.specs.State.{clock}
 use Rattle.gptp_model.specs.Acts.{Acts, at}
 use Rattle.gptp_model.specs.Changing.{IsChannel}
 use Rattle.gptp_model.specs.Course.{WasDone}
@@ -31,15 +30,15 @@ use Rattle.gptp_invariants.specs.WorldSettlingInvariant.{KeepsAll}
 use Rattle.gptp_invariants.specs.WorldEncodableLaws.{SetsAnOctet}
 use Rattle.gptp_invariants.specs.DelayLinkView.{LinkPlace}
 use Rattle.gptp_invariants.specs.WorldNews.{AreReadyBy, AreSilentBy, IsNews}
+use Rattle.gptp_invariants.specs.WorldShort.{IsShort}
 use Rattle.gptp_invariants.specs.WorldSound.{IsGain, IsSoundWorld}
 use Rattle.gptp_invariants.specs.FailedUnanswered.{StandsUnanswered}
 use Rattle.gptp_invariants.proofs.WorldClaimLemmas.{claim_kept, claim_later}
 use Rattle.gptp_invariants.proofs.WorldLinkUpNewsLemmas.{link_up_news}
-use Rattle.gptp_invariants.proofs.WorldNewsActLemmas.{gain_news, ready_later, unanswered_silent, watched_ready}
-use Rattle.gptp_invariants.specs.DelayMeasured.{LinkStandsAt}
-use Rattle.gptp_invariants.proofs.DelayClaimedCapableLemmas.{clock_has, used_if}
+use Rattle.gptp_invariants.proofs.WorldNewsActLemmas.{gain_news, ready_later, silent_by_later, unanswered_silent, watched_ready}
 use Rattle.gptp_invariants.proofs.WorldNewsLemmas.{none_silent}
 use Rattle.gptp_invariants.proofs.WorldOutlineLemmas.{change_is_last, change_time}
+use Rattle.gptp_invariants.proofs.WorldShortLemmas.{acts_short, later_short}
 use Rattle.gptp_invariants.proofs.WorldSoundLemmas.{sound_later}
 use Rattle.gptp_theorem.specs.PlayedLaws.{IsMade, IsPlayable}
 use Rattle.gptp_theorem.specs.Reached.{StandsAsPlanned, channel_wire}
@@ -48,18 +47,21 @@ use Rattle.gptp_theorem.proofs.SettlingInvariantLemmas.{IsFitEvent, least_of}
 use Rattle.gptp_theorem.proofs.KeptLemmas.{time_stands}
 use Rattle.gptp_theorem.proofs.SyncPathLemmas.{paths_stand}
 use Rattle.gptp_settling_time.specs.ExactInTurn.{last_set}
-use Rattle.gptp_settling_time.specs.Gains.{AreCapableAnyway, AreCapableNext, AreCapableStill, AreSparedBy, ChangesNothing, IsGainAfter, IsIdleAfter, IsSparedBy, JoinsLive, LeadsToLive, LeavesCapable, SparesFailed, TakesNothing, UsesNoLink}
+use Rattle.gptp_settling_time.specs.Gains.{AreCapableAnyway, AreCapableNext, AreCapableStill, AreSparedBy, ChangesNothing, HasDelaysWithin, IsGainAfter, IsIdleAfter, IsSparedBy, JoinsLive, LeavesCapable, SparesFailed, TakesNothing, UsesNoLink}
 use Rattle.gptp_settling_time.specs.Idle.{Lives}
+use Rattle.gptp_settling_time.specs.InTurn.{AddsHeard}
 use Rattle.gptp_settling_time.proofs.GainLemmas.{all_live, better_lives, failed_so, gain_so, idle_so, lives_so, used_as}
 use Rattle.gptp_settling_time.proofs.IdleLemmas.{idle_still}
 use Rattle.gptp_settling_time.proofs.AskedElsewhereLemmas.{up_gone_still, up_in_time_still}
 use Rattle.gptp_settling_time.proofs.AskedInTimeLemmas.{AreAskedInTime, are_asked_begin, are_asked_later}
 use Rattle.gptp_settling_time.proofs.BetweenFailedLemmas.{AreGoneBetween, gone_begins, gone_later}
+use Rattle.gptp_settling_time.proofs.DelayWithinLemmas.{within_before, within_last}
 use Rattle.gptp_settling_time.proofs.KeptToLemmas.{IsNewsTo, KeepsTo, WereAskedInTime, keeps_later}
 use Rattle.gptp_settling_time.proofs.NewsSoonLemmas.{AreComing, HowComing, IsNewsFrom, IsNewsSoon, coming_later, from_coming, from_later, from_sound}
 use Rattle.gptp_settling_time.proofs.PriorityNewsLemmas.{priority_soon, priority_stays_news}
 use Rattle.gptp_settling_time.proofs.PrioritySparedLemmas.{priority_gone, priority_in_time}
-use Rattle.gptp_settling_time.proofs.RecoverLemmas.{recover_in_time, recover_soon}
+use Rattle.gptp_settling_time.proofs.RecoverLemmas.{recover_alone, recover_in_time, recover_soon}
+use Rattle.gptp_settling_time.proofs.RecoverAloneLemmas.{UsesNone, none_stands}
 use Rattle.gptp_settling_time.proofs.SinceSetLemmas.{unset_later, unset_made}
 use Rattle.gptp_settling_time.proofs.StandsStillLemmas.{StandsStill, asked_still, between_still, from_stands}
 use Rattle.gptp_settling_time.proofs.UpSoonLemmas.{up_soon}
@@ -76,11 +78,24 @@ end_is : (number : ℕ) (direction : Direction) (channel : Channel) → (sender 
 end_is number FromA channel same = inl same
 end_is number FromB channel same = inr same
 
--- so is where it ends
-end_to : (number : ℕ) (direction : Direction) (channel : Channel) → (receiver direction channel).clock ≡ number
-    → (channel.a.clock ≡ number) ⊎ (channel.b.clock ≡ number)
-end_to number FromA channel same = inr same
-end_to number FromB channel same = inl same
+-- ports are capable later than an event comes that leaves others so
+pub leaves_later : (n : NetworkState) (before : List Timed) (event : Timed) (next : ℕ) (change : Change)
+    → LeavesCapable n before event next (Changing change) → event.at < next
+leaves_later n before event next (LinkUp number port) (live, late) = omega (arith, late)
+leaves_later n before event next (Priority1 number value) late = late
+leaves_later n before event next (Recover number) (failed, alone, inl late) = omega (arith, late)
+leaves_later n before event next (Recover number) (failed, alone, inr (unused, late)) = late
+leaves_later n before event next (LinkDown number port) none = absurd none
+leaves_later n before event next (LinkSet number port min max loss) none = absurd none
+leaves_later n before event next (Fail number) none = absurd none
+leaves_later n before event next (Inject number port octets) none = absurd none
+
+-- and than one of which what it tells is heard
+pub adds_later : (n : NetworkState) (before : List Timed) (event : Timed) (next : ℕ) → AddsHeard n before event next
+    → event.at < next
+adds_later n before event next (inl up) = let capable = up.capable in omega (arith, capable)
+adds_later n before event next (inr alone) =
+    leaves_later n before event next (Recover alone.number) alone.capable
 
 -- ---- from when ports are capable by what every world keeps
 
@@ -176,43 +191,16 @@ module _ {F : Type 0} (answers : Bounds → ℕ → F → Option ℕ → F → T
         ap (λ (x : SyncPaths). x.delay)
         (paths_stand n more w' playable.network stands_after claim_after.world.sound)
 
-    -- a system whose links lead to live ones is beside no failed one
-    beside_live : (number : ℕ) → LeadsToLive n more number → (place : LinkPlace) → (s : StandsUnanswered place w')
-        → clock s.asking.station.system ≢ number
-    beside_live number live place s same =
+    -- no link in use ends at a system that uses none
+    pub uses_none : (number : ℕ) → UsesNoLink n more number → UsesNone number w'
+    uses_none number unused link channel here used direction same =
         let (v, there, wire) = alike (link_after more) channel_wire n.links w'.net.channels (sym stands_after.links)
-        place.link s.channel s.here in
-        let ends = live place.link v there (ap (λ (x : LinkSpec). x.up) wire ∙ s.up)
-        (subst (λ (x : LinkSpec). (x.a.clock ≡ number) ⊎ (x.b.clock ≡ number)) (sym wire)
-        (end_is number place.direction s.channel (sym s.asking.named ∙ same))) in
-        let lives : IsLive n.systems more (receiver place.direction s.channel).clock =
-        end_so (IsLive n.systems more) place.direction s.channel
-        (subst (λ (x : LinkSpec). IsLive n.systems more x.a.clock) wire ends.0)
-        (subst (λ (x : LinkSpec). IsLive n.systems more x.b.clock) wire ends.1) in
-        let on = lives_so n more w' stands_after claim_after.world.sound (receiver place.direction s.channel).clock
-        lives place.answering s.answering.station
-        (record { here = s.answering.here; named = s.answering.named }) in
-        let both = sym on ∙ s.answering.failed in
-        cc
-
-    -- no link stands at a system that uses none
-    none_stands : (number : ℕ) → UsesNoLink n more number → (place : LinkPlace) → (s : LinkStandsAt place w')
-        → (clock s.asking.station.system ≡ number) ⊎ (clock s.answering.station.system ≡ number)
-        → ⊥
-    none_stands number unused place s ends =
-        let (v, there, wire) = alike (link_after more) channel_wire n.links w'.net.channels (sym stands_after.links)
-        place.link s.channel s.here in
-        unused place.link v there
+        link channel here in
+        unused link v there
         (subst (IsUsed n.systems more) (sym wire)
-        (used_as n more w' stands_after claim_after.world.sound s.channel
-        (used_if w'.stations place.direction s.channel s.up
-        (clock_has w'.stations place.asking s.asking.station _ s.asking.here s.asking.live s.asking.named)
-        (clock_has w'.stations place.answering s.answering.station _ s.answering.here s.answering.live
-        s.answering.named))))
-        (subst (λ (x : LinkSpec). (x.a.clock ≡ number) ⊎ (x.b.clock ≡ number)) (sym wire) (elim ends [
-          | inl asks ↦ end_is number place.direction s.channel (sym s.asking.named ∙ asks)
-          | inr answers ↦ end_to number place.direction s.channel (sym s.answering.named ∙ answers)
-        ]))
+        (used_as n more w' stands_after claim_after.world.sound channel used))
+        (subst (λ (x : LinkSpec). (x.a.clock ≡ number) ⊎ (x.b.clock ≡ number)) (sym wire)
+        (end_is number direction channel same))
 
     -- a link between live systems isn't one that leads to a failed one
     apart : (number port : ℕ) → JoinsLive n more (port_id number port) → (place : LinkPlace)
@@ -276,18 +264,28 @@ module _ {F : Type 0} (answers : Bounds → ℕ → F → Option ℕ → F → T
     asked_now : (gone : ℕ) → AreAskedInTime gone w → AreAskedInTime gone then
     asked_now gone asked = are_asked_later gone event.at w k.ready.timely.now asked
 
+    -- no link takes longer
+    short_after : (most : ℕ) → HasDelaysWithin n more most → IsShort most w'
+    short_after most within =
+        acts_short most event.act then w' k.draws done (within_last n made event most within)
+        (later_short most event.at w k.ready.timely.now
+        (keeps.short most (within_before n made (event ∷ []) most within)))
+        k.acts
+
     asked_after : (time : ℕ) → AreSparedBy n [] more time → WereAskedInTime time w'
     asked_after time spare =
         let (before, last) = one_more n [] made event time spare in
         let (gone, past, asked, all) = keeps.asked time before in
         elim last [
-          | inl over ↦
+          | inl (most, within, over) ↦
               let change = made_last in
-              let now = made_time in (
-                w'.last_change + largest_interval p,
+              let now = made_time in
+              let short = short_after most within in (
+                w'.last_change + most,
                 omega (arith, over, change, now),
-                are_asked_begin p w' claim_after.world.sound claim_after.measured claim_after.world.known made_last,
-                gone_begins p w' claim_after.world.known made_last,
+                are_asked_begin p most w' claim_after.world.sound claim_after.measured claim_after.world.known short
+                    made_last,
+                gone_begins most w' short made_last,
               )
           | inr (inl nothing) ↦
               let still = still_now (subst (ChangesNothing n made) is.act nothing) in (
@@ -308,6 +306,7 @@ module _ {F : Type 0} (answers : Bounds → ℕ → F → Option ℕ → F → T
       stands = stands_after;
       slow = stays_none_faster (least_of d) w w'
           (done_stays answers event fate fate_after w w' done keeps.claim.world.sound.wired.setups k) keeps.slow;
+      short = short_after;
       asked = asked_after;
       unset = unset_made p made event is.change then k.draws w' is.act refl acts.1 made_time made_last claim_after.world
           (unset_later p (last_set made) w event.at k.ready.timely.now keeps.unset);
@@ -376,6 +375,13 @@ module _ {F : Type 0} (answers : Bounds → ℕ → F → Option ℕ → F → T
     ready_change next ready silent (Fail number) same other none = absurd none
     ready_change next ready silent (Inject number port octets) same other none = absurd none
 
+    -- a system that recovers had failed
+    pub had_failed : (number : ℕ) → (IsLive n.systems made number → ⊥)
+        → (came : Acts (Changing (Recover number)) then k.draws done w') → came.1.station.live ≡ false
+    had_failed number failed came =
+        failed_so n made then stands_then claim_then.world.sound number failed came.1.place came.1.station
+        (record { here = came.1.is.here; named = came.1.is.named })
+
     -- or some of them ask soon
     soon_change : (next by : ℕ) → AreSilentBy p next then → event.at ≤ by → by < next → AreComing p by next then
         → (change : Change) → is.change ≡ change → LeavesCapable n made event next (Changing change)
@@ -392,19 +398,13 @@ module _ {F : Type 0} (answers : Bounds → ℕ → F → Option ℕ → F → T
         (subst (λ change. IsGain change then) same gain)
         (subst (λ change. SetsAnOctet (Changing change)) same octet) (acts_as keeps (Priority1 number value) same) by
         coming early before
-    soon_change next by silent early before coming (Recover number) same (failed, live, alone, ready) =
+    soon_change next by silent early before coming (Recover number) same (failed, alone, ready) =
         let (gone, past, asked, all) = keeps.asked event.at alone in
         let came = acts_as keeps (Recover number) same in
         let recovers = λ (asks : ℕ). recover_soon p asks next number then k.draws done w' claim_then.pace
         claim_then.world after.claim.world claim_then.measured after.claim.measured came
-        (failed_so n made then stands_then claim_then.world.sound number failed came.1.place came.1.station
-        (record { here = came.1.is.here; named = came.1.is.named }))
-        sound_then gone past (asked_now keeps gone asked)
-        (gone_later gone event.at w all)
-        (λ place s same_clock. elim live [
-          | inl leads ↦ absurd (beside_live keeps number leads place s same_clock)
-          | inr long ↦ long
-        ]) in
+        (had_failed number failed came) sound_then gone past (asked_now keeps gone asked)
+        (gone_later gone event.at w all) in
         elim ready [
           | inl late ↦
               let delay = delay_is keeps in
@@ -412,23 +412,27 @@ module _ {F : Type 0} (answers : Bounds → ℕ → F → Option ℕ → F → T
               recovers asks (omega arith) (omega (arith, before, late))
               (inl (omega arith, omega (arith, late, delay))) silent
               (λ at stands. coming_later p by next at asks next then (omega arith) (omega arith) (coming at stands))
-          | inr (unused, some) ↦ recovers by early before (inr (none_stands keeps number unused)) silent coming
+          | inr (unused, some) ↦
+              recovers by early before (inr (none_stands number w' (uses_none keeps number unused))) silent coming
         ]
     soon_change next by silent early before coming (LinkDown number port) same none = absurd none
     soon_change next by silent early before coming (LinkSet number port min max loss) same none = absurd none
     soon_change next by silent early before coming (Fail number) same none = absurd none
     soon_change next by silent early before coming (Inject number port octets) same none = absurd none
 
-    -- ports are capable later than the event comes
-    event_before : (next : ℕ) (change : Change) → LeavesCapable n made event next (Changing change) → event.at < next
-    event_before next (LinkUp number port) (live, late) = omega (arith, late)
-    event_before next (Priority1 number value) late = late
-    event_before next (Recover number) (failed, live, alone, inl late) = omega (arith, late)
-    event_before next (Recover number) (failed, live, alone, inr (unused, late)) = late
-    event_before next (LinkDown number port) none = absurd none
-    event_before next (LinkSet number port min max loss) none = absurd none
-    event_before next (Fail number) none = absurd none
-    event_before next (Inject number port octets) none = absurd none
+    -- where a system recovers that uses no link the others are as they were
+    pub made_alone : (start next number : ℕ) → is.change ≡ Recover number → start ≤ next → UsesNoLink n more number
+        → LeavesCapable n made event next (Changing (Recover number)) → AreReadyBy p start then
+        → AreSilentBy p start then → IsNews p next w'
+    made_alone start next number same more_than unused leaves ready silent =
+        let (failed, alone, when) = leaves in
+        let (gone, past, asked, all) = keeps.asked event.at alone in
+        let came = acts_as keeps (Recover number) same in
+        let (ready_then, silent_then) = ready_later p start next then more_than ready silent in
+        recover_alone p event.at next number then k.draws done w' claim_then.pace claim_then.world after.claim.world
+        claim_then.measured after.claim.measured came (had_failed number failed came) sound_then gone past
+        (gone_later gone event.at w all) (leaves_later n made event next (Recover number) leaves)
+        (none_stands number w' (uses_none keeps number unused)) silent_then ready_then
 
     leaves_so : (next : ℕ) → LeavesCapable n made event next event.act
         → LeavesCapable n made event next (Changing is.change)
@@ -446,20 +450,12 @@ module _ {F : Type 0} (answers : Bounds → ℕ → F → Option ℕ → F → T
         → LeavesCapable n made event next (Changing is.change) → IsNewsSoon p next w'
     made_soon start next more_than how silent leaves =
         let early = how.early in
-        let after_event = event_before next is.change leaves in
+        let after_event = leaves_later n made event next is.change leaves in
         let before : how.by < next = elim how.soon [
           | inl less ↦ omega (arith, less, more_than)
           | inr same ↦ omega (arith, same, after_event)
         ] in
-        soon_change next how.by (λ place s. let (change, one, from) = silent place s in (
-          change,
-          one,
-          omega (
-            arith,
-            from,
-            more_than,
-          ),
-        ))
+        soon_change next how.by (silent_by_later p start next then more_than silent)
         early before
         (λ place stands.
         coming_later p how.by start place how.by next then (omega arith) more_than (how.coming place stands))

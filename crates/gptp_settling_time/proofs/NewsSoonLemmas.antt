@@ -1,5 +1,5 @@
 -- A world since news, some ports of which ask again before they are capable: once they have asked it is one since news.
-use Rattle.std.proofs.Common.{◌≡◌, ◌⊎◌, ◌<◌, ◌≤◌, ◌+◌, ℕ, List, Option, refl, inl, inr, arith}
+use Rattle.std.proofs.Common.{◌≡◌, ◌⊎◌, ◌<◌, ◌≤◌, ℕ, List, Option, refl, inl, inr, arith}
 use Rattle.std.proofs.lemmas.Bool.{cases_lt}
 use Rattle.gptp_links.specs.declared.bounds.Bounds.{Bounds}
 use Rattle.gptp_links.specs.Fate.{Draw}
@@ -7,7 +7,7 @@ use Rattle.gptp_scenario.specs.Params.{KeepPace}
 use Rattle.gptp_scenario.specs.declared.change.Act.{Act}
 use Rattle.gptp_scenario.specs.declared.change.Act.TheVariants.{Deliver, Expire, Change as Changing}
 use Rattle.gptp_scenario.specs.declared.change.Timed.{Timed}
-use Rattle.gptp_setup.specs.SettlingParams.{SettlingParams, largest_interval}
+use Rattle.gptp_setup.specs.SettlingParams.{SettlingParams}
 use Rattle.gptp_model.specs.Acts.{Acts, at as at_time}
 use Rattle.gptp_model.specs.Course.{WasDone}
 use Rattle.gptp_model.specs.declared.done.Done.{Done}
@@ -24,14 +24,12 @@ use Rattle.gptp_invariants.specs.WorldEncodableLaws.{SetsAnOctet}
 use Rattle.gptp_invariants.specs.WorldNews.{AreReadyBy, AreSilentBy, IsNews, IsReadyBy}
 use Rattle.gptp_invariants.specs.WorldSound.{IsSoundWorld}
 use Rattle.gptp_invariants.proofs.ChoiceCalmKeptLemmas.{acts_keep}
-use Rattle.gptp_invariants.proofs.DelayCapableKeptLemmas.{no_change, stood}
+use Rattle.gptp_invariants.proofs.DelayCapableKeptLemmas.{stood}
 use Rattle.gptp_invariants.proofs.DelayChangeKeptLemmas.{acts_measured, later_measured}
 use Rattle.gptp_invariants.proofs.DelayFirstAtLemmas.{by_goes_on}
 use Rattle.gptp_invariants.proofs.DelayWatchLemmas.{watch_goes_on}
-use Rattle.gptp_invariants.proofs.FailedSilentLemmas.{silence_goes_on, silence_kept}
 use Rattle.gptp_invariants.proofs.SyncFollowClaimLemmas.{acts_time}
-use Rattle.gptp_invariants.proofs.WorldBeforeLemmas.{none_anew, stood_earlier}
-use Rattle.gptp_invariants.proofs.WorldNewsLemmas.{news_are_kept, news_begin, news_go_on, ready_goes_through}
+use Rattle.gptp_invariants.proofs.WorldNewsLemmas.{acts_silent, news_are_kept, news_begin, news_go_on, ready_goes_through, silent_later}
 use Rattle.gptp_invariants.proofs.WorldSettledLemmas.{still_acts_stay, time_stays}
 use Rattle.gptp_invariants.proofs.WorldSoundLemmas.{sound_acts, sound_later}
 use Rattle.gptp_settling_time.proofs.LinkStoodLemmas.{stood_in}
@@ -158,9 +156,7 @@ module _ (p : SettlingParams) (start : ℕ) where
       pace = is.pace;
       world = time_stays p w time later (later_sound w time w.last_change is.world.sound first) is.world;
       measured = later_measured time w later is.measured;
-      silent = λ at s.
-          let (change, one, silent_from) = is.silent at (stood_earlier at time w s) in
-          (change, silence_goes_on at (change + largest_interval p) time w one, silent_from);
+      silent = silent_later p start time w is.silent;
       sound = sound_later w time is.sound;
       coming = λ at stands.
           coming_goes_on p is.by start at time w is.world.sound later first
@@ -182,7 +178,6 @@ module _ (p : SettlingParams) (start : ℕ) where
   soon_acts : (act : Act) (w : WorldState) (draws : List Draw) (done : Done) (w' : WorldState)
       → IsNoChange act → SetsAnOctet act → Acts act w draws done w' → IsNewsSoon p start w → IsNewsSoon p start w'
   soon_acts act w draws done w' none octet k is =
-      let calm = no_change act none in
       let world' = still_acts_stay p act w draws done w' none k is.world in
       let keeps = acts_keep act w draws done w' none k in
       let time = acts_time act w draws done w' none k in
@@ -194,13 +189,7 @@ module _ (p : SettlingParams) (start : ℕ) where
         pace = is.pace;
         world = world';
         measured = acts_measured act w w' draws done is.world.sound is.measured octet k;
-        silent = λ at s.
-            let (change, one, silent_from) = is.silent at (none_anew at act w w' draws done calm k s) in (
-              change,
-              silence_kept at (change + largest_interval p) p act w w' draws done is.world.sound is.measured
-                  is.world.known calm k one,
-              silent_from,
-            );
+        silent = acts_silent p start act w draws done w' none k is.world is.measured is.silent;
         sound = sound_acts p act w draws done w' none k is.world is.sound;
         coming = λ at stands.
             coming_goes_through p is.by start at act w w' draws done is.world.sound is.measured (alone at act w none) k

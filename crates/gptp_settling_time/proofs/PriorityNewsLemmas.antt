@@ -33,9 +33,10 @@ use Rattle.gptp_invariants.proofs.FailedUnansweredCallLemmas.{CallStep, call_see
 use Rattle.gptp_invariants.proofs.WorldNewsLemmas.{news_begin, ready_goes_through}
 use Rattle.gptp_invariants.proofs.WorldSoundLemmas.{sound_gains}
 use Rattle.gptp_settling_time.specs.Idle.{Lives}
+use Rattle.gptp_invariants.proofs.FailedNeverAnsweredLemmas.{told_never}
 use Rattle.gptp_settling_time.proofs.NewsSoonLemmas.{AreComing, IsNewsSoon, coming_goes_through}
 use Rattle.gptp_settling_time.proofs.ReactsLemmas.{Reacts, lives_as, reacts}
-use Rattle.gptp_settling_time.proofs.StandsStillLemmas.{set_still, silent_still}
+use Rattle.gptp_settling_time.proofs.StandsStillLemmas.{never_still, set_still, silent_still}
 
 -- ---- what stands after it stood before
 
@@ -139,16 +140,22 @@ module _ (p : SettlingParams) (start owner value : ℕ) (w : WorldState) (draws 
 
   silent' : AreSilentBy p start w'
   silent' at s =
-      let (change, one, soon) = silent at (stood_unanswered w w' r at s) in
       let k = acts.1 in
       let still = set_still value k.place k.station w k.is.here in
-      let gone = change + largest_interval p in (
-        change,
-        prioritized_silent gone at k.place value _ draws w'
-            (stays_clocks w _ (with_setup_stays value k.place k.station w k.is.here is.sound.wired.setups)
-            is.sound.wired.clocks) (silent_still w _ still gone at one) k.so,
-        soon,
-      )
+      let clocks =
+      stays_clocks w _ (with_setup_stays value k.place k.station w k.is.here is.sound.wired.setups)
+      is.sound.wired.clocks in
+      elim (silent at (stood_unanswered w w' r at s)) [
+        | inl never ↦ inl (told_never at k.place (Priority value) (λ n. tt) (λ n. tt) _ draws w' clocks
+            (never_still w _ still at never) k.so)
+        | inr (change, one, soon) ↦
+            let gone = change + largest_interval p in
+            inr (
+              change,
+              prioritized_silent gone at k.place value _ draws w' clocks (silent_still w _ still gone at one) k.so,
+              soon,
+            )
+      ]
 
   measured' : LinkIsMeasured w'
   measured' = acts_measured (Changing (Priority1 owner value)) w w' draws done is.sound measured octet acts

@@ -38,9 +38,10 @@ use Rattle.gptp_invariants.proofs.WorldAnsweringLemmas.{IsAnswering, calls_answe
 use Rattle.gptp_invariants.proofs.WorldChangeEncodableLemmas.{link_encodable, up_fits}
 use Rattle.gptp_invariants.proofs.WorldAnsweringLemmas.{sound_answers}
 use Rattle.gptp_invariants.proofs.DelayFirstUpLemmas.{sender_up}
+use Rattle.gptp_invariants.specs.FailedUnanswered.{IsUnmeasured, is_answered}
+use Rattle.gptp_invariants.proofs.UnmeasuredLemmas.{part_unmeasured, unmeasured_off}
 use Rattle.gptp_settling_time.proofs.MasterLemmas.{BeginsAtMaster, WasOnLane, answered, master_capable}
 use Rattle.gptp_settling_time.proofs.QuietUpLemmas.{RaisesAlone, raises}
-use Rattle.gptp_settling_time.proofs.UntoldLemmas.{IsUnmeasured, is_answered, part_unmeasured, unmeasured_off}
 
 -- ---- the ports of a link that is down have measured nothing
 

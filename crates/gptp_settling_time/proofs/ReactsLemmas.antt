@@ -74,7 +74,7 @@ lives_set (first ∷ stations) (suc place) old new here live same number =
     by true rest = ap (λ r. (clock first.system == number) || r) rest
     by false rest = rest
 
-places_set : (stations : List Station) (place : ℕ) (old new : Station) → slice_get stations place ≡ Some old
+pub places_set : (stations : List Station) (place : ℕ) (old new : Station) → slice_get stations place ≡ Some old
     → clock new.system ≡ clock old.system → (number : ℕ)
     → clock_place (slice_set stations place new) number ≡ clock_place stations number
 places_set [] place old new here same number = refl
@@ -86,7 +86,7 @@ places_set (first ∷ stations) (suc place) old new here same number =
     ap (λ rest. if clock first.system == number then 0 else suc rest)
     (places_set stations place old new here same number)
 
-logs_set : (stations : List Station) (place : ℕ) (old new : Station) → slice_get stations place ≡ Some old
+pub logs_set : (stations : List Station) (place : ℕ) (old new : Station) → slice_get stations place ≡ Some old
     → ((k : ℕ) → log_at new.setup k ≡ log_at old.setup k) → (i k : ℕ)
     → option_map_or (λ setup. log_at setup k) (slice_get (setups_of (slice_set stations place new)) i) (pos 0)
     ≡ option_map_or (λ setup. log_at setup k) (slice_get (setups_of stations) i) (pos 0)

@@ -12,9 +12,8 @@ use Rattle.gptp_links.specs.Fate.{Draw}
 use Rattle.gptp_links.specs.Queue.{Frame}
 use Rattle.gptp_setup.specs.Intervals.{AreParams, interval_of}
 use Rattle.gptp_setup.specs.SettlingParams.{SettlingParams, largest_interval}
-use Rattle.gptp_pdelay.specs.Peer.{is_capable, reset_peer}
+use Rattle.gptp_pdelay.specs.Peer.{reset_peer}
 use Rattle.gptp_scenario.specs.Params.{KeepPace}
-use Rattle.gptp_scenario.specs.SettlingTime.{capability_span}
 use Rattle.gptp_scenario.specs.declared.change.Act.TheVariants.{Change as Changing}
 use Rattle.gptp_scenario.specs.declared.change.Change.TheVariants.{Recover}
 use Rattle.gptp_system.specs.declared.port.Port.{Port}
@@ -42,8 +41,8 @@ use Rattle.gptp_invariants.specs.ChoiceCalm.{delay_in}
 use Rattle.gptp_invariants.specs.ChoiceSettlesAsMachine.{IsWorld}
 use Rattle.gptp_invariants.specs.DelayLinkView.{IsEndOf, IsLinkOf, LinkPlace, asked_at, asker_view, link_setting, other_direction, pair, reads_as_request, waits_by}
 use Rattle.gptp_invariants.specs.DelayMeasured.{IsStationMeasured, LinkIsMeasured, LinkStandsAt, StationIsLiveAt}
-use Rattle.gptp_invariants.specs.FailedUnanswered.{IsFailedAmong, IsSilent, IsUnansweredAt, StandsUnanswered, silent_setting, silent_view}
-use Rattle.gptp_invariants.specs.WorldNews.{AreSilentBy, IsSilentBy}
+use Rattle.gptp_invariants.specs.FailedUnanswered.{IsFailedAmong, IsNeverAnswered, IsSilent, IsUnansweredAt, IsUnmeasured, StandsUnanswered, silent_setting, silent_view}
+use Rattle.gptp_invariants.specs.WorldNews.{AreReadyBy, AreSilentBy, IsNews, IsSilentBy}
 use Rattle.gptp_invariants.specs.WorldSound.{IsSoundWorld}
 use Rattle.gptp_invariants.proofs.ChoiceCalmKeptLemmas.{KeepsNetwork, calls_keep, keeps_on, net_keeps}
 use Rattle.gptp_invariants.proofs.DelayCapableKeptLemmas.{HaveParams, known_params, stood_among}
@@ -52,8 +51,10 @@ use Rattle.gptp_invariants.proofs.DelayLinkCallLemmas.{at_own, seen_from}
 use Rattle.gptp_invariants.proofs.DelayLinkKeptLemmas.{HasAll, started_measured}
 use Rattle.gptp_invariants.proofs.DelayLinkLemmas.{IsOrderly, sender_opposite, sound_orderly}
 use Rattle.gptp_invariants.proofs.DelayLinkStandLemmas.{end_is}
+use Rattle.gptp_invariants.proofs.FailedNeverAnsweredLemmas.{never_called}
 use Rattle.gptp_invariants.proofs.FailedUnansweredCallLemmas.{asker_is, call_seen, view_stays}
 use Rattle.gptp_invariants.proofs.WorldBeforeLemmas.{calls_before, stood}
+use Rattle.gptp_invariants.proofs.WorldNewsLemmas.{news_begin, ready_goes_through}
 use Rattle.gptp_invariants.proofs.WorldSoundLemmas.{sound_gains}
 use Rattle.gptp_settling_time.proofs.AskedElsewhereLemmas.{all_in_time, still_in_time}
 use Rattle.gptp_settling_time.proofs.AskedInTimeLemmas.{AreAskedInTime, IsAskedInTime}
@@ -125,6 +126,14 @@ all_silent gone at place (q ∷ ps) w draws w' (first, rest, between, answer, sp
     (calls_orderly place (PortUp q) w first answer between orderly k)
     (beside_silent gone at place q w first answer between k orderly is)
 
+-- nor are they answered that have never been
+all_never : (at : LinkPlace) (place : ℕ) (ps : List ℕ) (w : WorldState) (draws : List Draw) (w' : WorldState)
+    → CallsAll place (map PortUp ps) w draws w' → IsOrderly w → IsNeverAnswered at w → IsNeverAnswered at w'
+all_never at place [] w draws w' (none, same) usual is = subst (IsNeverAnswered at) (sym same) is
+all_never at place (q ∷ ps) w draws w' (first, rest, between, answer, split, k, more) usual is =
+    all_never at place ps between rest w' more (calls_orderly place (PortUp q) w first answer between usual k)
+    (never_called at place (PortUp q) w first answer between k usual.clocks is (λ same. tt) (λ same. tt))
+
 -- and it stood there
 all_stood : (at : LinkPlace) (place : ℕ) (ps : List ℕ) (w : WorldState) (draws : List Draw) (w' : WorldState)
     → CallsAll place (map PortUp ps) w draws w' → StandsUnanswered at w' → StandsUnanswered at w
@@ -133,12 +142,11 @@ all_stood at place (q ∷ ps) w draws w' (first, rest, between, answer, split, k
     stood at w between (calls_before place (PortUp q) w first answer between k)
     (all_stood at place ps between rest w' more s)
 
--- A port of a system as it starts answers nothing, hasn't asked, and isn't capable.
+-- A port of a system as it starts answers nothing, hasn't asked, and has measured nothing.
 record IsFreshPort (q : Port) : Type 0 where
   respond : q.respond ≡ None
   pdelay : q.pdelay ≡ None
-  lost : q.peer.lost ≡ 0
-  off : is_capable q.peer ≡ false
+  unmeasured : IsUnmeasured q.peer
 
 fresh_port : (place now : ℕ) (port : PortId) (station : Station) (w : WorldState) (e : IsEndOf place port w)
     → e.station.system ≡ started station.setup now → IsFreshPort e.state
@@ -150,7 +158,7 @@ fresh_port place now port station w e is = by port.port e.there
         let set = station.setup in
         let (log, found, port_is) = new_port_at (clock_of set.identity) set.params set.intervals.items i e.state
         (subst (λ (s : SystemState). slice_get s.ports i ≡ Some e.state) is there) in
-        subst IsFreshPort (sym port_is) (record { respond = refl; pdelay = refl; lost = refl; off = refl })
+        subst IsFreshPort (sym port_is) (record { respond = refl; pdelay = refl; unmeasured = (refl, refl) })
 
 module _ (p : SettlingParams) (by next number : ℕ) (w : WorldState) (draws : List Draw) (done : Done) (w' : WorldState)
     (pace : KeepPace p) (is : IsWorld p w) (is' : IsWorld p w') (measured : LinkIsMeasured w)
@@ -161,8 +169,13 @@ module _ (p : SettlingParams) (by next number : ℕ) (w : WorldState) (draws : L
   abbrev k : AtSystem number now (λ place station. RecoversIf station.live place now draws w')
   k = acts.1
 
+  -- no link stands at the system that recovers
+  abbrev UsesNone : Type 0
+  UsesNone = (at : LinkPlace) → (s : LinkStandsAt at w')
+      → (clock s.asking.station.system ≡ number) ⊎ (clock s.answering.station.system ≡ number) → ⊥
+
   module _ (dead : k.station.live ≡ false) where
-    starts : Starts k.place now draws w'
+    abbrev starts : Starts k.place now draws w'
     starts = subst (λ b. RecoversIf b k.place now draws w') dead k.so
 
     abbrev new : Station
@@ -177,7 +190,7 @@ module _ (p : SettlingParams) (by next number : ℕ) (w : WorldState) (draws : L
     stays : Stays now begun
     stays = refreshed_stays k.place starts.station now starts.here is.sound.wired.setups
 
-    orderly : IsOrderly begun
+    pub orderly : IsOrderly begun
     orderly =
         let old = sound_orderly w is.sound in
         record {
@@ -227,12 +240,12 @@ module _ (p : SettlingParams) (by next number : ℕ) (w : WorldState) (draws : L
       named = x.named;
     }
 
-    has : HasAll k.place ports begun
+    pub has : HasAll k.place ports begun
     has q member station there =
         subst (λ (x : Station). HasPortNumber x.system q) (same_Some new station (sym here_new ∙ there))
         (brought_ports new w.net q member)
 
-    keeps : KeepsNetwork begun w'
+    pub keeps : KeepsNetwork begun w'
     keeps = (all_keep k.place ports begun draws w' starts.calls).0
 
     same_time : w'.time ≡ w.time
@@ -423,17 +436,31 @@ module _ (p : SettlingParams) (by next number : ℕ) (w : WorldState) (draws : L
       good = s.good;
     }
 
-    -- where none stands at the system, links are as they were
-    others_coming : ((at : LinkPlace) → LinkStandsAt at w' → (at.asking ≡ k.place) ⊎ (at.answering ≡ k.place) → ⊥)
-        → AreComing p by next w → AreComing p by next w'
-    others_coming unused coming at stands = elim (same_place at.asking k.place) [
-      | inl here ↦ absurd (unused at stands (inl here))
+    -- what stands at its place is the system that recovers
+    is_own : (place : ℕ) (station : Station) → slice_get w'.stations place ≡ Some station → place ≡ k.place
+        → clock station.system ≡ number
+    is_own place station here same =
+        let near = (starts_stays k.place now draws w' is.sound.wired.setups starts).stations place station here in
+        let one : near.old ≡ k.station =
+        same_there w.stations k.place near.old k.station (ap (slice_get w.stations) (sym same) ∙ near.here) k.is.here in
+        near.same.named ∙ ap (λ (x : Station). clock x.system) one ∙ k.is.named
+
+    -- where it uses none each stood
+    pub stood_alone : UsesNone → (at : LinkPlace) → LinkStandsAt at w' → LinkStandsAt at w
+    stood_alone unused at stands = elim (same_place at.asking k.place) [
+      | inl here ↦
+          absurd (unused at stands (inl (is_own at.asking stands.asking.station stands.asking.here here)))
       | inr asking ↦ elim (same_place at.answering k.place) [
-        | inl here ↦ absurd (unused at stands (inr here))
-        | inr answering ↦ coming_goes_through p by next at (Changing (Recover number)) w w' draws done is.sound
-            measured tt acts (coming at (stood_there at asking answering (before at stands)))
+        | inl here ↦
+            absurd (unused at stands (inr (is_own at.answering stands.answering.station stands.answering.here here)))
+        | inr answering ↦ stood_there at asking answering (before at stands)
       ]
     ]
+
+    others_coming : UsesNone → AreComing p by next w → AreComing p by next w'
+    others_coming unused coming at stands =
+        coming_goes_through p by next at (Changing (Recover number)) w w' draws done is.sound measured tt acts
+        (coming at (stood_alone unused at stands))
 
     module _ (gone : ℕ) (past : gone < w.time) (asked : AreAskedInTime gone w)
         (reach : w.time + interval_of p.params.pdelay ≤ by)
@@ -558,14 +585,21 @@ module _ (p : SettlingParams) (by next number : ℕ) (w : WorldState) (draws : L
         begun_silent old_by one = record { link = unanswered_begun one.link; old = one.old; inv = one.inv }
 
         others_silent : AreSilentBy p next w → IsSilentBy p next at w'
-        others_silent silent =
-            let (change, one, from) = silent at was in
-            let old_by = change + largest_interval p in (
-              change,
-              all_silent old_by at k.place ports begun draws w' starts.calls orderly
-                  (begun_silent old_by one),
-              from,
-            )
+        others_silent silent = elim (silent at was) [
+          | inl never ↦ inl (all_never at k.place ports begun draws w' starts.calls orderly (record {
+            link = unanswered_begun never.link;
+            mute = never.mute;
+            unmeasured = never.unmeasured;
+          }))
+          | inr (change, one, from) ↦
+              let old_by = change + largest_interval p in
+              inr (
+                change,
+                all_silent old_by at k.place ports begun draws w' starts.calls orderly
+                    (begun_silent old_by one),
+                from,
+              )
+        ]
 
         others_in_time : (gone : ℕ) → AreAskedInTime gone w → IsAskedInTime gone at w'
         others_in_time gone asked =
@@ -633,26 +667,20 @@ module _ (p : SettlingParams) (by next number : ℕ) (w : WorldState) (draws : L
               old = due_by (other_direction at.direction);
             })
 
-        -- it never becomes capable
-        own_silent : gone < w.time → capability_span p ≤ next → IsSilentBy p next at w'
+        -- it has never been answered
+        own_never : gone < w.time → IsNeverAnswered at w'
         unfolding own_begun
-        own_silent past long = (
-          0,
-          all_silent (0 + largest_interval p) at k.place ports begun draws w' starts.calls orderly
-              (record {
-                link = own_begun;
-                old = λ f member.
-                    let due = due_by (other_direction at.direction) f member in
-                    let late = due_now w is.sound at.link (other_direction at.direction) stood_begun.channel
-                    stood_begun.here f member in
-                    absurd (omega (arith, due, late, past));
-                inv = record {
-                  lost = (let none = fresh_end.lost in omega (arith, none));
-                  counts = λ capable. absurd (let both = sym fresh_end.off ∙ capable in cc);
-                };
-              }),
-          omega (arith, long),
-        )
+        own_never past =
+            all_never at k.place ports begun draws w' starts.calls orderly
+            (record {
+              link = own_begun;
+              mute = λ f member r says.
+                  let due = due_by (other_direction at.direction) f member in
+                  let late = due_now w is.sound at.link (other_direction at.direction) stood_begun.channel
+                  stood_begun.here f member in
+                  absurd (omega (arith, due, late, past));
+              unmeasured = fresh_end.unmeasured;
+            })
 
     recovers_in_time : (gone : ℕ) → AreAskedInTime gone w → AreGoneBetween gone w → AreAskedInTime gone w'
     recovers_in_time gone asked all at s = elim (same_place at.asking k.place) [
@@ -660,11 +688,9 @@ module _ (p : SettlingParams) (by next number : ℕ) (w : WorldState) (draws : L
       | inr apart ↦ others_in_time at s apart gone asked
     ]
 
-    recovers_silent : (gone : ℕ) → gone < w.time → AreGoneBetween gone w
-        → ((at : LinkPlace) → (s : StandsUnanswered at w') → at.asking ≡ k.place → capability_span p ≤ next)
-        → AreSilentBy p next w → AreSilentBy p next w'
-    recovers_silent gone past all led silent at s = elim (same_place at.asking k.place) [
-      | inl here ↦ own_silent at s here gone all past (led at s here)
+    recovers_silent : (gone : ℕ) → gone < w.time → AreGoneBetween gone w → AreSilentBy p next w → AreSilentBy p next w'
+    recovers_silent gone past all silent at s = elim (same_place at.asking k.place) [
+      | inl here ↦ inl (own_never at s here gone all past)
       | inr apart ↦ others_silent at s apart silent
     ]
 
@@ -694,29 +720,15 @@ module _ (p : SettlingParams) (by next number : ℕ) (w : WorldState) (draws : L
           named = e.named;
         }
 
-    -- what stands at its place is the system that recovers
-    is_own : (place : ℕ) (station : Station) → slice_get w'.stations place ≡ Some station → place ≡ k.place
-        → clock station.system ≡ number
-    is_own place station here same =
-        let near = (starts_stays k.place now draws w' is.sound.wired.setups starts).stations place station here in
-        let one : near.old ≡ k.station =
-        same_there w.stations k.place near.old k.station (ap (slice_get w.stations) (sym same) ∙ near.here) k.is.here in
-        near.same.named ∙ ap (λ (x : Station). clock x.system) one ∙ k.is.named
-
   -- ---- it is one since news soon
 
   pub recover_soon : k.station.live ≡ false → IsSoundWorld w → (gone : ℕ) → gone < w.time → AreAskedInTime gone w
-      → AreGoneBetween gone w
-      → ((at : LinkPlace) → (s : StandsUnanswered at w') → clock s.asking.station.system ≡ number
-      → capability_span p ≤ next)
-      → w.time ≤ by → by < next
+      → AreGoneBetween gone w → w.time ≤ by → by < next
       → ((w.time + interval_of p.params.pdelay ≤ by)
       × (w.time + 2 * interval_of p.params.pdelay + (delay_in w' + p.params.turnaround + delay_in w') < next))
-      ⊎ ((at : LinkPlace) → (s : LinkStandsAt at w')
-      → (clock s.asking.station.system ≡ number) ⊎ (clock s.answering.station.system ≡ number)
-      → ⊥)
+      ⊎ UsesNone
       → AreSilentBy p next w → AreComing p by next w → IsNewsSoon p next w'
-  recover_soon dead sound gone past asked all led early soon_by how silent coming =
+  recover_soon dead sound gone past asked all early soon_by how silent coming =
       let time = same_time dead in
       record {
         by = by;
@@ -725,18 +737,26 @@ module _ (p : SettlingParams) (by next number : ℕ) (w : WorldState) (draws : L
         pace = pace;
         world = is';
         measured = measured';
-        silent = recovers_silent dead gone past all
-            (λ at s here. led at s (is_own dead at.asking s.asking.station s.asking.here here)) silent;
+        silent = recovers_silent dead gone past all silent;
         sound = sound_gains p (Recover number) w draws done w' tt tt acts is is' sound;
         coming = elim how [
           | inl (reach, soon) ↦ recovers_coming dead gone past asked reach soon coming
-          | inr unused ↦ others_coming dead
-              (λ at s place. unused at s (elim place [
-                | inl here ↦ inl (is_own dead at.asking s.asking.station s.asking.here here)
-                | inr here ↦ inr (is_own dead at.answering s.answering.station s.answering.here here)
-              ])) coming
+          | inr unused ↦ others_coming dead unused coming
         ];
       }
+
+  -- where it uses no link the others are capable as before
+  pub recover_alone : k.station.live ≡ false → IsSoundWorld w → (gone : ℕ) → gone < w.time → AreGoneBetween gone w
+      → w.time < next → UsesNone → AreSilentBy p next w → AreReadyBy p next w → IsNews p next w'
+  recover_alone dead sound gone past all early unused silent ready =
+      let time = same_time dead in
+      news_begin p next w' pace is' measured'
+      (recovers_silent dead gone past all silent)
+      (sound_gains p (Recover number) w draws done w' tt tt acts is is' sound)
+      (λ at stands.
+      ready_goes_through p next at (Changing (Recover number)) w w' draws done is.sound measured tt acts
+      (ready at (stood_alone dead unused at stands)))
+      (omega (arith, time, early))
 
   -- and beside failed systems requests are in time still
   pub recover_in_time : (gone : ℕ) → AreAskedInTime gone w → AreGoneBetween gone w

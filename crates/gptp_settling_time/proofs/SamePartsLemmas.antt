@@ -78,7 +78,7 @@ parts_itself at w w' l same =
       begins = λ direction. refl;
     })
 
-parts_on : (at : LinkPlace) (w v u : WorldState) (l : IsLinkOf at w) (first : HasSameParts at w v l)
+pub parts_on : (at : LinkPlace) (w v u : WorldState) (l : IsLinkOf at w) (first : HasSameParts at w v l)
     → HasSameParts at v u first.after → HasSameParts at w u l
 parts_on at w v u l first second = record {
   after = second.after;
@@ -114,7 +114,7 @@ module _ (input : ℕ → Input) (own : IsOfPort input) where
           (λ same. own.fits port.port (sender at.direction l.channel).port)
           (λ same. own.fits port.port (receiver at.direction l.channel).port)
 
-      called_parts : HasSameParts at w w' l
+      pub called_parts : HasSameParts at w w' l
       called_parts = record {
         after = step.after;
         settled = step.settled;

@@ -276,7 +276,7 @@ module _ (n : NetworkState) (made : List Timed) where
       by false = refl
 
   -- that leaves the paths as they are, too
-  pub turned_paths : (event : Timed) → TurnsUnused n made event event.act
+  pub turned_paths : (event : Timed) → TurnsUnused n made event.act
       → sync_paths n (made ++ event ∷ []) ≡ sync_paths n made
   turned_paths event turns =
       paths_same n made (made ++ event ∷ [])
@@ -285,7 +285,7 @@ module _ (n : NetworkState) (made : List Timed) where
       (λ v member. ap (is_used n.systems made) (link_behind made event v) ∙ used event.act turns v member)
       (λ v member. ap (λ (w : LinkSpec). w.bounds) (link_behind made event v) ∙ bounds event.act turns v)
     where
-      systems : (act : Act) → TurnsUnused n made event act → (m : SystemSpec)
+      systems : (act : Act) → TurnsUnused n made act → (m : SystemSpec)
           → (system_acted act (clock_of m.identity) (system_after made m)).live ≡ (system_after made m).live
       systems (Changing (LinkUp clock port)) failed m = refl
       systems (Changing (LinkDown clock port)) failed m = refl
@@ -297,9 +297,9 @@ module _ (n : NetworkState) (made : List Timed) where
       systems (Deliver link direction) none m = absurd none
       systems (Expire clock timer) none m = absurd none
 
-      used : (act : Act) → TurnsUnused n made event act → (v : LinkSpec) → In v n.links
+      used : (act : Act) → TurnsUnused n made act → (v : LinkSpec) → In v n.links
           → is_used n.systems made (link_acted act (link_after made v)) ≡ is_used n.systems made (link_after made v)
-      used (Changing (LinkUp clock port)) failed v member = turned_unused clock port true failed.0 v member
+      used (Changing (LinkUp clock port)) failed v member = turned_unused clock port true failed v member
       used (Changing (LinkDown clock port)) failed v member = turned_unused clock port false failed v member
       used (Changing (LinkSet clock port least greatest loss)) none v member = absurd none
       used (Changing (Fail clock)) none v member = absurd none
@@ -309,7 +309,7 @@ module _ (n : NetworkState) (made : List Timed) where
       used (Deliver link direction) none v member = absurd none
       used (Expire clock timer) none v member = absurd none
 
-      bounds : (act : Act) → TurnsUnused n made event act → (v : LinkSpec)
+      bounds : (act : Act) → TurnsUnused n made act → (v : LinkSpec)
           → (link_acted act (link_after made v)).bounds ≡ (link_after made v).bounds
       bounds (Changing (LinkUp clock port)) failed v = turned_bounds clock port true (link_after made v)
       bounds (Changing (LinkDown clock port)) failed v = turned_bounds clock port false (link_after made v)

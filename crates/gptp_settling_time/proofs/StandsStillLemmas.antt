@@ -29,10 +29,11 @@ use Rattle.gptp_invariants.specs.ChoiceSettlesAsMachine.{IsWorld}
 use Rattle.gptp_invariants.specs.ChoiceView.{lanes_view, says_announce, says_sync, station_view, view}
 use Rattle.gptp_invariants.specs.DelayLinkView.{IsEndAmong, IsLinkOf, IsMeasuring, LinkPlace, asker_view, pair_view, setting_view}
 use Rattle.gptp_invariants.specs.DelayMeasured.{LinkIsMeasured, LinkStandsAt, StationIsLiveAt}
-use Rattle.gptp_invariants.specs.FailedUnanswered.{IsFailedAmong, IsSilent, IsUnansweredAt, StandsUnanswered, silent_setting, silent_view}
+use Rattle.gptp_invariants.specs.FailedUnanswered.{IsFailedAmong, IsNeverAnswered, IsSilent, IsUnansweredAt, IsUnmeasured, StandsUnanswered, silent_setting, silent_view}
 use Rattle.gptp_invariants.specs.WorldNews.{AreSilentBy, IsNews, turn_network}
 use Rattle.gptp_invariants.specs.WorldSound.{IsSoundWorld}
 use Rattle.gptp_invariants.specs.WorldStanding.{channel_is_used, live_stations, snapshot_of, standing_system, used_channels}
+use Rattle.gptp_system.specs.declared.port.Port.{Port}
 use Rattle.gptp_settling_time.proofs.AskedInTimeLemmas.{AreAskedInTime}
 use Rattle.gptp_settling_time.proofs.BetweenFailedLemmas.{AreGoneBetween}
 use Rattle.gptp_settling_time.proofs.AlwaysClaimedLemmas.{IsClaimedAlways}
@@ -334,6 +335,15 @@ module _ (w w' : WorldState) (still : StandsStill w w') where
             (subst (λ (u : Unanswered). InvUnanswered (silent_setting at w l) gone u) (sym seen) is.inv);
       }
 
+  pub never_still : (at : LinkPlace) → IsNeverAnswered at w → IsNeverAnswered at w'
+  never_still at is =
+      let a = end_still at.asking (sender at.direction is.link.channel) is.link.asking in
+      record {
+        link = unanswered_still at is.link;
+        mute = is.mute;
+        unmeasured = subst (λ (q : Port). IsUnmeasured q.peer) (sym a.state) is.unmeasured;
+      }
+
   -- what is in flight beside failed systems and between them is in time still
   pub asked_still : (gone : ℕ) → AreAskedInTime gone w → AreAskedInTime gone w'
   asked_still gone asked at s =
@@ -390,9 +400,10 @@ module _ (p : SettlingParams) (start : ℕ) (w w' : WorldState) (still : StandsS
   like = stands_like w w' still
 
   silent_then : AreSilentBy p start w → AreSilentBy p start w'
-  silent_then silent at s =
-      let (change, one, soon) = silent at (unanswered_before w w' still at s) in
-      (change, silent_still w w' still (change + largest_interval p) at one, soon)
+  silent_then silent at s = elim (silent at (unanswered_before w w' still at s)) [
+    | inl never ↦ inl (never_still w w' still at never)
+    | inr (change, one, soon) ↦ inr (change, silent_still w w' still (change + largest_interval p) at one, soon)
+  ]
 
   sound_then : IsSoundWorld w → IsSoundWorld w'
   sound_then sound =

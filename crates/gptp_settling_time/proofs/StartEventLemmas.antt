@@ -15,8 +15,8 @@ use Rattle.gptp_pdelay.specs.GoodLink.{IsGoodLink}
 use Rattle.gptp_roles.specs.Selection.{clock_of}
 use Rattle.gptp_setup.specs.declared.setup.Params.{Params}
 use Rattle.gptp_setup.specs.SettlingParams.{SettlingParams}
-use Rattle.gptp_system.specs.Input.{Input}
-use Rattle.gptp_scenario.specs.Calm.{IsLive, IsUsed}
+use Rattle.gptp_setup.specs.declared.timer.Timer.TheVariants as timers
+use Rattle.gptp_scenario.specs.Calm.{IsUsed}
 use Rattle.gptp_scenario.specs.Change.{link_acted, link_after, link_changed, standing, system_acted, system_after, system_changed}
 use Rattle.gptp_scenario.specs.Network.{IsEnd, IsNetwork, NetworkState, pace_of}
 use Rattle.gptp_scenario.specs.SyncWait.{sync_paths}
@@ -29,7 +29,7 @@ use Rattle.gptp_scenario.specs.declared.network.LinkSpec.{LinkSpec}
 use Rattle.gptp_scenario.specs.declared.network.SystemSpec.{SystemSpec}
 use Rattle.gptp_scenario.specs.declared.sync_wait.SyncPaths.{SyncPaths}
 use Rattle.gptp_model.specs.Acts.{Acts, at as at_time}
-use Rattle.gptp_model.specs.Changing.{CallsAll, ComesUpIf, IsStation, StartsAll, brought_up}
+use Rattle.gptp_model.specs.Changing.{ComesUpIf, IsStation, brought_up}
 use Rattle.gptp_model.specs.Course.{Begun, WasDone}
 use Rattle.gptp_model.specs.declared.done.Done.{Done}
 use Rattle.gptp_model.specs.declared.station.Station.{Station}
@@ -65,17 +65,19 @@ use Rattle.gptp_theorem.proofs.EventLemmas.{link_behind, system_behind}
 use Rattle.gptp_theorem.proofs.PlayedLemmas.{no_change}
 use Rattle.gptp_theorem.proofs.SettlingInvariantLemmas.{IsFitEvent, least_of}
 use Rattle.gptp_theorem.proofs.SyncPathLemmas.{paths_stand}
+use Rattle.gptp_invariants.proofs.DelayLinkExpiryLemmas.{expires_due, expires_timely}
+use Rattle.gptp_system.specs.State.{due}
 use Rattle.gptp_settling_time.specs.InTurn.{AreCapableSoon, StartsWith, TellsNothing, UsedVaryLittle}
 use Rattle.gptp_settling_time.proofs.AlwaysClaimedLemmas.{IsClaimedAlways}
 use Rattle.gptp_settling_time.proofs.BegunLemmas.{begun_keeps}
 use Rattle.gptp_settling_time.proofs.ClaimedToLemmas.{varies_little}
 use Rattle.gptp_settling_time.proofs.EventStillLemmas.{at_end, down_still, fail_still, set_still}
-use Rattle.gptp_settling_time.proofs.GainLemmas.{live_named, lives_as, lives_so, member_at, named_as, used_as}
+use Rattle.gptp_settling_time.proofs.GainLemmas.{lives_as, member_at, named_as, used_as}
 use Rattle.gptp_settling_time.proofs.KeptToLemmas.{KeepsTo, keeps_act, keeps_later}
 use Rattle.gptp_settling_time.proofs.LinkStoodLemmas.{stood_in, stood_untold, up_first}
 use Rattle.gptp_settling_time.proofs.MadeLemmas.{made_keeps, made_time}
 use Rattle.gptp_settling_time.proofs.MasterLemmas.{acted}
-use Rattle.gptp_settling_time.proofs.StartCallLemmas.{AreAhead, IsQuietYet, called_ahead, changes_quiet}
+use Rattle.gptp_settling_time.proofs.StartCallLemmas.{AreAhead, IsQuietYet, called_ahead, changes_quiet, respond_stopped, same_timer, starting_never, starts_ahead}
 use Rattle.gptp_settling_time.proofs.StartLemmas.{ExchangesAreOver, untold_news, untold_since}
 use Rattle.gptp_settling_time.proofs.UntoldLemmas.{begun_untold, call_unmeasured, master_measured}
 
@@ -93,26 +95,14 @@ pub record IsStartingTo (d : DocumentState) (events : List Timed) (w : WorldStat
 
 -- ---- it begins
 
-called_all_ahead : (place : ℕ) (inputs : List Input) (w : WorldState) (draws : List Draw) (w' : WorldState)
-    → CallsAll place inputs w draws w' → AreAhead w.net.channels → AreAhead w'.net.channels
-called_all_ahead place [] w draws w' (none, same) ahead =
-    subst (λ (v : WorldState). AreAhead v.net.channels) (sym same) ahead
-called_all_ahead place (input ∷ inputs) w draws w' (first, rest, between, answer, are, one, more) ahead =
-    called_all_ahead place inputs between rest w' more (called_ahead place input w first answer between one ahead)
-
-starts_ahead : (places : List ℕ) (w : WorldState) (draws : List Draw) (w' : WorldState) → StartsAll places w draws w'
-    → AreAhead w.net.channels → AreAhead w'.net.channels
-starts_ahead [] w draws w' (none, same) ahead =
-    subst (λ (v : WorldState). AreAhead v.net.channels) (sym same) ahead
-starts_ahead (place ∷ places) w draws w' (first, rest, between, are, one, more) ahead =
-    starts_ahead places between rest w' more (called_all_ahead place _ _ first between one.calls ahead)
-
 initial_ahead : (n : NetworkState) → IsNetwork n → AreAhead (initial n).net.channels
 initial_ahead n network link channel here =
     let (wire, stood, made) = mapped channel_from n.links link channel here in
     record {
       least = ((initial_sound n network).on_time.links link channel here).positive;
       frames = λ direction f member.
+          absurd (still wire direction f (subst (λ (c : Channel). In f (world_queue direction c)) (sym made) member));
+      mute = λ direction f member.
           absurd (still wire direction f (subst (λ (c : Channel). In f (world_queue direction c)) (sym made) member));
     }
   where
@@ -131,7 +121,8 @@ starting_begins answers d playable fate fate_after w k =
       yet = λ now. record {
         quiet = record {
           untold = begun_untold answers d.network fate fate_after w playable.network sound k;
-          ahead = starts_ahead (range_with_len 0 (length d.network.systems)) (initial d.network) k.draws w k.starts
+          ahead = starts_ahead (range_with_len 0 (length d.network.systems)) (initial d.network) k.draws w
+              sound.wired.setups k.starts
               (initial_ahead d.network playable.network);
         };
         first = λ at stands.
@@ -178,7 +169,14 @@ module _ (p : SettlingParams) where
                       master
                 ];
           };
-          ahead = called_ahead k.place _ _ draws k.so.answer w' k.so.calls yet.quiet.ahead;
+          ahead = called_ahead k.place _ _ draws k.so.answer w' k.so.calls
+              (expires_timely k.place timer w draws w' k.so)
+              (λ n same.
+              respond_stopped k.so.calls.station n w.time
+              (yet.quiet.untold.measured k.place k.so.calls.station k.so.calls.here)
+              (subst (λ t. due t k.so.calls.station.system ≡ Some w.time) (same_timer timer (timers.Respond n) same)
+              (expires_due k.place timer w draws w' k.so)))
+              yet.quiet.ahead;
         };
         first = λ at stands.
             first_goes_through at 0 (Expire number timer) w w' draws done is.sound measured tt (told, k)
@@ -540,36 +538,14 @@ module _ {F : Type 0} (answers : Bounds → ℕ → F → Option ℕ → F → T
     time_is : w'.time ≡ 0
     time_is = made_time answers d playable made event fate fate_after w w' done is fit k ∙ starts.now
 
-    none_unanswered : AreSilentBy p next w'
-    none_unanswered at s =
-        let (v, there, same) = alike (link_after more) channel_wire n.links w'.net.channels (sym after.stands.links)
-        at.link s.channel s.here in
-        let both = starts.answered at.link v there (ap (λ (x : LinkSpec). x.up) same ∙ s.up) in
-        let asks : IsLive n.systems more (sender at.direction s.channel).clock =
-        live_named n more w' after.stands world'.sound (sender at.direction s.channel).clock at.asking
-        s.asking.station (record { here = s.asking.here; named = s.asking.named }) s.asking.live in
-        let answers_too : IsLive n.systems more (receiver at.direction s.channel).clock =
-        beyond at.direction s.channel
-        (subst (λ (x : LinkSpec). (IsLive n.systems more x.a.clock → IsLive n.systems more x.b.clock)
-        × (IsLive n.systems more x.b.clock → IsLive n.systems more x.a.clock)) same both)
-        asks in
-        let on = lives_so n more w' after.stands world'.sound (receiver at.direction s.channel).clock answers_too
-        at.answering s.answering.station (record { here = s.answering.here; named = s.answering.named }) in
-        let off = s.answering.failed in
-        absurd (let both_so : true ≡ false = sym on ∙ off in cc)
-      where
-        beyond : (direction : Direction) (c : Channel)
-            → (IsLive n.systems more c.a.clock → IsLive n.systems more c.b.clock)
-            × (IsLive n.systems more c.b.clock → IsLive n.systems more c.a.clock)
-            → IsLive n.systems more (sender direction c).clock → IsLive n.systems more (receiver direction c).clock
-        beyond FromA c both asks = both.0 asks
-        beyond FromB c both asks = both.1 asks
+    none_answered : AreSilentBy p next w'
+    none_answered at s = inl (starting_never w' starting.quiet at (after.claim.silent at s).link)
 
     pub starts_news : IsNews p next w'
-    starts_news = soon_news d playable more next w' after starting time_is none_unanswered starts.capable
+    starts_news = soon_news d playable more next w' after starting time_is none_answered starts.capable
 
     pub starts_claimed : UsedVaryLittle n more → IsClaimedAlways p next w'
-    starts_claimed = soon_claimed d playable more next w' after starting time_is none_unanswered starts.capable
+    starts_claimed = soon_claimed d playable more next w' after starting time_is none_answered starts.capable
 
 -- ---- a document begins
 

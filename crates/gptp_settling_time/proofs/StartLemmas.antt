@@ -62,11 +62,13 @@ use Rattle.gptp_invariants.specs.WorldNewsCourse.{capable_from}
 use Rattle.gptp_invariants.proofs.SyncFollowClaimLemmas.{acts_time}
 use Rattle.gptp_invariants.proofs.WorldNewsCourseLemmas.{later_keeps}
 use Rattle.gptp_settling_time.specs.Starts.{DelaysVaryLittle, StartsSettleAtOnce}
+use Rattle.gptp_invariants.specs.FailedUnanswered.{IsUnmeasured, is_answered}
+use Rattle.gptp_invariants.proofs.UnmeasuredLemmas.{unmeasured_off}
 use Rattle.gptp_settling_time.proofs.LinkStoodLemmas.{exchange_over}
 use Rattle.gptp_settling_time.proofs.OrderedLemmas.{IsOrderedAt, opposite, turned}
 use Rattle.gptp_settling_time.proofs.SeenSettledLemmas.{seen_settles}
 use Rattle.gptp_settling_time.proofs.AlwaysClaimedLemmas.{AreHeard, IsClaimedAlways, little_back, since_acts, since_later, start_calm, start_net, start_network}
-use Rattle.gptp_settling_time.proofs.UntoldLemmas.{IsUntold, IsUnmeasured, begun_untold, is_answered, unmeasured_off}
+use Rattle.gptp_settling_time.proofs.UntoldLemmas.{IsUntold, begun_untold}
 
 -- ---- a network begins
 
@@ -118,7 +120,7 @@ module _ (p : SettlingParams) (w : WorldState) (world : IsWorld p w) (untold : I
           by : (port : ℕ) → number l.asking.station.system.ports port ≡ Some l.asking.state
               → IsUnmeasured l.asking.state.peer
           by zero there = absurd (none-some l.asking.state there)
-          by (suc i) there = untold.measured at.asking l.asking.station l.asking.here i l.asking.state there
+          by (suc i) there = (untold.measured at.asking l.asking.station l.asking.here i l.asking.state there).0
 
       none_told : (at : LinkPlace) (l : IsLinkOf at w) (f : LaneFrame) → In f (pair at w l).back → (a : Announce)
           → says_announce f.octets a → ⊥
@@ -159,7 +161,8 @@ module _ (p : SettlingParams) (w : WorldState) (world : IsWorld p w) (untold : I
       port.held_there port.port_there in
       ap (λ (x : SeenPort). x.held) port.is
       ∙ ap (held_view (span_at state))
-      (shown.off (unmeasured_off port.port.peer (untold.measured place at.station at.here i port.port port.port_there)))
+      (shown.off (unmeasured_off port.port.peer
+      (untold.measured place at.station at.here i port.port port.port_there).0))
 
   -- all that is held and in flight is sound
   untold_sound : IsSoundWorld w

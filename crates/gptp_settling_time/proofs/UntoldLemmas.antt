@@ -1,6 +1,6 @@
 -- As a network begins no port has measured anything, and nothing is told yet.
 use Rattle.std.specs.Prelude.{if◌then◌else◌, ⊤}
-use Rattle.std.proofs.Common.{◌≡◌, ◌⊎◌, ◌==◌, ◌+◌, ℕ, suc, Bool, true, false, List, [], ◌∷◌, map, length, Option, Some, None, slice_get, refl, sym, ap, subst, ◌∙◌, append-nil, inl, inr}
+use Rattle.std.proofs.Common.{◌≡◌, ◌⊎◌, ◌==◌, ℕ, suc, Bool, true, false, List, [], ◌∷◌, map, length, Option, Some, None, slice_get, refl, sym, ap, subst, ◌∙◌, append-nil, inl, inr}
 use Rattle.std.specs.List.{range_with_len}
 use Rattle.gptp_lists.specs.Members.{In}
 use Rattle.gptp_lists.proofs.MappedLemmas.{mapped}
@@ -10,9 +10,7 @@ use Rattle.gptp_links.specs.declared.bounds.Bounds.{Bounds}
 use Rattle.gptp_links.specs.declared.link.Direction.{Direction}
 use Rattle.gptp_links.specs.declared.link.Direction.TheVariants.{FromA, FromB}
 use Rattle.gptp_links.specs.Fate.{Draw}
-use Rattle.gptp_pdelay.specs.Peer.{PeerState, after_interval, is_capable, is_open, loses_too_many, reset_peer}
-use Rattle.gptp_pdelay.specs.declared.progress.Progress.{Progress}
-use Rattle.gptp_pdelay.specs.declared.progress.Progress.TheVariants.{Closed, Sent, Answered}
+use Rattle.gptp_pdelay.specs.Peer.{after_interval, reset_peer}
 use Rattle.gptp_roles.specs.Selection.{clock_of}
 use Rattle.gptp_setup.specs.declared.setup.Setup.{Setup}
 use Rattle.gptp_setup.specs.declared.timer.Timer.TheVariants as timers
@@ -50,89 +48,62 @@ use Rattle.gptp_invariants.proofs.DelayLinkKeptLemmas.{HasAll, all_stay}
 use Rattle.gptp_invariants.proofs.WorldActEncodableLemmas.{initial_encodable, starts_encodable}
 use Rattle.gptp_invariants.proofs.WorldAnsweringLemmas.{CanAnswer, IsAnswering, calls_answering, new_fits, sound_answers}
 use Rattle.gptp_invariants.proofs.WorldSoundCallLemmas.{setups_of}
+use Rattle.gptp_invariants.specs.FailedUnanswered.{IsUnmeasured}
+use Rattle.gptp_invariants.proofs.UnmeasuredLemmas.{IsMuteTo, part_stays, unmeasured_off}
 use Rattle.gptp_settling_time.proofs.MasterLemmas.{BeginsAtMaster, WasOnLane, answered, master_capable}
 
 -- ---- what has measured nothing
 
-abbrev pub is_answered : Progress → Bool
-is_answered Closed = false
-is_answered (Sent request) = false
-is_answered (Answered request response) = true
-
--- no exchange was full, and no response is recorded
-abbrev pub IsUnmeasured : PeerState → Type 0
-IsUnmeasured p = (p.last ≡ None) × (is_answered p.progress ≡ false)
-
--- such a port isn't capable
-pub unmeasured_off : (p : PeerState) → IsUnmeasured p → is_capable p ≡ false
-unmeasured_off p un = rw un.0 refl
-
+-- none of its ports has measured anything, or is to answer a request
 abbrev pub HasMeasuredNothing : Station → Type 0
-HasMeasuredNothing station = (i : ℕ) (q : Port) → slice_get station.system.ports i ≡ Some q → IsUnmeasured q.peer
-
--- it has come up
-pub part_unmeasured : (s : SystemState) (now p n : ℕ) (x : Part) → IsUnmeasured x.peer
-    → IsUnmeasured (only_at p (part_asked s now reset_peer) n x).peer
-part_unmeasured s now p n x un = by (n == p) refl
-  where
-    by : (here : Bool) → (n == p) ≡ here → IsUnmeasured (only_at p (part_asked s now reset_peer) n x).peer
-    by true is = rw is (refl, refl)
-    by false is = rw is un
-
-only_unmeasured : (p n : ℕ) (f : Part → Part) (x : Part) → IsUnmeasured (f x).peer → IsUnmeasured x.peer
-    → IsUnmeasured (only_at p f n x).peer
-only_unmeasured p n f x here_un un = by (n == p) refl
-  where
-    by : (here : Bool) → (n == p) ≡ here → IsUnmeasured (only_at p f n x).peer
-    by true is = rw is here_un
-    by false is = rw is un
-
--- a request that is given up leaves nothing measured
-interval_unmeasured : (p : PeerState) → p.last ≡ None → (after_interval p).last ≡ None
-interval_unmeasured p none = by (is_open p.progress) (loses_too_many p)
-  where
-    by : (waits lost : Bool)
-        → (if waits then (if lost then reset_peer p else record p { progress = Closed; lost = p.lost + 1 }) else p).last
-        ≡ None
-    by true true = refl
-    by true false = none
-    by false lost = none
+HasMeasuredNothing station = (i : ℕ) (q : Port) → slice_get station.system.ports i ≡ Some q
+    → IsUnmeasured q.peer × (q.respond ≡ None)
 
 -- an input that is no frame
 abbrev pub MeasuresNothing : Input → Type 0
 MeasuresNothing (Frame p octets) = ⊥
 MeasuresNothing input = ⊤
 
--- by that nothing is measured
-part_stays : (s : SystemState) (now : ℕ) (input : Input) (n : ℕ) (x x' : Part) → MeasuresNothing input
-    → IsPartAfter s now input n x x' → IsUnmeasured x.peer → IsUnmeasured x'.peer
-part_stays s now (PortUp p) n x x' nothing is un =
-    subst (λ (y : Part). IsUnmeasured y.peer) (sym is) (part_unmeasured s now p n x un)
-part_stays s now (PortDown p) n x x' nothing is un =
-    subst (λ (y : Part). IsUnmeasured y.peer) (sym is) (only_unmeasured p n part_down x (refl, refl) un)
-part_stays s now (Frame p octets) n x x' nothing is un = absurd nothing
-part_stays s now (Expires (timers.Pdelay p)) n x x' nothing is un =
-    subst (λ (y : Part). IsUnmeasured y.peer) (sym is)
-    (only_unmeasured p n (part_asked s now after_interval) x (interval_unmeasured x.peer un.0, refl) un)
-part_stays s now (Expires (timers.Respond p)) n x x' nothing is un =
-    subst (λ (y : Part). IsUnmeasured y.peer) (sym is) (only_unmeasured p n part_answered x un un)
-part_stays s now (Expires (timers.Announce p)) n x x' nothing is un =
-    subst (λ (y : Part). IsUnmeasured y.peer) (sym is) un
-part_stays s now (Expires (timers.Age p)) n x x' nothing is un =
-    subst (λ (y : Part). IsUnmeasured y.peer) (sym is) un
-part_stays s now (Expires timers.Sync) n x x' nothing is un =
-    subst (λ (y : Part). IsUnmeasured y.peer) (sym is) un
-part_stays s now (Expires timers.Relay) n x x' nothing is un =
-    subst (λ (y : Part). IsUnmeasured y.peer) (sym is) un
-part_stays s now (Expires timers.Lapse) n x x' nothing is un =
-    subst (λ (y : Part). IsUnmeasured y.peer) (sym is) un
-part_stays s now (Priority value) n x x' nothing is un = subst (λ (y : Part). IsUnmeasured y.peer) (sym is) un
+-- so it is no reply
+mute_to : (n : ℕ) (input : Input) → MeasuresNothing input → IsMuteTo n input
+mute_to n (PortUp p) nothing = tt
+mute_to n (PortDown p) nothing = tt
+mute_to n (Frame p octets) nothing = absurd nothing
+mute_to n (Expires timer) nothing = tt
+mute_to n (Priority value) nothing = tt
 
-started_unmeasured : (setup : Setup) (now : ℕ) (live : Bool)
+-- and by which no request is to be answered
+only_owing : (p n : ℕ) (f : Part → Part) (x : Part) → (f x).respond ≡ None → x.respond ≡ None
+    → (only_at p f n x).respond ≡ None
+only_owing p n f x here_none none = by (n == p)
+  where
+    by : (here : Bool) → (if here then f x else x).respond ≡ None
+    by true = here_none
+    by false = none
+
+owes_nothing : (s : SystemState) (now : ℕ) (input : Input) (n : ℕ) (x x' : Part) → MeasuresNothing input
+    → IsPartAfter s now input n x x' → x.respond ≡ None → x'.respond ≡ None
+owes_nothing s now (PortUp p) n x x' nothing is none =
+    ap (λ (y : Part). y.respond) is ∙ only_owing p n (part_asked s now reset_peer) x none none
+owes_nothing s now (PortDown p) n x x' nothing is none =
+    ap (λ (y : Part). y.respond) is ∙ only_owing p n part_down x refl none
+owes_nothing s now (Frame p octets) n x x' nothing is none = absurd nothing
+owes_nothing s now (Expires (timers.Pdelay p)) n x x' nothing is none =
+    ap (λ (y : Part). y.respond) is ∙ only_owing p n (part_asked s now after_interval) x none none
+owes_nothing s now (Expires (timers.Respond p)) n x x' nothing is none =
+    ap (λ (y : Part). y.respond) is ∙ only_owing p n part_answered x refl none
+owes_nothing s now (Expires (timers.Announce p)) n x x' nothing is none = ap (λ (y : Part). y.respond) is ∙ none
+owes_nothing s now (Expires (timers.Age p)) n x x' nothing is none = ap (λ (y : Part). y.respond) is ∙ none
+owes_nothing s now (Expires timers.Sync) n x x' nothing is none = ap (λ (y : Part). y.respond) is ∙ none
+owes_nothing s now (Expires timers.Relay) n x x' nothing is none = ap (λ (y : Part). y.respond) is ∙ none
+owes_nothing s now (Expires timers.Lapse) n x x' nothing is none = ap (λ (y : Part). y.respond) is ∙ none
+owes_nothing s now (Priority value) n x x' nothing is none = ap (λ (y : Part). y.respond) is ∙ none
+
+pub started_unmeasured : (setup : Setup) (now : ℕ) (live : Bool)
     → HasMeasuredNothing (record { setup = setup; system = started setup now; live = live })
 started_unmeasured setup now live i q there =
     let (log, here, is) = new_port_at (clock_of setup.identity) setup.params setup.intervals.items i q there in
-    subst (λ (x : Port). IsUnmeasured x.peer) (sym is) (refl, refl)
+    subst (λ (x : Port). IsUnmeasured x.peer × (x.respond ≡ None)) (sym is) ((refl, refl), refl)
 
 -- ---- a world in which nothing is measured or told
 
@@ -143,23 +114,25 @@ pub record IsUntold (w : WorldState) : Type 0 where
       → In f l.frames → says_announce f.octets a → ⊥
 
 module _ (place : ℕ) (input : Input) (w : WorldState) (draws : List Draw) (answer : Answer) (w' : WorldState)
-    (k : Calls place input w draws answer w') (nothing : MeasuresNothing input)
-    (unmeasured : (other : ℕ) (station : Station) → slice_get w.stations other ≡ Some station
-    → HasMeasuredNothing station) where
+    (k : Calls place input w draws answer w') (nothing : MeasuresNothing input) where
   abbrev called : Station
   called = in_state k.after k.station
 
-  called_unmeasured : HasMeasuredNothing called
-  called_unmeasured i q' there =
+  pub called_unmeasured : HasMeasuredNothing k.station → HasMeasuredNothing called
+  called_unmeasured unmeasured i q' there =
       let (q, here, part) = steps_measure input w.time k.station.system k.after k.sends answer k.steps i q' there in
-      part_stays k.station.system w.time input (suc i) (measure_at q) (measure_at q') nothing part
-      (unmeasured place k.station k.here i q here)
+      let old = unmeasured i q here in (
+        part_stays k.station.system w.time input (suc i) (measure_at q) (measure_at q') (mute_to (suc i) input nothing)
+            part old.0,
+        owes_nothing k.station.system w.time input (suc i) (measure_at q) (measure_at q') nothing part old.1,
+      )
 
-  pub call_unmeasured : (other : ℕ) (station : Station) → slice_get w'.stations other ≡ Some station
+  pub call_unmeasured : ((other : ℕ) (station : Station) → slice_get w.stations other ≡ Some station
+      → HasMeasuredNothing station) → (other : ℕ) (station : Station) → slice_get w'.stations other ≡ Some station
       → HasMeasuredNothing station
-  call_unmeasured other station there =
-      get-set_all HasMeasuredNothing w.stations place k.station called k.here called_unmeasured unmeasured other
-      station
+  call_unmeasured unmeasured other station there =
+      get-set_all HasMeasuredNothing w.stations place k.station called k.here
+      (called_unmeasured (unmeasured place k.station k.here)) unmeasured other station
       (ap (λ (v : WorldState). slice_get v.stations other) (sym k.is) ∙ there)
 
 -- what begins at a master port is told where something was measured
@@ -169,7 +142,7 @@ pub master_measured : (w : WorldState) → ((place : ℕ) (station : Station) �
 master_measured w shown unmeasured l master =
     let port = master_capable w shown l master in
     let off = unmeasured_off port.state.peer (unmeasured master.place port.station port.here port.at port.state
-    port.there) in
+    port.there).0 in
     let on = port.capable in
     cc
 

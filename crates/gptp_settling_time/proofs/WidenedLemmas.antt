@@ -47,7 +47,7 @@ use Rattle.gptp_invariants.specs.ChoiceView.{lane_view, lanes_view, says_announc
 use Rattle.gptp_invariants.specs.DelayFirstAt.{IsFirstBy}
 use Rattle.gptp_invariants.specs.DelayLinkView.{IsLinkOf, LinkPlace, least_delay, link_setting, meter, pair, pair_view, reads_as_reply, reads_as_request, setting_view}
 use Rattle.gptp_invariants.specs.DelayMeasured.{LinkIsMeasured, LinkStandsAt}
-use Rattle.gptp_invariants.specs.FailedUnanswered.{IsFailedAmong, IsSilent, StandsUnanswered}
+use Rattle.gptp_invariants.specs.FailedUnanswered.{IsFailedAmong, IsNeverAnswered, IsSilent, StandsUnanswered}
 use Rattle.gptp_invariants.specs.WorldNews.{AreReadyBy, AreSilentBy, IsNews, IsReadyBy, news_network}
 use Rattle.gptp_invariants.specs.WorldSound.{IsSoundWorld}
 use Rattle.gptp_invariants.specs.WorldStanding.{channel_is_used, live_stations, snapshot_of, standing_link, used_channels}
@@ -425,10 +425,26 @@ module _ (p : SettlingParams) (start next by place : ℕ) (w : WorldState) (is :
         inv = one.inv;
       }
 
+      still_never : IsNeverAnswered at w → IsNeverAnswered at widened
+      still_never one = record {
+        link = record {
+          channel = one.link.channel;
+          here = get-set_other w.net.channels place at.link new unanswered_apart ∙ one.link.here;
+          up = one.link.up;
+          asking = one.link.asking;
+          answering = one.link.answering;
+        };
+        mute = one.mute;
+        unmeasured = one.unmeasured;
+      }
+
     silent_widened : AreSilentBy p start w → AreSilentBy p next widened
     silent_widened silent at s =
-        let (change, one, from) = silent at (unanswered_before at s) in
-        (change, still_silent at s (change + largest_interval p) one, omega (arith, from, later))
+        elim (silent at (unanswered_before at s)) [
+          | inl never ↦ inl (still_never at s never)
+          | inr (change, one, from) ↦
+              inr (change, still_silent at s (change + largest_interval p) one, omega (arith, from, later))
+        ]
 
     -- ---- each link is at its last stage
 

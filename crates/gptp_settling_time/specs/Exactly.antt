@@ -60,7 +60,8 @@ pub record IsSettledBy (p : SettlingParams) (m start settled : ℕ) (w : WorldSt
 -- ---- offsets
 
 -- The offset that an act at a time leaves a near system, if it leaves one by a Follow_Up, is within the time error of
--- the system's way of its clock less its best's: where a Sync has had the time to come down that way since this one.
+-- the system's way of its clock less what its best tells: where a Sync has had the time to come down that way since
+-- this one.
 abbrev pub AreExactFrom : SettlingParams → ℕ → WorldState → ℕ → WorldState → Done → Type 0
 AreExactFrom p settled w time w' done = (steps number error : ℕ) (offset ahead : ℤ)
     → settled + suc steps * (p.params.threshold + p.params.residence) ≤ time

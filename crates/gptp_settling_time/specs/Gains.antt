@@ -1,6 +1,7 @@
 -- Events of a document that take nothing away from its network, and from when on all ports at links are capable after
 -- them.
 use Rattle.std.specs.Prelude.{◌≡◌, ◌<◌, ◌≤◌, ◌⊎◌, ◌+◌, ◌*◌, ◌^◌, ◌%◌, ℕ, ⊤, true, false, List, [], ◌∷◌, ◌++◌, Some, slice_get}
+use Rattle.std.specs.List.{AllByRecursion}
 use Rattle.gptp_vector.specs.declared.port.PortId.{PortId}
 use Rattle.gptp_roles.specs.Selection.{clock_of}
 use Rattle.gptp_setup.specs.Intervals.{interval_of}
@@ -8,6 +9,7 @@ use Rattle.gptp_setup.specs.SettlingParams.{SettlingParams, largest_interval, lo
 use Rattle.gptp_scenario.specs.Calm.{IsCalm, IsLive, IsUsed, last_change}
 use Rattle.gptp_scenario.specs.Change.{link_after, system_after}
 use Rattle.gptp_scenario.specs.Network.{IsEnd, NetworkState, pace_of}
+use Rattle.gptp_scenario.specs.Prompt.{DelayFitsInterval}
 use Rattle.gptp_scenario.specs.SettlingTime.{capability_span}
 use Rattle.gptp_scenario.specs.SyncWait.{sync_paths}
 use Rattle.gptp_scenario.specs.declared.change.Act.{Act}
@@ -138,13 +140,6 @@ EndHasFailed n events port = (place : ℕ) (v : LinkSpec) → slice_get n.links 
     → (IsLive n.systems events (link_after events v).a.clock → ⊥)
     ⊎ (IsLive n.systems events (link_after events v).b.clock → ⊥)
 
--- each link that is up and ends at the system with this clock joins live systems after these events
-abbrev pub LeadsToLive : NetworkState → List Timed → ℕ → Type 0
-LeadsToLive n events number = (place : ℕ) (v : LinkSpec) → slice_get n.links place ≡ Some v
-    → (link_after events v).up ≡ true
-    → ((link_after events v).a.clock ≡ number) ⊎ ((link_after events v).b.clock ≡ number)
-    → IsLive n.systems events (link_after events v).a.clock × IsLive n.systems events (link_after events v).b.clock
-
 -- Such an event leaves all as it was beside failed systems: a link comes up, over which nothing is in flight yet, a
 -- system recovers, or a priority1 is set.
 abbrev pub SparesFailed : Act → Type 0
@@ -153,10 +148,15 @@ SparesFailed (Changing (Recover number)) = ⊤
 SparesFailed (Changing (Priority1 number value)) = ⊤
 SparesFailed act = ⊥
 
--- So does one that changes nothing. After any other the largest announce interval is over by this time.
+-- no link takes longer than this, in ns, before all events, or as one of these sets it
+pub record HasDelaysWithin (n : NetworkState) (events : List Timed) (most : ℕ) : Type 0 where
+  pub links : (place : ℕ) (v : LinkSpec) → slice_get n.links place ≡ Some v → v.bounds.max ≤ most
+  pub sets : AllByRecursion (λ (t : Timed). DelayFitsInterval most t.act) events
+
+-- So does one that changes nothing. After any other all that was in flight is due by this time: no link took longer.
 abbrev pub IsSparedBy : NetworkState → List Timed → Timed → ℕ → Type 0
 IsSparedBy n before event time =
-    (event.at + largest_interval (pace_of n) < time)
+    ((most : ℕ) × HasDelaysWithin n (before ++ event ∷ []) most × (event.at + most < time))
     ⊎ (ChangesNothing n before event.act ⊎ SparesFailed event.act)
 
 -- by this time what failed systems sent is gone, after each of these events
@@ -176,15 +176,12 @@ UsesNoLink n events number = (place : ℕ) (v : LinkSpec) → slice_get n.links 
 -- ports ask then; a failed system that recovers, whose own ports ask then, and those beside it within a peer delay
 -- interval, where it uses a link; and a priority1 that gets no worse. What a system that recovers sent before it failed
 -- is gone by then.
--- Beside another that has failed its port doesn't become capable, which is known only once L + 5 announce intervals are
--- over since the network began.
 abbrev pub LeavesCapable : NetworkState → List Timed → Timed → ℕ → Act → Type 0
 LeavesCapable n before event next (Changing (LinkUp number port)) =
     JoinsLive n (before ++ event ∷ []) (port_id number port)
     × (exchanged_from (pace_of n) (sync_paths n (before ++ event ∷ [])) event.at ≤ next)
 LeavesCapable n before event next (Changing (Recover number)) =
     (IsLive n.systems before number → ⊥)
-    × (LeadsToLive n (before ++ event ∷ []) number ⊎ (capability_span (pace_of n) ≤ next))
     × AreSparedBy n [] before event.at
     × ((exchanged_again_from (pace_of n) (sync_paths n (before ++ event ∷ [])) event.at ≤ next)
     ⊎ (UsesNoLink n (before ++ event ∷ []) number × (event.at < next)))

@@ -6,15 +6,16 @@
 -- has sharper ones, by its events. It is 0 where they make nothing of what stands. Where they are gains it is what
 -- ports take to become capable, an announce interval, and the greatest delay for each system of a path but one. No
 -- announce interval has to pass where what the first gain tells is heard at once, and after it links alone come up
--- whose delay varies little. Nor has one at the start where all delays vary little.
+-- whose delay varies little, and systems recover that use no link. Nor has one at the start where all delays vary
+-- little.
 --
 -- Events that make nothing of what stands ask for no time: such that change nothing, and a link with a failed end that
 -- comes up or goes down. Nor does a link in use whose delays are set so that they get wider, if that comes first.
 -- These gains are followed, at a time behind events that make nothing: a link that comes up between live systems, a
 -- system that recovers, and a priority1 of a live system that gets better. The first is heard at once where its delay
--- varies little, the last where no path has more than 255 systems. At time 0 links may go down and come up, systems
--- fail and a priority1 be set, where no live system is then linked to one that has failed. Not followed yet are other
--- delays that are set, and events that take something away at a later time. There the span stands.
+-- varies little, the second where it uses no link, the last where no path has more than 255 systems. At time 0 links
+-- may go down and come up, systems fail and a priority1 be set. Not followed are other delays that are set, and events
+-- that take something away at a later time. There the span stands.
 use Rattle.std.specs.Prelude.{◌≡◌, ◌<◌, ◌≤◌, ◌⊎◌, ◌+◌, ◌*◌, ◌==◌, ℕ, ⊤, pred, suc, List, [], ◌∷◌, ◌++◌, filter}
 use Rattle.gptp_lists.specs.Members.{In}
 use Rattle.gptp_setup.specs.Intervals.{interval_of}
@@ -22,7 +23,7 @@ use Rattle.gptp_setup.specs.SettlingParams.{SettlingParams, largest_interval}
 use Rattle.gptp_scenario.specs.Calm.{IsCalm, NothingLapses}
 use Rattle.gptp_scenario.specs.Network.{NetworkState, pace_of}
 use Rattle.gptp_scenario.specs.SettlingAtOnce.{settling_span_at_once}
-use Rattle.gptp_scenario.specs.SettlingTime.{capability_span, settling_span_with}
+use Rattle.gptp_scenario.specs.SettlingTime.{settling_span_with}
 use Rattle.gptp_scenario.specs.SyncWait.{sync_paths}
 use Rattle.gptp_scenario.specs.declared.change.Act.{Act}
 use Rattle.gptp_scenario.specs.declared.change.Act.TheVariants.{Change as Changing}
@@ -33,7 +34,7 @@ use Rattle.gptp_model.specs.World.{port_id}
 use Rattle.gptp_network.specs.Document.{DocumentState}
 use Rattle.gptp_network.specs.Snapshot.{events_by}
 use Rattle.gptp_settling_time.specs.Gains.{ChangesNothing, EndHasFailed, LeavesCapable, TakesNothing}
-use Rattle.gptp_settling_time.specs.InTurn.{BettersClock, BringsUp, MakesNothing, NoneUnanswered, NoneUsed, TellsNothing, UsedVaryLittle, WidensLink}
+use Rattle.gptp_settling_time.specs.InTurn.{AddsHeard, BettersClock, MakesNothing, NoneUsed, TellsNothing, UsedVaryLittle, WidensLink}
 
 -- ---- times
 
@@ -51,30 +52,29 @@ way_span paths = pred paths.systems * paths.delay
 
 -- ---- events that are followed, by what stands just before each
 
--- It takes down a link of which an end has failed, or brings it up. That one which comes up makes nothing is known once
--- L + 5 announce intervals and what a way takes have passed since the network began.
-abbrev pub TurnsUnused : NetworkState → List Timed → Timed → Act → Type 0
-TurnsUnused n made event (Changing (LinkDown number port)) = EndHasFailed n made (port_id number port)
-TurnsUnused n made event (Changing (LinkUp number port)) =
-    EndHasFailed n made (port_id number port)
-    × (capability_span (pace_of n) + way_span (sync_paths n made) ≤ event.at)
-TurnsUnused n made event act = ⊥
+-- it takes down a link of which an end has failed, or brings it up
+abbrev pub TurnsUnused : NetworkState → List Timed → Act → Type 0
+TurnsUnused n made (Changing (LinkDown number port)) = EndHasFailed n made (port_id number port)
+TurnsUnused n made (Changing (LinkUp number port)) = EndHasFailed n made (port_id number port)
+TurnsUnused n made act = ⊥
 
 -- it makes nothing of what stands: it changes nothing, or it turns a link that isn't used
 abbrev pub IsIdleEvent : NetworkState → List Timed → Timed → Type 0
-IsIdleEvent n made event = ChangesNothing n made event.act ⊎ TurnsUnused n made event event.act
+IsIdleEvent n made event = ChangesNothing n made event.act ⊎ TurnsUnused n made event.act
 
 -- it takes nothing away, and ports are capable from the next time on
 abbrev pub IsGainEvent : NetworkState → ℕ → List Timed → Timed → Type 0
 IsGainEvent n next made event = TakesNothing n made event.act × LeavesCapable n made event next event.act
 
--- what it tells is heard at once: a link comes up whose delay varies little, or a priority1 gets better
+-- what it tells is heard at once: a link comes up whose delay varies little, a system recovers that uses none, or a
+-- priority1 gets better
 abbrev pub IsHeardEvent : NetworkState → ℕ → List Timed → Timed → Type 0
-IsHeardEvent n next made event = BringsUp n made event next ⊎ BettersClock n made event next
+IsHeardEvent n next made event = AddsHeard n made event next ⊎ BettersClock n made event next
 
--- behind such a one of the same time: a link that comes up so, or what makes nothing of what then stands
+-- behind such a one of the same time: a link that comes up so, a system that recovers so, or what makes nothing of what
+-- then stands
 abbrev pub IsHeardToo : NetworkState → ℕ → List Timed → Timed → Type 0
-IsHeardToo n next made event = BringsUp n made event next ⊎ MakesNothing n made event next
+IsHeardToo n next made event = AddsHeard n made event next ⊎ MakesNothing n made event next
 
 -- behind a gain of the same time: another, or what makes nothing of what then stands
 abbrev pub IsGainToo : NetworkState → ℕ → List Timed → Timed → Type 0
@@ -114,11 +114,6 @@ abbrev pub AreStartEvents : List Timed → Type 0
 AreStartEvents [] = ⊤
 AreStartEvents (event ∷ events) = TellsNothing event.act × AreStartEvents events
 
--- so do the events of time 0, if any, and after them no system waits for one that has failed
-abbrev pub StartsQuietly : NetworkState → List Timed → Type 0
-StartsQuietly n [] = ⊤
-StartsQuietly n (event ∷ events) = AreStartEvents (event ∷ events) × NoneUnanswered n (event ∷ events)
-
 -- ports are capable so much after time 0: by two exchanges, and at once where no link is in use
 abbrev pub AreReadyAtStart : NetworkState → List Timed → ℕ → Type 0
 AreReadyAtStart n now ready =
@@ -127,7 +122,7 @@ AreReadyAtStart n now ready =
 -- at time 0
 abbrev pub BoundsStart : NetworkState → List Timed → ℕ → Type 0
 BoundsStart n now choice =
-    StartsQuietly n now
+    AreStartEvents now
     × ((ready : ℕ) × AreReadyAtStart n now ready
     × ((UsedVaryLittle n now × (choice ≡ ready + way_span (sync_paths n now)))
     ⊎ (choice ≡ ready + largest_interval (pace_of n) + way_span (sync_paths n now))))

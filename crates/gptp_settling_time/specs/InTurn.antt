@@ -5,18 +5,18 @@
 -- so and all that is told over its links is *heard*, so that no announce interval has to pass. An event leads from one
 -- to another (`EventLeads`). It may always lead to any past. At time 0, as the network starts, it may take something
 -- away, since nothing is told yet. To a gain it leads where it takes nothing away, or changes nothing. To what is heard
--- it leads where the network has settled and it changes nothing, brings up a link between live systems, or sets a
--- better priority1. Where the delay of that link varies little the first Announce over it comes to a port that is
--- capable already, and a system that gets better tells so at once. What makes nothing of what stands leaves a network
--- settled that had settled, whatever it came from, and so does what widens the delays of a link in use. Where all was
--- heard before, links may also come up one after another at any time, as several at once; and what changes nothing asks
--- for no time at all.
-use Rattle.std.specs.Prelude.{◌≡◌, ◌<◌, ◌≤◌, ◌⊎◌, ◌+◌, ◌*◌, ℕ, ⊤, pred, true, List, [], ◌∷◌, ◌++◌, Option, Some, slice_get}
+-- it leads where the network has settled and it changes nothing, brings up a link between live systems, lets a system
+-- recover that uses none, or sets a better priority1. Where the delay of that link varies little the first Announce
+-- over it comes to a port that is capable already, and a system that gets better tells so at once. What makes nothing
+-- of what stands leaves a network settled that had settled, whatever it came from, and so does what widens the delays
+-- of a link in use. Where all was heard before, such links may also come up, and such systems recover, one after
+-- another at any time, as several at once; and what changes nothing asks for no time at all.
+use Rattle.std.specs.Prelude.{◌≡◌, ◌<◌, ◌≤◌, ◌⊎◌, ◌+◌, ◌*◌, ℕ, ⊤, pred, List, [], ◌∷◌, ◌++◌, Option, Some, slice_get}
 use Rattle.gptp_lists.specs.Members.{In}
 use Rattle.gptp_vector.specs.declared.port.PortId.{PortId}
 use Rattle.gptp_links.specs.declared.bounds.Bounds.{Bounds}
 use Rattle.gptp_setup.specs.SettlingParams.{largest_interval}
-use Rattle.gptp_scenario.specs.Calm.{IsCalm, IsLive, IsUsed, NothingLapses, last_change}
+use Rattle.gptp_scenario.specs.Calm.{IsCalm, IsUsed, NothingLapses, last_change}
 use Rattle.gptp_scenario.specs.Change.{link_after}
 use Rattle.gptp_scenario.specs.Network.{IsEnd, NetworkState, pace_of}
 use Rattle.gptp_scenario.specs.SettlingAtOnce.{settling_span_at_once}
@@ -24,7 +24,7 @@ use Rattle.gptp_scenario.specs.SettlingTime.{capability_span, settling_span_with
 use Rattle.gptp_scenario.specs.SyncWait.{sync_paths}
 use Rattle.gptp_scenario.specs.declared.change.Act.{Act}
 use Rattle.gptp_scenario.specs.declared.change.Act.TheVariants.{Change as Changing}
-use Rattle.gptp_scenario.specs.declared.change.Change.TheVariants.{Fail, LinkDown, LinkSet, LinkUp, Priority1}
+use Rattle.gptp_scenario.specs.declared.change.Change.TheVariants.{Fail, LinkDown, LinkSet, LinkUp, Priority1, Recover}
 use Rattle.gptp_scenario.specs.declared.change.Timed.{Timed}
 use Rattle.gptp_scenario.specs.declared.network.LinkSpec.{LinkSpec}
 use Rattle.gptp_model.specs.World.{WorldState, port_id}
@@ -34,7 +34,7 @@ use Rattle.gptp_report.specs.Transitions.{ActTrace, Unfolds}
 use Rattle.gptp_theorem.specs.PlayedLaws.{IsPlayable}
 use Rattle.gptp_settling_time.specs.Documents.{IsSettledAs}
 use Rattle.gptp_settling_time.specs.Exactly.{SettlesBy}
-use Rattle.gptp_settling_time.specs.Gains.{AreCapableAnyway, AreCapableNext, AreCapableStill, ChangesNothing, EndHasFailed, HasRested, IsDownAfter, IsNoWorse, JoinsLive, TakesNothing, exchanged_from}
+use Rattle.gptp_settling_time.specs.Gains.{AreCapableAnyway, AreCapableNext, AreCapableStill, ChangesNothing, EndHasFailed, HasRested, IsDownAfter, IsNoWorse, JoinsLive, LeavesCapable, TakesNothing, UsesNoLink, exchanged_from}
 
 -- what a network came from, and from when on its ports are capable
 pub data Past : Type 0 where
@@ -54,13 +54,6 @@ TellsNothing (Changing (Fail number)) = ⊤
 TellsNothing (Changing (Priority1 number value)) = ⊤
 TellsNothing act = ⊥
 
--- after these events no link that is up joins a live system to one that has failed
-abbrev pub NoneUnanswered : NetworkState → List Timed → Type 0
-NoneUnanswered n events = (place : ℕ) (v : LinkSpec) → slice_get n.links place ≡ Some v
-    → (link_after events v).up ≡ true
-    → (IsLive n.systems events (link_after events v).a.clock → IsLive n.systems events (link_after events v).b.clock)
-    × (IsLive n.systems events (link_after events v).b.clock → IsLive n.systems events (link_after events v).a.clock)
-
 -- after these events the greatest delay is below twice the least over each link in use
 abbrev pub UsedVaryLittle : NetworkState → List Timed → Type 0
 UsedVaryLittle n events = (place : ℕ) (v : LinkSpec) → slice_get n.links place ≡ Some v
@@ -79,12 +72,10 @@ abbrev pub AreCapableSoon : NetworkState → List Timed → ℕ → Type 0
 AreCapableSoon n events start =
     (exchanged_from (pace_of n) (sync_paths n events) 0 ≤ start) ⊎ (NoneUsed n events × (0 < start))
 
--- This is the last of such events of time 0: nothing is told yet after it, and no system waits for one that has failed.
--- Ports are capable from the next time on.
+-- This is the last of such events of time 0: nothing is told yet after it. Ports are capable from the next time on.
 pub record StartsWith (n : NetworkState) (before : List Timed) (event : Timed) (next : ℕ) : Type 0 where
   pub now : event.at ≡ 0
   pub tells : TellsNothing event.act
-  pub answered : NoneUnanswered n (before ++ event ∷ [])
   pub capable : AreCapableSoon n (before ++ event ∷ []) next
 
 -- ---- events
@@ -116,11 +107,18 @@ pub record BettersClock (n : NetworkState) (before : List Timed) (event : Timed)
   pub few : (sync_paths n before).systems ≤ 255
   pub later : event.at < next
 
+-- After these events this one lets a failed system recover that uses no link then. The other ports are as capable as
+-- they were.
+pub record RecoversAlone (n : NetworkState) (before : List Timed) (event : Timed) (next : ℕ) : Type 0 where
+  pub number : ℕ
+  pub act : event.act ≡ Changing (Recover number)
+  pub alone : UsesNoLink n (before ++ event ∷ []) number
+  pub capable : LeavesCapable n before event next (Changing (Recover number))
+
 -- After these events a link comes up or goes down of which an end has failed. The port at its other end takes no part:
--- unanswered it isn't capable from the start on, and one that comes up isn't capable before it is answered.
+-- unanswered it isn't capable from the start on where it goes down, nor ever where it comes up.
 abbrev pub TurnsInVain : NetworkState → List Timed → Timed → ℕ → Act → Type 0
-TurnsInVain n before event start (Changing (LinkUp number port)) =
-    EndHasFailed n before (port_id number port) × (capability_span (pace_of n) ≤ start)
+TurnsInVain n before event start (Changing (LinkUp number port)) = EndHasFailed n before (port_id number port)
 TurnsInVain n before event start (Changing (LinkDown number port)) =
     EndHasFailed n before (port_id number port) × (start ≤ event.at)
 TurnsInVain n before event start act = ⊥
@@ -181,6 +179,10 @@ abbrev pub HasSettledHeard : NetworkState → List Timed → ℕ → ℕ → Typ
 HasSettledHeard n events start time =
     start + pred (sync_paths n events).systems * (sync_paths n events).delay ≤ time
 
+-- it brings up a link, or lets a system recover that uses none
+abbrev pub AddsHeard : NetworkState → List Timed → Timed → ℕ → Type 0
+AddsHeard n before event next = BringsUp n before event next ⊎ RecoversAlone n before event next
+
 -- from rest ports are capable whatever came before; from a gain or a start they were so from another start on
 abbrev pub LeadsToGain : NetworkState → List Timed → Past → Timed → ℕ → Type 0
 LeadsToGain n before AnyPast event next =
@@ -193,7 +195,7 @@ LeadsToGain n before (Heard start) event next = AreCapableStill n before start e
 abbrev pub LeadsToHeard : NetworkState → List Timed → Past → Timed → ℕ → Type 0
 LeadsToHeard n before AnyPast event next =
     HasSettledAnyhow n before event.at
-    × (BringsUp n before event next
+    × (AddsHeard n before event next
     ⊎ (BettersClock n before event next
     ⊎ (LeavesSettled n before event next
     ⊎ WidensFrom n before event (last_change before + capability_span (pace_of n)) next)))
@@ -201,10 +203,10 @@ LeadsToHeard n before Starting event next =
     StartsWith n before event next × UsedVaryLittle n (before ++ event ∷ [])
 LeadsToHeard n before (Gained start) event next =
     HasSettledSince n before start event.at
-    × (BringsUp n before event next
+    × (AddsHeard n before event next
     ⊎ (BettersClock n before event next ⊎ (LeavesSettled n before event next ⊎ WidensFrom n before event start next)))
 LeadsToHeard n before (Heard start) event next =
-    ((start ≤ next) × BringsUp n before event next)
+    ((start ≤ next) × AddsHeard n before event next)
     ⊎ ((HasSettledHeard n before start event.at
     × (BettersClock n before event next ⊎ (LeavesSettled n before event next ⊎ WidensFrom n before event start next)))
     ⊎ (MakesNothing n before event start × (next ≡ start)))

@@ -41,6 +41,8 @@ pub struct Setup {
     pub phase: u64,
     /// How much faster its local clock runs, in units of 2^-41, -219,902,325 to 219,902,325: 100 parts in a million.
     pub drift: i32,
+    /// Whether it goes on with the time that it read where it becomes grandmaster; otherwise it tells its local clock.
+    pub continues: bool,
     /// The announce interval of each of its ports, the first of which has the number 1, -4 to `largest`.
     pub intervals: ArrayVec<i8, 16>,
     /// The largest announce interval of any port of the network, -4 to 4.
@@ -69,6 +71,7 @@ impl Setup {
             ports: self.ports,
             phase: self.phase,
             drift: self.drift,
+            continues: self.continues,
             intervals: copy_intervals(self.intervals.as_slice()),
             largest: self.largest,
             params: self.params,

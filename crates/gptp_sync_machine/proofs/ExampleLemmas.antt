@@ -25,7 +25,7 @@ module _ (k : FollowerSetting) (speaks : List ℕ → Message → Type 0) (x : S
     (one_sync : IsOneMessage speaks x.sync (Sync k.parent x.sequence))
     (one_follow_up : IsOneMessage speaks x.follow_up (FollowUp k.parent x.sequence x.told)) where
   -- the parent sends both
-  tells : (from k ≤ x.sent + (parent_link k).most → FollowUpIsRight k.way k.phase k.place x.told x.sent)
+  tells : (from k ≤ x.sent + (parent_link k).most → FollowUpIsRight k.way k.phase k.base k.place x.told x.sent)
       → ParentTells k speaks (ready k x) (example_told k x)
   tells right = record {
     unmoved = record { kept = refl; still = record { known = refl; relay = refl } };
@@ -108,7 +108,7 @@ module _ (k : FollowerSetting) (speaks : List ℕ → Message → Type 0) (x : S
 
   -- the states are a run
   pub comes : (rest : List Follower)
-      → (from k ≤ x.sent + (parent_link k).most → FollowUpIsRight k.way k.phase k.place x.told x.sent)
+      → (from k ≤ x.sent + (parent_link k).most → FollowUpIsRight k.way k.phase k.base k.place x.told x.sent)
       → IsFollowerRun k speaks (follow_up_due k x) rest → IsFollowerRun k speaks (ready k x) (coming k x ++ rest)
   comes rest right on = (
     inr (parent_tells (tells right)),
@@ -187,6 +187,7 @@ parent_is = record {
   end = refl;
   place = refl;
   root = refl;
+  base = refl;
   settled = refl;
   longest = refl;
 }
@@ -209,7 +210,7 @@ bridge_comes : IsFollowerRun at_bridge says (ready at_bridge from_root)
     (coming at_bridge from_root ++ going_on at_bridge from_root)
 bridge_comes = comes at_bridge says from_root (omega arith) (says_one (0 ∷ []) _ refl) (says_one (1 ∷ []) _ refl)
     (going_on at_bridge from_root) (λ late.
-    root_tells at_bridge (record { seconds = 2; nanos = 0 }) 0 from_root.sent refl
+    root_tells at_bridge (pos 0) (record { seconds = 2; nanos = 0 }) 0 from_root.sent refl refl
     (record { stamp = record { seconds = omega arith; nanos = omega arith }; small = omega arith; whole = refl }))
     (goes_on at_bridge says from_root (omega arith) (says_one (0 ∷ []) _ refl) (says_one (1 ∷ []) _ refl))
 
@@ -217,7 +218,8 @@ bridge_adds : IsHeldAt at_bridge.way 0 from_root.told.rate rate from_root.told.r
 bridge_adds = record { fits = omega (arith, ints); nearest = inl refl }
 
 -- what the bridge sends on is right
-bridge_right : FollowUpIsRight at_slave.way at_slave.phase at_slave.place from_bridge.told from_bridge.sent
+bridge_right : FollowUpIsRight at_slave.way at_slave.phase at_slave.base at_slave.place from_bridge.told
+    from_bridge.sent
 bridge_right = parent_tells_right at_bridge says at_slave (relay_due at_bridge from_root) (info at_bridge from_root)
     rate delay from_root.told.rate bridge_is slave_is parent_is
     (runs_keep_inv at_bridge says (ready at_bridge from_root) (relay_due at_bridge from_root)

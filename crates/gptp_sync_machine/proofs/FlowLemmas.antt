@@ -49,7 +49,7 @@ module _ (k : FollowerSetting) (says : List ℕ → Message → Type 0) where
 
   -- a Follow_Up that was sent now after its Sync
   module _ (time sequence : ℕ) (told : Relayed)
-      (right : from k ≤ time + (parent_link k).most → FollowUpIsRight k.way k.phase k.place told time) where
+      (right : from k ≤ time + (parent_link k).most → FollowUpIsRight k.way k.phase k.base k.place told time) where
     -- the first that isn't mute is the Follow_Up
     follow_up_flows : (came : ℕ) → time + (parent_link k).least ≤ came → (fs : List LaneFrame)
         → ((f : LaneFrame) → In f fs → came ≤ f.due) → ((f : LaneFrame) → In f fs → f.due ≤ time + (parent_link k).most)

@@ -1,9 +1,9 @@
 -- The invariant of a system that follows its parent: it begins, every act keeps it, and what it gives.
-use Rattle.std.proofs.Common.{◌≡◌, ◌⊎◌, ◌<◌, ◌++◌, ℕ, List, ◌∷◌, Option, Some, None, sym, ap, subst, ◌∙◌, inl, inr, arith}
+use Rattle.std.proofs.Common.{◌≡◌, ◌⊎◌, ◌<◌, ◌++◌, ℕ, ℤ, List, [], ◌∷◌, Option, Some, None, sym, ap, subst, ◌∙◌, inl, inr, arith}
 use Rattle.gptp_correction.specs.declared.correction.Relayed.{Relayed}
 use Rattle.gptp_pdelay_machine.specs.Lanes.{LaneFrame, IsMute}
 use Rattle.gptp_sync_machine.specs.Messages.{Message}
-use Rattle.gptp_sync_machine.specs.Right.{info_of}
+use Rattle.gptp_sync_machine.specs.Right.{FollowUpIsRight, follow_up_told, info_of}
 use Rattle.gptp_sync_machine.specs.Follower.{Follower, IsSetting, FollowerSync, FollowerSetting, from, own_clock}
 use Rattle.gptp_sync_machine.specs.Flows.{Arrival, FramesFlow, TellsRight, arrival}
 use Rattle.gptp_sync_machine.specs.Acts.{FollowerActs, FrameArrives, Knows, KnowsAnew, KnowsStill, FollowerWaits, hears, kept_at_ingress, others_send, parent_tells, relays}
@@ -163,4 +163,40 @@ module _ (k : FollowerSetting) (says : List ℕ → Message → Type 0) where
     flows = FlowLemmas.flows_old k says s.lane
         (λ f at. let by = fresh.lane f at in omega (arith, by, is.short));
     known = λ info due known relay late. (let by = fresh.relay due relay in absurd (omega (arith, by, late)));
+  }
+
+-- ---- a root that tells no time yet
+
+module _ (k : FollowerSetting) (ahead : ℤ) (none : k.base ≡ None) (says : List ℕ → Message → Type 0) where
+  abbrev based : FollowerSetting
+  based = record k { base = Some ahead }
+
+  -- nothing that it told is right yet
+  nothing_right : (i : ℕ) (told : Relayed) (sent : ℕ) → FollowUpIsRight k.way k.phase k.base i told sent → ⊥
+  nothing_right i told sent right = never (sym none ∙ right.base_is)
+    where
+      never : None ≡ Some right.ahead → ⊥
+      never e = cc
+
+  flows_on : (kept : Option Arrival) (fs : List LaneFrame) → FramesFlow k says kept fs → FramesFlow based says kept fs
+  flows_on kept [] flows = tt
+  flows_on kept (f ∷ fs) (inl (early, rest)) = inl (early, flows_on None fs rest)
+  flows_on kept (f ∷ fs) (inr (inl (mute, rest))) = inr (inl (mute, flows_on kept fs rest))
+  flows_on kept (f ∷ fs) (inr (inr (inl (sequence, said, rest)))) =
+      inr (inr (inl (sequence, said, flows_on (Some (arrival sequence f.due)) fs rest)))
+  flows_on kept (f ∷ fs) (inr (inr (inr (sequence, told, said, is_told, rest)))) =
+      absurd (nothing_right k.place told is_told.sent is_told.right)
+
+  kept_on : (a : Option Arrival) (now : Option FollowerSync) → IsKept k a now → IsKept based a now
+  kept_on None now is = tt
+  kept_on (Some a) now is = is
+
+  pub base_comes : (s : Follower) → FollowerInvariant k says s → FollowerInvariant based says s
+  base_comes s inv = record {
+    arrival = inv.arrival;
+    is_kept = kept_on inv.arrival s.kept inv.is_kept;
+    flows = flows_on inv.arrival s.lane inv.flows;
+    known = λ info due known relay late.
+        (let i = inv.known info due known relay late in absurd (nothing_right k.place (follow_up_told info) i.sent
+        i.right));
   }

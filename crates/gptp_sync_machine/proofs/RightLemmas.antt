@@ -1,5 +1,5 @@
 -- What is told and known on a way, hop by hop.
-use Rattle.std.proofs.Common.{◌≡◌, ℕ, zero, suc, ◌*◌, ◌+◌, ◌-◌, ◌<◌, ◌≤◌, ℤ, pos, negsuc, ◌^◌, ◌⊎◌, inl, inr, ◌+ℤ◌, ◌-ℤ◌, ◌≤ℤ◌, length, ap, ◌∙◌, sym, refl, arith}
+use Rattle.std.proofs.Common.{◌≡◌, ℕ, zero, suc, ◌*◌, ◌+◌, ◌-◌, ◌<◌, ◌≤◌, ℤ, pos, negsuc, ◌^◌, ◌⊎◌, inl, inr, ◌+ℤ◌, ◌-ℤ◌, ◌≤ℤ◌, length, Option, Some, ap, ◌∙◌, sym, refl, arith}
 use Rattle.std.specs.Prelude.{min}
 use Rattle.std.proofs.lemmas.Int.{ints}
 use Rattle.gptp_scaled.specs.Rate.{FitsRate, IsNeighborRate, unit}
@@ -22,14 +22,17 @@ use Rattle.gptp_error_laws.proofs.CutLemmas.{neighbours_are_near}
 use Rattle.gptp_error_laws.proofs.WayLemmas.{adds, ceil_reaches, error_before, error_behind, error_sent, link_grows, natural, rate_so_far, size_is, stay_grows, steady_is_limited}
 use Rattle.gptp_error_laws.proofs.LongerLemmas.{link_same, parents_error_stays, rates_same, steady_same, sum_same, total_same}
 use Rattle.gptp_sync_machine.proofs.SizeLemmas.{IsSmall, passage_small}
-use Rattle.gptp_sync_machine.specs.Right.{IsHeldAt, IsMeasuredAt, IsModest, FollowUpIsRight, at_rate, info_of, measured_error_at, most_correction_at, sent_error_at}
+use Rattle.gptp_sync_machine.specs.Right.{IsHeldAt, IsMeasuredAt, IsModest, FollowUpIsRight, at_rate, info_of, measured_error_at, most_correction_at, sent_error_at, told_at}
 use Rattle.gptp_sync_machine.specs.RightLaws.{BridgeNumbersFit, BridgeTellsRight, ExchangesMeasureRight, HeldIsRight, IsOnWay, OffsetIsRight, RightStays, RootTellsRight}
 
 pub root_tells_right : RootTellsRight
-root_tells_right w phase stamp rest sent split =
+root_tells_right w phase ahead stamp rest sent split =
     let whole = split.whole in
     let small = split.small in
     record {
+      ahead = ahead;
+      base_is = refl;
+      origin = split.stamp;
       time = record { low = omega (arith, ints, whole); high = omega (arith, ints, whole) };
       later = omega (arith, ints);
       small = omega (arith, ints, small);
@@ -38,7 +41,7 @@ root_tells_right w phase stamp rest sent split =
     }
 
 pub held_is_right : HeldIsRight
-held_is_right w phase i told sent neighbour held limited at right = by_case at.nearest
+held_is_right w phase base i told sent neighbour held limited at right = by_case at.nearest
   where
     near : AreWithin (total_below i (measured_error_at w)) told.rate (sum_below i (steady_rate_at w))
     near = right.rate
@@ -47,8 +50,11 @@ held_is_right w phase i told sent neighbour held limited at right = by_case at.n
     fits = right.fits
 
     other : AreWithin (total_below i (measured_error_at w)) held (sum_below i (steady_rate_at w)) → FitsRate held
-        → FollowUpIsRight w phase i (at_rate told held) sent
+        → FollowUpIsRight w phase base i (at_rate told held) sent
     other within fits' = record {
+      ahead = right.ahead;
+      base_is = right.base_is;
+      origin = right.origin;
       time = right.time;
       later = right.later;
       small = right.small;
@@ -58,7 +64,7 @@ held_is_right w phase i told sent neighbour held limited at right = by_case at.n
 
     by_case : (held ≡ told.rate) ⊎ (IsModest w i × (((held +ℤ neighbour ≡ pos 2147483647) × (held ≤ℤ told.rate))
         ⊎ ((held +ℤ neighbour ≡ negsuc 2147483647) × (told.rate ≤ℤ held))))
-        → FollowUpIsRight w phase i (at_rate told held) sent
+        → FollowUpIsRight w phase base i (at_rate told held) sent
     by_case (inl same) = other (rw same near) (rw same fits)
     by_case (inr (modest, inl (greatest, below))) =
         let sum = size_is (sum_below i (steady_rate_at w)) in
@@ -98,10 +104,10 @@ rate_is w k n h sum near fits rate e =
     (record { low = omega (arith, ints, near.low, errors); high = omega (arith, ints, near.high, errors) }) fits rate e
 
 -- what is known of the hop over the link
-pub over_link : (w : Way) (phase : ℕ → ℕ) (i : ℕ) (told : Relayed) (sent came : ℕ) (rate delay : ℤ) →
-    IsOnWay w phase i told sent came → IsMeasuredAt w i rate delay → let l = link_at w i in
+pub over_link : (w : Way) (phase : ℕ → ℕ) (base : Option ℤ) (i : ℕ) (told : Relayed) (sent came : ℕ) (rate delay : ℤ) →
+    IsOnWay w phase base i told sent came → IsMeasuredAt w i rate delay → let l = link_at w i in
     IsOverLink l.least l.most w.turnaround (clock_at w 0) (clock_at w i) (error_before w i) told.rate rate delay
-over_link w phase i told sent came rate delay on measured =
+over_link w phase base i told sent came rate delay on measured =
     let right = on.right in
     let fits = right.fits in
     let near = on.on_way in
@@ -119,10 +125,10 @@ over_link w phase i told sent came rate delay on measured =
     }
 
 -- the sum of the rates after it is right
-rates_add : (w : Way) (phase : ℕ → ℕ) (i : ℕ) (told : Relayed) (sent : ℕ) (rate delay : ℤ) →
-    FollowUpIsRight w phase i told sent → IsMeasuredAt w i rate delay →
+rates_add : (w : Way) (phase : ℕ → ℕ) (base : Option ℤ) (i : ℕ) (told : Relayed) (sent : ℕ) (rate delay : ℤ) →
+    FollowUpIsRight w phase base i told sent → IsMeasuredAt w i rate delay →
     AreWithin (total_below (suc i) (measured_error_at w)) (told.rate +ℤ rate) (sum_below (suc i) (steady_rate_at w))
-rates_add w phase i told sent rate delay right measured =
+rates_add w phase base i told sent rate delay right measured =
     let before = right.rate in
     let here = measured.rate_within in
     record {
@@ -131,38 +137,43 @@ rates_add w phase i told sent rate delay right measured =
     }
 
 -- and of the rate after it
-pub rate_behind : (w : Way) (phase : ℕ → ℕ) (i : ℕ) (told : Relayed) (sent came : ℕ) (rate delay : ℤ) →
-    IsOnWay w phase i told sent came → IsMeasuredAt w i rate delay → FitsRate (told.rate +ℤ rate) →
+pub rate_behind : (w : Way) (phase : ℕ → ℕ) (base : Option ℤ) (i : ℕ) (told : Relayed) (sent came : ℕ) (rate delay : ℤ)
+    → IsOnWay w phase base i told sent came → IsMeasuredAt w i rate delay → FitsRate (told.rate +ℤ rate) →
     IsRateBehind (clock_at w 0) (clock_at w (suc i)) (rates_error_at w i) (told.rate +ℤ rate)
-rate_behind w phase i told sent came rate delay on measured fits =
+rate_behind w phase base i told sent came rate delay on measured fits =
     let (after, e) = natural (unit +ℤ (told.rate +ℤ rate)) (omega (arith, ints, fits)) in
     record {
       after = after;
       after_is = e;
       within = rate_is w on.documented (suc i) on.on_way (told.rate +ℤ rate)
-          (rates_add w phase i told sent rate delay on.right measured) fits after e;
+          (rates_add w phase base i told sent rate delay on.right measured) fits after e;
     }
 
 -- what was told on the way, at the rate that is held
-pub held_on_way : (w : Way) (phase : ℕ → ℕ) (i : ℕ) (told : Relayed) (sent came : ℕ) (rate delay held : ℤ) →
-    IsOnWay w phase i told sent came → IsMeasuredAt w i rate delay → IsHeldAt w i told.rate rate held →
-    IsOnWay w phase i (at_rate told held) sent came
-held_on_way w phase i told sent came rate delay held on measured at = record {
+pub held_on_way : (w : Way) (phase : ℕ → ℕ) (base : Option ℤ) (i : ℕ) (told : Relayed) (sent came : ℕ)
+    (rate delay held : ℤ) →
+    IsOnWay w phase base i told sent came → IsMeasuredAt w i rate delay → IsHeldAt w i told.rate rate held →
+    IsOnWay w phase base i (at_rate told held) sent came
+held_on_way w phase base i told sent came rate delay held on measured at = record {
   documented = on.documented;
   on_way = on.on_way;
   long = on.long;
   short = on.short;
-  right = held_is_right w phase i told sent rate held measured.limited at on.right;
+  right = held_is_right w phase base i told sent rate held measured.limited at on.right;
 }
 
+-- two times that a base moves
+pub both_moved : (a b base : ℤ) (passed : ℕ) → b -ℤ a ≡ pos passed → (b +ℤ base) -ℤ (a +ℤ base) ≡ pos passed
+both_moved a b base passed is = omega (arith, ints, is)
+
 -- what a bridge adds to the correction isn't negative, and is small
-added_small : (w : Way) (phase : ℕ → ℕ) (i : ℕ) (told : Relayed) (sent came due : ℕ) (rate delay : ℤ) →
-    IsOnWay w phase i told sent came → IsMeasuredAt w i rate delay →
+added_small : (w : Way) (phase : ℕ → ℕ) (base : Option ℤ) (i : ℕ) (told : Relayed) (sent came due : ℕ) (rate delay : ℤ)
+    → IsOnWay w phase base i told sent came → IsMeasuredAt w i rate delay →
     IsByMost came due (w.residence + jitter_at w i) → FitsRate (told.rate +ℤ rate) →
     let info = info_of told (shown_at w phase (suc i) came) in
     IsSmall ((link_at w i).most + w.turnaround + w.residence + jitter_at w i + 1)
     (bridge info delay rate (shown_at w phase (suc i) due)) (told.rate +ℤ rate)
-added_small w phase i told sent came due rate delay on measured (later, soon) fits =
+added_small w phase base i told sent came due rate delay on measured (later, soon) fits =
     let l = link_at w i in
     let info = info_of told (shown_at w phase (suc i) came) in
     let hop = bridge info delay rate (shown_at w phase (suc i) due) in
@@ -173,12 +184,13 @@ added_small w phase i told sent came due rate delay on measured (later, soon) fi
     (clock_counts.rate (drift_at w (suc i)) drifts) measured.limited measured.delay_within fits count.is count.counted
     (omega (arith, soon, later))
 
-right_behind : (w : Way) (phase : ℕ → ℕ) (i : ℕ) (told : Relayed) (sent came due : ℕ) (rate delay : ℤ) →
-    IsOnWay w phase i told sent came → IsMeasuredAt w i rate delay →
+right_behind : (w : Way) (phase : ℕ → ℕ) (base : Option ℤ) (i : ℕ) (told : Relayed) (sent came due : ℕ)
+    (rate delay : ℤ) →
+    IsOnWay w phase base i told sent came → IsMeasuredAt w i rate delay →
     IsByMost came due (w.residence + jitter_at w i) → FitsRate (told.rate +ℤ rate) →
     let info = info_of told (shown_at w phase (suc i) came) in
-    FollowUpIsRight w phase (suc i) (relayed info (bridge info delay rate (shown_at w phase (suc i) due))) due
-right_behind w phase i told sent came due rate delay on measured (later, soon) fits =
+    FollowUpIsRight w phase base (suc i) (relayed info (bridge info delay rate (shown_at w phase (suc i) due))) due
+right_behind w phase base i told sent came due rate delay on measured (later, soon) fits =
     let l = link_at w i in
     let ingress = shown_at w phase (suc i) came in
     let egress = shown_at w phase (suc i) due in
@@ -193,38 +205,43 @@ right_behind w phase i told sent came due rate delay on measured (later, soon) f
     let parts : due - sent ≡ passing + stay = omega (arith, on.long, later) in
     let added = hop_keeps l.least l.most w.turnaround (clock_at w 0) (clock_at w i) (clock_at w (suc i))
     (error_before w i) (rates_error_at w i) passing stay count.count passed.count info hop
-    (over_link w phase i told sent came rate delay on measured)
-    (rate_behind w phase i told sent came rate delay on measured fits)
+    (over_link w phase base i told sent came rate delay on measured)
+    (rate_behind w phase base i told sent came rate delay on measured fits)
     (clock_counts.rate (drift_at w (suc i)) drifts) (omega (arith, on.long)) (omega (arith, on.short, on.long))
     count.counted count.is (rw parts at passed.counted) in
     let sum = adds (sent_error_at w i) _ (sent_error_at w (suc i)) (scaled_of told.origin) told.correction
-    ((relayed info hop).correction -ℤ told.correction) (shown_at w phase 0 sent) (shown_at w phase 0 due) passed.count
+    ((relayed info hop).correction -ℤ told.correction) (told_at w phase on.right.ahead sent)
+    (told_at w phase on.right.ahead due) passed.count
     (omega (arith, sent_error_is w i, sent_error_is w (suc i), stay_grows w i stay (omega (arith, later, soon))))
-    passed.is on.right.time added in
-    let more = added_small w phase i told sent came due rate delay on measured (later, soon) fits in
+    (both_moved (shown_at w phase 0 sent) (shown_at w phase 0 due) on.right.ahead passed.count passed.is) on.right.time
+    added in
+    let more = added_small w phase base i told sent came due rate delay on measured (later, soon) fits in
     record {
+      ahead = on.right.ahead;
+      base_is = on.right.base_is;
+      origin = on.right.origin;
       time = record { low = omega (arith, ints, sum.low); high = omega (arith, ints, sum.high) };
       later = omega (arith, ints, on.right.later, more.later);
       small = omega (arith, ints, on.right.small, more.small);
-      rate = rates_add w phase i told sent rate delay on.right measured;
+      rate = rates_add w phase base i told sent rate delay on.right measured;
       fits = fits;
     }
 
 pub bridge_tells_right : BridgeTellsRight
-bridge_tells_right w phase i told sent came due rate delay held on measured in_time at =
-    right_behind w phase i (at_rate told held) sent came due rate delay
-    (held_on_way w phase i told sent came rate delay held on measured at) measured in_time at.fits
+bridge_tells_right w phase base i told sent came due rate delay held on measured in_time at =
+    right_behind w phase base i (at_rate told held) sent came due rate delay
+    (held_on_way w phase base i told sent came rate delay held on measured at) measured in_time at.fits
 
 -- the numbers fit
-numbers_fit : (w : Way) (phase : ℕ → ℕ) (i : ℕ) (told : Relayed) (sent came due : ℕ) (rate delay : ℤ) →
-    IsOnWay w phase i told sent came → IsMeasuredAt w i rate delay →
+numbers_fit : (w : Way) (phase : ℕ → ℕ) (base : Option ℤ) (i : ℕ) (told : Relayed) (sent came due : ℕ) (rate delay : ℤ)
+    → IsOnWay w phase base i told sent came → IsMeasuredAt w i rate delay →
     IsByMost came due (w.residence + jitter_at w i) → FitsRate (told.rate +ℤ rate) →
     most_correction_at w (suc i) < 2 ^ 63 → IsTime (shown_at w phase (suc i) came) →
     IsTime (shown_at w phase (suc i) due) → let info = info_of told (shown_at w phase (suc i) came) in
     let hop = bridge info delay rate (shown_at w phase (suc i) due) in
     BridgeFits hop (carried_on (carried info) hop)
-numbers_fit w phase i told sent came due rate delay on measured in_time fits short at_ingress at_egress =
-    let more = added_small w phase i told sent came due rate delay on measured in_time fits in
+numbers_fit w phase base i told sent came due rate delay on measured in_time fits short at_ingress at_egress =
+    let more = added_small w phase base i told sent came due rate delay on measured in_time fits in
     let right = on.right in
     record {
       link = record {
@@ -246,17 +263,20 @@ numbers_fit w phase i told sent came due rate delay on measured in_time fits sho
     }
 
 pub bridge_numbers_fit : BridgeNumbersFit
-bridge_numbers_fit w phase i told sent came due rate delay held on measured in_time at short ingress egress =
-    numbers_fit w phase i (at_rate told held) sent came due rate delay
-    (held_on_way w phase i told sent came rate delay held on measured at) measured in_time at.fits short ingress egress
+bridge_numbers_fit w phase base i told sent came due rate delay held on measured in_time at short ingress egress =
+    numbers_fit w phase base i (at_rate told held) sent came due rate delay
+    (held_on_way w phase base i told sent came rate delay held on measured at) measured in_time at.fits short ingress
+    egress
 
 -- the offset that is computed from what was told
-offset_within : (w : Way) (phase : ℕ → ℕ) (i : ℕ) (told : Relayed) (sent came now : ℕ) (rate delay : ℤ) →
-    IsOnWay w phase i told sent came → IsMeasuredAt w i rate delay → came ≤ now → now ≤ sent + (link_at w i).most →
+offset_within : (w : Way) (phase : ℕ → ℕ) (base : Option ℤ) (i : ℕ) (told : Relayed) (sent came now : ℕ)
+    (rate delay : ℤ) →
+    IsOnWay w phase base i told sent came → IsMeasuredAt w i rate delay → came ≤ now → now ≤ sent + (link_at w i).most →
     let ingress = shown_at w phase (suc i) came in
-    AreWithin (time_error_at w (suc i)) (ingress -ℤ sync_received (info_of told ingress) delay rate)
-    (shown_at w phase (suc i) now -ℤ shown_at w phase 0 now)
-offset_within w phase i told sent came now rate delay on measured later soon =
+    (ahead : ℤ) × (base ≡ Some ahead)
+    × AreWithin (time_error_at w (suc i)) (ingress -ℤ sync_received (info_of told ingress) delay rate)
+    (shown_at w phase (suc i) now -ℤ told_at w phase ahead now)
+offset_within w phase base i told sent came now rate delay on measured later soon =
     let l = link_at w i in
     let ingress = shown_at w phase (suc i) came in
     let info = info_of told ingress in
@@ -270,21 +290,23 @@ offset_within w phase i told sent came now rate delay on measured later soon =
     let added = sync_received info delay rate -ℤ (scaled_of told.origin +ℤ told.correction) +ℤ pos count.count in
     let within = offset_is_within l.least l.most w.turnaround (clock_at w 0) (clock_at w i) (clock_at w (suc i))
     (error_before w i) passing wait count.count passed.count info delay rate
-    (over_link w phase i told sent came rate delay on measured) (clock_counts.rate (drift_at w (suc i)) drifts)
+    (over_link w phase base i told sent came rate delay on measured) (clock_counts.rate (drift_at w (suc i)) drifts)
     (omega (arith, on.long)) (omega (arith, on.short, on.long)) (omega (arith, on.long, soon)) count.counted
     (rw parts at passed.counted) in
     let sum = adds (sent_error_at w i) _ (33550000 * time_error_at w (suc i)) (scaled_of told.origin) told.correction
-    added (shown_at w phase 0 sent) (shown_at w phase 0 now) passed.count
-    (omega (arith, sent_error_is w i, error_behind w i, link_grows w i)) passed.is on.right.time within in
-    record {
-      low = omega (arith, ints, sum.high, count.is);
-      high = omega (arith, ints, sum.low, count.is);
-    }
+    added (told_at w phase on.right.ahead sent) (told_at w phase on.right.ahead now) passed.count
+    (omega (arith, sent_error_is w i, error_behind w i, link_grows w i))
+    (both_moved (shown_at w phase 0 sent) (shown_at w phase 0 now) on.right.ahead passed.count passed.is) on.right.time
+    within in (
+      on.right.ahead,
+      on.right.base_is,
+      record { low = omega (arith, ints, sum.high, count.is); high = omega (arith, ints, sum.low, count.is) },
+    )
 
 pub offset_is_right : OffsetIsRight
-offset_is_right w phase i told sent came now rate delay held on measured at later soon =
-    offset_within w phase i (at_rate told held) sent came now rate delay
-    (held_on_way w phase i told sent came rate delay held on measured at) measured later soon
+offset_is_right w phase base i told sent came now rate delay held on measured at later soon =
+    offset_within w phase base i (at_rate told held) sent came now rate delay
+    (held_on_way w phase base i told sent came rate delay held on measured at) measured later soon
 
 -- what is measured on the links that a way had stays as it was
 measured_same : (w : Way) (l : WayLink) (i : ℕ) → i < length w.links →
@@ -309,7 +331,7 @@ abbrev passing_at : Way → ℕ → ℕ
 passing_at w j = 131072 * ((link_at w j).most + w.turnaround + w.residence + jitter_at w j + 1)
 
 pub right_stays : RightStays
-right_stays w l phase phase' i told sent h root right =
+right_stays w l phase phase' base i told sent h root right =
     let errors = total_same i (measured_error_at (longer w l)) (measured_error_at w)
     (λ j m. measured_same w l j (omega (arith, h, m))) in
     let rates = sum_same i (steady_rate_at (longer w l)) (steady_rate_at w)
@@ -319,6 +341,9 @@ right_stays w l phase phase' i told sent h root right =
     (link_same w l j (omega (arith, h, m)))) in
     let small = right.small in
     record {
+      ahead = right.ahead;
+      base_is = right.base_is;
+      origin = right.origin;
       time = rw (sent_same w l i h, root) right.time;
       later = right.later;
       small = omega (arith, ints, most, small);

@@ -12,7 +12,7 @@ use Rattle.gptp_error_laws.specs.TimeError.{jitter_at, time_error_at}
 use Rattle.gptp_sync_machine.specs.Messages.{Message, Sync, FollowUp, IsOneMessage}
 use Rattle.gptp_sync_machine.specs.Right.{IsHeldAt, IsMeasuredAt, FollowUpIsRight, at_rate, info_of, most_correction_at, root_time, follow_up_told}
 use Rattle.gptp_sync_machine.specs.RightLaws.{IsOnWay}
-use Rattle.gptp_sync_machine.specs.Follower.{Follower, IsSetting, FollowerSync, FollowerSetting, from, parent_link, own_clock, root_clock}
+use Rattle.gptp_sync_machine.specs.Follower.{Follower, IsSetting, FollowerSync, FollowerSetting, from, parent_link, own_clock, root_told}
 use Rattle.gptp_sync_machine.specs.Flows.{AreCarried, Arrival, FramesFlow, TellsRight}
 use Rattle.gptp_sync_machine.specs.Acts.{kept_at_ingress}
 use Rattle.gptp_sync_machine.specs.Invariant.{FollowerInvariant, IsInformed, IsKept}
@@ -20,9 +20,10 @@ use Rattle.gptp_sync_machine.specs.FollowerLaws.{IsParentOf, RootTells}
 use Rattle.gptp_sync_machine.proofs.RightLemmas.{bridge_numbers_fit, bridge_tells_right, offset_is_right, right_stays, root_tells_right}
 
 pub root_tells : RootTells
-root_tells k stamp rest sent first split =
-    subst (λ i. FollowUpIsRight k.way k.phase i (root_time stamp rest) sent) (sym first)
-    (root_tells_right k.way k.phase stamp rest sent split)
+root_tells k ahead stamp rest sent first told split =
+    subst (λ i. FollowUpIsRight k.way k.phase k.base i (root_time stamp rest) sent) (sym first)
+    (subst (λ base. FollowUpIsRight k.way k.phase base 0 (root_time stamp rest) sent) (sym told)
+    (root_tells_right k.way k.phase ahead stamp rest sent split))
 
 -- what comes to those that follow the system when it is right there was heard when what comes is right here
 parents_time : (k k' : FollowerSetting) (time : ℕ) → IsSetting k' → IsParentOf k k'
@@ -36,7 +37,7 @@ parents_time k k' time is' parent late =
 
 -- what is known was told on the way
 on_way : (k : FollowerSetting) (told : Relayed) (sent came heard : ℕ) → IsSetting k → AreCarried k sent came heard
-    → FollowUpIsRight k.way k.phase k.place told sent → IsOnWay k.way k.phase k.place told sent came
+    → FollowUpIsRight k.way k.phase k.base k.place told sent → IsOnWay k.way k.phase k.base k.place told sent came
 on_way k told sent came heard is carried right = record {
   documented = is.documented;
   on_way = is.on_way;
@@ -65,12 +66,14 @@ module _ (k : FollowerSetting) (says : List ℕ → Message → Type 0) where
       → s.known ≡ Some info → s.relay ≡ Some s.time → from k + k.way.residence ≤ s.time
       → IsMeasuredAt k.way k.place rate delay → IsHeldAt k.way k.place info.rate rate held
       → let used = record info { rate = held } in
-      FollowUpIsRight k.way k.phase (suc k.place) (relayed used (bridge used delay rate (own_clock k s.time))) s.time
+      FollowUpIsRight k.way k.phase k.base (suc k.place) (relayed used (bridge used delay rate (own_clock k s.time)))
+      s.time
   relay_tells_right s info rate delay held is inv known relay late measured at =
       let i = inv.known info s.time known relay late in
-      let right = bridge_tells_right k.way k.phase k.place (follow_up_told info) i.sent i.came s.time rate delay held
+      let right = bridge_tells_right k.way k.phase k.base k.place (follow_up_told info) i.sent i.came s.time rate delay
+      held
       (on_way k (follow_up_told info) i.sent i.came i.heard is i.carried i.right) measured (stays info s.time i) at in
-      subst (λ (x : SyncInfo). FollowUpIsRight k.way k.phase (suc k.place)
+      subst (λ (x : SyncInfo). FollowUpIsRight k.way k.phase k.base (suc k.place)
       (relayed x (bridge x delay rate (own_clock k s.time))) s.time) (info_is info s.time held i) right
 
   pub parents_numbers_fit : (s : Follower) (info : SyncInfo) (rate delay held : ℤ) → IsSetting k
@@ -85,7 +88,8 @@ module _ (k : FollowerSetting) (says : List ℕ → Message → Type 0) where
   parents_numbers_fit s info rate delay held is inv known relay late measured at short shown =
       let i = inv.known info s.time known relay late in
       let stay = stays info s.time i in
-      let fits = bridge_numbers_fit k.way k.phase k.place (follow_up_told info) i.sent i.came s.time rate delay held
+      let fits = bridge_numbers_fit k.way k.phase k.base k.place (follow_up_told info) i.sent i.came s.time rate delay
+      held
       (on_way k (follow_up_told info) i.sent i.came i.heard is i.carried i.right) measured stay at short
       (shown i.came stay.0) (shown s.time (omega arith)) in
       subst (λ (x : SyncInfo). BridgeFits (bridge x delay rate (own_clock k s.time))
@@ -96,15 +100,16 @@ module _ (k : FollowerSetting) (says : List ℕ → Message → Type 0) where
       → s.known ≡ Some info → s.relay ≡ Some s.time → from k' ≤ s.time + (parent_link k').most
       → IsMeasuredAt k.way k.place rate delay → IsHeldAt k.way k.place info.rate rate held
       → let used = record info { rate = held } in
-      FollowUpIsRight k'.way k'.phase k'.place (relayed used (bridge used delay rate (own_clock k s.time))) s.time
+      FollowUpIsRight k'.way k'.phase k'.base k'.place (relayed used (bridge used delay rate (own_clock k s.time)))
+      s.time
   parent_tells_right k' s info rate delay held is is' parent inv known relay late measured at =
       let used : SyncInfo = record info { rate = held } in
       let right = relay_tells_right s info rate delay held is inv known relay
       (parents_time k k' s.time is' parent late) measured at in
-      let there = right_stays k.way parent.link k.phase k'.phase (suc k.place)
+      let there = right_stays k.way parent.link k.phase k'.phase k.base (suc k.place)
       (relayed used (bridge used delay rate (own_clock k s.time))) s.time (omega (arith, parent.end)) parent.root
       right in
-      rw (parent.way, parent.place) there
+      rw (parent.way, parent.place, parent.base) there
 
   pub offset_is_exact : (s : Follower) (front : LaneFrame) (rest : List LaneFrame) (source : PortIdentity)
       (sequence : ℕ) (told : Relayed) (ingress rate delay held : ℤ)
@@ -113,17 +118,17 @@ module _ (k : FollowerSetting) (says : List ℕ → Message → Type 0) where
       → IsOneMessage says front.octets (FollowUp source sequence told)
       → s.kept ≡ Some (kept_at_ingress source sequence ingress) → IsMeasuredAt k.way k.place rate delay
       → IsHeldAt k.way k.place told.rate rate held
-      → AreWithin (time_error_at k.way (suc k.place))
+      → (ahead : ℤ) × (k.base ≡ Some ahead) × AreWithin (time_error_at k.way (suc k.place))
       (ingress -ℤ sync_received (info_of (at_rate told held) ingress) delay rate)
-      (own_clock k s.time -ℤ root_clock k s.time)
+      (own_clock k s.time -ℤ root_told k ahead s.time)
   offset_is_exact s front rest source sequence told ingress rate delay held is inv was now late one keeps measured
       held_at =
       by_frame inv.arrival inv.is_kept (subst (λ fs. FramesFlow k says inv.arrival fs) was inv.flows)
     where
       Claim : Type 0
-      Claim = AreWithin (time_error_at k.way (suc k.place))
+      Claim = (ahead : ℤ) × (k.base ≡ Some ahead) × AreWithin (time_error_at k.way (suc k.place))
           (ingress -ℤ sync_received (info_of (at_rate told held) ingress) delay rate)
-          (own_clock k s.time -ℤ root_clock k s.time)
+          (own_clock k s.time -ℤ root_told k ahead s.time)
 
       -- of what was told as it was sent
       exact : (told' : Relayed) (a : Arrival) → told' ≡ told → ingress ≡ own_clock k a.came
@@ -132,14 +137,17 @@ module _ (k : FollowerSetting) (says : List ℕ → Message → Type 0) where
           let came : a.came ≡ t.came = came_is t.kept_is in
           let then : own_clock k t.came ≡ ingress = ap (λ c. own_clock k c) (sym came) ∙ sym at in
           let carried = t.carried in
-          let right = offset_is_right k.way k.phase k.place told t.sent t.came s.time rate delay held
+          let right = offset_is_right k.way k.phase k.base k.place told t.sent t.came s.time rate delay held
           (on_way k told t.sent t.came s.time is carried
-          (subst (λ (m : Relayed). FollowUpIsRight k.way k.phase k.place m t.sent) e t.right)) measured held_at
+          (subst (λ (m : Relayed). FollowUpIsRight k.way k.phase k.base k.place m t.sent) e t.right)) measured held_at
           carried.behind
-          carried.short in
-          subst (λ x. AreWithin (time_error_at k.way (suc k.place))
-          (x -ℤ sync_received (info_of (at_rate told held) x) delay rate)
-          (own_clock k s.time -ℤ root_clock k s.time)) then right
+          carried.short in (
+            right.0,
+            right.1,
+            subst (λ x. AreWithin (time_error_at k.way (suc k.place))
+                (x -ℤ sync_received (info_of (at_rate told held) x) delay rate)
+                (own_clock k s.time -ℤ root_told k right.0 s.time)) then right.2,
+          )
         where
           came_is : {c : Arrival} → Some a ≡ Some c → a.came ≡ c.came
           came_is e = cc

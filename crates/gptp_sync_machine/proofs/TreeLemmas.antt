@@ -170,7 +170,7 @@ documented x g (suc steps) clock longest w phase parts (parent, above, follows, 
     (documented x g steps parent.clock longest above phase parts way) (parts.drifts clock))
 
 pub ways_are_settings : WaysAreSettings
-ways_are_settings x g steps clock settled longest port w phase parts (parent, above, follows, way, is, last) =
+ways_are_settings x g steps clock settled longest port w phase base parts (parent, above, follows, way, is, last) =
     let whole : IsWayTo x g (suc steps) clock w phase = (parent, above, follows, way, is, last) in
     let end = end_is x g steps clock parent w phase follows whole in
     let short = parts.short in
@@ -181,7 +181,7 @@ ways_are_settings x g steps clock settled longest port w phase parts (parent, ab
     }
 
 pub parents_are_parents : ParentsAreParents
-parents_are_parents x g steps clock settled longest l port port' w w' phase phase' follows way
+parents_are_parents x g steps clock settled longest l port port' w w' phase phase' base follows way
     (parent, above, follows', way', is, last) =
     let same : parent ≡ l = IsParent-unique g clock parent l follows' follows in
     let up = way_is_one x g (suc steps) l.clock above w phase' phase
@@ -192,6 +192,7 @@ parents_are_parents x g steps clock settled longest l port port' w w' phase phas
       end = long x g (suc steps) l.clock w phase way;
       place = refl;
       root = up.1;
+      base = refl;
       settled = refl;
       longest = refl;
     }

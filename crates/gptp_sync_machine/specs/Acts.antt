@@ -90,8 +90,8 @@ module _ (k : FollowerSetting) (says : List ℕ → Message → Type 0) (s s' : 
   --
   -- What a root tells is `right` by root_tells. What a bridge tells is so by parent_tells_right, from its invariant,
   -- rates_are_held and ways_are_modest. It does send on, by parents_numbers_fit and corrections_are_small; the seconds
-  -- fit, since a right time is near the root's clock. A root sets no Relay timer: what one from before sends on is due
-  -- before `from` of each that follows it.
+  -- fit, since the origin of what is right is a timestamp. A root sets no Relay timer: what one from before sends on is
+  -- due before `from` of each that follows it.
   pub record ParentTells : Type 0 where
     pub unmoved : IsUnmoved s s'
     pub sequence : ℕ
@@ -100,7 +100,7 @@ module _ (k : FollowerSetting) (says : List ℕ → Message → Type 0) (s s' : 
     pub lane : s'.lane ≡ s.lane ++ news
     pub sent : SendsTime says k.parent sequence told news
     pub in_time : AreSentInTime k s.time news
-    pub right : from k ≤ s.time + (parent_link k).most → FollowUpIsRight k.way k.phase k.place told s.time
+    pub right : from k ≤ s.time + (parent_link k).most → FollowUpIsRight k.way k.phase k.base k.place told s.time
 
   -- the Relay timer of the system expires: what is known is sent on to those that follow it, or something doesn't fit
   pub record RelayTimerExpires : Type 0 where

@@ -80,11 +80,12 @@ module _ (k : FollowerSetting) (x : SyncAndFollowUp) where
   going_on = known ∷ relay_due ∷ sent_on ∷ []
 
 -- The first two links of the plant's ring, of 390 to 410 ns, where the network is settled 10 microseconds before the
--- Sync; the phases are 0.
+-- Sync; the phases and the base are 0.
 abbrev pub ring_setting : Way → ℕ → ℕ → FollowerSetting
 ring_setting w place parent = record {
   way = w;
   phase = λ i. 0;
+  base = Some (pos 0);
   place = place;
   parent = port_of parent 2;
   settled = 1999990000;

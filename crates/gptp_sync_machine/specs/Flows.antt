@@ -28,7 +28,7 @@ pub record TellsRight (k : FollowerSetting) (kept : Option Arrival) (sequence du
   pub came : ℕ
   pub kept_is : kept ≡ Some (arrival sequence came)
   pub carried : AreCarried k sent came due
-  pub right : FollowUpIsRight k.way k.phase k.place told sent
+  pub right : FollowUpIsRight k.way k.phase k.base k.place told sent
 
 module _ (k : FollowerSetting) (says : List ℕ → Message → Type 0) where
   -- The frames in turn, with the Sync that is kept as each is reached, if one is known to be: a frame that is due

@@ -5,16 +5,19 @@ use Rattle.gptp_correction.specs.declared.sync_in.SyncInfo.{SyncInfo}
 use Rattle.gptp_pdelay_machine.specs.Lanes.{LaneFrame}
 use Rattle.gptp_error_laws.specs.TimeError.{WayLink, Way, link_at}
 use Rattle.gptp_error_laws.specs.WayLaws.{IsDocumented, shown_at}
+use Rattle.gptp_sync_machine.specs.Right.{told_at}
 
--- The way to the system from its root, the phases of the clocks on it, in ns, and the place of its last link on it,
--- counted from 0; the port of the parent on that link. The time from which the network is settled, and a delay that no
--- link on which time is carried exceeds, in ns (of a world, the threshold).
+-- The way to the system from its root, the phases of the clocks on it, in ns, the base by which the root tells time, if
+-- it does yet, and the place of its last link on it, counted from 0; the port of the parent on that link. The time from
+-- which the network is settled, and a delay that no link on which time is carried exceeds, in ns (of a world, the
+-- threshold).
 --
 -- The `way` goes from the root along parents, by the snapshot, the setups and the bounds of links (`Parts`; way_exists,
 -- way_is_one). Its ends are the clocks of the system and of its root (way_leads_to, way_ends_at_parent).
 pub record FollowerSetting : Type 0 where
   pub way : Way
   pub phase : ℕ → ℕ
+  pub base : Option ℤ
   pub place : ℕ
   pub parent : PortIdentity
   pub settled : ℕ
@@ -28,9 +31,9 @@ parent_link k = link_at k.way k.place
 abbrev pub own_clock : FollowerSetting → ℕ → ℤ
 own_clock k t = shown_at k.way k.phase (suc k.place) t
 
--- the clock of its root
-abbrev pub root_clock : FollowerSetting → ℕ → ℤ
-root_clock k t = shown_at k.way k.phase 0 t
+-- what its root tells that has this base
+abbrev pub root_told : FollowerSetting → ℤ → ℕ → ℤ
+root_told k ahead t = told_at k.way k.phase ahead t
 
 -- From then on what comes left the root when the network was settled, even where each link up to here takes the longest
 -- delay, and each system keeps it for a residence.

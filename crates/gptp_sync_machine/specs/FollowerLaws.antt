@@ -1,5 +1,5 @@
 -- Laws on a system that follows its parent.
-use Rattle.std.specs.Prelude.{◌≡◌, ℕ, suc, ◌+◌, ◌^◌, ◌<◌, ◌≤◌, ℤ, ◌-ℤ◌, List, ◌∷◌, Some, length}
+use Rattle.std.specs.Prelude.{◌≡◌, ℕ, suc, ◌+◌, ◌^◌, ◌<◌, ◌≤◌, ℤ, ◌-ℤ◌, List, ◌∷◌, None, Some, length}
 use Rattle.gptp_lists.specs.Members.{In}
 use Rattle.gptp_graph.specs.Snapshot.{PortIdentity}
 use Rattle.gptp_scaled.specs.Stamp.{Timestamp, IsSplit}
@@ -13,7 +13,7 @@ use Rattle.gptp_error_laws.specs.TimeError.{WayLink, time_error_at}
 use Rattle.gptp_error_laws.specs.WayLaws.{longer}
 use Rattle.gptp_sync_machine.specs.Messages.{Message, FollowUp, IsOneMessage}
 use Rattle.gptp_sync_machine.specs.Right.{IsHeldAt, IsMeasuredAt, FollowUpIsRight, at_rate, info_of, most_correction_at, root_time}
-use Rattle.gptp_sync_machine.specs.Follower.{Follower, IsSetting, FollowerSetting, from, parent_link, own_clock, root_clock}
+use Rattle.gptp_sync_machine.specs.Follower.{Follower, IsSetting, FollowerSetting, from, parent_link, own_clock, root_told}
 use Rattle.gptp_sync_machine.specs.Acts.{FollowerActs, FollowerWaits, kept_at_ingress}
 use Rattle.gptp_sync_machine.specs.Invariant.{FollowerInvariant, IsJustSettled}
 use Rattle.gptp_sync_machine.specs.Runs.{IsFollowerRun}
@@ -26,6 +26,7 @@ pub record IsParentOf (k k' : FollowerSetting) : Type 0 where
   pub end : length k.way.links ≡ suc k.place
   pub place : k'.place ≡ suc k.place
   pub root : k'.phase 0 ≡ k.phase 0
+  pub base : k'.base ≡ k.base
   pub settled : k'.settled ≡ k.settled
   pub longest : k'.longest ≡ k.longest
 
@@ -53,7 +54,8 @@ module _ (says : List ℕ → Message → Type 0) where
       → s.known ≡ Some info → s.relay ≡ Some s.time → from k' ≤ s.time + (parent_link k').most
       → IsMeasuredAt k.way k.place rate delay → IsHeldAt k.way k.place info.rate rate held
       → let used = record info { rate = held } in
-      FollowUpIsRight k'.way k'.phase k'.place (relayed used (bridge used delay rate (own_clock k s.time))) s.time
+      FollowUpIsRight k'.way k'.phase k'.base k'.place (relayed used (bridge used delay rate (own_clock k s.time)))
+      s.time
 
   -- The numbers of what a bridge sends on fit, from a residence after the time from which on what comes is right.
   abbrev pub ParentsNumbersFit : Type 0
@@ -68,7 +70,7 @@ module _ (says : List ℕ → Message → Type 0) where
       BridgeFits hop (carried_on (carried used) hop)
 
   -- At each Follow_Up that belongs to the Sync that is kept, from when on what comes is right, the offset that is
-  -- computed is within the time error of the system of its clock less the root's.
+  -- computed is within the time error of the system of its clock less what the root tells, by the base that it has.
   abbrev pub OffsetIsExact : Type 0
   OffsetIsExact = (k : FollowerSetting) (s : Follower) (front : LaneFrame) (rest : List LaneFrame)
       (source : PortIdentity)
@@ -78,15 +80,20 @@ module _ (says : List ℕ → Message → Type 0) where
       → IsOneMessage says front.octets (FollowUp source sequence told)
       → s.kept ≡ Some (kept_at_ingress source sequence ingress) → IsMeasuredAt k.way k.place rate delay
       → IsHeldAt k.way k.place told.rate rate held
-      → AreWithin (time_error_at k.way (suc k.place))
+      → (ahead : ℤ) × (k.base ≡ Some ahead) × AreWithin (time_error_at k.way (suc k.place))
       (ingress -ℤ sync_received (info_of (at_rate told held) ingress) delay rate)
-      (own_clock k s.time -ℤ root_clock k s.time)
+      (own_clock k s.time -ℤ root_told k ahead s.time)
 
 -- what the root sends is right for those that follow it
 abbrev pub RootTells : Type 0
-RootTells = (k : FollowerSetting) (stamp : Timestamp) (rest sent : ℕ)
-    → k.place ≡ 0 → IsSplit (root_clock k sent) stamp rest
-    → FollowUpIsRight k.way k.phase k.place (root_time stamp rest) sent
+RootTells = (k : FollowerSetting) (ahead : ℤ) (stamp : Timestamp) (rest sent : ℕ)
+    → k.place ≡ 0 → k.base ≡ Some ahead → IsSplit (root_told k ahead sent) stamp rest
+    → FollowUpIsRight k.way k.phase k.base k.place (root_time stamp rest) sent
+
+-- what holds while a root has no base by which it tells time holds when it has one: nothing that comes is right yet
+abbrev pub BaseComes : (List ℕ → Message → Type 0) → Type 0
+BaseComes says = (k : FollowerSetting) (ahead : ℤ) (s : Follower) → k.base ≡ None
+    → FollowerInvariant k says s → FollowerInvariant (record k { base = Some ahead }) says s
 
 -- In every run that begins as the network becomes settled, the invariant holds of each state.
 abbrev pub RunsKeepInv : (List ℕ → Message → Type 0) → Type 0

@@ -19,7 +19,7 @@ pub record IsInformed (k : FollowerSetting) (info : SyncInfo) (due : ℕ) : Type
   pub carried : AreCarried k sent came heard
   pub stay : IsByMost heard due k.way.residence
   pub ingress : info.ingress ≡ own_clock k came
-  pub right : FollowUpIsRight k.way k.phase k.place (follow_up_told info) sent
+  pub right : FollowUpIsRight k.way k.phase k.base k.place (follow_up_told info) sent
 
 -- it is so where it is to be sent on a residence or more after the time from which on what comes is right
 abbrev pub IsKnownRight : FollowerSetting → Follower → Type 0

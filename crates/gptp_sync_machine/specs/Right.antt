@@ -1,7 +1,7 @@
 -- What a Follow_Up tells as it is sent, and what a port has measured, where both are as exact as the time error says.
-use Rattle.std.specs.Prelude.{◌≡◌, ◌⊎◌, ℕ, zero, suc, min, ◌+◌, ◌*◌, ◌≤◌, ℤ, pos, negsuc, ◌+ℤ◌, ◌*ℤ◌, ◌≤ℤ◌, unsigned_abs}
+use Rattle.std.specs.Prelude.{◌≡◌, ◌⊎◌, ℕ, zero, suc, min, ◌+◌, ◌*◌, ◌≤◌, ℤ, pos, negsuc, ◌+ℤ◌, ◌*ℤ◌, ◌≤ℤ◌, unsigned_abs, Option, Some}
 use Rattle.gptp_scaled.specs.Rate.{FitsRate, IsNeighborRate}
-use Rattle.gptp_scaled.specs.Stamp.{Timestamp, scaled_of}
+use Rattle.gptp_scaled.specs.Stamp.{IsTimestamp, Timestamp, scaled_of}
 use Rattle.gptp_scaled.specs.Counts.{AreWithin}
 use Rattle.gptp_pdelay.specs.GoodLink.{ceil_div}
 use Rattle.gptp_pdelay.specs.Measured.{IsDelayWithin}
@@ -37,16 +37,25 @@ abbrev pub most_correction_at : Way → ℕ → ℕ
 most_correction_at w i = 65536
     + total_below i (λ j. 131072 * ((link_at w j).most + w.turnaround + w.residence + jitter_at w j + 1))
 
--- What a Follow_Up tells is right, as its Sync is sent over the link at a place at that time, in ns: origin and
--- correction are the root's clock then, and the correction is what passed since the origin; the rate is the sum of the
--- neighbour rates up to there, and a number of 32 bits (IEEE 802.1AS-2020, 11.4.4).
-pub record FollowUpIsRight (w : Way) (phase : ℕ → ℕ) (i : ℕ) (told : Relayed) (sent : ℕ) : Type 0 where
-  pub time : AreWithin (sent_error_at w i) (pos 33550000 *ℤ (scaled_of told.origin +ℤ told.correction))
-      (pos 33550000 *ℤ shown_at w phase 0 sent)
-  pub later : pos 0 ≤ℤ told.correction
-  pub small : told.correction ≤ℤ pos (most_correction_at w i)
-  pub rate : AreWithin (total_below i (measured_error_at w)) told.rate (sum_below i (steady_rate_at w))
-  pub fits : FitsRate told.rate
+-- what the root tells at a time: what its clock shows, and its base, by which the one is ahead of the other
+abbrev pub told_at : Way → (ℕ → ℕ) → ℤ → ℕ → ℤ
+told_at w phase base t = shown_at w phase 0 t +ℤ base
+
+-- What a Follow_Up tells is right, as its Sync is sent over the link at a place at that time, in ns: the root has a
+-- base by which it tells time, origin and correction are what it tells then, and the correction is what passed since
+-- the origin; the rate is the sum of the neighbour rates up to there, and a number of 32 bits (IEEE 802.1AS-2020,
+-- 11.4.4).
+pub record FollowUpIsRight (w : Way) (phase : ℕ → ℕ) (base : Option ℤ) (i : ℕ) (told : Relayed) (sent : ℕ) : Type 0
+  where
+    pub ahead : ℤ
+    pub base_is : base ≡ Some ahead
+    pub origin : IsTimestamp told.origin
+    pub time : AreWithin (sent_error_at w i) (pos 33550000 *ℤ (scaled_of told.origin +ℤ told.correction))
+        (pos 33550000 *ℤ told_at w phase ahead sent)
+    pub later : pos 0 ≤ℤ told.correction
+    pub small : told.correction ≤ℤ pos (most_correction_at w i)
+    pub rate : AreWithin (total_below i (measured_error_at w)) told.rate (sum_below i (steady_rate_at w))
+    pub fits : FitsRate told.rate
 
 -- what a Follow_Up tells, and its Sync's ingress by the own clock
 abbrev pub info_of : Relayed → ℤ → SyncInfo
@@ -57,7 +66,7 @@ info_of told ingress =
 abbrev pub follow_up_told : SyncInfo → Relayed
 follow_up_told info = record { origin = info.origin; correction = info.correction; rate = info.rate }
 
--- what the root tells: its own clock as a timestamp and a rest, at its own rate
+-- what the root tells as a timestamp and a rest, at its own rate
 abbrev pub root_time : Timestamp → ℕ → Relayed
 root_time stamp rest = record { origin = stamp; correction = pos rest; rate = pos 0 }
 

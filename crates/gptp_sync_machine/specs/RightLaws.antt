@@ -12,12 +12,13 @@ use Rattle.gptp_pdelay_machine.specs.Setting.{IsByMost, Setting}
 use Rattle.gptp_pdelay_machine.specs.Measured.{HasMeasured}
 use Rattle.gptp_error_laws.specs.TimeError.{WayLink, Way, jitter_at, link_at, time_error_at}
 use Rattle.gptp_error_laws.specs.WayLaws.{IsDocumented, longer, shown_at}
-use Rattle.gptp_sync_machine.specs.Right.{IsHeldAt, IsMeasuredAt, IsModest, FollowUpIsRight, at_rate, info_of, most_correction_at, root_time}
+use Rattle.gptp_sync_machine.specs.Right.{IsHeldAt, IsMeasuredAt, IsModest, FollowUpIsRight, at_rate, info_of, most_correction_at, root_time, told_at}
 
--- what the root tells is right: its own clock as the Sync is sent
+-- what the root tells as the Sync is sent is right
 abbrev pub RootTellsRight : Type 0
-RootTellsRight = (w : Way) (phase : ℕ → ℕ) (stamp : Timestamp) (rest sent : ℕ)
-    → IsSplit (shown_at w phase 0 sent) stamp rest → FollowUpIsRight w phase 0 (root_time stamp rest) sent
+RootTellsRight = (w : Way) (phase : ℕ → ℕ) (ahead : ℤ) (stamp : Timestamp) (rest sent : ℕ)
+    → IsSplit (told_at w phase ahead sent) stamp rest
+    → FollowUpIsRight w phase (Some ahead) 0 (root_time stamp rest) sent
 
 -- On the way of a document with at most 10000 links the sum of the rates is far from the limits of 32 bits: without
 -- jitter it is what the first and the last clock differ by, within 88000 units a link.
@@ -40,33 +41,35 @@ pub record RatesAreHeld : Type 0 where
 
 -- what was told is right at the rate that is held, too
 abbrev pub HeldIsRight : Type 0
-HeldIsRight = (w : Way) (phase : ℕ → ℕ) (i : ℕ) (told : Relayed) (sent : ℕ) (neighbour held : ℤ)
-    → IsNeighborRate neighbour → IsHeldAt w i told.rate neighbour held → FollowUpIsRight w phase i told sent
-    → FollowUpIsRight w phase i (at_rate told held) sent
+HeldIsRight = (w : Way) (phase : ℕ → ℕ) (base : Option ℤ) (i : ℕ) (told : Relayed) (sent : ℕ) (neighbour held : ℤ)
+    → IsNeighborRate neighbour → IsHeldAt w i told.rate neighbour held → FollowUpIsRight w phase base i told sent
+    → FollowUpIsRight w phase base i (at_rate told held) sent
 
 -- A Sync was sent over the link at a place at one time, and came at another, and what its Follow_Up told is right.
-pub record IsOnWay (w : Way) (phase : ℕ → ℕ) (i : ℕ) (told : Relayed) (sent came : ℕ) : Type 0 where
+pub record IsOnWay (w : Way) (phase : ℕ → ℕ) (base : Option ℤ) (i : ℕ) (told : Relayed) (sent came : ℕ) : Type 0 where
   pub documented : IsDocumented w
   pub on_way : i < length w.links
   pub long : sent + (link_at w i).least ≤ came
   pub short : came ≤ sent + (link_at w i).most
-  pub right : FollowUpIsRight w phase i told sent
+  pub right : FollowUpIsRight w phase base i told sent
 
 -- What a bridge tells is right, where what it knows was right as it was told, where it has measured the link well, and
 -- where it keeps the Sync for at most the jitter and a residence: the jitter until the Follow_Up comes, and a residence
 -- from then on.
 abbrev pub BridgeTellsRight : Type 0
-BridgeTellsRight = (w : Way) (phase : ℕ → ℕ) (i : ℕ) (told : Relayed) (sent came due : ℕ) (rate delay held : ℤ)
-    → IsOnWay w phase i told sent came → IsMeasuredAt w i rate delay
+BridgeTellsRight = (w : Way) (phase : ℕ → ℕ) (base : Option ℤ) (i : ℕ) (told : Relayed) (sent came due : ℕ)
+    (rate delay held : ℤ)
+    → IsOnWay w phase base i told sent came → IsMeasuredAt w i rate delay
     → IsByMost came due (w.residence + jitter_at w i) → IsHeldAt w i told.rate rate held
     → let info = info_of (at_rate told held) (shown_at w phase (suc i) came) in
-    FollowUpIsRight w phase (suc i) (relayed info (bridge info delay rate (shown_at w phase (suc i) due))) due
+    FollowUpIsRight w phase base (suc i) (relayed info (bridge info delay rate (shown_at w phase (suc i) due))) due
 
 -- all numbers by which a bridge sends a Sync on fit, where it has measured the link well, keeps the Sync for at most
 -- the jitter and a residence, and the correction may have 63 bits
 abbrev pub BridgeNumbersFit : Type 0
-BridgeNumbersFit = (w : Way) (phase : ℕ → ℕ) (i : ℕ) (told : Relayed) (sent came due : ℕ) (rate delay held : ℤ)
-    → IsOnWay w phase i told sent came → IsMeasuredAt w i rate delay
+BridgeNumbersFit = (w : Way) (phase : ℕ → ℕ) (base : Option ℤ) (i : ℕ) (told : Relayed) (sent came due : ℕ)
+    (rate delay held : ℤ)
+    → IsOnWay w phase base i told sent came → IsMeasuredAt w i rate delay
     → IsByMost came due (w.residence + jitter_at w i) → IsHeldAt w i told.rate rate held
     → most_correction_at w (suc i) < 2 ^ 63
     → IsTime (shown_at w phase (suc i) came) → IsTime (shown_at w phase (suc i) due)
@@ -75,20 +78,22 @@ BridgeNumbersFit = (w : Way) (phase : ℕ → ℕ) (i : ℕ) (told : Relayed) (s
     BridgeFits hop (carried_on (carried info) hop)
 
 -- The offset that a system computes at a Follow_Up, which is its clock as the Sync came less the root's time then, is
--- within the time error of what its clock shows as the Follow_Up comes less what the root's does.
+-- within the time error of what its clock shows as the Follow_Up comes less what the root tells.
 abbrev pub OffsetIsRight : Type 0
-OffsetIsRight = (w : Way) (phase : ℕ → ℕ) (i : ℕ) (told : Relayed) (sent came now : ℕ) (rate delay held : ℤ)
-    → IsOnWay w phase i told sent came → IsMeasuredAt w i rate delay → IsHeldAt w i told.rate rate held
+OffsetIsRight = (w : Way) (phase : ℕ → ℕ) (base : Option ℤ) (i : ℕ) (told : Relayed) (sent came now : ℕ)
+    (rate delay held : ℤ)
+    → IsOnWay w phase base i told sent came → IsMeasuredAt w i rate delay → IsHeldAt w i told.rate rate held
     → came ≤ now → now ≤ sent + (link_at w i).most
     → let ingress = shown_at w phase (suc i) came in
-    AreWithin (time_error_at w (suc i)) (ingress -ℤ sync_received (info_of (at_rate told held) ingress) delay rate)
-    (shown_at w phase (suc i) now -ℤ shown_at w phase 0 now)
+    (ahead : ℤ) × (base ≡ Some ahead)
+    × AreWithin (time_error_at w (suc i)) (ingress -ℤ sync_received (info_of (at_rate told held) ingress) delay rate)
+    (shown_at w phase (suc i) now -ℤ told_at w phase ahead now)
 
 -- what is right on a way is right where the way goes on
 abbrev pub RightStays : Type 0
-RightStays = (w : Way) (l : WayLink) (phase phase' : ℕ → ℕ) (i : ℕ) (told : Relayed) (sent : ℕ)
-    → i ≤ length w.links → phase' 0 ≡ phase 0 → FollowUpIsRight w phase i told sent
-    → FollowUpIsRight (longer w l) phase' i told sent
+RightStays = (w : Way) (l : WayLink) (phase phase' : ℕ → ℕ) (base : Option ℤ) (i : ℕ) (told : Relayed) (sent : ℕ)
+    → i ≤ length w.links → phase' 0 ≡ phase 0 → FollowUpIsRight w phase base i told sent
+    → FollowUpIsRight (longer w l) phase' base i told sent
 
 -- A port measures the link at a place: delays, parameters and clocks are those of the way.
 pub record MeasuresOnWay (k : Setting) (w : Way) (phase : ℕ → ℕ) (i : ℕ) : Type 0 where

@@ -1,5 +1,5 @@
 -- The ways of a settled network: each system gets time over the way of its parent, and the link to that.
-use Rattle.std.specs.Prelude.{◌≡◌, ℕ, zero, suc, ℤ, []}
+use Rattle.std.specs.Prelude.{◌≡◌, ℕ, zero, suc, ℤ, [], Option}
 use Rattle.gptp_graph.specs.Distance.{IsDistance}
 use Rattle.gptp_graph.specs.Parent.{ParentLink, IsParent}
 use Rattle.gptp_graph.specs.Snapshot.{PortIdentity, Snapshot, port_of}
@@ -44,11 +44,12 @@ IsWayTo x g (suc steps) clock w phase =
     (parent : ParentLink) × (above : Way) × IsParent g clock parent × IsWayTo x g steps parent.clock above phase
     × (w ≡ longer above (last_link x clock parent)) × (phase (suc steps) ≡ x.phase clock)
 
--- a system after the last link of a way, which the parent's port sends on
-abbrev pub follower_of : Way → (ℕ → ℕ) → ℕ → PortIdentity → ℕ → ℕ → FollowerSetting
-follower_of w phase place parent settled longest = record {
+-- a system after the last link of a way from a root with this base, which the parent's port sends on
+abbrev pub follower_of : Way → (ℕ → ℕ) → Option ℤ → ℕ → PortIdentity → ℕ → ℕ → FollowerSetting
+follower_of w phase base place parent settled longest = record {
   way = w;
   phase = phase;
+  base = base;
   place = place;
   parent = parent;
   settled = settled;

@@ -1,5 +1,5 @@
 -- Laws on the ways of a settled network.
-use Rattle.std.specs.Prelude.{◌≡◌, ℕ, suc, ◌≤◌, length}
+use Rattle.std.specs.Prelude.{◌≡◌, ℕ, suc, ◌≤◌, ℤ, length, Option}
 use Rattle.gptp_graph.specs.Best.{IsBest}
 use Rattle.gptp_graph.specs.Distance.{IsDistance}
 use Rattle.gptp_graph.specs.Parent.{ParentLink, IsParent}
@@ -59,17 +59,17 @@ pub record ArePartsOf (x : Parts) (longest : ℕ) : Type 0 where
 -- a system that isn't the best, on its way, is such a setting as the laws of followers ask for
 abbrev pub WaysAreSettings : Type 0
 WaysAreSettings = (x : Parts) (g : Snapshot) (steps clock settled longest : ℕ) (parent : PortIdentity) (w : Way)
-    (phase : ℕ → ℕ) → ArePartsOf x longest → IsWayTo x g (suc steps) clock w phase
-    → IsSetting (follower_of w phase steps parent settled longest)
+    (phase : ℕ → ℕ) (base : Option ℤ) → ArePartsOf x longest → IsWayTo x g (suc steps) clock w phase
+    → IsSetting (follower_of w phase base steps parent settled longest)
 
 -- where neither a system nor its parent is the best, the parent's follower is the parent of the system's follower
 abbrev pub ParentsAreParents : Type 0
 ParentsAreParents = (x : Parts) (g : Snapshot) (steps clock settled longest : ℕ) (l : ParentLink)
-    (port port' : PortIdentity) (w w' : Way) (phase phase' : ℕ → ℕ)
+    (port port' : PortIdentity) (w w' : Way) (phase phase' : ℕ → ℕ) (base : Option ℤ)
     → IsParent g clock l → IsWayTo x g (suc steps) l.clock w phase
     → IsWayTo x g (suc (suc steps)) clock w' phase'
-    → IsParentOf (follower_of w phase steps port settled longest)
-    (follower_of w' phase' (suc steps) port' settled longest)
+    → IsParentOf (follower_of w phase base steps port settled longest)
+    (follower_of w' phase' base (suc steps) port' settled longest)
 
 -- a system measures its link to its parent: delays, parameters and clocks are those of the parts
 pub record MeasuresParent (x : Parts) (clock : ℕ) (parent : ParentLink) (k : Measuring) : Type 0 where

@@ -2,7 +2,7 @@
 
 ghost use Rattle.gptp_sync_machine.specs.FollowerLaws.{FollowerInvariantIsKept, FollowerInvariantHoldsLater, FollowerInvariantBegins};
 ghost use Rattle.gptp_sync_machine.specs.FollowerLaws.{OffsetIsExact, ParentTellsRight, ParentsNumbersFit};
-ghost use Rattle.gptp_sync_machine.specs.FollowerLaws.{RootTells, RunsKeepInv};
+ghost use Rattle.gptp_sync_machine.specs.FollowerLaws.{BaseComes, RootTells, RunsKeepInv};
 
 use crate::coding::Coding;
 
@@ -34,6 +34,11 @@ pub fn parent_tells_right<C: Coding>()
 /// All numbers of such a bridge fit.
 pub fn parents_numbers_fit<C: Coding>()
     ensures { ParentsNumbersFit C.says }
+{}
+
+/// What holds while a root doesn't tell time yet holds as it begins to.
+pub fn base_comes<C: Coding>()
+    ensures { BaseComes C.says }
 {}
 
 /// At each Follow_Up that is used the offset is within the time error of the system.

@@ -4,7 +4,7 @@ ghost use Rattle.gptp_sync_machine.specs.RightLaws.{BridgeNumbersFit, BridgeTell
 ghost use Rattle.gptp_sync_machine.specs.RightLaws.{ExchangesMeasureRight, HeldIsRight, OffsetIsRight, RightStays};
 ghost use Rattle.gptp_sync_machine.specs.RightLaws.{RatesAreHeld, RootTellsRight, WaysAreModest};
 
-/// What the root tells is right: its own clock.
+/// What the root tells is right: its own clock and its base.
 pub fn root_tells_right()
     ensures { RootTellsRight }
 {}
@@ -40,7 +40,7 @@ pub fn bridge_numbers_fit()
     ensures { BridgeNumbersFit }
 {}
 
-/// The offset that a system computes from what is right is within its time error of its clock less the root's.
+/// The offset that a system computes from what is right is within its time error of its clock less what the root tells.
 pub fn offset_is_right()
     ensures { OffsetIsRight }
 {}

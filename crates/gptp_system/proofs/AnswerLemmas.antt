@@ -39,6 +39,7 @@ use Rattle.gptp_system.proofs.SendLemmas.{responds_answer, syncs_tell}
 use Rattle.gptp_system.proofs.TimelyLemmas.{moment_of}
 use Rattle.gptp_system.proofs.EndLemmas.{Concludes, selects_concludes}
 use Rattle.gptp_system.proofs.MidLemmas.{Later, Mids, aged_mids, down_mids, heard_mids, joined, priority_mids, tick_mids, unheard_mids}
+use Rattle.gptp_system.specs.Takeover.{leading}
 use Rattle.gptp_system.proofs.ReactLemmas.{Answers, AreOther, announce_expires, becomes, by_other, by_turn, kind_other, later_apart, later_itself, later_port, later_telling, rests, turns, turns_and_asks}
 
 -- ---- time: nothing that announcing reads changes
@@ -56,10 +57,13 @@ later_on s t u a b = record {
 }
 
 later_restarted : (now : ℕ) (s : SystemState) → Later s (restarted now s)
-later_restarted now s = later_apart s s.sync_in s.known s.offset _ s.relay s.lapse
+later_restarted now s = later_apart s s.sync_in s.known s.offset s.reads s.base _ s.relay s.lapse
+
+later_led : (now : ℕ) (s : SystemState) → Later s (restarted now (leading now s))
+later_led now s = later_apart s s.sync_in s.known s.offset _ _ _ s.relay s.lapse
 
 later_stopped : (s : SystemState) → Later s (timer_stopped s)
-later_stopped s = later_apart s s.sync_in s.known s.offset s.sync None s.lapse
+later_stopped s = later_apart s s.sync_in s.known s.offset s.reads s.base s.sync None s.lapse
 
 telling_other : (told : Relayed) (s : SystemState) (sends : List Sending) → sends ≡ told_by told s → AreOther sends
 telling_other told s sends is =
@@ -72,7 +76,7 @@ telling_other told s sends is =
 keeps_if : (b : Bool) (head : Head) (now : ℕ) (s s' : SystemState) (sends : List Sending) (answer : Answer) → IsAtRest s
     → KeepsIf b head now s s' sends answer → Concludes s now s' sends
 keeps_if true head now s s' sends answer r k =
-    becomes now s _ s' sends r (later_apart s _ s.known s.offset s.sync s.relay s.lapse) k.becomes
+    becomes now s _ s' sends r (later_apart s _ s.known s.offset s.reads s.base s.sync s.relay s.lapse) k.becomes
 keeps_if false head now s s' sends answer r k = becomes now s s s' sends r (later_itself s) k.becomes
 
 hears_sync : (b : Bool) (p : ℕ) (head : Head) (now : ℕ) (s s' : SystemState) (sends : List Sending) (answer : Answer)
@@ -85,11 +89,11 @@ knows_by : (b : Bool) (info : SyncInfo) (delay rate : ℤ) (now : ℕ) (s s' : S
     (answer : Answer) → IsAtRest s
     → KnowsBy b info delay rate now s s' sends answer → Concludes s now s' sends
 knows_by true info delay rate now s s' sends answer r k =
-    becomes now s _ s' sends r (later_apart s s.sync_in _ _ s.sync _ _) k.becomes
+    becomes now s _ s' sends r (later_apart s s.sync_in _ _ _ s.base s.sync _ _) k.becomes
 knows_by false info delay rate now s s' sends answer r (inl k) =
-    becomes now s _ s' sends r (later_apart s s.sync_in _ _ s.sync _ s.lapse) k.becomes
+    becomes now s _ s' sends r (later_apart s s.sync_in _ _ _ s.base s.sync _ s.lapse) k.becomes
 knows_by false info delay rate now s s' sends answer r (inr k) =
-    becomes now s _ s' sends r (later_apart s _ _ _ s.sync s.relay s.lapse) k.becomes
+    becomes now s _ s' sends r (later_apart s _ _ _ s.reads s.base s.sync s.relay s.lapse) k.becomes
 
 knows_if : (said : Option SyncInfo) (delay rate : ℤ) (now : ℕ) (s s' : SystemState) (sends : List Sending)
     (answer : Answer) → IsAtRest s
@@ -108,10 +112,9 @@ hears_follow_up true p m now s s' sends answer r k =
 syncs_if : (b : Bool) (now : ℕ) (s s' : SystemState) (sends : List Sending) → IsAtRest s → SyncsIf b now s s' sends
     → Concludes s now s' sends
 syncs_if true now s s' sends r k =
+    let t = restarted now (leading now s) in
     subst (λ x. Concludes s now x sends) (sym k.state)
-    (rests now s (telling (restarted now s)) sends r
-    (later_on s (restarted now s) (telling (restarted now s)) (later_restarted now s)
-    (later_telling (restarted now s)))
+    (rests now s (telling t) sends r (later_on s t (telling t) (later_led now s) (later_telling t))
     (telling_other (own_time k.stamp k.rest) s sends k.sends_are))
 syncs_if false now s s' sends r k = becomes now s (restarted now s) s' sends r (later_restarted now s) k
 

@@ -33,6 +33,7 @@ keeps_on s t u a b = record {
   largest = b.largest ∙ a.largest;
   phase = b.phase ∙ a.phase;
   drift = b.drift ∙ a.drift;
+  continues = b.continues ∙ a.continues;
   same_clock = b.same_clock ∙ a.same_clock;
   places = b.places ∙ a.places;
   logs = b.logs ∙ a.logs;
@@ -83,6 +84,7 @@ pub record Quiet (s s' : SystemState) : Type 0 where
   pub largest : s'.largest ≡ s.largest
   pub phase : s'.phase ≡ s.phase
   pub drift : s'.drift ≡ s.drift
+  pub continues : s'.continues ≡ s.continues
   pub identity : s'.identity ≡ s.identity
   pub held : s'.held ≡ s.held
   pub root : s'.root ≡ s.root
@@ -98,6 +100,7 @@ quiet_keeps s s' k = record {
   largest = k.largest;
   phase = k.phase;
   drift = k.drift;
+  continues = k.continues;
   same_clock = ap clock_of k.identity;
   places = ap length k.held;
   logs = k.logs;
@@ -149,6 +152,7 @@ ports_quiet s qs logs alike = record {
   largest = refl;
   phase = refl;
   drift = refl;
+  continues = refl;
   identity = refl;
   held = refl;
   root = refl;
@@ -196,6 +200,7 @@ choosing_keeps v now s = record {
   largest = refl;
   phase = refl;
   drift = refl;
+  continues = refl;
   same_clock = refl;
   places = length-each_from (held_after_selection v (clock s)) 1 s.held;
   logs = all_announced-map (λ (q : Port). q.log_interval) now (λ q. refl) (fresh_ports v s) s.ports;

@@ -3,6 +3,7 @@ pub mod ChangedLemmas
 pub mod WrittenLemmas
 pub mod AnnouncementLemmas
 pub mod StartLemmas
+pub mod TakeoverLemmas
 pub mod ReadyLemmas
 pub mod SelectionLemmas
 pub mod MeasuringLemmas
@@ -24,6 +25,7 @@ pub mod MeasureLemmas
 pub mod SentLemmas
 pub mod SystemLemmas
 pub mod TimeLemmas
+pub mod TimeKeptLemmas
 pub mod InTimeLemmas
 pub mod StartedLemmas
 pub mod SyncLemmas

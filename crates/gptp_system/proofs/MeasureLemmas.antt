@@ -24,6 +24,7 @@ use Rattle.gptp_system.specs.Announcing.{aged_at, announced_at, compared, replac
 use Rattle.gptp_setup.specs.SettlingParams.{has_sync_timeout}
 use Rattle.gptp_system.specs.Lapse.{lapsed}
 use Rattle.gptp_system.specs.Syncing.{HearsFollowUpIf, HearsSyncIf, KeepsIf, KnowsBy, KnowsIf, RelaysBy, RelaysIf, SyncsIf, delay_at, forgetting, is_followed, keeping, knowing, is_leading, offset_of, root_rate_at, refreshing, restarted, said_on, timer_stopped, telling}
+use Rattle.gptp_system.specs.Takeover.{leading}
 use Rattle.gptp_system.specs.Steps.{Expires as TimerExpires, HearsFrame, HearsMessage}
 use Rattle.gptp_system.specs.Input.{Input, Steps, PortUp, PortDown, Frame, Expires, Priority}
 use Rattle.gptp_system.specs.Facts.{Keeps}
@@ -172,10 +173,10 @@ knows_by : (b : Bool) (info : SyncInfo) (delay rate : ℤ) (now : ℕ) (s s' : S
     (answer : Answer)
     → KnowsBy b info delay rate now s s' sends answer → Still s s'
 knows_by true info delay rate now s s' sends answer k =
-    let t = refreshing info k.offset now s in
+    let t = refreshing info k.offset rate now s in
     becomes (λ n x. x) s t s' sends (still_ports s t refl) k.becomes
 knows_by false info delay rate now s s' sends answer (inl k) =
-    let t = knowing info (offset_of info delay rate) now s in
+    let t = knowing info (offset_of info delay rate) rate now s in
     becomes (λ n x. x) s t s' sends (still_ports s t refl) k.becomes
 knows_by false info delay rate now s s' sends answer (inr k) =
     becomes (λ n x. x) s (forgetting s) s' sends (still_ports s (forgetting s) refl) k.becomes
@@ -199,7 +200,8 @@ tells_on s t s' still is =
     subst (Still s) (sym is) (parts_on (λ n x. x) (λ n x. x) s t (telling t) still (telling_parts t))
 
 syncs_if : (b : Bool) (now : ℕ) (s s' : SystemState) (sends : List Sending) → SyncsIf b now s s' sends → Still s s'
-syncs_if true now s s' sends k = tells_on s (restarted now s) s' (still_ports s (restarted now s) refl) k.state
+syncs_if true now s s' sends k =
+    let t = restarted now (leading now s) in tells_on s t s' (still_ports s t refl) k.state
 syncs_if false now s s' sends k =
     becomes (λ n x. x) s (restarted now s) s' sends (still_ports s (restarted now s) refl) k
 

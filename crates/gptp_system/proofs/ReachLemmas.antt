@@ -29,6 +29,7 @@ use Rattle.gptp_system.specs.Measuring.{responded, Turns, TurnsAndAsks, TurnsIf,
 use Rattle.gptp_system.specs.Announcing.{aged_at, announced_at, compared, replaces_held, with_priority}
 use Rattle.gptp_system.specs.Lapse.{lapsed}
 use Rattle.gptp_system.specs.Syncing.{HearsFollowUpIf, HearsSyncIf, KeepsIf, KnowsBy, KnowsIf, RelaysBy, RelaysIf, SyncsIf, delay_at, is_followed, is_leading, own_time, root_rate_at, restarted, said_on, timer_stopped, telling, told_by}
+use Rattle.gptp_system.specs.Takeover.{leading}
 use Rattle.gptp_system.specs.Steps.{Expires as TimerExpires, HearsFrame, HearsMessage}
 use Rattle.gptp_system.specs.Input.{Input, Steps, PortUp, PortDown, Frame, Expires, Priority}
 use Rattle.gptp_system.specs.Reach.{AreAt, AreAtPorts, SendsWithin, Leaves, asking_reach, is_of_time, is_selected, is_touched, is_touched_asking, is_touched_by, reach, same_timer, stops_at, timer_reach, type_reach}
@@ -279,6 +280,10 @@ restarted_calm : (now : ℕ) (s : SystemState) → Calm (same_timer timers.Sync)
 restarted_calm now s =
     calm_apart (same_timer timers.Sync) s _ refl refl refl refl (λ off. absurd cc) (λ off. refl) (λ off. refl)
 
+led_calm : (now : ℕ) (s : SystemState) → Calm (same_timer timers.Sync) s (restarted now (leading now s))
+led_calm now s =
+    calm_apart (same_timer timers.Sync) s _ refl refl refl refl (λ off. absurd cc) (λ off. refl) (λ off. refl)
+
 stopped_calm : (s : SystemState) → Calm (same_timer timers.Relay) s (timer_stopped s)
 stopped_calm s =
     calm_apart (same_timer timers.Relay) s _ refl refl refl refl (λ off. refl) (λ off. absurd cc) (λ off. refl)
@@ -297,8 +302,8 @@ tells touched told s t s' sends calm same is sent = record {
 syncs_if : (b : Bool) (now : ℕ) (s s' : SystemState) (sends : List Sending) → SyncsIf b now s s' sends
     → Goes reaches.All (same_timer timers.Sync) s s' sends
 syncs_if true now s s' sends k =
-    tells (same_timer timers.Sync) (own_time k.stamp k.rest) s (restarted now s) s' sends (restarted_calm now s)
-    refl k.state k.sends_are
+    tells (same_timer timers.Sync) (own_time k.stamp k.rest) s (restarted now (leading now s)) s' sends
+    (led_calm now s) refl k.state k.sends_are
 syncs_if false now s s' sends k =
     becomes reaches.All (same_timer timers.Sync) s (restarted now s) s' sends (restarted_calm now s) k
 

@@ -10,6 +10,7 @@ use Rattle.gptp_correction.specs.declared.sync_in.SyncInfo.{SyncInfo}
 use Rattle.gptp_correction.specs.SyncIn.{KeptSync}
 use Rattle.gptp_pdelay.specs.Peer.{PeerState}
 use Rattle.gptp_system.specs.declared.port.Port.{Port}
+use Rattle.gptp_system.specs.declared.reading.TimeRead.{TimeRead}
 use Rattle.gptp_system.specs.declared.sending.Sending.{Sending}
 use Rattle.gptp_setup.specs.declared.timer.Timer.TheVariants as timers
 use Rattle.gptp_setup.specs.Intervals.{interval_of}
@@ -45,21 +46,23 @@ from_none : (sends : List Sending) → AreOther sends → SendsMore [] sends
 from_none sends other =
     record { among = λ x member. absurd member; from = λ x member announce. absurd (other x member announce) }
 
-pub later_apart : (s : SystemState) (sync_in : Option KeptSync) (known : Option SyncInfo) (offset : Option ℤ) (sync : ℕ)
-    (relay lapse : Option ℕ)
+pub later_apart : (s : SystemState) (sync_in : Option KeptSync) (known : Option SyncInfo) (offset : Option ℤ)
+    (reads : Option TimeRead) (base : ℤ) (sync : ℕ) (relay lapse : Option ℕ)
     → Later s (record s {
       sync_in = sync_in;
       known = known;
       offset = offset;
+      reads = reads;
+      base = base;
       sync = sync;
       relay = relay;
       lapse = lapse;
     })
-later_apart s sync_in known offset sync relay lapse =
+later_apart s sync_in known offset reads base sync relay lapse =
     record { same_clock = refl; held = refl; root = refl; steps = refl; ports = λ i q there. (q, there, refl, refl) }
 
 pub later_itself : (s : SystemState) → Later s s
-later_itself s = later_apart s s.sync_in s.known s.offset s.sync s.relay s.lapse
+later_itself s = later_apart s s.sync_in s.known s.offset s.reads s.base s.sync s.relay s.lapse
 
 pub later_port : (p : ℕ) (f : Port → Port) (s : SystemState) → ((q : Port) → (f q).log_interval ≡ q.log_interval)
     → ((q : Port) → (f q).announce ≡ q.announce) → Later s (on_port p f s)

@@ -1,5 +1,6 @@
 -- A state that is ready stays so.
 use Rattle.std.proofs.Common.{◌≡◌, ℕ, zero, suc, ◌+◌, ◌≤◌, ℤ, Bool, true, false, if◌then◌else◌, List, [], ◌∷◌, length, Option, Some, None, refl, sym, ◌∙◌, arith}
+use Rattle.std.proofs.lemmas.Int.{ints}
 use Rattle.std.specs.List.{AllByRecursion}
 use Rattle.std.specs.Option.{ForSome, option_map_or}
 use Rattle.gptp_vector.specs.declared.vector.Vector.{Vector}
@@ -25,7 +26,7 @@ use Rattle.gptp_setup.specs.declared.setup.Setup.{Setup}
 use Rattle.gptp_system.specs.Start.{new_ports, started}
 use Rattle.gptp_system.specs.declared.port.Port.{Port}
 use Rattle.gptp_system.specs.declared.sending.Sending.{Sending}
-use Rattle.gptp_setup.specs.Intervals.{AreIntervals, AreParams, IsLogUpTo, IsMoment}
+use Rattle.gptp_setup.specs.Intervals.{AreIntervals, AreParams, interval_of, IsLogUpTo, IsMoment}
 use Rattle.gptp_receipt.specs.Span.{span_of}
 use Rattle.gptp_system.specs.Announcing.{aged_by}
 use Rattle.gptp_system.specs.Lapse.{dropped, lapsed}
@@ -37,6 +38,7 @@ use Rattle.gptp_system.proofs.LapseLemmas.{lapse_stays_off}
 use Rattle.gptp_system.proofs.PlaceLemmas.{all_change}
 use Rattle.gptp_system.proofs.AnnouncementLemmas.{length-all_announced}
 use Rattle.gptp_system.proofs.StartLemmas.{length-all_disabled, length-new_ports}
+use Rattle.gptp_system.proofs.TakeoverLemmas.{time_from_zero}
 
 -- what a port holds after selection was received before, or is its own
 recent_after : (v : Vector) (clock p : ℕ) (h : Held) (b : Bool) → is_master (chosen_role v clock p h) ≡ b → IsRecent h
@@ -86,6 +88,8 @@ selects_ready now s s' sends ready placed selects =
       recent = all_recent_after v (clock s) 1 s.held ready.recent;
       ports = all_ports_announced now (fresh_ports v s) s.ports ready.ports;
       lapses = λ off. lapse_stays_off v now s off (ready.lapses off);
+      told = ready.told;
+      based = ready.based;
     })
 
 -- ---- what one port holds changes
@@ -127,6 +131,8 @@ held_ready s p f held ready keeps is =
       recent = all_change IsRecent f p s.held keeps.recent ready.recent;
       ports = ready.ports;
       lapses = ready.lapses;
+      told = ready.told;
+      based = ready.based;
     })
 
 -- hearing a qualified Announce is such a change
@@ -209,6 +215,8 @@ lapsed_ready s ready = go s.slave
       recent = k.recent;
       ports = k.ports;
       lapses = λ off. refl;
+      told = k.told;
+      based = k.based;
     }
 
     go : (o : Option ℕ)
@@ -236,6 +244,8 @@ ports_ready s p f ports ready keeps is =
       recent = ready.recent;
       ports = all_change IsReadyPort f p s.ports keeps ready.ports;
       lapses = ready.lapses;
+      told = ready.told;
+      based = ready.based;
     })
 
 -- ---- a new system
@@ -275,4 +285,9 @@ started_ready setup now few params intervals phase drift =
       recent = disabled_recent 1 (length logs);
       ports = new_ports_are (clock_of setup.identity) setup.params setup.largest 1 logs intervals.each;
       lapses = λ off. refl;
+      told =
+          let from =
+          time_from_zero setup.phase setup.drift (now + interval_of setup.params.sync) phase drift in
+          omega (arith, ints, from);
+      based = omega (arith, ints);
     }

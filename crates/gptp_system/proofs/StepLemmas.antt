@@ -14,6 +14,7 @@ use Rattle.gptp_pdelay.specs.declared.progress.Progress.{Progress}
 use Rattle.gptp_pdelay.specs.Peer.{PeerState, after_follow_up, after_interval, after_response, is_capable, answered_by, reset_peer}
 use Rattle.gptp_system.specs.declared.answer.Answer.{Answer}
 use Rattle.gptp_system.specs.declared.port.Port.{Port}
+use Rattle.gptp_system.specs.declared.reading.TimeRead.{TimeRead}
 use Rattle.gptp_system.specs.declared.sending.Sending.{Sending}
 use Rattle.gptp_setup.specs.declared.timer.Timer.{Timer}
 use Rattle.gptp_setup.specs.declared.timer.Timer.TheVariants as timers
@@ -25,6 +26,7 @@ use Rattle.gptp_system.specs.Measuring.{GoesDown, Turns, TurnsAndAsks, TurnsIf, 
 use Rattle.gptp_system.specs.Announcing.{HearsQualified, aged_at, compared, replaces_held, with_priority}
 use Rattle.gptp_system.specs.Syncing.{HearsFollowUpIf, HearsSyncIf, KeepsIf, KnowsBy, KnowsIf, RelaysBy, RelaysIf, SyncsIf, counted_by_rates, delay_at, is_followed, is_leading, root_rate_at, restarted, said_on, timer_stopped, telling}
 use Rattle.gptp_system.specs.Lapse.{lapsed}
+use Rattle.gptp_system.specs.Takeover.{leading}
 use Rattle.gptp_system.specs.Steps.{Expires as TimerExpires, HearsFrame, HearsMessage}
 use Rattle.gptp_system.specs.Input.{Input, Steps, PortUp, PortDown, Frame, Expires, Priority}
 use Rattle.gptp_system.proofs.PortLemmas.{Marked, counted-get, counted-map, with_sync}
@@ -35,21 +37,24 @@ use Rattle.gptp_system.proofs.TimersChangedLemmas.{aged_touches, compared_same, 
 -- ---- states
 
 -- only what is known of time changes
-apart : (s : SystemState) (sync_in : Option KeptSync) (known : Option SyncInfo) (offset : Option ℤ) (sync : ℕ)
-    (relay lapse : Option ℕ)
+apart : (s : SystemState) (sync_in : Option KeptSync) (known : Option SyncInfo) (offset : Option ℤ)
+    (reads : Option TimeRead) (base : ℤ) (sync : ℕ) (relay lapse : Option ℕ)
     → Quiet s (record s {
       sync_in = sync_in;
       known = known;
       offset = offset;
+      reads = reads;
+      base = base;
       sync = sync;
       relay = relay;
       lapse = lapse;
     })
-apart s sync_in known offset sync relay lapse = record {
+apart s sync_in known offset reads base sync relay lapse = record {
   params = refl;
   largest = refl;
   phase = refl;
   drift = refl;
+  continues = refl;
   identity = refl;
   held = refl;
   root = refl;
@@ -60,20 +65,22 @@ apart s sync_in known offset sync relay lapse = record {
 }
 
 pub apart_steady : (s : SystemState) (sync_in : Option KeptSync) (known : Option SyncInfo) (offset : Option ℤ)
-    (sync : ℕ) (relay lapse : Option ℕ)
+    (reads : Option TimeRead) (base : ℤ) (sync : ℕ) (relay lapse : Option ℕ)
     → Steady s (record s {
       sync_in = sync_in;
       known = known;
       offset = offset;
+      reads = reads;
+      base = base;
       sync = sync;
       relay = relay;
       lapse = lapse;
     })
-apart_steady s sync_in known offset sync relay lapse =
-    quiet_steady s _ (apart s sync_in known offset sync relay lapse)
+apart_steady s sync_in known offset reads base sync relay lapse =
+    quiet_steady s _ (apart s sync_in known offset reads base sync relay lapse)
 
 pub itself : (s : SystemState) → Steady s s
-itself s = apart_steady s s.sync_in s.known s.offset s.sync s.relay s.lapse
+itself s = apart_steady s s.sync_in s.known s.offset s.reads s.base s.sync s.relay s.lapse
 
 telling_quiet : (s : SystemState) → Quiet s (telling s)
 telling_quiet s =
@@ -157,7 +164,7 @@ hears_announce p a now s s' sends answer (inr (inr qualified)) = hears_qualified
 keeps_if : (b : Bool) (head : Head) (now : ℕ) (s s' : SystemState) (sends : List Sending) (answer : Answer)
     → KeepsIf b head now s s' sends answer → Steady s s'
 keeps_if true head now s s' sends answer k =
-    becomes s _ s' sends (apart_steady s _ s.known s.offset s.sync s.relay s.lapse) k.becomes
+    becomes s _ s' sends (apart_steady s _ s.known s.offset s.reads s.base s.sync s.relay s.lapse) k.becomes
 keeps_if false head now s s' sends answer k = becomes s s s' sends (itself s) k.becomes
 
 hears_sync : (b : Bool) (p : ℕ) (head : Head) (now : ℕ) (s s' : SystemState) (sends : List Sending) (answer : Answer)
@@ -169,11 +176,11 @@ knows_by : (b : Bool) (info : SyncInfo) (delay rate : ℤ) (now : ℕ) (s s' : S
     (answer : Answer)
     → KnowsBy b info delay rate now s s' sends answer → Steady s s'
 knows_by true info delay rate now s s' sends answer k =
-    becomes s _ s' sends (apart_steady s s.sync_in _ _ s.sync _ _) k.becomes
+    becomes s _ s' sends (apart_steady s s.sync_in _ _ _ s.base s.sync _ _) k.becomes
 knows_by false info delay rate now s s' sends answer (inl k) =
-    becomes s _ s' sends (apart_steady s s.sync_in _ _ s.sync _ s.lapse) k.becomes
+    becomes s _ s' sends (apart_steady s s.sync_in _ _ _ s.base s.sync _ s.lapse) k.becomes
 knows_by false info delay rate now s s' sends answer (inr k) =
-    becomes s _ s' sends (apart_steady s _ _ _ s.sync s.relay s.lapse) k.becomes
+    becomes s _ s' sends (apart_steady s _ _ _ s.reads s.base s.sync s.relay s.lapse) k.becomes
 
 knows_if : (said : Option SyncInfo) (delay rate : ℤ) (now : ℕ) (s s' : SystemState) (sends : List Sending)
     (answer : Answer)
@@ -190,17 +197,19 @@ hears_follow_up true p m now s s' sends answer k =
     knows_if (said_on p m s) (delay_at s p) (root_rate_at s p) now s s' sends answer k
 
 restarted_steady : (now : ℕ) (s : SystemState) → Steady s (restarted now s)
-restarted_steady now s = apart_steady s s.sync_in s.known s.offset _ s.relay s.lapse
+restarted_steady now s = apart_steady s s.sync_in s.known s.offset s.reads s.base _ s.relay s.lapse
+
+led_steady : (now : ℕ) (s : SystemState) → Steady s (restarted now (leading now s))
+led_steady now s = apart_steady s s.sync_in s.known s.offset _ _ _ s.relay s.lapse
 
 syncs_if : (b : Bool) (now : ℕ) (s s' : SystemState) (sends : List Sending) → SyncsIf b now s s' sends → Steady s s'
 syncs_if true now s s' sends k =
-    subst (Steady s) (sym k.state)
-    (steady_on s (restarted now s) (telling (restarted now s)) (restarted_steady now s)
-    (telling_steady (restarted now s)))
+    let t = restarted now (leading now s) in
+    subst (Steady s) (sym k.state) (steady_on s t (telling t) (led_steady now s) (telling_steady t))
 syncs_if false now s s' sends k = becomes s (restarted now s) s' sends (restarted_steady now s) k
 
 stopped_steady : (s : SystemState) → Steady s (timer_stopped s)
-stopped_steady s = apart_steady s s.sync_in s.known s.offset s.sync None s.lapse
+stopped_steady s = apart_steady s s.sync_in s.known s.offset s.reads s.base s.sync None s.lapse
 
 -- all Master ports tell time at the Relay timer
 relayed_steady : (s s' : SystemState) → s' ≡ telling (timer_stopped s) → Steady s s'

@@ -114,6 +114,8 @@ telling_ready s ready =
       recent = ready.recent;
       ports = all_ports_counted s.held s.ports ready.ports;
       lapses = ready.lapses;
+      told = ready.told;
+      based = ready.based;
     }
 
 -- ---- what a Follow_Up says

@@ -85,6 +85,8 @@ port_ready p f s keeps ready =
       recent = ready.recent;
       ports = all_change IsReadyPort f p s.ports keeps ready.ports;
       lapses = ready.lapses;
+      told = ready.told;
+      based = ready.based;
     }
 
 placed-change_at : (f : Held → Held) → ((h : Held) → received (f h) ≡ None) → (i n : ℕ) (hs : List Held)
@@ -114,4 +116,6 @@ held_ready p f s empty ready =
       recent = all_change IsRecent f p s.held (λ h recent r is. absurd (let none = empty h in cc)) ready.recent;
       ports = ready.ports;
       lapses = ready.lapses;
+      told = ready.told;
+      based = ready.based;
     }

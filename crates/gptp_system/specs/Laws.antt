@@ -1,5 +1,5 @@
 -- Laws on the steps of a system.
-use Rattle.std.specs.Prelude.{◌≡◌, ◌≢◌, ◌⊎◌, ◌≤◌, ℕ, List, [], ◌+◌, ◌<◌, length, Some, slice_get}
+use Rattle.std.specs.Prelude.{◌≡◌, ◌≢◌, ◌⊎◌, ◌≤◌, ℕ, List, [], ◌+◌, ◌<◌, length, None, true, Some, slice_get}
 use Rattle.gptp_roles.specs.Choice.{ArePlaced}
 use Rattle.gptp_roles.specs.SystemTrace.{SlaveReceived}
 use Rattle.gptp_system.specs.declared.answer.Answer.{Answer}
@@ -21,6 +21,8 @@ use Rattle.gptp_system.specs.Counters.{AreCounted}
 use Rattle.gptp_system.specs.Reach.{SendsWithin, Leaves, is_touched, reach}
 use Rattle.gptp_system.specs.Ready.{IsReady}
 use Rattle.gptp_system.specs.Start.{started}
+use Rattle.gptp_system.specs.Takeover.{reads_own}
+use Rattle.gptp_system.specs.TimeKept.{GoesOnTelling, MakesOfTime}
 use Rattle.gptp_system.specs.Facts.{AreHeld, AreShown, IsAtRest, IsNew, Keeps}
 
 -- a new system is at rest, and what it holds is as it must be
@@ -156,3 +158,15 @@ abbrev pub CountersLaw : Type 0
 CountersLaw = (input : Input) (now : ℕ) (s s' : SystemState) (sends : List Sending) (answer : Answer)
     → Steps input now s s' sends answer
     → AreCounted s s' sends
+
+-- every step leaves what a system reads time by, or receives time, or is an expiry of the Sync timer
+abbrev pub TimeKeptLaw : Type 0
+TimeKeptLaw = (input : Input) (now : ℕ) (s s' : SystemState) (sends : List Sending) (answer : Answer)
+    → Steps input now s s' sends answer
+    → MakesOfTime input now s s'
+
+-- a system that has taken over goes on to tell the same, as long as it has no Slave port
+abbrev pub GoesOnLaw : Type 0
+GoesOnLaw = (input : Input) (now : ℕ) (s s' : SystemState) (sends : List Sending) (answer : Answer)
+    → s.slave ≡ None → reads_own s.reads ≡ true → Steps input now s s' sends answer
+    → GoesOnTelling s s'

@@ -21,3 +21,5 @@ pub mod Reach
 pub mod TimersChanged
 pub mod Counters
 pub mod Reading
+pub mod Takeover
+pub mod TimeKept

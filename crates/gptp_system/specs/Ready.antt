@@ -1,5 +1,5 @@
 -- What is true of the state of every system before each call, and at each place inside one.
-use Rattle.std.specs.Prelude.{◌≡◌, ◌≤◌, None, length}
+use Rattle.std.specs.Prelude.{◌≡◌, ◌≤◌, None, length, pos, ◌≤ℤ◌, ◌<ℤ◌}
 use Rattle.std.specs.List.{AllByRecursion}
 use Rattle.std.specs.Option.{ForSome}
 use Rattle.gptp_receipt.specs.declared.held.Held.{Held}
@@ -12,6 +12,7 @@ use Rattle.gptp_system.specs.declared.port.Port.{Port}
 use Rattle.gptp_system.specs.declared.state.State.{State}
 use Rattle.gptp_setup.specs.Intervals.{AreParams, IsLog, IsMoment}
 use Rattle.gptp_system.specs.State.{SystemState}
+use Rattle.gptp_system.specs.Takeover.{time_limit, told_time}
 
 -- the state of a system, without the places that hold nothing
 abbrev pub state_of : State → SystemState
@@ -20,6 +21,7 @@ state_of s = record {
   largest = s.largest;
   phase = s.phase;
   drift = s.drift;
+  continues = s.continues;
   identity = s.identity;
   held = s.held.items;
   ports = s.ports.items;
@@ -29,6 +31,8 @@ state_of s = record {
   sync_in = s.sync_in;
   known = s.known;
   offset = s.offset;
+  reads = s.reads;
+  base = s.base;
   sync = s.sync;
   relay = s.relay;
   lapse = s.lapse;
@@ -43,6 +47,7 @@ pub record IsReadyPort (q : Port) : Type 0 where
   pub log_interval : IsLog q.log_interval
   pub waiting : ForSome q.peer.waiting (λ (owed : Answer). IsTime owed.t2)
 
+-- What a system tells from its next Sync on is from 0 on, and below 2^48 s.
 pub record IsReady (s : SystemState) : Type 0 where
   pub params : AreParams s.params
   pub largest : IsLog s.largest
@@ -54,3 +59,5 @@ pub record IsReady (s : SystemState) : Type 0 where
   pub recent : AllByRecursion IsRecent s.held
   pub ports : AllByRecursion IsReadyPort s.ports
   pub lapses : s.params.sync_timeout ≡ 0 → s.lapse ≡ None
+  pub told : pos 0 ≤ℤ told_time s s.sync
+  pub based : s.base <ℤ time_limit

@@ -1,5 +1,5 @@
 -- A system as it starts, and what it is asked (IEEE 802.1AS-2020, 10.3.4 and 10.3.5).
-use Rattle.std.specs.Prelude.{ℕ, ℤ, ◌+◌, ◌==◌, Bool, false, if◌then◌else◌, List, [], ◌∷◌, None, length, map}
+use Rattle.std.specs.Prelude.{ℕ, ℤ, pos, ◌+◌, ◌==◌, Bool, false, if◌then◌else◌, List, [], ◌∷◌, None, length, map}
 use Rattle.std.specs.List.{range_with_len}
 use Rattle.std.specs.Option.{option_map_or}
 use Rattle.gptp_vector.specs.declared.port.PortId.{PortId}
@@ -36,13 +36,15 @@ new_ports clock params n (log ∷ logs) =
 abbrev pub all_disabled : ℕ → List Held
 all_disabled n = map (λ (p : ℕ). helds.Disabled) (range_with_len 1 n)
 
--- A system starts as its own root, with all ports Disabled; it sends time one sync interval later.
+-- A system starts as its own root, with all ports Disabled; it sends time one sync interval later. It has no time yet,
+-- and its base is 0.
 abbrev pub started : Setup → ℕ → SystemState
 started setup now = record {
   params = setup.params;
   largest = setup.largest;
   phase = setup.phase;
   drift = setup.drift;
+  continues = setup.continues;
   identity = setup.identity;
   held = all_disabled (length setup.intervals.items);
   ports = new_ports (clock_of setup.identity) setup.params 1 setup.intervals.items;
@@ -52,6 +54,8 @@ started setup now = record {
   sync_in = None;
   known = None;
   offset = None;
+  reads = None;
+  base = pos 0;
   sync = now + interval_of setup.params.sync;
   relay = None;
   lapse = None;

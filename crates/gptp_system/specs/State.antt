@@ -14,18 +14,21 @@ use Rattle.gptp_pdelay.specs.Peer.{PeerState, is_capable}
 use Rattle.gptp_correction.specs.SyncIn.{KeptSync}
 use Rattle.gptp_correction.specs.declared.sync_in.SyncInfo.{SyncInfo}
 use Rattle.gptp_system.specs.declared.port.Port.{Port}
+use Rattle.gptp_system.specs.declared.reading.TimeRead.{TimeRead}
 use Rattle.gptp_setup.specs.declared.setup.Params.{Params}
 use Rattle.gptp_setup.specs.declared.timer.Timer.{Timer}
 use Rattle.gptp_setup.specs.declared.timer.Timer.TheVariants as timers
 use Rattle.gptp_setup.specs.SettlingParams.{has_sync_timeout, lapse_span, span_by}
 
 -- What a system knows; `largest` is the largest announce interval of its network. The first port stands first in both
--- lists, and has the number 1. Times of timers are in ns.
+-- lists, and has the number 1. Times of timers are in ns, and the base, by which the time that it tells is ahead of its
+-- own clock, is in units of 2^-16 ns.
 pub record SystemState : Type 0 where
   pub params : Params
   pub largest : ℤ
   pub phase : ℕ
   pub drift : ℤ
+  pub continues : Bool
   pub identity : ℕ
   pub held : List Held
   pub ports : List Port
@@ -35,6 +38,8 @@ pub record SystemState : Type 0 where
   pub sync_in : Option KeptSync
   pub known : Option SyncInfo
   pub offset : Option ℤ
+  pub reads : Option TimeRead
+  pub base : ℤ
   pub sync : ℕ
   pub relay : Option ℕ
   pub lapse : Option ℕ

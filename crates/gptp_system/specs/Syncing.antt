@@ -1,7 +1,7 @@
 -- Time: what a Sync, a Follow_Up and the timers of both make of a system (IEEE 802.1AS-2020, 10.2.9, 11.2.14, 11.2.15).
 use Rattle.std.specs.Prelude.{◌≡◌, ◌⊎◌, ℕ, ◌+◌, ◌==◌, ◌&&◌, ℤ, pos, ◌-ℤ◌, Bool, true, false}
 use Rattle.std.specs.Prelude.{if◌then◌else◌, List, [], ◌∷◌, Option, Some, None}
-use Rattle.std.specs.Option.{option_map_or, unwrap_or}
+use Rattle.std.specs.Option.{option_and_then, option_map, option_map_or, unwrap_or}
 use Rattle.gptp_vector.specs.declared.port.PortId.{PortId}
 use Rattle.gptp_messages.specs.declared.head.Head.{Head}
 use Rattle.gptp_messages.specs.declared.follow_up.FollowUp.{FollowUp}
@@ -20,6 +20,9 @@ use Rattle.gptp_correction.specs.Correction.{SlaveFits}
 use Rattle.gptp_system.specs.declared.answer.Answer.{Answer}
 use Rattle.gptp_system.specs.declared.answer.Answer.TheVariants as answers
 use Rattle.gptp_system.specs.declared.port.Port.{Port}
+use Rattle.gptp_system.specs.declared.reading.Reading.{Reading}
+use Rattle.gptp_system.specs.declared.reading.TimeRead.{TimeRead}
+use Rattle.gptp_system.specs.declared.reading.TimeRead.TheVariants as reads
 use Rattle.gptp_system.specs.declared.sending.Sending.{Sending}
 use Rattle.gptp_system.specs.declared.sending.Body.TheVariants as bodies
 use Rattle.gptp_setup.specs.Intervals.{interval_of}
@@ -28,6 +31,8 @@ use Rattle.gptp_system.specs.State.{SystemState, number, clock, local_time, held
 use Rattle.gptp_system.specs.State.{can_lead, lapse_of}
 use Rattle.gptp_system.specs.Sends.{head_from, next_sequence}
 use Rattle.gptp_system.specs.Selection.{Becomes}
+use Rattle.gptp_system.specs.Reading.{reading_of}
+use Rattle.gptp_system.specs.Takeover.{leading, told_time}
 
 -- ---- sending
 
@@ -72,11 +77,11 @@ telling s = record s { ports = counted_by_rates s.held s.ports }
 abbrev pub told_by : Relayed → SystemState → List Sending
 told_by told s = syncs (clock s) s.params.sync told 1 s.held s.ports
 
--- the own time: as it is now, at the own rate
+-- a time of the own: as it is now, at the own rate
 abbrev pub own_time : Timestamp → ℕ → Relayed
 own_time stamp rest = record { origin = stamp; correction = pos rest; rate = pos 0 }
 
--- such a time, as the clock shows it
+-- this time, told so
 pub record IsOwnTime (time : ℤ) (told : Relayed) : Type 0 where
   pub stamp : Timestamp
   pub rest : ℕ
@@ -93,11 +98,12 @@ is_leading s = s.root == s.identity && can_lead s.identity
 abbrev pub restarted : ℕ → SystemState → SystemState
 restarted now s = record s { sync = now + interval_of s.params.sync }
 
+-- It takes over where it didn't yet, and tells its time: that of its clock, and its base.
 pub record LeadsTime (now : ℕ) (s s' : SystemState) (sends : List Sending) : Type 0 where
   pub stamp : Timestamp
   pub rest : ℕ
-  pub split : IsSplit (local_time s now) stamp rest
-  pub state : s' ≡ telling (restarted now s)
+  pub split : IsSplit (told_time (leading now s) now) stamp rest
+  pub state : s' ≡ telling (restarted now (leading now s))
   pub sends_are : sends ≡ told_by (own_time stamp rest) s
 
 abbrev pub SyncsIf : Bool → ℕ → SystemState → SystemState → List Sending → Type 0
@@ -179,11 +185,12 @@ pub record OffsetFits (info : SyncInfo) (delay rate : ℤ) : Type 0 where
   pub receipt : SlaveFits (scaled_of info.origin) (carried info) delay rate
   pub offset : FitsScaled (offset_of info delay rate)
 
--- the time is known, and is sent on one residence later
-abbrev pub knowing : SyncInfo → ℤ → ℕ → SystemState → SystemState
-knowing info offset now s = record s {
+-- the time is known and read, and is sent on one residence later
+abbrev pub knowing : SyncInfo → ℤ → ℤ → ℕ → SystemState → SystemState
+knowing info offset rate now s = record s {
   known = Some info;
   offset = Some offset;
+  reads = Some (reads.Received (reading_of info offset rate));
   relay = Some (now + s.params.residence);
 }
 
@@ -195,7 +202,7 @@ forgetting s = record s { sync_in = None; known = None; offset = None }
 pub record OffsetIsKnown (info : SyncInfo) (delay rate : ℤ) (now : ℕ) (s s' : SystemState) (sends : List Sending)
     (answer : Answer) : Type 0 where
   pub fits : OffsetFits info delay rate
-  pub becomes : Becomes (knowing info (offset_of info delay rate) now s) s' sends
+  pub becomes : Becomes (knowing info (offset_of info delay rate) rate now s) s' sends
   pub answer_is : answer ≡ answers.Used
 
 -- one doesn't
@@ -211,11 +218,17 @@ IsOffset info delay rate offset =
     (OffsetFits info delay rate × (offset ≡ Some (offset_of info delay rate)))
     ⊎ ((OffsetFits info delay rate → ⊥) × (offset ≡ None))
 
+-- what is read then: without an offset what was read before
+abbrev pub reads_with : SyncInfo → Option ℤ → ℤ → Option TimeRead → Option TimeRead
+reads_with info None rate before = before
+reads_with info (Some offset) rate before = Some (reads.Received (reading_of info offset rate))
+
 -- The time is known: a Relay timer that runs keeps its time, and sends this on then; the Lapse timer begins anew.
-abbrev pub refreshing : SyncInfo → Option ℤ → ℕ → SystemState → SystemState
-refreshing info offset now s = record s {
+abbrev pub refreshing : SyncInfo → Option ℤ → ℤ → ℕ → SystemState → SystemState
+refreshing info offset rate now s = record s {
   known = Some info;
   offset = offset;
+  reads = reads_with info offset rate s.reads;
   relay = Some (unwrap_or s.relay (now + s.params.residence));
   lapse = lapse_of s.params s.root s.slave now;
 }
@@ -225,7 +238,7 @@ pub record IsRefreshed (info : SyncInfo) (delay rate : ℤ) (now : ℕ) (s s' : 
     (answer : Answer) : Type 0 where
   pub offset : Option ℤ
   pub offset_is : IsOffset (held_sum info rate) delay rate offset
-  pub becomes : Becomes (refreshing info offset now s) s' sends
+  pub becomes : Becomes (refreshing info offset rate now s) s' sends
   pub answer_is : answer ≡ answers.Used
 
 abbrev pub KnowsBy : Bool → SyncInfo → ℤ → ℤ → ℕ → SystemState → SystemState → List Sending → Answer → Type 0
@@ -257,6 +270,13 @@ slave_delay s = option_map_or (delay_at s) s.slave (pos 0)
 
 abbrev pub slave_rate : SystemState → ℤ
 slave_rate s = option_map_or (root_rate_at s) s.slave (pos 0)
+
+-- what the system holds of the Follow_Up that it used last, as long as it knows an offset, by the neighbour's rate
+abbrev pub reading_by : SystemState → SyncInfo → ℤ → Reading
+reading_by s known offset = reading_of known offset (slave_rate s)
+
+abbrev pub held_reading : SystemState → Option Reading
+held_reading s = option_and_then (λ known. option_map (λ offset. reading_by s known offset) s.offset) s.known
 
 -- the hop of this bridge, by these
 abbrev pub hop_of : SyncInfo → ℕ → SystemState → Hop

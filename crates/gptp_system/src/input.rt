@@ -58,7 +58,7 @@ impl State {
     ghost use Rattle.gptp_setup.specs.Intervals.{IsMoment};
     ghost use Rattle.gptp_system.specs.Ready.{IsReady, state_of};
     ghost use Rattle.gptp_system.specs.State.{held_at, is_capable_at};
-    ghost use Rattle.gptp_system.specs.Steps.{Expires, HearsFrame, HearsMessage, HasPortNumber, IsTimerOf};
+    ghost use Rattle.gptp_system.specs.Steps.{Expires, HearsFrame, HearsMessage, HasPortNumber, IsDue, IsTimerOf};
     ghost use Rattle.gptp_system.specs.TimersChanged.{message_touches, timer_touches, Touches};
 
     /// A port hears a message.
@@ -134,6 +134,7 @@ impl State {
         requires ready { IsReady (state_of self.old) }
         requires moment { IsMoment now }
         requires timer { IsTimerOf (state_of self.old) timer }
+        requires due { IsDue (state_of self.old) timer now }
         requires empty { outbox.old.items ≡ [] }
         ensures step { Expires timer now (state_of self.old) (state_of self.new) outbox.new.items }
         ensures touched { result ≡ timer_touches timer (state_of self.old) }

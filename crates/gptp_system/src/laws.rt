@@ -1,7 +1,7 @@
 //! What holds of a system between its calls, whatever it is given.
 
-ghost use Rattle.gptp_system.specs.Laws.{AgainLaw, CountersLaw, FollowsLaw, HeldLaw, IdentityLaw, InTimeLaw, KeepsLaw, LaterLaw, LeavesLaw, MeasuresLaw};
-ghost use Rattle.gptp_system.specs.Laws.{PlacedLaw, RanOutLaw, ReachLaw, ReactsLaw, RestLaw, RunsOnLaw, SelectsLaw, SendsLaw, ShownLaw, SpanLaw, StartLaw, StartedLaw, StartsInTimeLaw, TraceLaw};
+ghost use Rattle.gptp_system.specs.Laws.{AgainLaw, CountersLaw, FollowsLaw, GoesOnLaw, HeldLaw, IdentityLaw, InTimeLaw, KeepsLaw, LaterLaw, LeavesLaw, MeasuresLaw};
+ghost use Rattle.gptp_system.specs.Laws.{PlacedLaw, RanOutLaw, ReachLaw, ReactsLaw, RestLaw, RunsOnLaw, SelectsLaw, SendsLaw, ShownLaw, SpanLaw, StartLaw, StartedLaw, StartsInTimeLaw, TimeKeptLaw, TraceLaw};
 
 /// A new system, all ports of which are disabled, is at rest and its own root.
 pub fn starts_at_rest()
@@ -27,8 +27,8 @@ pub fn holds_what_qualified()
     ensures placed { PlacedLaw }
 {}
 
-/// No step changes the parameters, the local clock, the clockIdentity, how many ports there are or their announce
-/// intervals; none but a change of priority1 changes the identity.
+/// No step changes the parameters, the local clock, whether the system goes on with the time that it read, the
+/// clockIdentity, how many ports there are or their announce intervals; none but a change of priority1 changes the identity.
 pub fn keeps_its_setup()
     ensures keeps { KeepsLaw }
     ensures identity { IdentityLaw }
@@ -88,4 +88,12 @@ pub fn stays_within_reach()
 /// other message. They wrap at 65536.
 pub fn counts_what_it_sends()
     ensures { CountersLaw }
+{}
+
+/// Every step leaves what the system reads time by and its base, but for a receipt at its Slave port, and for the expiry
+/// of its Sync timer: then one that leads takes over, where it didn't yet. As long as it has no Slave port it goes on to
+/// tell the same then.
+pub fn goes_on_with_time()
+    ensures kept { TimeKeptLaw }
+    ensures tells { GoesOnLaw }
 {}

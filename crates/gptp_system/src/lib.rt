@@ -23,6 +23,7 @@ mod start;
 mod state;
 mod syncing;
 mod system;
+mod takeover;
 mod timers_changed;
 mod views;
 
@@ -30,7 +31,7 @@ pub use answer::Answer;
 pub use gptp_setup::{Params, Setup, Timer};
 pub use input::{Input, Stepped};
 pub use reach::Reach;
-pub use reading::Reading;
+pub use reading::{Reading, TimeRead};
 pub use sending::{Body, Outbox, Sending};
 pub use system::System;
 pub use timers_changed::TimersChanged;

@@ -9,6 +9,7 @@ use arrayvec::ArrayVec;
 use gptp_correction::SyncIn;
 use gptp_pdelay::Peer;
 use gptp_receipt::Held;
+use gptp_scaled::ScaledNs;
 use gptp_setup::{Params, Setup, interval_of};
 use gptp_vector::{ClockId, PortId};
 
@@ -81,6 +82,7 @@ impl State {
             largest: setup.largest,
             phase: setup.phase,
             drift: setup.drift,
+            continues: setup.continues,
             identity: setup.identity,
             root: setup.identity,
             steps: 0,
@@ -88,6 +90,8 @@ impl State {
             sync_in: SyncIn::new(),
             known: None,
             offset: None,
+            reads: None,
+            base: ScaledNs::default(),
             sync: now + interval_of(setup.params.sync),
             relay: None,
             lapse: None,

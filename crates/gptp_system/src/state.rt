@@ -3,6 +3,7 @@
 ghost use Rattle.std.specs.Prelude.{◌≡◌, ◌≤◌, length};
 
 use crate::port::Port;
+use crate::reading::TimeRead;
 use arrayvec::ArrayVec;
 use gptp_correction::{SyncIn, SyncInfo};
 use gptp_receipt::Held;
@@ -17,6 +18,7 @@ pub struct State {
     pub(crate) largest: i8,
     pub(crate) phase: u64,
     pub(crate) drift: i32,
+    pub(crate) continues: bool,
     pub(crate) identity: Identity,
     pub(crate) root: Identity,
     pub(crate) steps: u16,
@@ -24,6 +26,8 @@ pub struct State {
     pub(crate) sync_in: SyncIn,
     pub(crate) known: Option<SyncInfo>,
     pub(crate) offset: Option<ScaledNs>,
+    pub(crate) reads: Option<TimeRead>,
+    pub(crate) base: ScaledNs,
     pub(crate) sync: u64,
     pub(crate) relay: Option<u64>,
     pub(crate) lapse: Option<u64>,
@@ -67,6 +71,7 @@ impl State {
             largest: self.largest,
             phase: self.phase,
             drift: self.drift,
+            continues: self.continues,
             identity: self.identity,
             root: self.root,
             steps: self.steps,
@@ -74,6 +79,8 @@ impl State {
             sync_in: self.sync_in,
             known: self.known,
             offset: self.offset,
+            reads: self.reads,
+            base: self.base,
             sync: self.sync,
             relay: self.relay,
             lapse: self.lapse,

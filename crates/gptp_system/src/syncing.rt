@@ -5,23 +5,22 @@ ghost use Rattle.std.specs.Option.{option_copied, option_map_or};
 ghost use Rattle.arrayvec.specs.ArrayVec.{array_vec_len};
 ghost use Rattle.gptp_correction.specs.Correction.{held_sum};
 ghost use Rattle.gptp_correction.specs.SyncIn.{information};
-ghost use Rattle.gptp_pdelay.specs.Clock.{IsTime};
 ghost use Rattle.gptp_pdelay.specs.Peer.{delay_of, rate_of_peer};
+ghost use Rattle.gptp_scaled.specs.Stamp.{FitsStamp};
 ghost use Rattle.gptp_system.specs.declared.port.Port.{Port};
 ghost use Rattle.gptp_system.specs.State.{can_lead, is_mine, number};
-ghost use Rattle.gptp_system.specs.Syncing.{as_received, came_from, counted_by_rates, counting, follow_up_of, offset_of, sync_of, syncs, IsOffset, IsOwnTime, OffsetFits};
+ghost use Rattle.gptp_system.specs.Syncing.{as_received, came_from, counted_by_rates, counting, follow_up_of, offset_of, reads_with, sync_of, syncs, IsOffset, IsOwnTime, OffsetFits};
 
 use crate::answer::Answer;
 use crate::lapse::lapse_of;
 use crate::port::Port;
-use crate::reading::Reading;
+use crate::reading::{Reading, TimeRead, reading_of};
 use crate::sending::{Body, Outbox, Sending, push};
 use crate::state::State;
 use gptp_correction::{Relayed, SyncIn, SyncInfo, receipt_time, relay};
 use gptp_messages::{FollowUp, Head};
 use gptp_receipt::Held;
 use gptp_scaled::{Interval, OutOfRange, Rate, ScaledNs};
-use gptp_setup::interval_of;
 use gptp_vector::{ClockId, Identity, PortId};
 
 /// The Sync of a port.
@@ -150,9 +149,9 @@ fn tell_all(
     }
 }
 
-/// The own time, as the clock shows it, at the own rate.
+/// A time of the own, at the own rate.
 fn own_time(time: ScaledNs) -> Relayed
-    requires { IsTime time }
+    requires { FitsStamp time }
     ensures { IsOwnTime time result }
 {
     let (origin, rest) = time.split().unwrap();
@@ -236,6 +235,21 @@ fn held_offset(info: &SyncInfo, delay: ScaledNs, rate: Rate) -> Option<ScaledNs>
     offset_of(&info.held_sum(rate), delay, rate).ok()
 }
 
+/// What is read by with a Follow_Up; without an offset what was read by before.
+fn reads_with(
+    info: &SyncInfo,
+    offset: &Option<ScaledNs>,
+    rate: Rate,
+    before: &Option<TimeRead>,
+) -> Option<TimeRead>
+    ensures { result ≡ reads_with info.now offset.now rate before.now }
+{
+    match offset {
+        Some(offset) => Some(TimeRead::Received(reading_of(info, *offset, rate))),
+        None => *before,
+    }
+}
+
 /// What is told as it came.
 fn as_received(info: &SyncInfo) -> Relayed
     ensures { result ≡ as_received info.now }
@@ -251,9 +265,8 @@ impl State {
     ghost use Rattle.std.specs.Prelude.{◌≡◌, ◌⊎◌, ◌≤◌, [], length};
     ghost use Rattle.gptp_setup.specs.Intervals.{IsMoment};
     ghost use Rattle.gptp_setup.specs.SettlingParams.{has_sync_timeout};
-    ghost use Rattle.gptp_system.specs.Reading.{held_reading};
     ghost use Rattle.gptp_system.specs.Ready.{IsReady, state_of};
-    ghost use Rattle.gptp_system.specs.Syncing.{is_followed, is_slave_at, is_leading, slave_delay, slave_rate, telling, told_by, HearsFollowUp, HearsSync, IsDropped, IsForgotten};
+    ghost use Rattle.gptp_system.specs.Syncing.{held_reading, is_followed, is_slave_at, is_leading, slave_delay, slave_rate, telling, told_by, HearsFollowUp, HearsSync, IsDropped, IsForgotten};
     ghost use Rattle.gptp_system.specs.Syncing.{OffsetIsKnown, IsRefreshed, IsRelayed, IsSentOn, IsToldAtLimits, KnowsBy, RelayExpires, SyncExpires};
 
     /// All Master ports tell a time.
@@ -275,18 +288,20 @@ impl State {
     }
 
     /// The Sync timer runs out (IEEE 802.1AS-2020, 10.2.9): it is started again, and a system that is its own root and
-    /// may be grandmaster tells its own time.
+    /// may be grandmaster tells its time, and takes over where it didn't yet.
     pub(crate) fn on_sync_timer(&mut self, now: u64, outbox: &mut Outbox)
         requires ready { IsReady (state_of self.old) }
         requires moment { IsMoment now }
+        requires due { (state_of self.old).sync ≤ now }
         requires empty { outbox.old.items ≡ [] }
         ensures step { SyncExpires now (state_of self.old) (state_of self.new) outbox.new.items }
         ensures ready { IsReady (state_of self.new) }
     {
-        self.sync = now + interval_of(self.params.sync);
         if leads(self.identity, self.root) {
-            let told = own_time(self.local_time(now));
+            let told = own_time(self.lead(now));
             self.tell(&told, outbox);
+        } else {
+            self.restart(now);
         }
     }
 
@@ -340,6 +355,7 @@ impl State {
     {
         match offset_of(&info, delay, rate) {
             Ok(offset) => {
+                self.reads = Some(TimeRead::Received(reading_of(&info, offset, rate)));
                 self.known = Some(info);
                 self.offset = Some(offset);
                 self.relay = Some(now + self.params.residence);
@@ -362,8 +378,11 @@ impl State {
         ensures step { IsRefreshed info delay rate now (state_of self.old) (state_of self.new) [] result }
         ensures ready { IsReady (state_of self.new) }
     {
+        let offset = held_offset(&info, delay, rate);
+        let reads = reads_with(&info, &offset, rate, &self.reads);
+        self.reads = reads;
         self.known = Some(info);
-        self.offset = held_offset(&info, delay, rate);
+        self.offset = offset;
         self.relay = Some(self.relay.unwrap_or(now + self.params.residence));
         self.lapse = lapse_of(&self.params, self.root, self.slave, now);
         Answer::Used
@@ -428,17 +447,12 @@ impl State {
     }
 
     /// What is read of the root's time by the Follow_Up that was used last.
-    pub(crate) fn reading(&self) -> Option<Reading>
+    pub(crate) fn held_reading(&self) -> Option<Reading>
         ensures { result ≡ held_reading (state_of self.now) }
     {
         let known = self.known?;
         let offset = self.offset?;
-        let sum = known.rate.q().saturating_add(self.slave_rate().q());
-        Some(Reading {
-            ingress: known.ingress,
-            offset,
-            rate: Rate::new(sum),
-        })
+        Some(reading_of(&known, offset, self.slave_rate()))
     }
 
     /// The time that came is sent on where the numbers on the way fit.

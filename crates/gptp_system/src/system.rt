@@ -3,7 +3,7 @@
 use crate::answer::Answer;
 use crate::input::{Input, Stepped};
 use crate::reach::{Reach, frame_reach};
-use crate::reading::Reading;
+use crate::reading::{Reading, TimeRead};
 use crate::sending::Outbox;
 use crate::state::State;
 use gptp_roles::Role;
@@ -33,7 +33,7 @@ impl Model for System {
 }
 
 impl System {
-    ghost use Rattle.std.specs.Prelude.{◌≡◌, ◌≤◌, ◌++◌, ◌∷◌, [], length};
+    ghost use Rattle.std.specs.Prelude.{◌≡◌, ◌≤◌, ◌<◌, ◌^◌, ◌++◌, ◌∷◌, [], length, IfSome, unsigned_abs};
     ghost use Rattle.gptp_pdelay.specs.Clock.{IsDrift};
     ghost use Rattle.gptp_system.specs.Announcing.{ChangesPriority};
     ghost use Rattle.gptp_system.specs.Input.{given, IsTimely, Steps};
@@ -42,10 +42,11 @@ impl System {
     ghost use Rattle.std.specs.Option.{option_and_then};
     ghost use Rattle.gptp_pdelay.specs.Peer.{delay_of};
     ghost use Rattle.gptp_system.specs.Reach.{frame_reach, timer_reach};
-    ghost use Rattle.gptp_system.specs.Reading.{held_reading};
     ghost use Rattle.gptp_system.specs.Start.{role_at, started};
     ghost use Rattle.gptp_system.specs.State.{due, is_capable_at, local_time, number, parent, trace};
     ghost use Rattle.gptp_system.specs.Steps.{Expires, HearsFrame, IsDue, HasPortNumber, IsTimerOf, IsUp};
+    ghost use Rattle.gptp_system.specs.Syncing.{held_reading};
+    ghost use Rattle.gptp_system.specs.Takeover.{reading};
     ghost use Rattle.gptp_system.specs.TimersChanged.{Touches};
 
     /// A system as it starts at `now`, in ns: its own root, with all ports Disabled until their links come up, each of
@@ -162,10 +163,34 @@ impl System {
 
     /// What it reads of the root's time by the Follow_Up that it used last, where an offset is known. It is read so from
     /// that Follow_Up on until the next one is used.
-    pub fn reading(&self) -> Option<Reading>
+    pub fn held_reading(&self) -> Option<Reading>
         ensures { result ≡ held_reading self.now }
     {
-        self.state.reading()
+        self.state.held_reading()
+    }
+
+    /// What it reads time by: the Follow_Up that it used last, whatever became of its root since, or its own clock where
+    /// it took over. None from each start to the first of both.
+    pub fn reads(&self) -> Option<TimeRead>
+        ensures { result ≡ self.now.reads }
+    {
+        self.state.reads
+    }
+
+    /// By how much the time that it tells is ahead of its own clock, in 2^-16 ns.
+    pub fn base(&self) -> ScaledNs
+        ensures { result ≡ self.now.base }
+    {
+        self.state.base
+    }
+
+    /// What it reads at the time `now`, in ns, by what it reads time by: in 2^-16 ns, where it has time.
+    pub fn reading(&self, now: u64) -> Option<i128>
+        requires { IsMoment now }
+        ensures is { result ≡ reading self.now now }
+        ensures small { IfSome result (λ time. unsigned_abs time < 2 ^ 99) }
+    {
+        self.state.reading(now)
     }
 
     /// The path trace that the system announces: the path of its Slave port with the own clock after it, or the own

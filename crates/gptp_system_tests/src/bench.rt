@@ -93,6 +93,7 @@ pub fn started(clock: u64, ports: u8, phase: u64, lost: u8) -> Result<System, Fa
         ports,
         phase,
         drift: 0,
+        continues: false,
         intervals: alike(ports),
         largest: DEFAULTS.announce,
         params: Params { lost, ..DEFAULTS },

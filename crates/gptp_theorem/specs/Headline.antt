@@ -135,9 +135,10 @@ pub record LeavesOffset (number : ℕ) (offset : ℤ) (w' : WorldState) (done : 
 
 -- The theorem on time: where an act is done in a calm world once so long has passed, and a near system other than its
 -- component's best uses a Follow_Up by it, the offset that is left is within the time error of the system's way of its
--- clock less the best's. A way leads over the system's parent and the parents of that. Its time error (gptp_error_laws)
--- is what each link costs, its jitter, and what each bridge costs: its residence times the error of the rate so far, to
--- which each link above adds its jitter over the interval of peer delay requests.
+-- clock less what the best tells, which is its clock and its base. A way leads over the system's parent and the parents
+-- of that. Its time error (gptp_error_laws) is what each link costs, its jitter, and what each bridge costs: its
+-- residence times the error of the rate so far, to which each link above adds its jitter over the interval of peer
+-- delay requests.
 abbrev pub HeadlineOnTime : WorldState → ℕ → WorldState → Done → Type 0
 HeadlineOnTime w time w' done = (p : SettlingParams) (m steps number error : ℕ) (offset ahead : ℤ)
     → WorldIsCalm p w → BoundsPaths (snapshot_of w) m → HasComeDown p m (suc steps) time w

@@ -22,7 +22,7 @@ pub fn worlds_settle()
 {}
 
 /// Once a Sync has had the time to come down a way from when such a world is settled, each Follow_Up that the near
-/// system at its end uses leaves an offset within the time error of the way of its clock less that of the best.
+/// system at its end uses leaves an offset within the time error of the way of its clock less what the best tells.
 pub fn worlds_are_exact<F: Fate>()
     ensures { WorldsAreExact F.answers }
 {}

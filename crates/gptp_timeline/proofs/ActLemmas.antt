@@ -13,35 +13,42 @@ use Rattle.gptp_setup.specs.declared.timer.Timer.{Timer}
 use Rattle.gptp_system.specs.Input.{Input}
 use Rattle.gptp_system.specs.declared.answer.Answer.{Answer}
 use Rattle.gptp_system.specs.State.{clock}
-use Rattle.gptp_timeline.specs.Shown.{shown, shown_of}
+use Rattle.gptp_timeline.specs.Shown.{live_system, shown, shown_of}
 use Rattle.gptp_timeline.proofs.ShownLemmas.{calls_other}
 
--- every system but that with a clock shows what it did
+-- every system but that with a clock is what it was, and shows what it did
+abbrev pub OthersLive : ℕ → WorldState → WorldState → Type 0
+OthersLive name w w' = (other : ℕ) → (other ≡ name → ⊥) → live_system other w' ≡ live_system other w
+
 abbrev pub OthersStay : ℕ → WorldState → WorldState → Type 0
 OthersStay name w w' = (other : ℕ) → (other ≡ name → ⊥) → shown other w' ≡ shown other w
+
+others_show : (name : ℕ) (w w' : WorldState) → OthersLive name w w' → OthersStay name w w'
+others_show name w w' live other apart = ap (option_map shown_of) (live other apart)
 
 -- a call of a system that stands at a place
 called : (place : ℕ) (input : Input) (w : WorldState) (draws : List Draw) (answer : Answer) (w' : WorldState)
     (station : Station) (name : ℕ) → slice_get w.stations place ≡ Some station → clock station.system ≡ name
-    → Calls place input w draws answer w' → OthersStay name w w'
+    → Calls place input w draws answer w' → OthersLive name w w'
 called place input w draws answer w' station name here named calls other apart =
     let is : calls.station ≡ station = same_Some calls.station station (sym calls.here ∙ here) in
-    ap (option_map shown_of) (calls_other other place input w draws answer w' calls
-    (λ e. apart (sym e ∙ ap (λ (s : Station). clock s.system) is ∙ named)))
+    calls_other other place input w draws answer w' calls
+    (λ e. apart (sym e ∙ ap (λ (s : Station). clock s.system) is ∙ named))
 
 -- an expiry
 pub expiry_others : (name : ℕ) (timer : Timer) (w : WorldState) (draws : List Draw) (w' : WorldState)
     → AtSystem name w (λ place station. TimerRunsOut place timer w draws w') → OthersStay name w w'
 expiry_others name timer w draws w' at =
-    called at.place _ _ draws at.so.answer w' at.station name at.is.here at.is.named at.so.calls
+    others_show name w w'
+    (called at.place _ _ draws at.so.answer w' at.station name at.is.here at.is.named at.so.calls)
 
 -- a frame is heard
-hears_others : (place port : ℕ) (octets : List ℕ) (w : WorldState) (draws : List Draw) (answer : Option Answer)
+hears_alone : (place port : ℕ) (octets : List ℕ) (w : WorldState) (draws : List Draw) (answer : Option Answer)
     (w' : WorldState) (station : Station) (name : ℕ) → slice_get w.stations place ≡ Some station
-    → clock station.system ≡ name → Hears place port octets w draws answer w' → OthersStay name w w'
-hears_others place port octets w draws None w' station name here named (failed, none, is) =
-    λ other apart. ap (shown other) is
-hears_others place port octets w draws (Some answer) w' station name here named calls =
+    → clock station.system ≡ name → Hears place port octets w draws answer w' → OthersLive name w w'
+hears_alone place port octets w draws None w' station name here named (failed, none, is) =
+    λ other apart. ap (live_system other) is
+hears_alone place port octets w draws (Some answer) w' station name here named calls =
     called place _ w draws answer w' station name here named calls
 
 -- the system at the end of a link is that of which is told
@@ -53,18 +60,28 @@ hearer_named link direction octets w draws answer w' channel name here told deli
     let same : delivers.channel ≡ channel = same_Some delivers.channel channel (sym delivers.takes.here ∙ here) in
     delivers.is_end ∙ ap (λ (c : Channel). (receiver direction c).clock) same ∙ sym told
 
--- every system but that which heard it shows what it did
+-- every system but that which heard it is what it was, and shows what it did
 abbrev pub HearerAlone : Done → WorldState → WorldState → Type 0
 HearerAlone Quiet w w' = ⊥
-HearerAlone (Heard name port answer frame) w w' = OthersStay name w w'
+HearerAlone (Heard name port answer frame) w w' = OthersLive name w w'
 
-pub delivery_others : (link : ℕ) (direction : Direction) (done : Done) (w : WorldState) (draws : List Draw)
+pub delivery_alone : (link : ℕ) (direction : Direction) (done : Done) (w : WorldState) (draws : List Draw)
     (w' : WorldState) → Delivery link direction done w draws w' → HearerAlone done w w'
-delivery_others link direction Quiet w draws w' d = absurd d.told
-delivery_others link direction (Heard name port answer frame) w draws w' d =
-    hears_others d.delivers.place _ d.octets _ draws d.answer w' d.delivers.station name d.delivers.there
+delivery_alone link direction Quiet w draws w' d = absurd d.told
+delivery_alone link direction (Heard name port answer frame) w draws w' d =
+    hears_alone d.delivers.place _ d.octets _ draws d.answer w' d.delivers.station name d.delivers.there
     (hearer_named link direction d.octets w draws d.answer w' d.channel name d.here d.told.0 d.delivers)
     d.delivers.hears
+
+abbrev pub HearerShows : Done → WorldState → WorldState → Type 0
+HearerShows Quiet w w' = ⊥
+HearerShows (Heard name port answer frame) w w' = OthersStay name w w'
+
+pub delivery_others : (link : ℕ) (direction : Direction) (done : Done) (w : WorldState) (draws : List Draw)
+    (w' : WorldState) → Delivery link direction done w draws w' → HearerShows done w w'
+delivery_others link direction Quiet w draws w' d = absurd d.told
+delivery_others link direction (Heard name port answer frame) w draws w' d =
+    others_show name w w' (delivery_alone link direction (Heard name port answer frame) w draws w' d)
 
 -- and that is one of the world
 abbrev pub HearerStands : Done → WorldState → Type 0

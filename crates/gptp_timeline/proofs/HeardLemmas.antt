@@ -26,6 +26,7 @@ use Rattle.gptp_system.specs.declared.answer.Answer.TheVariants as answers
 use Rattle.gptp_system.specs.Input.{Frame as FrameHeard, Steps}
 use Rattle.gptp_system.specs.State.{SystemState}
 use Rattle.gptp_timeline.specs.Receipts.{is_follow_up, received_by, receiver_clock}
+use Rattle.gptp_timeline.proofs.ActLemmas.{delivery_alone, OthersLive}
 
 -- ---- what is told of a frame
 
@@ -133,3 +134,14 @@ received_exactly name time (Expire number timer) w draws done w' s offset (quiet
     nobody name done quiet own
 received_exactly name time (Changing change) w draws done w' s offset (quiet, rest) own exact shows left =
     nobody name done quiet own
+
+-- such an act leaves every other system as it was
+pub receiver_alone : (name time : ℕ) (act : Act) (w : WorldState) (draws : List Draw) (done : Done) (w' : WorldState)
+    → Acts act (at time w) draws done w' → receives_by name done ≡ true → OthersLive name w w'
+receiver_alone name time (Deliver link direction) w draws Quiet w' k own = absurd k.told
+receiver_alone name time (Deliver link direction) w draws (Heard clock port answer frame) w' k own =
+    let (receipt, same) = receipt_of name clock answer frame.items own in
+    subst (λ n. OthersLive n w w') same
+    (delivery_alone link direction (Heard clock port answer frame) (at time w) draws w' k)
+receiver_alone name time (Expire number timer) w draws done w' (quiet, rest) own = nobody name done quiet own
+receiver_alone name time (Changing change) w draws done w' (quiet, rest) own = nobody name done quiet own

@@ -2,7 +2,7 @@
 use Rattle.std.proofs.Common.{◌≡◌, ℕ, ℤ, ◌-ℤ◌, Option, Some, option_and_then, option_map, sym, ap, ◌∙◌}
 use Rattle.gptp_model.specs.World.{WorldState}
 use Rattle.gptp_timeline.specs.Jumps.{error_before, jump_of}
-use Rattle.gptp_timeline.specs.Readings.{clock_time, read_by, reading_error, step_of}
+use Rattle.gptp_timeline.specs.Readings.{clock_time, read_by, reading_error, source_time, step_of}
 use Rattle.gptp_timeline.specs.declared.readings.Jump.{Jump}
 use Rattle.gptp_timeline.specs.declared.readings.KeptReading.{KeptReading}
 use Rattle.gptp_timeline.specs.declared.readings.NewReading.{NewReading}
@@ -10,7 +10,7 @@ use Rattle.gptp_timeline.specs.declared.readings.NewReading.{NewReading}
 module _ (at : ℕ) (w : WorldState) (u : NewReading) (kept : KeptReading) (shown : ℤ) (has : u.before ≡ Some kept)
     (shows : clock_time u.clock at w ≡ Some shown) where
   abbrev off_by : KeptReading → ℤ → Option ℤ
-  off_by k s = option_map (λ time. read_by k s -ℤ time) (clock_time k.source at w)
+  off_by k s = option_map (λ time. read_by k s -ℤ time) (source_time k.source at w)
 
   error_is : (k : KeptReading) → reading_error at w u.clock k ≡ off_by k shown
   error_is k = ap (option_and_then (off_by k)) shows
@@ -24,8 +24,8 @@ module _ (at : ℕ) (w : WorldState) (u : NewReading) (kept : KeptReading) (show
       ∙ ap (option_map (λ s. read_by u.after s -ℤ read_by kept s)) shows
 
   pub jump_is : (read old step : ℤ) (time after was before : Option ℤ) → read ≡ read_by u.after shown
-      → old ≡ read_by kept shown → time ≡ clock_time u.after.source at w
-      → after ≡ option_map (λ t. read -ℤ t) time → was ≡ clock_time kept.source at w
+      → old ≡ read_by kept shown → time ≡ source_time u.after.source at w
+      → after ≡ option_map (λ t. read -ℤ t) time → was ≡ source_time kept.source at w
       → before ≡ option_map (λ t. old -ℤ t) was → step ≡ read -ℤ old
       → record { before = before; after = after; step = Some step } ≡ jump_of at w u
   jump_is read old step time after was before read_is old_is time_is after_is was_is was_off more =

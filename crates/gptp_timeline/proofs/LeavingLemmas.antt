@@ -33,6 +33,7 @@ use Rattle.gptp_system.specs.Start.{role_at}
 use Rattle.gptp_system.specs.State.{SystemState, change, change_at, clock, is_capable_at, local_time, number, on_port, with_peer}
 use Rattle.gptp_system.specs.Steps.{HearsFrame, HearsMessage}
 use Rattle.gptp_system.specs.Syncing.{is_followed, is_leading, restarted, telling, timer_stopped, HearsSync, HearsSyncIf, KeepsIf, RelaysBy, RelaysIf, SyncsIf}
+use Rattle.gptp_system.specs.Takeover.{leading}
 use Rattle.gptp_system.specs.declared.answer.Answer.{Answer}
 use Rattle.gptp_system.specs.declared.answer.Answer.TheVariants as answers
 use Rattle.gptp_system.specs.declared.port.Port.{Port}
@@ -154,7 +155,8 @@ pub sync_leaves : TimerLeaves timers.Sync
 sync_leaves now s s' sends k = by (is_leading s) k
   where
     by : (leads : Bool) → SyncsIf leads now s s' sends → shown_of s' ≡ shown_of s
-    by true k = became s (telling (restarted now s)) s' k.state (telling_leaves (restarted now s))
+    by true k =
+        became s (telling (restarted now (leading now s))) s' k.state (telling_leaves (restarted now (leading now s)))
     by false k = became s (restarted now s) s' k.state refl
 
 pub relay_leaves : TimerLeaves timers.Relay

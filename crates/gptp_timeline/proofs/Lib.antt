@@ -33,6 +33,7 @@ mod LookedLemmas
 mod JumpLemmas
 mod NewReadingLemmas
 mod PutLemmas
+pub mod TimeSourceLemmas
 pub mod SourceLemmas
 mod SourceEndsLemmas
 pub mod KeeperLemmas

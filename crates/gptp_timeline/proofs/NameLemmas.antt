@@ -23,6 +23,7 @@ use Rattle.gptp_timeline.specs.Watch.{WatchedRise, unseen}
 use Rattle.gptp_timeline.specs.declared.watched.Watched.{Watched}
 use Rattle.gptp_timeline.specs.declared.exact_reads.SystemReads.{SystemReads}
 use Rattle.gptp_timeline.specs.declared.readings.SystemReading.{SystemReading}
+use Rattle.gptp_timeline.specs.declared.readings.TimeSource.{TimeSource}
 
 -- ---- what is kept of systems
 
@@ -43,7 +44,7 @@ unread_clocks [] = refl
 unread_clocks (n ∷ ns) = ap (λ rest. n ∷ rest) (unread_clocks ns)
 
 -- nobody reads from a source yet
-none_told : (source : ℕ) (ns : List ℕ) → is_told source (map no_reading ns) ≡ true → ⊥
+none_told : (source : TimeSource) (ns : List ℕ) → is_told source (map no_reading ns) ≡ true → ⊥
 none_told source [] told = absurd cc
 none_told source (n ∷ ns) told = none_told source ns told
 

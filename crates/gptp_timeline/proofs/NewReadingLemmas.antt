@@ -23,7 +23,7 @@ FollowsOn rs u = u.before ≡ reading_among rs u.clock
 by_receipt_follows : (w : WorldState) (rs : List SystemReading) (told : Option ℕ) (u : NewReading)
     → by_receipt w rs told ≡ Some u → FollowsOn rs u
 by_receipt_follows w rs None u is = absurd (none-some u is)
-by_receipt_follows w rs (Some name) u is = by (option_and_then received_reading (live_system name w)) is
+by_receipt_follows w rs (Some name) u is = by (option_and_then (received_reading w) (live_system name w)) is
   where
     by : (kept : Option KeptReading) → option_map (gets name true (reading_among rs name)) kept ≡ Some u
         → FollowsOn rs u
@@ -37,11 +37,11 @@ by_takeover_follows w rs name u is =
     by (reads_own (reading_among rs name) || not (option_map_or is_leading (live_system name w) false)) is
   where
     by : (none : Bool)
-        → (if none then None else Some (gets name false (reading_among rs name) (own_reading name))) ≡ Some u
+        → (if none then None else Some (gets name false (reading_among rs name) (own_reading w name))) ≡ Some u
         → FollowsOn rs u
     by true is = absurd (none-some u is)
     by false is =
-        subst (FollowsOn rs) (same_Some (gets name false (reading_among rs name) (own_reading name)) u is) refl
+        subst (FollowsOn rs) (same_Some (gets name false (reading_among rs name) (own_reading w name)) u is) refl
 
 pub follows_on : (act : Act) (done : Done) (w : WorldState) (rs : List SystemReading) (u : NewReading)
     → new_reading act done w rs ≡ Some u → u.before ≡ reading_among rs u.clock

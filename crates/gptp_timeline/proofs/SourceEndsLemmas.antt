@@ -1,5 +1,5 @@
 -- The ends of the sources that are told are those of the systems that read from them.
-use Rattle.std.proofs.Common.{◌≡◌, ◌⊎◌, ◌==◌, ◌||◌, ◌≤◌, ◌<ℤ◌, ℕ, ℤ, int_lt, nat_lt, Bool, true, false, List, [], ◌∷◌, map, Option, Some, None, option_map, option_and_then, if◌then◌else◌, refl, sym, ap, subst, ◌∙◌, inl, inr, arith}
+use Rattle.std.proofs.Common.{◌≡◌, ◌⊎◌, ◌||◌, ◌≤◌, ◌<ℤ◌, ℕ, ℤ, int_lt, nat_lt, Bool, true, false, List, [], ◌∷◌, map, Option, Some, None, option_map, option_and_then, if◌then◌else◌, refl, sym, ap, subst, ◌∙◌, inl, inr, arith}
 use Rattle.std.specs.List.{list_any}
 use Rattle.std.specs.Option.{option_map_or}
 use Rattle.std.proofs.lemmas.Bool.Decides.{nat_tests}
@@ -8,18 +8,21 @@ use Rattle.std.proofs.lemmas.Option.{none-some, same_Some}
 use Rattle.gptp_lists.specs.Members.{In}
 use Rattle.gptp_lists.proofs.SystemSpecLemmas.{In-map}
 use Rattle.gptp_model.specs.World.{WorldState}
-use Rattle.gptp_timeline.specs.Sources.{difference_of, ends_from, ends_with, further_ahead, further_behind, source_at, told_difference, told_time}
+use Rattle.gptp_timeline.specs.Readings.{clock_time, same_source}
+use Rattle.gptp_timeline.specs.Sources.{difference_of, ends_from, ends_with, further_ahead, further_behind, source_at, time_of, told_difference, told_time}
 use Rattle.gptp_timeline.specs.ToldSources.{AreSources, ends_among, is_told, reads_from, source_of}
 use Rattle.gptp_timeline.specs.declared.readings.KeptReading.{KeptReading}
 use Rattle.gptp_timeline.specs.declared.readings.SystemReading.{SystemReading}
+use Rattle.gptp_timeline.specs.declared.readings.TimeSource.{TimeSource}
 use Rattle.gptp_timeline.specs.declared.sources.Ends.{Ends}
 use Rattle.gptp_timeline.specs.declared.sources.SourceTime.{SourceTime}
+use Rattle.gptp_timeline.proofs.TimeSourceLemmas.{source_is, source_own}
 
 -- ---- which of two is further
 
 -- the one is further than the other, or is that: its time goes before, or is the same with a clock that isn't higher
 abbrev Further : (ℤ → ℤ → Type 0) → SourceTime → SourceTime → Type 0
-Further before a b = before a.time b.time ⊎ ((a.time ≡ b.time) × (a.clock ≤ b.clock))
+Further before a b = before (time_of a) (time_of b) ⊎ ((time_of a ≡ time_of b) × (a.source.clock ≤ b.source.clock))
 
 abbrev greater : ℤ → ℤ → Type 0
 greater x y = y <ℤ x
@@ -34,34 +37,41 @@ are_same : (a b : ℤ) → int_lt a b ≡ false → int_lt b a ≡ false → a �
 are_same a b one other = grind (arith, ints)
 
 itself : (before : ℤ → ℤ → Type 0) (a : SourceTime) → Further before a a
-itself before a = inr (refl, let le : a.clock ≤ a.clock = omega arith in le)
+itself before a = inr (refl, let le : a.source.clock ≤ a.source.clock = omega arith in le)
 
-one_source : (a b : SourceTime) → a.time ≡ b.time → a.clock ≡ b.clock → a ≡ b
-one_source a b times clocks = λ i. record { clock = clocks i; time = times i }
+-- where they have one clock, that shows the same
+abbrev ShowAlike : SourceTime → SourceTime → Type 0
+ShowAlike a b = a.source.clock ≡ b.source.clock → a.shown ≡ b.shown
+
+one_source : (a b : SourceTime) → ShowAlike a b → time_of a ≡ time_of b → a.source.clock ≡ b.source.clock → a ≡ b
+one_source a b alike times clocks =
+    let shown = alike clocks in
+    let bases : a.source.base ≡ b.source.base = omega (arith, ints, times, shown) in
+    λ i. record { source = record { clock = clocks i; base = bases i }; shown = shown i }
 
 ahead_on : (a b c : SourceTime) → Further greater a b → Further greater b c → Further greater a c
 ahead_on a b c (inl x) (inl y) = inl (omega (arith, ints, x, y))
-ahead_on a b c (inl x) (inr (same, le)) = inl (subst (λ z. greater a.time z) same x)
-ahead_on a b c (inr (same, le)) (inl y) = inl (subst (λ z. greater z c.time) (sym same) y)
+ahead_on a b c (inl x) (inr (same, le)) = inl (subst (λ z. greater (time_of a) z) same x)
+ahead_on a b c (inr (same, le)) (inl y) = inl (subst (λ z. greater z (time_of c)) (sym same) y)
 ahead_on a b c (inr (same, le)) (inr (also, more)) = inr (same ∙ also, omega (arith, le, more))
 
-ahead_same : (a b : SourceTime) → Further greater a b → Further greater b a → a ≡ b
-ahead_same a b (inl x) (inl y) = absurd (omega (arith, ints, x, y))
-ahead_same a b (inl x) (inr (same, le)) = absurd (omega (arith, ints, x, same))
-ahead_same a b (inr (same, le)) (inl y) = absurd (omega (arith, ints, y, same))
-ahead_same a b (inr (same, le)) (inr (also, more)) = one_source a b same (omega (arith, le, more))
+ahead_same : (a b : SourceTime) → ShowAlike a b → Further greater a b → Further greater b a → a ≡ b
+ahead_same a b alike (inl x) (inl y) = absurd (omega (arith, ints, x, y))
+ahead_same a b alike (inl x) (inr (same, le)) = absurd (omega (arith, ints, x, same))
+ahead_same a b alike (inr (same, le)) (inl y) = absurd (omega (arith, ints, y, same))
+ahead_same a b alike (inr (same, le)) (inr (also, more)) = one_source a b alike same (omega (arith, le, more))
 
 behind_on : (a b c : SourceTime) → Further less a b → Further less b c → Further less a c
 behind_on a b c (inl x) (inl y) = inl (omega (arith, ints, x, y))
-behind_on a b c (inl x) (inr (same, le)) = inl (subst (λ z. less a.time z) same x)
-behind_on a b c (inr (same, le)) (inl y) = inl (subst (λ z. less z c.time) (sym same) y)
+behind_on a b c (inl x) (inr (same, le)) = inl (subst (λ z. less (time_of a) z) same x)
+behind_on a b c (inr (same, le)) (inl y) = inl (subst (λ z. less z (time_of c)) (sym same) y)
 behind_on a b c (inr (same, le)) (inr (also, more)) = inr (same ∙ also, omega (arith, le, more))
 
-behind_same : (a b : SourceTime) → Further less a b → Further less b a → a ≡ b
-behind_same a b (inl x) (inl y) = absurd (omega (arith, ints, x, y))
-behind_same a b (inl x) (inr (same, le)) = absurd (omega (arith, ints, x, same))
-behind_same a b (inr (same, le)) (inl y) = absurd (omega (arith, ints, y, same))
-behind_same a b (inr (same, le)) (inr (also, more)) = one_source a b same (omega (arith, le, more))
+behind_same : (a b : SourceTime) → ShowAlike a b → Further less a b → Further less b a → a ≡ b
+behind_same a b alike (inl x) (inl y) = absurd (omega (arith, ints, x, y))
+behind_same a b alike (inl x) (inr (same, le)) = absurd (omega (arith, ints, x, same))
+behind_same a b alike (inr (same, le)) (inl y) = absurd (omega (arith, ints, y, same))
+behind_same a b alike (inr (same, le)) (inr (also, more)) = one_source a b alike same (omega (arith, le, more))
 
 -- the one of two that is taken is one of them, and no less far than both
 record IsTaken (before : ℤ → ℤ → Type 0) (a b taken : SourceTime) : Type 0 where
@@ -71,38 +81,45 @@ record IsTaken (before : ℤ → ℤ → Type 0) (a b taken : SourceTime) : Type
 
 ahead_taken : (best one : SourceTime) → IsTaken greater best one (further_ahead best one)
 ahead_taken best one =
-    by (int_lt best.time one.time) (int_lt one.time best.time) (nat_lt one.clock best.clock) refl refl refl
+    by (int_lt (time_of best) (time_of one)) (int_lt (time_of one) (time_of best))
+    (nat_lt one.source.clock best.source.clock) refl refl refl
   where
-    by : (l m lower : Bool) → int_lt best.time one.time ≡ l → int_lt one.time best.time ≡ m
-        → nat_lt one.clock best.clock ≡ lower
+    by : (l m lower : Bool) → int_lt (time_of best) (time_of one) ≡ l → int_lt (time_of one) (time_of best) ≡ m
+        → nat_lt one.source.clock best.source.clock ≡ lower
         → IsTaken greater best one (if l then one else if m then best else if lower then one else best)
     by true m lower is also low =
-        record { one_of = inr refl; first = inl (is_less best.time one.time is); second = itself greater one }
+        record { one_of = inr refl; first = inl (is_less (time_of best) (time_of one) is); second = itself greater one }
     by false true lower is also low =
-        record { one_of = inl refl; first = itself greater best; second = inl (is_less one.time best.time also) }
+        record {
+          one_of = inl refl;
+          first = itself greater best;
+          second = inl (is_less (time_of one)
+              (time_of best) also);
+        }
     by false false true is also low =
-        let same = are_same one.time best.time also is in
+        let same = are_same (time_of one) (time_of best) also is in
         record { one_of = inr refl; first = inr (same, grind (arith, nat_tests)); second = itself greater one }
     by false false false is also low =
-        let same = are_same best.time one.time is also in
+        let same = are_same (time_of best) (time_of one) is also in
         record { one_of = inl refl; first = itself greater best; second = inr (same, grind (arith, nat_tests)) }
 
 behind_taken : (best one : SourceTime) → IsTaken less best one (further_behind best one)
 behind_taken best one =
-    by (int_lt one.time best.time) (int_lt best.time one.time) (nat_lt one.clock best.clock) refl refl refl
+    by (int_lt (time_of one) (time_of best)) (int_lt (time_of best) (time_of one))
+    (nat_lt one.source.clock best.source.clock) refl refl refl
   where
-    by : (l m lower : Bool) → int_lt one.time best.time ≡ l → int_lt best.time one.time ≡ m
-        → nat_lt one.clock best.clock ≡ lower
+    by : (l m lower : Bool) → int_lt (time_of one) (time_of best) ≡ l → int_lt (time_of best) (time_of one) ≡ m
+        → nat_lt one.source.clock best.source.clock ≡ lower
         → IsTaken less best one (if l then one else if m then best else if lower then one else best)
     by true m lower is also low =
-        record { one_of = inr refl; first = inl (is_less one.time best.time is); second = itself less one }
+        record { one_of = inr refl; first = inl (is_less (time_of one) (time_of best) is); second = itself less one }
     by false true lower is also low =
-        record { one_of = inl refl; first = itself less best; second = inl (is_less best.time one.time also) }
+        record { one_of = inl refl; first = itself less best; second = inl (is_less (time_of best) (time_of one) also) }
     by false false true is also low =
-        let same = are_same one.time best.time is also in
+        let same = are_same (time_of one) (time_of best) is also in
         record { one_of = inr refl; first = inr (same, grind (arith, nat_tests)); second = itself less one }
     by false false false is also low =
-        let same = are_same best.time one.time also is in
+        let same = are_same (time_of best) (time_of one) also is in
         record { one_of = inl refl; first = itself less best; second = inr (same, grind (arith, nat_tests)) }
 
 -- ---- the ends of those that are there
@@ -118,15 +135,19 @@ AreEndsIf There None = (s : SourceTime) → There s → ⊥
 AreEndsIf There (Some ends) = AreEnds There ends
 
 -- they are the same for the same sources
-one_ends : (P Q : SourceTime → Type 0) (a b : Option Ends) → AreEndsIf P a → AreEndsIf Q b
-    → ((s : SourceTime) → P s → Q s) → ((s : SourceTime) → Q s → P s) → a ≡ b
-one_ends P Q None None none other to from = refl
-one_ends P Q None (Some b) none be to from = absurd (none b.ahead (from b.ahead be.ahead_there))
-one_ends P Q (Some a) None ae none to from = absurd (none a.ahead (to a.ahead ae.ahead_there))
-one_ends P Q (Some a) (Some b) ae be to from =
-    let ahead = ahead_same a.ahead b.ahead (ae.ahead b.ahead (from b.ahead be.ahead_there))
+one_ends : (P Q : SourceTime → Type 0) (a b : Option Ends) → ((s t : SourceTime) → P s → P t → ShowAlike s t)
+    → AreEndsIf P a → AreEndsIf Q b → ((s : SourceTime) → P s → Q s) → ((s : SourceTime) → Q s → P s) → a ≡ b
+one_ends P Q None None alike none other to from = refl
+one_ends P Q None (Some b) alike none be to from = absurd (none b.ahead (from b.ahead be.ahead_there))
+one_ends P Q (Some a) None alike ae none to from = absurd (none a.ahead (to a.ahead ae.ahead_there))
+one_ends P Q (Some a) (Some b) alike ae be to from =
+    let ahead = ahead_same a.ahead b.ahead
+    (alike a.ahead b.ahead ae.ahead_there (from b.ahead be.ahead_there)) (ae.ahead b.ahead
+    (from b.ahead be.ahead_there))
     (be.ahead a.ahead (to a.ahead ae.ahead_there)) in
-    let behind = behind_same a.behind b.behind (ae.behind b.behind (from b.behind be.behind_there))
+    let behind = behind_same a.behind b.behind
+    (alike a.behind b.behind ae.behind_there (from b.behind be.behind_there)) (ae.behind b.behind
+    (from b.behind be.behind_there))
     (be.behind a.behind (to a.behind ae.behind_there)) in
     λ i. Some (record { ahead = ahead i; behind = behind i })
 
@@ -210,13 +231,21 @@ abbrev NoSource : SourceTime → Type 0
 NoSource s = ⊥
 
 -- the same sources have the same ends
-same_over : (xs ys : List (Option SourceTime)) → ((s : SourceTime) → In (Some s) xs → In (Some s) ys)
+same_over : (xs ys : List (Option SourceTime))
+    → ((s t : SourceTime) → In (Some s) xs → In (Some t) xs → ShowAlike s t)
+    → ((s : SourceTime) → In (Some s) xs → In (Some s) ys)
     → ((s : SourceTime) → In (Some s) ys → In (Some s) xs) → ends_over None xs ≡ ends_over None ys
-same_over xs ys to from =
+same_over xs ys alike to from =
     one_ends (λ s. NoSource s ⊎ In (Some s) xs) (λ s. NoSource s ⊎ In (Some s) ys) (ends_over None xs)
-    (ends_over None ys) (over_are NoSource None xs (λ s never. never)) (over_are NoSource None ys (λ s never. never))
+    (ends_over None ys) both_alike (over_are NoSource None xs (λ s never. never)) (over_are NoSource None ys
+    (λ s never. never))
     (λ s there. elim there [ inl never ↦ inl never | inr x ↦ inr (to s x) ])
     (λ s there. elim there [ inl never ↦ inl never | inr y ↦ inr (from s y) ])
+  where
+    both_alike : (s t : SourceTime) → NoSource s ⊎ In (Some s) xs → NoSource t ⊎ In (Some t) xs → ShowAlike s t
+    both_alike s t (inl never) there = absurd never
+    both_alike s t (inr one) (inl never) = absurd never
+    both_alike s t (inr one) (inr other) = alike s t one other
 
 -- ---- of systems, and of sources
 
@@ -226,20 +255,21 @@ module _ (at : ℕ) (w : WorldState) where
   of_systems e [] = refl
   of_systems e (r ∷ rs) = of_systems (ends_with e (told_time at w r)) rs
 
-  of_sources : (e : Option Ends) (ss : List ℕ) → ends_among at w e ss ≡ ends_over e (map (source_of at w) ss)
+  of_sources : (e : Option Ends) (ss : List TimeSource) → ends_among at w e ss ≡ ends_over e (map (source_of at w) ss)
   of_sources e [] = refl
   of_sources e (s ∷ ss) = of_sources (ends_with e (source_of at w s)) ss
 
   -- who reads from a source tells its time
-  tells : (source : ℕ) (r : SystemReading) → reads_from source r ≡ true → told_time at w r ≡ source_of at w source
+  tells : (source : TimeSource) (r : SystemReading) → reads_from source r ≡ true
+      → told_time at w r ≡ source_of at w source
   tells source r = by r.reading
     where
-      by : (o : Option KeptReading) → option_map_or (λ (k : KeptReading). k.source == source) o false ≡ true
+      by : (o : Option KeptReading) → option_map_or (λ (k : KeptReading). same_source k.source source) o false ≡ true
           → option_and_then (source_at at w) o ≡ source_of at w source
       by None is = absurd cc
-      by (Some k) is = let same : k.source ≡ source = grind (arith, nat_tests) in ap (source_of at w) same
+      by (Some k) is = ap (source_of at w) (source_is k.source source is)
 
-  told_there : (source : ℕ) (rs : List SystemReading) → is_told source rs ≡ true
+  told_there : (source : TimeSource) (rs : List SystemReading) → is_told source rs ≡ true
       → In (source_of at w source) (map (told_time at w) rs)
   told_there source [] is = absurd cc
   told_there source (r ∷ rs) is = by (reads_from source r) refl (told_there source rs) is
@@ -252,7 +282,7 @@ module _ (at : ℕ) (w : WorldState) where
 
   -- what a system tells is the time of a source that is told
   record IsTold (s : SourceTime) (rs : List SystemReading) : Type 0 where
-    source : ℕ
+    source : TimeSource
     told : is_told source rs ≡ true
     is : source_of at w source ≡ Some s
 
@@ -264,9 +294,9 @@ module _ (at : ℕ) (w : WorldState) where
           → IsTold s (r ∷ rs)
       by None none is = absurd (none-some s (sym is))
       by (Some k) has is =
-          let own : k.source == k.source ≡ true = grind (arith, nat_tests) in
+          let own = source_own k.source in
           let reads : reads_from k.source r ≡ true =
-          ap (λ o. option_map_or (λ (x : KeptReading). x.source == k.source) o false) has ∙ own in record {
+          ap (λ o. option_map_or (λ (x : KeptReading). same_source x.source k.source) o false) has ∙ own in record {
             source = k.source;
             told = ap (λ b. b || is_told k.source rs) reads;
             is = sym is;
@@ -283,20 +313,43 @@ module _ (at : ℕ) (w : WorldState) where
       or_true false = refl
 
   -- a source of several that has a time
-  source_there : (s : SourceTime) (ss : List ℕ) → In (Some s) (map (source_of at w) ss)
-      → (source : ℕ) × In source ss × (source_of at w source ≡ Some s)
+  source_there : (s : SourceTime) (ss : List TimeSource) → In (Some s) (map (source_of at w) ss)
+      → (source : TimeSource) × In source ss × (source_of at w source ≡ Some s)
   source_there s [] there = absurd there
   source_there s (x ∷ xs) (inl is) = (x, inl refl, sym is)
   source_there s (x ∷ xs) (inr later) = let (source, there, is) = source_there s xs later in (source, inr there, is)
 
-  pub told_among : (ss : List ℕ) (rs : List SystemReading) → AreSources ss rs
+  -- its clock shows what it has
+  source_shown : (source : TimeSource) (s : SourceTime) → source_of at w source ≡ Some s
+      → clock_time s.source.clock at w ≡ Some s.shown
+  source_shown source s = by (clock_time source.clock at w) refl
+    where
+      by : (o : Option ℤ) → clock_time source.clock at w ≡ o
+          → option_map (λ shown. record { source = source; shown = shown }) o ≡ Some s
+          → clock_time s.source.clock at w ≡ Some s.shown
+      by None none is = absurd (none-some s is)
+      by (Some shown) shows is =
+          let one : record { source = source; shown = shown } ≡ s =
+          same_Some (record { source = source; shown = shown }) s is in
+          ap (λ (x : SourceTime). clock_time x.source.clock at w) (sym one) ∙ shows
+          ∙ ap (λ (x : SourceTime). Some x.shown) one
+
+  pub told_among : (ss : List TimeSource) (rs : List SystemReading) → AreSources ss rs
       → difference_of (ends_among at w None ss) ≡ told_difference at w rs
   told_among ss rs sources =
       ap difference_of
       (of_sources None ss
-      ∙ same_over (map (source_of at w) ss) (map (told_time at w) rs) to from
+      ∙ same_over (map (source_of at w) ss) (map (told_time at w) rs) alike to from
       ∙ sym (of_systems None rs))
     where
+      alike : (s t : SourceTime) → In (Some s) (map (source_of at w) ss) → In (Some t) (map (source_of at w) ss)
+          → ShowAlike s t
+      alike s t one other same =
+          let (first, member, is) = source_there s ss one in
+          let (second, among, also) = source_there t ss other in
+          same_Some s.shown t.shown
+          (sym (source_shown first s is) ∙ ap (λ name. clock_time name at w) same ∙ source_shown second t also)
+
       to : (s : SourceTime) → In (Some s) (map (source_of at w) ss) → In (Some s) (map (told_time at w) rs)
       to s there =
           let (source, member, is) = source_there s ss there in

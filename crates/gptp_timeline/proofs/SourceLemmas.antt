@@ -6,28 +6,31 @@ use Rattle.std.proofs.lemmas.Bool.Decides.{nat_tests}
 use Rattle.std.proofs.lemmas.Option.{none-some, same_Some}
 use Rattle.gptp_lists.specs.Members.{In}
 use Rattle.gptp_lists.proofs.SystemSpecLemmas.{In-left, In-parts, In-right}
-use Rattle.gptp_timeline.specs.Readings.{put_reading, reading_among}
+use Rattle.gptp_timeline.specs.Readings.{put_reading, reading_among, same_source}
 use Rattle.gptp_timeline.specs.ToldSources.{AreSources, is_told, IsAccount, reads_from, ReadingsRise, with_source, without_untold}
 use Rattle.gptp_timeline.specs.declared.readings.KeptReading.{KeptReading}
 use Rattle.gptp_timeline.specs.declared.readings.SystemReading.{SystemReading}
+use Rattle.gptp_timeline.specs.declared.readings.TimeSource.{TimeSource}
 use Rattle.gptp_timeline.proofs.PutLemmas.{rising_changed}
+use Rattle.gptp_timeline.proofs.TimeSourceLemmas.{source_apart, source_is, source_own}
 
 -- ---- who reads from a source
 
 -- a reading from this source
-abbrev From : Option KeptReading → ℕ → Type 0
+abbrev From : Option KeptReading → TimeSource → Type 0
 From o source = (kept : KeptReading) × (o ≡ Some kept) × (kept.source ≡ source)
 
-reads_is : (source : ℕ) (o : Option KeptReading)
-    → option_map_or (λ (k : KeptReading). k.source == source) o false ≡ true → From o source
+reads_is : (source : TimeSource) (o : Option KeptReading)
+    → option_map_or (λ (k : KeptReading). same_source k.source source) o false ≡ true → From o source
 reads_is source None is = absurd cc
-reads_is source (Some k) is = (k, refl, grind (arith, nat_tests))
+reads_is source (Some k) is = (k, refl, source_is k.source source is)
 
-reads_so : (source : ℕ) (o : Option KeptReading) → From o source
-    → option_map_or (λ (k : KeptReading). k.source == source) o false ≡ true
+reads_so : (source : TimeSource) (o : Option KeptReading) → From o source
+    → option_map_or (λ (k : KeptReading). same_source k.source source) o false ≡ true
 reads_so source o (k, is, same) =
-    let own : k.source == source ≡ true = grind (arith, nat_tests) in
-    ap (λ p. option_map_or (λ (x : KeptReading). x.source == source) p false) is ∙ own
+    let own : same_source k.source source ≡ true =
+    subst (λ s. same_source k.source s ≡ true) same (source_own k.source) in
+    ap (λ p. option_map_or (λ (x : KeptReading). same_source x.source source) p false) is ∙ own
 
 or_is : (a b : Bool) → a || b ≡ true → (a ≡ true) ⊎ (b ≡ true)
 or_is true b is = inl refl
@@ -37,16 +40,17 @@ or_later : (a b : Bool) → b ≡ true → a || b ≡ true
 or_later true b is = refl
 or_later false b is = is
 
-here : (source : ℕ) (x : SystemReading) (xs : List SystemReading) → reads_from source x ≡ true
+here : (source : TimeSource) (x : SystemReading) (xs : List SystemReading) → reads_from source x ≡ true
     → is_told source (x ∷ xs) ≡ true
 here source x xs reads = ap (λ b. b || is_told source xs) reads
 
-later : (source : ℕ) (x : SystemReading) (xs : List SystemReading) → is_told source xs ≡ true
+later : (source : TimeSource) (x : SystemReading) (xs : List SystemReading) → is_told source xs ≡ true
     → is_told source (x ∷ xs) ≡ true
 later source x xs told = or_later (reads_from source x) (is_told source xs) told
 
 -- the source of a system that has time is told
-told_of : (rs : List SystemReading) (n source : ℕ) → From (reading_among rs n) source → is_told source rs ≡ true
+told_of : (rs : List SystemReading) (n : ℕ) (source : TimeSource) → From (reading_among rs n) source
+    → is_told source rs ≡ true
 told_of [] n source (k, is, same) = absurd (none-some k is)
 told_of (x ∷ xs) n source from = by (x.clock == n) (told_of xs n source) from
   where
@@ -79,7 +83,7 @@ none_named n put (x ∷ xs) above =
     rw other (ap (λ rest. x ∷ rest) (none_named n put xs (λ y there. above y (inr there))))
 
 -- what is told then was, or is the source of what was put
-told_after : (n : ℕ) (put : Option KeptReading) (rs : List SystemReading) (source : ℕ)
+told_after : (n : ℕ) (put : Option KeptReading) (rs : List SystemReading) (source : TimeSource)
     → is_told source (put_reading n put rs) ≡ true → (is_told source rs ≡ true) ⊎ From put source
 told_after n put [] source told = absurd cc
 told_after n put (x ∷ xs) source told = by (x.clock == n) refl (told_after n put xs source) told
@@ -101,7 +105,7 @@ told_after n put (x ∷ xs) source told = by (x.clock == n) refl (told_after n p
     by false own rest told = past x (λ reads. inl (here source x xs reads)) rest (rw own at told)
 
 -- what was told is so still, or it was the source of that system
-told_still : (n : ℕ) (put : Option KeptReading) (rs : List SystemReading) (source : ℕ) → ReadingsRise rs
+told_still : (n : ℕ) (put : Option KeptReading) (rs : List SystemReading) (source : TimeSource) → ReadingsRise rs
     → is_told source rs ≡ true
     → (is_told source (put_reading n put rs) ≡ true) ⊎ From (reading_among rs n) source
 told_still n put [] source rise told = absurd cc
@@ -129,16 +133,17 @@ told_still n put (x ∷ xs) source rise told =
 
 -- ---- the list of told sources
 
-in_any : (source : ℕ) (ss : List ℕ) → list_any (λ other. other == source) ss ≡ true → In source ss
+in_any : (source : TimeSource) (ss : List TimeSource) → list_any (λ other. same_source other source) ss ≡ true
+    → In source ss
 in_any source [] is = absurd cc
 in_any source (s ∷ ss) is =
-    elim (or_is (s == source) (list_any (λ other. other == source) ss) is) [
-      | inl own ↦ inl (let same : s ≡ source = grind (arith, nat_tests) in sym same)
+    elim (or_is (same_source s source) (list_any (λ other. same_source other source) ss) is) [
+      | inl own ↦ inl (sym (source_is s source own))
       | inr more ↦ inr (in_any source ss more)
     ]
 
-with_in : (c s : ℕ) (ss : List ℕ) → In s (with_source c ss) → In s ss ⊎ (s ≡ c)
-with_in c s ss = by (list_any (λ other. other == c) ss)
+with_in : (c s : TimeSource) (ss : List TimeSource) → In s (with_source c ss) → In s ss ⊎ (s ≡ c)
+with_in c s ss = by (list_any (λ other. same_source other c) ss)
   where
     by : (has : Bool) → In s (if has then ss else ss ++ c ∷ []) → In s ss ⊎ (s ≡ c)
     by true there = inl there
@@ -148,77 +153,81 @@ with_in c s ss = by (list_any (λ other. other == c) ss)
       | inr (inr none) ↦ absurd none
     ]
 
-in_with : (c s : ℕ) (ss : List ℕ) → In s ss ⊎ (s ≡ c) → In s (with_source c ss)
-in_with c s ss = by (list_any (λ other. other == c) ss) refl
+in_with : (c s : TimeSource) (ss : List TimeSource) → In s ss ⊎ (s ≡ c) → In s (with_source c ss)
+in_with c s ss = by (list_any (λ other. same_source other c) ss) refl
   where
-    by : (has : Bool) → list_any (λ other. other == c) ss ≡ has → In s ss ⊎ (s ≡ c)
+    by : (has : Bool) → list_any (λ other. same_source other c) ss ≡ has → In s ss ⊎ (s ≡ c)
         → In s (if has then ss else ss ++ c ∷ [])
     by true is (inl old) = old
     by true is (inr same) = subst (λ x. In x ss) (sym same) (in_any c ss is)
     by false is (inl old) = In-left s ss (c ∷ []) old
     by false is (inr same) = In-right s ss (c ∷ []) (inl same)
 
-in_others : (c s : ℕ) (ss : List ℕ) → In s (filter (λ other. not (other == c)) ss) → In s ss × (s ≡ c → ⊥)
+in_others : (c s : TimeSource) (ss : List TimeSource) → In s (filter (λ other. not (same_source other c)) ss)
+    → In s ss × (s ≡ c → ⊥)
 in_others c s [] there = absurd there
-in_others c s (x ∷ xs) there = by (x == c) refl (in_others c s xs) there
+in_others c s (x ∷ xs) there = by (same_source x c) refl (in_others c s xs) there
   where
-    by : (own : Bool) → x == c ≡ own
-        → (In s (filter (λ other. not (other == c)) xs) → In s xs × (s ≡ c → ⊥))
-        → In s (filter (λ other. not (other == c)) (x ∷ xs)) → In s (x ∷ xs) × (s ≡ c → ⊥)
+    by : (own : Bool) → same_source x c ≡ own
+        → (In s (filter (λ other. not (same_source other c)) xs) → In s xs × (s ≡ c → ⊥))
+        → In s (filter (λ other. not (same_source other c)) (x ∷ xs)) → In s (x ∷ xs) × (s ≡ c → ⊥)
     by true own rest there = let r = rest (rw own at there) in (inr r.0, r.1)
     by false own rest there = elim (rw own at there) [
-      | inl same ↦ (inl same, λ is. (let apart : x ≡ c → ⊥ = grind (arith, nat_tests) in apart (sym same ∙ is)))
+      | inl same ↦ (inl same, λ is. source_apart x c own (sym same ∙ is))
       | inr more ↦ (let r = rest more in (inr r.0, r.1))
     ]
 
-others_in : (c s : ℕ) (ss : List ℕ) → In s ss → (s ≡ c → ⊥) → In s (filter (λ other. not (other == c)) ss)
+others_in : (c s : TimeSource) (ss : List TimeSource) → In s ss → (s ≡ c → ⊥)
+    → In s (filter (λ other. not (same_source other c)) ss)
 others_in c s [] there apart = absurd there
-others_in c s (x ∷ xs) there apart = by (x == c) refl there (others_in c s xs)
+others_in c s (x ∷ xs) there apart = by (same_source x c) refl there (others_in c s xs)
   where
-    by : (own : Bool) → x == c ≡ own → In s (x ∷ xs)
-        → (In s xs → (s ≡ c → ⊥) → In s (filter (λ other. not (other == c)) xs))
-        → In s (filter (λ other. not (other == c)) (x ∷ xs))
-    by true own (inl same) rest = absurd (let is : x ≡ c = grind (arith, nat_tests) in apart (same ∙ is))
+    by : (own : Bool) → same_source x c ≡ own → In s (x ∷ xs)
+        → (In s xs → (s ≡ c → ⊥) → In s (filter (λ other. not (same_source other c)) xs))
+        → In s (filter (λ other. not (same_source other c)) (x ∷ xs))
+    by true own (inl same) rest = absurd (apart (same ∙ source_is x c own))
     by true own (inr more) rest = rw own (rest more apart)
     by false own (inl same) rest = rw own (inl same)
     by false own (inr more) rest = rw own (inr (rest more apart))
 
-without_in : (c s : ℕ) (rs : List SystemReading) (ss : List ℕ) → In s (without_untold c rs ss)
+without_in : (c s : TimeSource) (rs : List SystemReading) (ss : List TimeSource) → In s (without_untold c rs ss)
     → In s ss × (s ≡ c → is_told c rs ≡ true)
 without_in c s rs ss = by (is_told c rs) refl
   where
-    by : (told : Bool) → is_told c rs ≡ told → In s (if told then ss else filter (λ other. not (other == c)) ss)
+    by : (told : Bool) → is_told c rs ≡ told
+        → In s (if told then ss else filter (λ other. not (same_source other c)) ss)
         → In s ss × (s ≡ c → is_told c rs ≡ true)
     by true is there = (there, λ same. is)
     by false is there = let r = in_others c s ss there in (r.0, λ same. absurd (r.1 same))
 
-in_without : (c s : ℕ) (rs : List SystemReading) (ss : List ℕ) → In s ss → (s ≡ c → is_told c rs ≡ true)
+in_without : (c s : TimeSource) (rs : List SystemReading) (ss : List TimeSource) → In s ss
+    → (s ≡ c → is_told c rs ≡ true)
     → In s (without_untold c rs ss)
 in_without c s rs ss there told = by (is_told c rs) refl
   where
-    by : (b : Bool) → is_told c rs ≡ b → In s (if b then ss else filter (λ other. not (other == c)) ss)
+    by : (b : Bool) → is_told c rs ≡ b → In s (if b then ss else filter (λ other. not (same_source other c)) ss)
     by true is = there
     by false is = others_in c s ss there (λ same. let t : true ≡ false = sym (told same) ∙ is in cc)
 
 -- ---- they are those of the systems then
 
-module _ (n : ℕ) (put : Option KeptReading) (rs : List SystemReading) (ss : List ℕ) (rise : ReadingsRise rs)
+module _ (n : ℕ) (put : Option KeptReading) (rs : List SystemReading) (ss : List TimeSource) (rise : ReadingsRise rs)
     (sources : AreSources ss rs) where
   abbrev after : List SystemReading
   after = put_reading n put rs
 
   -- where a source is kept just where it is told
-  told_kept : (s : ℕ) → is_told s rs ≡ true → (From (reading_among rs n) s → is_told s after ≡ true)
+  told_kept : (s : TimeSource) → is_told s rs ≡ true → (From (reading_among rs n) s → is_told s after ≡ true)
       → is_told s after ≡ true
   told_kept s told old = elim (told_still n put rs s rise told) [ inl still ↦ still | inr from ↦ old from ]
 
 -- no system had the source that it has
-module _ (n : ℕ) (new : KeptReading) (rs : List SystemReading) (ss : List ℕ) (rise : ReadingsRise rs)
+module _ (n : ℕ) (new : KeptReading) (rs : List SystemReading) (ss : List TimeSource) (rise : ReadingsRise rs)
     (sources : AreSources ss rs) where
   abbrev put : List SystemReading
   put = put_reading n (Some new) rs
 
-  told_new : (s : ℕ) → is_told s put ≡ true → In s (with_source new.source ss)
+  told_new : (s : TimeSource) → is_told s put ≡ true → In s (with_source new.source ss)
   told_new s told =
       in_with new.source s ss
       (elim (told_after n (Some new) rs s told) [
@@ -230,7 +239,7 @@ module _ (n : ℕ) (new : KeptReading) (rs : List SystemReading) (ss : List ℕ)
       → AreSources (without_untold new.source put (with_source new.source ss)) put
   sources_first none = record { are = λ s. (to s, from s) }
     where
-      to : (s : ℕ) → In s (without_untold new.source put (with_source new.source ss)) → is_told s put ≡ true
+      to : (s : TimeSource) → In s (without_untold new.source put (with_source new.source ss)) → is_told s put ≡ true
       to s there =
           let (member, told) = without_in new.source s put (with_source new.source ss) there in
           elim (with_in new.source s ss member) [
@@ -239,7 +248,7 @@ module _ (n : ℕ) (new : KeptReading) (rs : List SystemReading) (ss : List ℕ)
                 (λ f. absurd (none-some f.0 (sym none ∙ f.1)))
           ]
 
-      from : (s : ℕ) → is_told s put ≡ true → In s (without_untold new.source put (with_source new.source ss))
+      from : (s : TimeSource) → is_told s put ≡ true → In s (without_untold new.source put (with_source new.source ss))
       from s told =
           in_without new.source s put (with_source new.source ss) (told_new s told)
           (λ same. subst (λ c. is_told c put ≡ true) same told)
@@ -248,10 +257,10 @@ module _ (n : ℕ) (new : KeptReading) (rs : List SystemReading) (ss : List ℕ)
       → AreSources (without_untold old.source put (without_untold new.source put (with_source new.source ss))) put
   sources_other old has = record { are = λ s. (to s, from s) }
     where
-      some : List ℕ
+      some : List TimeSource
       some = without_untold new.source put (with_source new.source ss)
 
-      to : (s : ℕ) → In s (without_untold old.source put some) → is_told s put ≡ true
+      to : (s : TimeSource) → In s (without_untold old.source put some) → is_told s put ≡ true
       to s there =
           let (inside, told_old) = without_in old.source s put some there in
           let (member, told) = without_in new.source s put (with_source new.source ss) inside in
@@ -264,7 +273,7 @@ module _ (n : ℕ) (new : KeptReading) (rs : List SystemReading) (ss : List ℕ)
                 subst (λ c. is_told c put ≡ true) (sym same) (told_old same)))
           ]
 
-      from : (s : ℕ) → is_told s put ≡ true → In s (without_untold old.source put some)
+      from : (s : TimeSource) → is_told s put ≡ true → In s (without_untold old.source put some)
       from s told =
           in_without old.source s put some
           (in_without new.source s put (with_source new.source ss) (told_new s told)
@@ -275,7 +284,7 @@ module _ (n : ℕ) (new : KeptReading) (rs : List SystemReading) (ss : List ℕ)
       → AreSources ss put
   sources_same old has one = record { are = λ s. (to s, from s) }
     where
-      to : (s : ℕ) → In s ss → is_told s put ≡ true
+      to : (s : TimeSource) → In s ss → is_told s put ≡ true
       to s there =
           told_kept n (Some new) rs ss rise sources s ((sources.are s).0 there)
           (λ f. told_of put n s (
@@ -284,7 +293,7 @@ module _ (n : ℕ) (new : KeptReading) (rs : List SystemReading) (ss : List ℕ)
             sym one ∙ ap (λ (x : KeptReading). x.source) (same_Some old f.0 (sym has ∙ f.1)) ∙ f.2,
           ))
 
-      from : (s : ℕ) → is_told s put ≡ true → In s ss
+      from : (s : TimeSource) → is_told s put ≡ true → In s ss
       from s told =
           (sources.are s).1
           (elim (told_after n (Some new) rs s told) [
@@ -297,11 +306,12 @@ module _ (n : ℕ) (new : KeptReading) (rs : List SystemReading) (ss : List ℕ)
           ])
 
 -- a system has no time any more
-module _ (n : ℕ) (rs : List SystemReading) (ss : List ℕ) (rise : ReadingsRise rs) (sources : AreSources ss rs) where
+module _ (n : ℕ) (rs : List SystemReading) (ss : List TimeSource) (rise : ReadingsRise rs)
+    (sources : AreSources ss rs) where
   abbrev left : List SystemReading
   left = put_reading n None rs
 
-  was_told : (s : ℕ) → is_told s left ≡ true → In s ss
+  was_told : (s : TimeSource) → is_told s left ≡ true → In s ss
   was_told s told = elim (told_after n None rs s told) [
     | inl was ↦ (sources.are s).1 was
     | inr (k, is, same) ↦ absurd (none-some k is)
@@ -320,7 +330,7 @@ module _ (n : ℕ) (rs : List SystemReading) (ss : List ℕ) (rise : ReadingsRis
       → AreSources (without_untold old.source left ss) left
   sources_lost old has = record { are = λ s. (to s, from s) }
     where
-      to : (s : ℕ) → In s (without_untold old.source left ss) → is_told s left ≡ true
+      to : (s : TimeSource) → In s (without_untold old.source left ss) → is_told s left ≡ true
       to s there =
           let (member, told) = without_in old.source s left ss there in
           told_kept n None rs ss rise sources s ((sources.are s).0 member)
@@ -329,7 +339,7 @@ module _ (n : ℕ) (rs : List SystemReading) (ss : List ℕ) (rise : ReadingsRis
           sym f.2 ∙ ap (λ (x : KeptReading). x.source) (same_Some f.0 old (sym f.1 ∙ has)) in
           subst (λ c. is_told c left ≡ true) (sym same) (told same)))
 
-      from : (s : ℕ) → is_told s left ≡ true → In s (without_untold old.source left ss)
+      from : (s : TimeSource) → is_told s left ≡ true → In s (without_untold old.source left ss)
       from s told =
           in_without old.source s left ss (was_told s told) (λ same. subst (λ c. is_told c left ≡ true) same told)
 
@@ -341,14 +351,14 @@ rise_put n put rs rise =
     rising_changed (λ (x : SystemReading). x.clock) n (λ (x : SystemReading). record x { reading = put }) rs
     (λ x. refl) rise
 
-module _ (n : ℕ) (rs rs' : List SystemReading) (ss : List ℕ) (account : IsAccount rs ss) where
-  account_of : (put : Option KeptReading) (ss' : List ℕ) → rs' ≡ put_reading n put rs
+module _ (n : ℕ) (rs rs' : List SystemReading) (ss : List TimeSource) (account : IsAccount rs ss) where
+  account_of : (put : Option KeptReading) (ss' : List TimeSource) → rs' ≡ put_reading n put rs
       → AreSources ss' (put_reading n put rs) → IsAccount rs' ss'
   account_of put ss' is sources =
       subst (λ us. IsAccount us ss') (sym is)
       (record { readings_rise = rise_put n put rs account.readings_rise; sources_are = sources })
 
-  pub account_first : (new : KeptReading) (added ss' : List ℕ) → reading_among rs n ≡ None
+  pub account_first : (new : KeptReading) (added ss' : List TimeSource) → reading_among rs n ≡ None
       → added ≡ with_source new.source ss → rs' ≡ put_reading n (Some new) rs
       → ss' ≡ without_untold new.source rs' added → IsAccount rs' ss'
   account_first new added ss' none adds puts drops =
@@ -357,7 +367,7 @@ module _ (n : ℕ) (rs rs' : List SystemReading) (ss : List ℕ) (account : IsAc
       account_of (Some new) ss' puts (subst (λ us. AreSources us (put_reading n (Some new) rs)) (sym are)
       (sources_first n new rs ss account.readings_rise account.sources_are none))
 
-  pub account_other : (old new : KeptReading) (added some ss' : List ℕ) → reading_among rs n ≡ Some old
+  pub account_other : (old new : KeptReading) (added some ss' : List TimeSource) → reading_among rs n ≡ Some old
       → added ≡ with_source new.source ss → rs' ≡ put_reading n (Some new) rs
       → some ≡ without_untold new.source rs' added → ss' ≡ without_untold old.source rs' some → IsAccount rs' ss'
   account_other old new added some ss' has adds puts drops also =
@@ -374,7 +384,7 @@ module _ (n : ℕ) (rs rs' : List SystemReading) (ss : List ℕ) (account : IsAc
       account_of (Some new) ss puts
       (sources_same n new rs ss account.readings_rise account.sources_are old has same)
 
-  pub account_lost : (old : KeptReading) (ss' : List ℕ) → reading_among rs n ≡ Some old
+  pub account_lost : (old : KeptReading) (ss' : List TimeSource) → reading_among rs n ≡ Some old
       → rs' ≡ put_reading n None rs → ss' ≡ without_untold old.source rs' ss → IsAccount rs' ss'
   account_lost old ss' has puts drops =
       let are : ss' ≡ without_untold old.source (put_reading n None rs) ss =
@@ -388,5 +398,5 @@ module _ (n : ℕ) (rs rs' : List SystemReading) (ss : List ℕ) (account : IsAc
 
 -- ---- at first
 
-pub no_sources : (rs : List SystemReading) → ((source : ℕ) → is_told source rs ≡ true → ⊥) → AreSources [] rs
+pub no_sources : (rs : List SystemReading) → ((source : TimeSource) → is_told source rs ≡ true → ⊥) → AreSources [] rs
 no_sources rs none = record { are = λ s. (λ there. absurd there, λ told. absurd (none s told)) }

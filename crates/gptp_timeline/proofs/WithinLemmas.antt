@@ -13,7 +13,8 @@ use Rattle.gptp_graph.specs.Best.{IsBest}
 use Rattle.gptp_graph.specs.Distance.{IsDistance, IsNear}
 use Rattle.gptp_graph.specs.PathBound.{BoundsPaths, path_bound}
 use Rattle.gptp_graph.specs.Snapshot.{IsWellFormed, Snapshot, System}
-use Rattle.gptp_graph.proofs.DistanceLemmas.{best_at_zero}
+use Rattle.gptp_graph.proofs.BestLemmas.{IsBest-reached}
+use Rattle.gptp_graph.proofs.DistanceLemmas.{IsDistance-best, IsDistance-unique, best_at_zero}
 use Rattle.gptp_invariants.specs.WorldCalmFor.{IsCalmFor}
 use Rattle.gptp_invariants.specs.WorldSettlingInvariant.{KeepsAll}
 use Rattle.gptp_invariants.specs.SyncExact.{exact_span, IsWayError, IsExactInTime}
@@ -48,6 +49,7 @@ use Rattle.gptp_setup.specs.Intervals.{IsLog}
 use Rattle.gptp_setup.specs.SettlingParams.{largest_interval, SettlingParams}
 use Rattle.gptp_setup.proofs.IntervalLemmas.{interval_positive}
 use Rattle.gptp_system.specs.State.{local_time, SystemState}
+use Rattle.gptp_system.specs.Takeover.{told_time}
 use Rattle.gptp_accuracy.specs.TimeErrors.{AreTimeErrors}
 use Rattle.gptp_accuracy.specs.TimeErrors as errors_of
 use Rattle.gptp_accuracy.specs.Ways.{IsWay}
@@ -61,7 +63,7 @@ use Rattle.gptp_timeline.specs.declared.timeline.TimelineOptions.{TimelineOption
 use Rattle.gptp_timeline.proofs.BehindLemmas.{all_both}
 use Rattle.gptp_timeline.proofs.ErrorLemmas.{errors_within}
 use Rattle.gptp_timeline.proofs.EventLemmas.{Each, filter_each, filter_in_order}
-use Rattle.gptp_timeline.proofs.HeardLemmas.{received_exactly}
+use Rattle.gptp_timeline.proofs.HeardLemmas.{receiver_alone, received_exactly}
 use Rattle.gptp_timeline.proofs.PastLemmas.{all_past, PastBy}
 use Rattle.gptp_timeline.proofs.RestLemmas.{found_live, IsAtRest, lives_there, shows_live, stands_there}
 use Rattle.gptp_timeline.proofs.SettlingLemmas.{act_time, alike_after, begins, bounded, calm_since, early_makes, ends_by, events_fit, events_then, IsFitEvent, Keeps, keeps_act, keeps_first, keeps_later, keeps_made, left_first, no_change, rests, span_after}
@@ -82,13 +84,13 @@ pub record HasError (name : ℕ) (t : ActTrace) (error : ℤ) : Type 0 where
   pub left : own.offset ≡ Some offset
   pub leader : SystemState
   pub leads : live_system (clock_of own.root) t.after ≡ Some leader
-  pub is : error ≡ offset -ℤ (local_time own (at_of t) -ℤ local_time leader (at_of t))
+  pub is : error ≡ offset -ℤ (local_time own (at_of t) -ℤ told_time leader (at_of t))
 
 pub has_error : (name : ℕ) (t : ActTrace) (error : ℤ) → error_at name t ≡ Some error → HasError name t error
 has_error name t error is = by_own (live_system name t.after) refl is
   where
     off_by : SystemState → ℤ → SystemState → ℤ
-    off_by own offset leader = offset -ℤ (local_time own (at_of t) -ℤ local_time leader (at_of t))
+    off_by own offset leader = offset -ℤ (local_time own (at_of t) -ℤ told_time leader (at_of t))
 
     by_leader : (own : SystemState) (offset : ℤ) → live_system name t.after ≡ Some own → own.offset ≡ Some offset
         → (leader : Option SystemState) → live_system (clock_of own.root) t.after ≡ leader
@@ -129,6 +131,15 @@ shown_by p w claimed name s is time =
     ∙ clock_shown p.params w claimed.world.sound claimed.measured live.place live.station live.here time
     ∙ ap (λ c. local_clock ((follower_parts p.params w).phase c) ((follower_parts p.params w).drift c) time)
     live.is_named
+
+-- a system with links to its best is another
+pub best_apart : (g : Snapshot) (name steps : ℕ) (best : System) → IsWellFormed g → IsDistance g name (suc steps)
+    → IsBest g name best → best.clock ≡ name → ⊥
+best_apart g name steps best wf far is_best is =
+    let own = IsBest-reached g name best.clock best wf is_best.reached is_best in
+    let none : 0 ≡ suc steps = IsDistance-unique g name 0 (suc steps) wf
+    (subst (λ v. IsDistance g v 0) is (IsDistance-best g best own)) far in
+    cc
 
 -- ---- times
 
@@ -289,7 +300,7 @@ module _ {F : Type 0} (answers : Bounds → ℕ → F → Option ℕ → F → T
             let (root, leads) = lives_there w b.best.clock b.best clocks b.is_best.live refl in
             let leader : live_system b.best.clock t.after ≡ Some e.leader =
             subst (λ c. live_system c t.after ≡ Some e.leader) b.named e.leads in
-            let ahead : ℤ = local_time s (at_of t) -ℤ local_time root (at_of t) in
+            let ahead : ℤ = local_time s (at_of t) -ℤ told_time root (at_of t) in
             let exact : IsExactInTime name w (at_of t) e.offset =
             received_exactly name (at_of t) t.told.timed.act w happens.was_done.draws t.told.done t.after e.own e.offset
             happens.was_done.acts own
@@ -306,8 +317,12 @@ module _ {F : Type 0} (answers : Bounds → ℕ → F → Option ℕ → F → T
               is = refl;
             }) in
             let own_time = same_time name s e.own e.lives lives in
-            let root_time = same_time b.best.clock root e.leader leader leads in
-            let is_off : error ≡ e.offset -ℤ ahead = e.is ∙ (λ i. e.offset -ℤ (own_time i -ℤ root_time i)) in
+            let still = receiver_alone name (at_of t) t.told.timed.act w happens.was_done.draws t.told.done t.after
+            happens.was_done.acts own b.best.clock
+            (best_apart (snapshot_of w) name has.steps b.best well far b.is_best) in
+            let same_root : e.leader ≡ root = same_Some e.leader root (sym leader ∙ still ∙ leads) in
+            let is_off : error ≡ e.offset -ℤ ahead =
+            e.is ∙ (λ i. e.offset -ℤ (own_time i -ℤ told_time (same_root i) (at_of t))) in
             subst (λ z. unsigned_abs z ≤ bound) (sym is_off) (size_within bound e.offset ahead within)
 
     passes_within : (until : ℕ) (ts : List ActTrace) (fate fate_after : F) (w w' : WorldState) → until ≤ 10 ^ 18

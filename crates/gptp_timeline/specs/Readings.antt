@@ -1,6 +1,7 @@
 -- What systems read of time, and by what (profile). Times of clocks are in units of 2^-16 ns.
-use Rattle.std.specs.Prelude.{ℕ, ◌==◌, ◌||◌, ◌&&◌, Bool, true, false, not, if◌then◌else◌, List, [], ◌∷◌, map, Option, Some, None, is_none, ℤ, ◌-ℤ◌}
+use Rattle.std.specs.Prelude.{ℕ, ◌==◌, ◌||◌, ◌&&◌, Bool, true, false, not, if◌then◌else◌, List, [], ◌∷◌, map, Option, Some, None, is_none, ℤ, pos, ◌+ℤ◌, ◌-ℤ◌}
 use Rattle.std.specs.List.{list_any}
+use Rattle.std.specs.Ordering.{int_eq}
 use Rattle.std.specs.Option.{option_and_then, option_map, option_map_or}
 use Rattle.gptp_accuracy.specs.TimeErrors.{root_is_capable}
 use Rattle.gptp_model.specs.World.{WorldState}
@@ -15,9 +16,10 @@ use Rattle.gptp_scenario.specs.declared.change.Change.{Change}
 use Rattle.gptp_scenario.specs.declared.change.Change.TheVariants.{Fail}
 use Rattle.gptp_setup.specs.declared.timer.Timer.{Timer}
 use Rattle.gptp_setup.specs.declared.timer.Timer.TheVariants.{Sync}
-use Rattle.gptp_system.specs.Reading.{held_reading, read_at}
+use Rattle.gptp_system.specs.Reading.{read_at}
 use Rattle.gptp_system.specs.State.{SystemState, clock, local_time}
 use Rattle.gptp_system.specs.declared.reading.Reading.{Reading}
+use Rattle.gptp_system.specs.Syncing.{held_reading}
 use Rattle.gptp_world.specs.Transitions.{ActTrace}
 use Rattle.gptp_timeline.specs.Ports.{shown_ports}
 use Rattle.gptp_timeline.specs.Receipts.{received_by}
@@ -26,6 +28,7 @@ use Rattle.gptp_timeline.specs.declared.ports.ShownPort.{ShownPort}
 use Rattle.gptp_timeline.specs.declared.readings.KeptReading.{KeptReading}
 use Rattle.gptp_timeline.specs.declared.readings.NewReading.{NewReading}
 use Rattle.gptp_timeline.specs.declared.readings.SystemReading.{SystemReading}
+use Rattle.gptp_timeline.specs.declared.readings.TimeSource.{TimeSource}
 
 -- ---- what is read, and how far off it is
 
@@ -38,28 +41,45 @@ clock_among name at (station ∷ stations) =
 abbrev pub clock_time : ℕ → ℕ → WorldState → Option ℤ
 clock_time name at w = clock_among name at w.stations
 
--- what is read where the own clock shows this: by what a Follow_Up left, or the own clock itself
-abbrev pub read_by : KeptReading → ℤ → ℤ
-read_by kept shown = option_map_or (λ r. read_at r shown) kept.received shown
+-- the base of a system, live or failed; 0 where there is no such system
+abbrev pub base_among : ℕ → List Station → ℤ
+base_among name [] = pos 0
+base_among name (station ∷ stations) =
+    if clock station.system == name then station.system.base else base_among name stations
 
--- How far off a system is at a time that reads by this: what it reads, less what the clock of the source shows. There
--- is no error where no system has that clock.
+abbrev pub base_of : ℕ → WorldState → ℤ
+base_of name w = base_among name w.stations
+
+-- a system as a source: its clock, with the base that it has
+abbrev pub source_named : ℕ → WorldState → TimeSource
+source_named name w = record { clock = name; base = base_of name w }
+
+-- the time of a source: what its clock shows, and its base
+abbrev pub source_time : TimeSource → ℕ → WorldState → Option ℤ
+source_time source at w = option_map (λ shown. shown +ℤ source.base) (clock_time source.clock at w)
+
+-- what is read where the own clock shows this: by what a Follow_Up left, or the own clock and its base
+abbrev pub read_by : KeptReading → ℤ → ℤ
+read_by kept shown = option_map_or (λ r. read_at r shown) kept.received (shown +ℤ kept.source.base)
+
+-- How far off a system is at a time that reads by this: what it reads, less the time of the source. There is no error
+-- where no system has that clock.
 abbrev pub reading_error : ℕ → WorldState → ℕ → KeptReading → Option ℤ
 reading_error at w name kept = option_and_then (λ shown.
-    option_map (λ time. read_by kept shown -ℤ time) (clock_time kept.source at w)) (clock_time name at w)
+    option_map (λ time. read_by kept shown -ℤ time) (source_time kept.source at w)) (clock_time name at w)
 
 -- ---- receipts and takeovers
 
-abbrev pub received_from : ℕ → Reading → KeptReading
+abbrev pub received_from : TimeSource → Reading → KeptReading
 received_from source r = record { source = source; received = Some r }
 
--- what a Follow_Up leaves a live system that was used: its source is the clock of the root
-abbrev pub received_reading : SystemState → Option KeptReading
-received_reading s = option_map (received_from (clock_of s.root)) (held_reading s)
+-- what a Follow_Up leaves a live system that was used: its source is the clock of the root, with the base that it has
+abbrev pub received_reading : WorldState → SystemState → Option KeptReading
+received_reading w s = option_map (received_from (source_named (clock_of s.root) w)) (held_reading s)
 
--- what a system reads by that took over: its own clock
-abbrev pub own_reading : ℕ → KeptReading
-own_reading name = record { source = name; received = None }
+-- what a system reads by that took over: its own clock and its base
+abbrev pub own_reading : WorldState → ℕ → KeptReading
+own_reading w name = record { source = source_named name w; received = None }
 
 -- it took over, and received no time since
 abbrev pub reads_own : Option KeptReading → Bool
@@ -90,13 +110,13 @@ gets name received before after = record { clock = name; before = before; after 
 abbrev pub by_receipt : WorldState → List SystemReading → Option ℕ → Option NewReading
 by_receipt w rs None = None
 by_receipt w rs (Some name) = option_map (gets name true (reading_among rs name))
-    (option_and_then received_reading (live_system name w))
+    (option_and_then (received_reading w) (live_system name w))
 
 -- The Sync timer of a system expired. It takes over where it leads, and didn't since its last start or receipt.
 abbrev pub by_takeover : WorldState → List SystemReading → ℕ → Option NewReading
 by_takeover w rs name =
     if reads_own (reading_among rs name) || not (option_map_or is_leading (live_system name w) false) then None
-    else Some (gets name false (reading_among rs name) (own_reading name))
+    else Some (gets name false (reading_among rs name) (own_reading w name))
 
 abbrev pub by_expiry : WorldState → List SystemReading → ℕ → Timer → Option NewReading
 by_expiry w rs name Sync = by_takeover w rs name
@@ -153,9 +173,13 @@ no_reading name = record { clock = name; reading = None }
 
 -- ---- steps and changes of source
 
+-- two sources are one: clock and base are the same
+abbrev pub same_source : TimeSource → TimeSource → Bool
+same_source a b = a.clock == b.clock && int_eq a.base b.base
+
 -- a system has another source than before, or had no time
 abbrev pub changes_source : NewReading → Bool
-changes_source u = option_map_or (λ (k : KeptReading). not (k.source == u.after.source)) u.before true
+changes_source u = option_map_or (λ (k : KeptReading). not (same_source k.source u.after.source)) u.before true
 
 -- what a system reads by the new reading less what it reads by the one before; none where it had no time
 abbrev pub step_of : ℕ → WorldState → NewReading → Option ℤ

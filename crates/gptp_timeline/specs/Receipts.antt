@@ -10,6 +10,7 @@ use Rattle.gptp_words.specs.Digits.{clock_text, or_none}
 use Rattle.gptp_system.specs.declared.answer.Answer.{Answer}
 use Rattle.gptp_system.specs.declared.answer.Answer.TheVariants as answers
 use Rattle.gptp_system.specs.State.{SystemState, local_time}
+use Rattle.gptp_system.specs.Takeover.{told_time}
 use Rattle.gptp_timeline.specs.Amounts.{signed_text}
 use Rattle.gptp_timeline.specs.Shown.{live_system}
 
@@ -28,11 +29,11 @@ abbrev pub received_by : Done → Option ℕ
 received_by Quiet = None
 received_by (Heard clock port answer frame) = receiver_clock clock answer frame.items
 
--- How far the offset of a system is off at a time: that less what its local time is ahead of that of the system whose
--- clock its root names, whatever that follows itself. There is none where that doesn't live.
+-- How far the offset of a system is off at a time: that less what its local time is ahead of what the system tells
+-- whose clock its root names, whatever that follows itself. There is none where that doesn't live.
 abbrev pub offset_error : ℕ → SystemState → WorldState → Option ℤ
 offset_error at s w = option_and_then (λ offset.
-    option_map (λ leader. offset -ℤ (local_time s at -ℤ local_time leader at)) (live_system (clock_of s.root) w))
+    option_map (λ leader. offset -ℤ (local_time s at -ℤ told_time leader at)) (live_system (clock_of s.root) w))
     s.offset
 
 -- the line of a receipt

@@ -1,5 +1,5 @@
 -- How far the times of told sources differ (profile). A source is told where a live system reads by it.
-use Rattle.std.specs.Prelude.{ℕ, ◌==◌, ◌<◌, ◌^◌, nat_lt, if◌then◌else◌, List, [], ◌∷◌, Option, Some, None, ◌-ℤ◌, int_lt, unsigned_abs}
+use Rattle.std.specs.Prelude.{ℕ, ◌==◌, ◌≤◌, ◌^◌, nat_lt, if◌then◌else◌, List, [], ◌∷◌, Option, Some, None, ℤ, ◌+ℤ◌, ◌-ℤ◌, int_lt, unsigned_abs}
 use Rattle.std.specs.Option.{option_and_then, option_map}
 use Rattle.gptp_model.specs.World.{WorldState}
 use Rattle.gptp_timeline.specs.Readings.{clock_time}
@@ -14,20 +14,24 @@ pub record DifferenceState : Type 0 where
   pub ahead : ℕ
   pub behind : ℕ
 
+-- its time: what its clock shows, and its base
+abbrev pub time_of : SourceTime → ℤ
+time_of one = one.shown +ℤ one.source.base
+
 -- ---- the greatest and the least time
 
 -- of equal times that with the lower clock
 abbrev pub further_ahead : SourceTime → SourceTime → SourceTime
 further_ahead best one =
-    if int_lt best.time one.time then one
-    else if int_lt one.time best.time then best
-    else if nat_lt one.clock best.clock then one else best
+    if int_lt (time_of best) (time_of one) then one
+    else if int_lt (time_of one) (time_of best) then best
+    else if nat_lt one.source.clock best.source.clock then one else best
 
 abbrev pub further_behind : SourceTime → SourceTime → SourceTime
 further_behind best one =
-    if int_lt one.time best.time then one
-    else if int_lt best.time one.time then best
-    else if nat_lt one.clock best.clock then one else best
+    if int_lt (time_of one) (time_of best) then one
+    else if int_lt (time_of best) (time_of one) then best
+    else if nat_lt one.source.clock best.source.clock then one else best
 
 abbrev pub ends_with : Option Ends → Option SourceTime → Option Ends
 ends_with ends None = ends
@@ -37,7 +41,7 @@ ends_with (Some ends) (Some one) =
 
 abbrev pub source_at : ℕ → WorldState → KeptReading → Option SourceTime
 source_at at w kept =
-    option_map (λ time. record { clock = kept.source; time = time }) (clock_time kept.source at w)
+    option_map (λ shown. record { source = kept.source; shown = shown }) (clock_time kept.source.clock at w)
 
 -- the source of a system, with what its clock shows
 abbrev pub told_time : ℕ → WorldState → SystemReading → Option SourceTime
@@ -53,12 +57,12 @@ ends_from at w ends (x ∷ xs) = ends_from at w (ends_with ends (told_time at w 
 abbrev pub difference_if : ℕ → Ends → Option DifferenceState
 difference_if amount ends =
     if amount == 0 then None
-    else Some (record { amount = amount; ahead = ends.ahead.clock; behind = ends.behind.clock })
+    else Some (record { amount = amount; ahead = ends.ahead.source.clock; behind = ends.behind.source.clock })
 
 -- none where they don't differ
 abbrev pub difference_of : Option Ends → Option DifferenceState
 difference_of None = None
-difference_of (Some ends) = difference_if (unsigned_abs (ends.ahead.time -ℤ ends.behind.time)) ends
+difference_of (Some ends) = difference_if (unsigned_abs (time_of ends.ahead -ℤ time_of ends.behind)) ends
 
 -- the greatest difference of the times of two sources that are told at a time
 abbrev pub told_difference : ℕ → WorldState → List SystemReading → Option DifferenceState
@@ -76,4 +80,4 @@ widest_from best (one ∷ others) = widest_from (wider best one) others
 
 -- they are so small that 128 bits hold their sums
 pub record IsSmallDifference (d : DifferenceState) : Type 0 where
-  pub small : d.amount < 2 ^ 97
+  pub small : d.amount ≤ 2 ^ 97

@@ -39,7 +39,8 @@ times_line from to m = read_words from to m ++ jump_words from m
 
 abbrev pub source_words : ℕ → NewReading → List ℕ
 source_words at u =
-    codes "reading " ++ decimal at ++ codes " " ++ clock_text u.clock ++ codes " from " ++ clock_text u.after.source
+    codes "reading " ++ decimal at ++ codes " " ++ clock_text u.clock ++ codes " from "
+    ++ clock_text u.after.source.clock
 
 abbrev pub new_words : Option ℤ → Option ℤ → Option ℤ → List ℕ
 new_words before after step =

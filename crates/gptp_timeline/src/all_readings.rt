@@ -4,7 +4,7 @@ ghost use Rattle.std.specs.Prelude.{◌≡◌, None, OnOk, Some};
 ghost use Rattle.gptp_timeline.specs.Readings.{put_reading, reading_among};
 ghost use Rattle.gptp_timeline.specs.ToldSources.{IsAccount, ReadingsRise, without_untold};
 
-use crate::readings::{KeptReading, SystemReading, put_reading, reading_among};
+use crate::readings::{KeptReading, SystemReading, TimeSource, put_reading, reading_among};
 use crate::sources::{add_source, drop_untold};
 use gptp_vector::ClockId;
 use std::alloc::{AllocError, Global};
@@ -16,7 +16,7 @@ pub(crate) struct AllReadings {
     // What each system reads by, by rising clock.
     systems: Vec<SystemReading>,
     // The sources that are told: those from which some system reads.
-    sources: Vec<ClockId>,
+    sources: Vec<TimeSource>,
 }
 
 impl Model for AllReadings {
@@ -34,7 +34,7 @@ impl Model for AllReadings {
 /// A system reads time by this from then on, whose source is told where it is so.
 fn put_told(
     systems: &mut Vec<SystemReading>,
-    sources: &mut Vec<ClockId>,
+    sources: &mut Vec<TimeSource>,
     clock: ClockId,
     after: KeptReading,
 )
@@ -50,7 +50,7 @@ fn put_told(
 /// A system that had no time reads time by this from then on.
 fn put_first(
     systems: &mut Vec<SystemReading>,
-    sources: &mut Vec<ClockId>,
+    sources: &mut Vec<TimeSource>,
     clock: ClockId,
     after: KeptReading,
 ) -> Result<(), AllocError>
@@ -67,7 +67,7 @@ fn put_first(
 /// A system that read time by another reading reads it by this from then on.
 fn put_other(
     systems: &mut Vec<SystemReading>,
-    sources: &mut Vec<ClockId>,
+    sources: &mut Vec<TimeSource>,
     clock: ClockId,
     before: &KeptReading,
     after: KeptReading,
@@ -86,7 +86,7 @@ fn put_other(
 /// A system that read time from the same source reads it by this from then on.
 fn put_same(
     systems: &mut Vec<SystemReading>,
-    sources: &[ClockId],
+    sources: &[TimeSource],
     clock: ClockId,
     before: &KeptReading,
     after: KeptReading,
@@ -103,7 +103,7 @@ fn put_same(
 /// A system that read time by this, if it had time, reads it by the other from then on.
 fn put(
     systems: &mut Vec<SystemReading>,
-    sources: &mut Vec<ClockId>,
+    sources: &mut Vec<TimeSource>,
     clock: ClockId,
     before: &Option<KeptReading>,
     after: KeptReading,
@@ -128,7 +128,7 @@ fn put(
 /// A system that read time by this has no time any more.
 fn lose_from(
     systems: &mut Vec<SystemReading>,
-    sources: &mut Vec<ClockId>,
+    sources: &mut Vec<TimeSource>,
     clock: ClockId,
     before: &KeptReading,
 )
@@ -142,7 +142,7 @@ fn lose_from(
 }
 
 /// A system that had no time has none.
-fn lose_none(systems: &mut Vec<SystemReading>, sources: &[ClockId], clock: ClockId)
+fn lose_none(systems: &mut Vec<SystemReading>, sources: &[TimeSource], clock: ClockId)
     requires account { IsAccount systems.old.items sources.now }
     requires none { reading_among systems.old.items clock ≡ None }
     ensures puts { systems.new.items ≡ put_reading clock None systems.old.items }
@@ -176,7 +176,7 @@ impl AllReadings {
     }
 
     /// The sources that are told.
-    pub(crate) fn sources(&self) -> &[ClockId]
+    pub(crate) fn sources(&self) -> &[TimeSource]
         ensures { AreSources result.now self.now }
     {
         &self.sources

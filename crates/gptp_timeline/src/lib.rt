@@ -53,7 +53,7 @@ pub use laws::{
 pub use limits::{Limit, Limits, write_first_exceeded};
 pub use looks::TimeMeasures;
 pub use measures::{Greatest, Measures, better_if};
-pub use readings::{KeptReading, NewReading, SystemReading};
+pub use readings::{KeptReading, NewReading, SystemReading, TimeSource};
 pub use sources::{Difference, Ends, SourceTime};
 pub use stretch::{Longest, Stretch, Worst, amount_of};
 pub use time_lines::Sources;

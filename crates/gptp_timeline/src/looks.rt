@@ -10,7 +10,7 @@ ghost use Rattle.gptp_timeline.specs.declared.readings.SystemReading.{SystemRead
 
 use crate::extremes::{Extremes, extremes_with};
 use crate::measures::{Greatest, better, better_if};
-use crate::readings::{Jump, NewReading, SystemReading, changes_source, reading_error};
+use crate::readings::{Jump, NewReading, SystemReading, TimeSource, changes_source, reading_error};
 use crate::sources::{Difference, told_difference, wider_if};
 use gptp_links::Fate;
 use gptp_vector::ClockId;
@@ -43,7 +43,7 @@ pub(crate) const NOTHING_READ: TimeMeasures = TimeMeasures {
 /// The amount of a difference, or 0.
 fn apart_sources(difference: Option<Difference>) -> u128
     ensures is { result ≡ apart_sources difference }
-    ensures small { result < 2 ^ 97 }
+    ensures small { result ≤ 2 ^ 97 }
 {
     match difference {
         Some(difference) => difference.amount(),
@@ -159,7 +159,7 @@ pub(crate) fn look_at_all<F: Fate + Drop>(
     world: &World<F>,
     at: u64,
     systems: &[SystemReading],
-    sources: &[ClockId],
+    sources: &[TimeSource],
 ) -> TimeMeasures
     requires moment { at ≤ 1000000000000000 }
     requires sources { AreSources sources.now systems.now }
@@ -174,7 +174,7 @@ pub(crate) fn told_if<F: Fate + Drop>(
     changes: bool,
     world: &World<F>,
     at: u64,
-    sources: &[ClockId],
+    sources: &[TimeSource],
 ) -> Option<Difference>
     requires { at ≤ 1000000000000000 }
     ensures { (rs : List SystemReading) → AreSources sources.now rs

@@ -1,11 +1,11 @@
 //! What systems read of time, and by what.
 
-ghost use Rattle.std.specs.Prelude.{◌≡◌, ◌≤◌, ◌<◌, ◌^◌, ◌-ℤ◌, IfSome, Some, false, length, unsigned_abs};
+ghost use Rattle.std.specs.Prelude.{◌≡◌, ◌≤◌, ◌<◌, ◌^◌, ◌+ℤ◌, ◌-ℤ◌, IfSome, Some, false, length, pos, unsigned_abs};
 ghost use Rattle.std.specs.List.{list_any};
 ghost use Rattle.std.specs.Option.{option_and_then, option_map, option_map_or};
 ghost use Rattle.gptp_system.specs.Reading.{read_at};
 ghost use Rattle.gptp_timeline.specs.NewReading.{can_give_reading};
-ghost use Rattle.gptp_timeline.specs.Readings.{by_expiry, by_receipt, by_takeover, changes_source, clock_time, failed_by, is_master, is_leading, new_reading, own_reading, read_by, reading_among, reading_error, put_reading, reads_own, received_reading};
+ghost use Rattle.gptp_timeline.specs.Readings.{base_of, by_expiry, by_receipt, by_takeover, changes_source, clock_time, failed_by, is_master, is_leading, new_reading, own_reading, read_by, reading_among, reading_error, put_reading, reads_own, received_reading, source_named, source_time};
 ghost use Rattle.gptp_timeline.specs.Jumps.{IsSmallJump, jump_of};
 ghost use Rattle.gptp_timeline.specs.Shown.{live_system};
 ghost use Rattle.gptp_timeline.specs.ToldSources.{ReadingsRise};
@@ -21,12 +21,21 @@ use gptp_system::{Reading, System, Timer};
 use gptp_vector::ClockId;
 use gptp_world::{Act, Done, World};
 
+/// A source of time: a clock, and by how much what is told of it is ahead of that, in 2^-16 ns.
+#[derive(Clone, Copy, Debug, PartialEq, Eq)]
+pub struct TimeSource {
+    /// The clock.
+    pub clock: ClockId,
+    /// The base that its system had when it was read from.
+    pub base: ScaledNs,
+}
+
 /// What a system reads time by.
 #[derive(Clone, Copy, Debug, PartialEq, Eq)]
 pub struct KeptReading {
-    /// The clock that is its source.
-    pub source: ClockId,
-    /// What the Follow_Up left that was used; where the system took over, nothing: it reads its own clock.
+    /// Its source.
+    pub source: TimeSource,
+    /// What the Follow_Up left that was used; where the system took over, nothing: it reads its own clock and its base.
     pub received: Option<Reading>,
 }
 
@@ -63,6 +72,42 @@ pub struct Jump {
     pub step: Option<i128>,
 }
 
+/// What is told by a clock that shows this and a base, in units of 2^-16 ns.
+pub(crate) fn told_by(shown: ScaledNs, base: ScaledNs) -> i128
+    ensures is { result ≡ shown +ℤ base }
+    ensures small { unsigned_abs result ≤ 2 ^ 96 }
+{
+    shown.value() + base.value()
+}
+
+/// The base of no system.
+fn no_base() -> ScaledNs
+    ensures { result ≡ pos 0 }
+{
+    ScaledNs::default()
+}
+
+/// The base of the system with a clock, live or failed; 0 where there is none.
+fn base_of<F: Fate + Drop>(world: &World<F>, clock: ClockId) -> ScaledNs
+    ensures { result ≡ base_of clock world.now.world_core }
+{
+    world.well_formed();
+    match world.base(clock) {
+        Some(base) => base,
+        None => no_base(),
+    }
+}
+
+/// The clock of a system with its base.
+fn source_of<F: Fate + Drop>(world: &World<F>, clock: ClockId) -> TimeSource
+    ensures { result ≡ source_named clock world.now.world_core }
+{
+    TimeSource {
+        clock,
+        base: base_of(world, clock),
+    }
+}
+
 /// What the clock of a system, live or failed, shows at a time.
 pub(crate) fn clock_time<F: Fate + Drop>(
     world: &World<F>,
@@ -74,6 +119,22 @@ pub(crate) fn clock_time<F: Fate + Drop>(
 {
     world.well_formed();
     world.local(clock, at)
+}
+
+/// The time of a source, in units of 2^-16 ns: what its clock shows, and its base; none where no system has that clock.
+pub(crate) fn source_time<F: Fate + Drop>(
+    world: &World<F>,
+    at: u64,
+    source: &TimeSource,
+) -> Option<i128>
+    requires { at ≤ 1000000000000000 }
+    ensures is { result ≡ source_time source.now at world.now.world_core }
+    ensures small { IfSome result (λ z. unsigned_abs z < 2 ^ 99) }
+{
+    match clock_time(world, source.clock, at) {
+        Some(shown) => Some(told_by(shown, source.base)),
+        None => None,
+    }
 }
 
 /// What is read by what a Follow_Up left, where the own clock shows this, in units of 2^-16 ns.
@@ -92,7 +153,7 @@ pub(crate) fn read_by(kept: &KeptReading, shown: ScaledNs) -> i128
 {
     match &kept.received {
         Some(reading) => received_at(reading, shown),
-        None => shown.value(),
+        None => told_by(shown, kept.source.base),
     }
 }
 
@@ -108,8 +169,8 @@ pub(crate) fn reading_error<F: Fate + Drop>(
     ensures small { IfSome result (λ e. unsigned_abs e < 2 ^ 100) }
 {
     match clock_time(world, clock, at) {
-        Some(shown) => match clock_time(world, kept.source, at) {
-            Some(time) => Some(read_by(kept, shown) - time.value()),
+        Some(shown) => match source_time(world, at, &kept.source) {
+            Some(time) => Some(read_by(kept, shown) - time),
             None => None,
         },
         None => None,
@@ -117,13 +178,13 @@ pub(crate) fn reading_error<F: Fate + Drop>(
 }
 
 /// What a live system reads time by where a Follow_Up was used.
-fn received_reading(system: &System) -> Option<KeptReading>
-    ensures { result ≡ received_reading system.now }
+fn received_reading<F: Fate + Drop>(world: &World<F>, system: &System) -> Option<KeptReading>
+    ensures { result ≡ received_reading world.now.world_core system.now }
 {
     let (root, _, _) = system.follows();
-    match system.reading() {
+    match system.held_reading() {
         Some(reading) => Some(KeptReading {
-            source: root.clock(),
+            source: source_of(world, root.clock()),
             received: Some(reading),
         }),
         None => None,
@@ -131,11 +192,11 @@ fn received_reading(system: &System) -> Option<KeptReading>
 }
 
 /// What a system reads time by that took over.
-fn own_reading(clock: ClockId) -> KeptReading
-    ensures { result ≡ own_reading clock }
+fn own_reading<F: Fate + Drop>(world: &World<F>, clock: ClockId) -> KeptReading
+    ensures { result ≡ own_reading world.now.world_core clock }
 {
     KeptReading {
-        source: clock,
+        source: source_of(world, clock),
         received: None,
     }
 }
@@ -194,11 +255,12 @@ fn leads<F: Fate + Drop>(world: &World<F>, clock: ClockId) -> bool
 
 /// What the live system with a clock reads time by where a Follow_Up was used.
 fn received_in<F: Fate + Drop>(world: &World<F>, clock: ClockId) -> Option<KeptReading>
-    ensures { result ≡ option_and_then received_reading (live_system clock world.now.world_core) }
+    ensures { result ≡ option_and_then (received_reading world.now.world_core)
+        (live_system clock world.now.world_core) }
 {
     world.well_formed();
     match world.system(clock) {
-        Some(system) => received_reading(system),
+        Some(system) => received_reading(world, system),
         None => None,
     }
 }
@@ -269,7 +331,7 @@ fn by_takeover<F: Fate + Drop>(
     Some(NewReading {
         clock,
         before,
-        after: own_reading(clock),
+        after: own_reading(world, clock),
         received: false,
     })
 }
@@ -355,20 +417,8 @@ pub(crate) fn changes_source(new: &NewReading) -> bool
     }
 }
 
-/// What the clock of a system, live or failed, shows at a time, in units of 2^-16 ns.
-fn time_of<F: Fate + Drop>(world: &World<F>, clock: ClockId, at: u64) -> Option<i128>
-    requires { at ≤ 1000000000000000 }
-    ensures is { result ≡ clock_time clock at world.now.world_core }
-    ensures small { IfSome result (λ z. unsigned_abs z < 2 ^ 99) }
-{
-    match clock_time(world, clock, at) {
-        Some(time) => Some(time.value()),
-        None => None,
-    }
-}
-
-/// That of the source of one reading, where the source of another shows this.
-fn source_time<F: Fate + Drop>(
+/// That of the source of one reading, where that of another is this.
+fn time_beside<F: Fate + Drop>(
     world: &World<F>,
     at: u64,
     kept: &KeptReading,
@@ -376,15 +426,15 @@ fn source_time<F: Fate + Drop>(
     shown: Option<i128>,
 ) -> Option<i128>
     requires moment { at ≤ 1000000000000000 }
-    requires other { shown ≡ clock_time other.now.source at world.now.world_core }
+    requires other { shown ≡ source_time other.now.source at world.now.world_core }
     requires size { IfSome shown (λ z. unsigned_abs z < 2 ^ 99) }
-    ensures is { result ≡ clock_time kept.now.source at world.now.world_core }
+    ensures is { result ≡ source_time kept.now.source at world.now.world_core }
     ensures small { IfSome result (λ z. unsigned_abs z < 2 ^ 99) }
 {
     if kept.source == other.source {
         shown
     } else {
-        time_of(world, kept.source, at)
+        source_time(world, at, &kept.source)
     }
 }
 
@@ -418,13 +468,13 @@ fn jump_at<F: Fate + Drop>(world: &World<F>, at: u64, new: &NewReading, shown: S
     ensures small { IsSmallJump result }
 {
     let read = read_by(&new.after, shown);
-    let time = time_of(world, new.after.source, at);
+    let time = source_time(world, at, &new.after.source);
     let after = off(read, time);
     match &new.before {
         Some(kept) => {
             let old = read_by(kept, shown);
             Jump {
-                before: off(old, source_time(world, at, kept, &new.after, time)),
+                before: off(old, time_beside(world, at, kept, &new.after, time)),
                 after,
                 step: Some(more_by(read, old)),
             }

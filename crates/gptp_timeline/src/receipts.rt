@@ -2,9 +2,11 @@
 
 ghost use Rattle.std.specs.Prelude.{◌≡◌, ◌≤◌, ◌-ℤ◌, ◌++◌, ◌∷◌, [], OnOk, string_bytes};
 ghost use Rattle.gptp_system.specs.State.{local_time};
+ghost use Rattle.gptp_system.specs.Takeover.{told_time};
 ghost use Rattle.gptp_timeline.specs.Receipts.{offset_error, is_follow_up, offset_line, received_by, receiver_clock};
 
 use crate::amounts::SignedOrNone;
+use crate::readings::told_by;
 use gptp_links::Fate;
 use gptp_model::Done;
 use gptp_scaled::ScaledNs;
@@ -52,17 +54,17 @@ pub(crate) fn received_by(done: &Done) -> Option<ClockId>
     }
 }
 
-/// How far a local clock that is `offset` ahead by its own account is off at a time, where the grandmaster's is that of
-/// another system: in units of 2^-16 ns.
+/// How far a local clock that is `offset` ahead by its own account is off at a time, where another system is the
+/// grandmaster: in units of 2^-16 ns.
 fn error_against(at: u64, offset: ScaledNs, system: &System, leader: &System) -> i128
     requires { at ≤ 1000000000000000 }
-    ensures { result ≡ offset -ℤ (local_time system.now at -ℤ local_time leader.now at) }
+    ensures { result ≡ offset -ℤ (local_time system.now at -ℤ told_time leader.now at) }
 {
-    offset.value() - (system.local(at).value() - leader.local(at).value())
+    offset.value() - (system.local(at).value() - told_by(leader.local(at), leader.base()))
 }
 
 /// How far the offset of a live system is off at a time, in units of 2^-16 ns: that less what its local time is ahead
-/// of that of the system whose clock its root names; none where that doesn't live, or no offset is known.
+/// of what the system tells whose clock its root names; none where that doesn't live, or no offset is known.
 pub(crate) fn error_of<F: Fate + Drop>(at: u64, system: &System, world: &World<F>) -> Option<i128>
     requires { at ≤ 1000000000000000 }
     ensures { result ≡ offset_error at system.now world.now.world_core }

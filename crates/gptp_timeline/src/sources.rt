@@ -2,11 +2,11 @@
 
 ghost use Rattle.std.specs.Prelude.{◌≡◌, ◌≤◌, ◌<◌, ◌^◌, ◌-ℤ◌, List, None, Some, OnErr, OnOk, int_lt, unsigned_abs};
 ghost use Rattle.gptp_timeline.specs.Looks.{listed};
-ghost use Rattle.gptp_timeline.specs.Sources.{difference_of, ends_with, further_ahead, further_behind, told_difference, wider, widest_from};
+ghost use Rattle.gptp_timeline.specs.Sources.{difference_of, ends_with, further_ahead, further_behind, time_of, told_difference, wider, widest_from};
 ghost use Rattle.gptp_timeline.specs.ToldSources.{AreSources, ends_among, is_told, reads_from, source_of, with_source, without_untold};
 ghost use Rattle.gptp_timeline.specs.declared.readings.SystemReading.{SystemReading};
 
-use crate::readings::{SystemReading, clock_time};
+use crate::readings::{SystemReading, TimeSource, clock_time, told_by};
 use gptp_links::Fate;
 use gptp_scaled::ScaledNs;
 use gptp_vector::ClockId;
@@ -17,10 +17,10 @@ use std::marker::Model;
 /// A source that is told.
 #[derive(Clone, Copy, Debug)]
 pub struct SourceTime {
-    /// Its clock.
-    pub clock: ClockId,
-    /// What that shows.
-    pub time: ScaledNs,
+    /// The source.
+    pub source: TimeSource,
+    /// What its clock shows.
+    pub shown: ScaledNs,
 }
 
 /// The sources whose times are the greatest and the least of several.
@@ -59,7 +59,7 @@ impl Difference {
     /// By how much the times differ, in units of 2^-16 ns.
     pub fn amount(self) -> u128
         ensures is { result ≡ self.amount }
-        ensures small { result < 2 ^ 97 }
+        ensures small { result ≤ 2 ^ 97 }
     {
         self.amount
     }
@@ -79,11 +79,19 @@ impl Difference {
     }
 }
 
+/// The time of a source, in units of 2^-16 ns.
+fn time_of(one: &SourceTime) -> i128
+    ensures is { result ≡ time_of one.now }
+    ensures small { unsigned_abs result ≤ 2 ^ 96 }
+{
+    told_by(one.shown, one.source.base)
+}
+
 /// Whether the time of a source is the less.
 fn is_less(a: &SourceTime, b: &SourceTime) -> bool
-    ensures { result ≡ int_lt a.now.time b.now.time }
+    ensures { result ≡ int_lt (time_of a.now) (time_of b.now) }
 {
-    a.time.value() < b.time.value()
+    time_of(a) < time_of(b)
 }
 
 /// Of two sources that whose time is the greater, of equal times that with the lower clock.
@@ -94,7 +102,7 @@ fn further_ahead(best: &SourceTime, one: &SourceTime) -> SourceTime
         *one
     } else if is_less(one, best) {
         *best
-    } else if one.clock < best.clock {
+    } else if one.source.clock < best.source.clock {
         *one
     } else {
         *best
@@ -109,7 +117,7 @@ fn further_behind(best: &SourceTime, one: &SourceTime) -> SourceTime
         *one
     } else if is_less(best, one) {
         *best
-    } else if one.clock < best.clock {
+    } else if one.source.clock < best.source.clock {
         *one
     } else {
         *best
@@ -136,21 +144,18 @@ fn ends_with(ends: Option<Ends>, one: Option<SourceTime>) -> Option<Ends>
 }
 
 /// A source with its time, if it has one.
-fn source_of<F: Fate + Drop>(world: &World<F>, at: u64, source: ClockId) -> Option<SourceTime>
+fn source_of<F: Fate + Drop>(world: &World<F>, at: u64, source: TimeSource) -> Option<SourceTime>
     requires { at ≤ 1000000000000000 }
     ensures { result ≡ source_of at world.now.world_core source }
 {
-    match clock_time(world, source, at) {
-        Some(time) => Some(SourceTime {
-            clock: source,
-            time,
-        }),
+    match clock_time(world, source.clock, at) {
+        Some(shown) => Some(SourceTime { source, shown }),
         None => None,
     }
 }
 
 /// The ends of several sources.
-fn ends_of<F: Fate + Drop>(world: &World<F>, at: u64, sources: &[ClockId]) -> Option<Ends>
+fn ends_of<F: Fate + Drop>(world: &World<F>, at: u64, sources: &[TimeSource]) -> Option<Ends>
     requires { at ≤ 1000000000000000 }
     ensures { result ≡ ends_among at world.now.world_core None sources.now }
 {
@@ -162,25 +167,27 @@ fn ends_of<F: Fate + Drop>(world: &World<F>, at: u64, sources: &[ClockId]) -> Op
 }
 
 /// How far two times differ, in units of 2^-16 ns.
-fn apart(a: ScaledNs, b: ScaledNs) -> u128
+fn apart(a: i128, b: i128) -> u128
+    requires a { unsigned_abs a ≤ 2 ^ 96 }
+    requires b { unsigned_abs b ≤ 2 ^ 96 }
     ensures is { result ≡ unsigned_abs (a -ℤ b) }
-    ensures small { result < 2 ^ 97 }
+    ensures small { result ≤ 2 ^ 97 }
 {
-    a.value().abs_diff(b.value())
+    a.abs_diff(b)
 }
 
 /// How far the ends differ; none where they don't.
 fn difference_between(ends: &Ends) -> Option<Difference>
     ensures { result ≡ difference_of (Some ends.now) }
 {
-    let amount = apart(ends.ahead.time, ends.behind.time);
+    let amount = apart(time_of(&ends.ahead), time_of(&ends.behind));
     if amount == 0 {
         return None;
     }
     Some(Difference {
         amount,
-        ahead: ends.ahead.clock,
-        behind: ends.behind.clock,
+        ahead: ends.ahead.source.clock,
+        behind: ends.behind.source.clock,
     })
 }
 
@@ -198,7 +205,7 @@ fn difference_of(ends: Option<Ends>) -> Option<Difference>
 pub(crate) fn told_difference<F: Fate + Drop>(
     world: &World<F>,
     at: u64,
-    sources: &[ClockId],
+    sources: &[TimeSource],
 ) -> Option<Difference>
     requires { at ≤ 1000000000000000 }
     ensures { (rs : List SystemReading) → AreSources sources.now rs
@@ -208,18 +215,18 @@ pub(crate) fn told_difference<F: Fate + Drop>(
 }
 
 /// Whether a system reads from a source.
-fn reads_from(system: &SystemReading, source: ClockId) -> bool
-    ensures { result ≡ reads_from source system.now }
+fn reads_from(system: &SystemReading, source: &TimeSource) -> bool
+    ensures { result ≡ reads_from source.now system.now }
 {
     match &system.reading {
-        Some(kept) => kept.source == source,
+        Some(kept) => kept.source == *source,
         None => false,
     }
 }
 
 /// Whether a source is told: whether some system reads from it.
-fn is_told(systems: &[SystemReading], source: ClockId) -> bool
-    ensures { result ≡ is_told source systems.now }
+fn is_told(systems: &[SystemReading], source: &TimeSource) -> bool
+    ensures { result ≡ is_told source.now systems.now }
 {
     for system in systems {
         if reads_from(system, source) {
@@ -230,7 +237,10 @@ fn is_told(systems: &[SystemReading], source: ClockId) -> bool
 }
 
 /// A source is one of several from then on.
-pub(crate) fn add_source(sources: &mut Vec<ClockId>, source: ClockId) -> Result<(), AllocError>
+pub(crate) fn add_source(
+    sources: &mut Vec<TimeSource>,
+    source: TimeSource,
+) -> Result<(), AllocError>
     ensures added { OnOk result (sources.new.items ≡ with_source source sources.old.items) }
     ensures same { OnErr result (sources.new.items ≡ sources.old.items) }
 {
@@ -242,10 +252,14 @@ pub(crate) fn add_source(sources: &mut Vec<ClockId>, source: ClockId) -> Result<
 }
 
 /// A source is one of several no more, unless it is told.
-pub(crate) fn drop_untold(sources: &mut Vec<ClockId>, systems: &[SystemReading], source: ClockId)
+pub(crate) fn drop_untold(
+    sources: &mut Vec<TimeSource>,
+    systems: &[SystemReading],
+    source: TimeSource,
+)
     ensures { sources.new.items ≡ without_untold source systems.now sources.old.items }
 {
-    if is_told(systems, source) {
+    if is_told(systems, &source) {
         return;
     }
     sources.retain(|other| *other != source);

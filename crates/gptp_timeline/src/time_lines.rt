@@ -118,7 +118,7 @@ fn write_source(text: &mut String, at: u64, new: &NewReading) -> Result<(), Allo
         text,
         "reading {at} {} from {}",
         ClockDigits(new.clock),
-        ClockDigits(new.after.source)
+        ClockDigits(new.after.source.clock)
     )
 }
 

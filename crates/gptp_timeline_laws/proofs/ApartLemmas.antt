@@ -1,5 +1,5 @@
 -- Where told sources differ most in a stretch two systems read from them.
-use Rattle.std.proofs.Common.{◌≡◌, ◌==◌, ◌⊎◌, ◌≤◌, ◌+◌, ◌*◌, ◌^◌, ℕ, zero, suc, ℤ, ◌-ℤ◌, unsigned_abs, Bool, true, false, nat_le, List, [], ◌∷◌, ◌++◌, length, map, Option, Some, None, option_map, slice_get, if◌then◌else◌, refl, sym, ap, subst, ◌∙◌, inl, inr, append_assoc, append-nil, arith}
+use Rattle.std.proofs.Common.{◌≡◌, ◌==◌, ◌⊎◌, ◌≤◌, ◌+◌, ◌*◌, ◌^◌, ℕ, zero, suc, ℤ, ◌+ℤ◌, ◌-ℤ◌, unsigned_abs, Bool, true, false, nat_le, List, [], ◌∷◌, ◌++◌, length, map, Option, Some, None, option_map, slice_get, if◌then◌else◌, refl, sym, ap, subst, ◌∙◌, inl, inr, append_assoc, append-nil, arith}
 use Rattle.std.proofs.lemmas.Bool.Decides.{nat_tests}
 use Rattle.std.proofs.lemmas.Int.{ints}
 use Rattle.std.proofs.lemmas.Option.{none-some, same_Some, slice_get_within}
@@ -26,13 +26,14 @@ use Rattle.gptp_scenario.specs.declared.change.Timed.{Timed}
 use Rattle.gptp_system.specs.State.{clock, local_time}
 use Rattle.gptp_theorem.specs.PlayedLaws.{IsPlayable}
 use Rattle.gptp_timeline.specs.Looks.{looked_all, looked_over, measured_times}
-use Rattle.gptp_timeline.specs.Readings.{clock_among, clock_time, no_reading, read_by, readings_after}
-use Rattle.gptp_timeline.specs.Sources.{DifferenceState, told_difference}
+use Rattle.gptp_timeline.specs.Readings.{clock_among, clock_time, no_reading, read_by, readings_after, source_time}
+use Rattle.gptp_timeline.specs.Sources.{DifferenceState, time_of, told_difference}
 use Rattle.gptp_timeline.specs.Stretch.{at_of, is_change}
 use Rattle.gptp_timeline.specs.Timeline.{Carried, none_carried, now_of, StretchTrace, TimelineOf, tracks}
 use Rattle.gptp_timeline.specs.ToldSources.{ReadingsRise}
 use Rattle.gptp_timeline.specs.declared.looks.TimeMeasures.{TimeMeasures}
 use Rattle.gptp_timeline.specs.declared.readings.SystemReading.{SystemReading}
+use Rattle.gptp_timeline.specs.declared.readings.TimeSource.{TimeSource}
 use Rattle.gptp_timeline.specs.declared.sources.SourceTime.{SourceTime}
 use Rattle.gptp_timeline.specs.declared.timeline.TimelineOptions.{TimelineOptions}
 use Rattle.gptp_timeline.proofs.EventLemmas.{Each, filter_each}
@@ -46,7 +47,7 @@ use Rattle.gptp_timeline_laws.proofs.GapLemmas.{last_from}
 use Rattle.gptp_timeline_laws.proofs.MomentLemmas.{Found, timeline_found, times_bound_moments}
 use Rattle.gptp_timeline_laws.proofs.PartLemmas.{begins_on_time, courses_world, MomentSo, point_so}
 use Rattle.gptp_timeline_laws.proofs.RootLemmas.{names_first, names_of, names_over, readings_are}
-use Rattle.gptp_timeline_laws.proofs.StepLemmas.{passes_step, SameClocks, Steps, steps_after, world_same}
+use Rattle.gptp_timeline_laws.proofs.StepLemmas.{passes_step, same_sources, SameClocks, Steps, steps_after, world_same}
 use Rattle.gptp_timeline_laws.proofs.TurnLemmas.{AreInTurn, courses_turn, next_of, turn_on, turn_parts}
 use Rattle.gptp_world.proofs.InitialLemmas.{initial_sound}
 use Rattle.gptp_world.specs.Transitions.{ActTrace, PassesTo, transition}
@@ -260,8 +261,8 @@ module _ {F : Type 0} (answers : Bounds → ℕ → F → Option ℕ → F → T
     -- a system reads from a source that is told
     reads_told : (v : WorldState) → SameClocks (world_after done w) v → (s : SourceTime)
         → (told : ReadsFromTold time v held s)
-        → (read : ℤ) × (reads : ReadsAt time (world_after done w) held told.system.clock read s.time)
-        × (reads.kept.source ≡ s.clock)
+        → (read : ℤ) × (reads : ReadsAt time (world_after done w) held told.system.clock read (time_of s))
+        × (reads.kept.source ≡ s.source)
     reads_told v same s told =
         let system = told.system in
         let listed : In system.clock names =
@@ -276,8 +277,9 @@ module _ {F : Type 0} (answers : Bounds → ℕ → F → Option ℕ → F → T
             own = own;
             shows = own_shows;
             read_is = refl;
-            source_shows = ap (λ n. clock_time n time (world_after done w)) told.source
-                ∙ sym (same s.clock time) ∙ told.shows;
+            source_shows = ap (λ n. source_time n time (world_after done w)) told.source
+                ∙ sym (same_sources (world_after done w) v same s.source time)
+                ∙ ap (option_map (λ (shown : ℤ). shown +ℤ s.source.base)) told.shows;
           },
           told.source,
         )
@@ -298,13 +300,13 @@ module _ {F : Type 0} (answers : Bounds → ℕ → F → Option ℕ → F → T
           name = two.first_told.system.clock;
           other = two.second_told.system.clock;
           read = read;
-          source = two.first.time;
+          source = time_of two.first;
           other_read = other_read;
-          other_source = two.second.time;
+          other_source = time_of two.second;
           reads = reads;
           other_reads = other_reads;
-          ahead_is = source_is ∙ two.ahead;
-          behind_is = other_is ∙ two.behind;
+          ahead_is = ap (λ (x : TimeSource). x.clock) source_is ∙ two.ahead;
+          behind_is = ap (λ (x : TimeSource). x.clock) other_is ∙ two.behind;
           differ = two.differ;
         }
 

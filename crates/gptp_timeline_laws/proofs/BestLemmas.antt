@@ -7,7 +7,7 @@ use Rattle.gptp_network.specs.Snapshot.{events_by}
 use Rattle.gptp_roles.specs.Selection.{clock_of}
 use Rattle.gptp_timeline.specs.Readings.{readings_after}
 use Rattle.gptp_timeline_laws.specs.Moments.{world_after}
-use Rattle.gptp_timeline_laws.specs.Sources.{ReadsFrom, TimelinesReadFromBests}
+use Rattle.gptp_timeline_laws.specs.Sources.{ReadsFromClock, TimelinesReadFromBests}
 use Rattle.gptp_timeline_laws.proofs.RootLemmas.{timelines_read_from_roots}
 use Rattle.gptp_timeline_laws.proofs.StandsLemmas.{root_then, span_over_then, stands_so}
 
@@ -20,6 +20,6 @@ timelines_read_from_bests answers d until options fate lines exceeded t playable
     let same = root_then answers d playable (rising_clocks t.start) (events_by p.from d.events)
     (k.before ++ moment.done) (at time (world_after moment.done w)) k.stands k.timed bounds.0 g planned name near
     (span_over_then d p.from bound time playable bounds late) best is_best s lives in
-    subst (λ r. ReadsFrom (readings_after moment.done rs) name (clock_of r)) (same ∙ sym is)
+    subst (λ r. ReadsFromClock (readings_after moment.done rs) name (clock_of r)) (same ∙ sym is)
     (timelines_read_from_roots answers d until options fate lines exceeded t playable ends p w c rs time moment name s
     begins has lives slave known)

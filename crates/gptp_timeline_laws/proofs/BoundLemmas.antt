@@ -9,11 +9,12 @@ use Rattle.gptp_model.specs.World.{WorldState}
 use Rattle.gptp_timeline.specs.Extremes.{extremes_from, extremes_with, ExtremesState, greater, lesser, Look}
 use Rattle.gptp_timeline.specs.Looks.{apart_errors, apart_sources, events_left, look_amount, looked_all, looked_over, LookedAt, measured_with, nothing_read}
 use Rattle.gptp_timeline.specs.Measures.{better, greatest_from}
-use Rattle.gptp_timeline.specs.Readings.{clock_time, reading_among, reading_error, readings_after}
+use Rattle.gptp_timeline.specs.Readings.{reading_among, reading_error, readings_after, source_time}
 use Rattle.gptp_timeline.specs.Sources.{DifferenceState, wider, widest_from}
 use Rattle.gptp_timeline.specs.declared.measures.Greatest.{Greatest}
 use Rattle.gptp_timeline.specs.declared.readings.KeptReading.{KeptReading}
 use Rattle.gptp_timeline.specs.declared.readings.SystemReading.{SystemReading}
+use Rattle.gptp_timeline.specs.declared.readings.TimeSource.{TimeSource}
 use Rattle.gptp_timeline_laws.specs.Moments.{greatest_error, last_time, next_time}
 use Rattle.gptp_timeline_laws.specs.Sources.{ReadsFrom}
 use Rattle.gptp_timeline_laws.proofs.ReadLemmas.{acts_fit, RatesFit}
@@ -204,9 +205,9 @@ module _ (low high : ℤ) (most : ℕ) (w : WorldState) (until since left : ℕ)
       (seen_later low high most w until (last_time since us) (events_left us left) held vs end steps_then same good_then
       last_then name kept has) late early error is
 
-  pub sources_then_are : SeenTogether low high most w rs since → (name other source source' : ℕ)
-      → ReadsFrom held name source → ReadsFrom held other source' → (x y : ℤ) → clock_time source time w ≡ Some x
-      → clock_time source' time w ≡ Some y → unsigned_abs (x -ℤ y) ≤ most + 1
+  pub sources_then_are : SeenTogether low high most w rs since → (name other : ℕ) (source source' : TimeSource)
+      → ReadsFrom held name source → ReadsFrom held other source' → (x y : ℤ) → source_time source time w ≡ Some x
+      → source_time source' time w ≡ Some y → unsigned_abs (x -ℤ y) ≤ most + 1
   sources_then_are seen name other source source' first second x y shows shows' =
       sources_at_moment low high most w source source' (last_time since us) (next_time until vs) time
       (together_on low high most w until since left rs us vs steps good seen name other source source' first second)

@@ -11,7 +11,7 @@ use Rattle.gptp_scenario.specs.declared.change.Act.{Act}
 use Rattle.gptp_scenario.specs.declared.change.Act.TheVariants.{Change as Changing, Deliver, Expire}
 use Rattle.gptp_timeline.specs.Looks.{left_after, listed, looked_by, looked_event, looked_in, looked_over, told_if}
 use Rattle.gptp_timeline.specs.Readings.{changes_source, clock_time, new_in, new_reading, read_after, reading_among, readings_after, readings_by}
-use Rattle.gptp_timeline.specs.Sources.{difference_of, DifferenceState, ends_from, ends_with, source_at, told_difference, told_time, wider, widest_from}
+use Rattle.gptp_timeline.specs.Sources.{difference_of, DifferenceState, ends_from, ends_with, source_at, time_of, told_difference, told_time, wider, widest_from}
 use Rattle.gptp_timeline.specs.Stretch.{at_of, is_change}
 use Rattle.gptp_timeline.specs.ToldSources.{ReadingsRise}
 use Rattle.gptp_timeline.specs.declared.readings.KeptReading.{KeptReading}
@@ -147,10 +147,10 @@ with_so So None None both each = tt
 with_so So (Some ends) None both each = both
 with_so So None (Some one) both each = (each one refl, each one refl)
 with_so So (Some ends) (Some one) both each = (
-  pick_so So (int_lt ends.ahead.time one.time) (int_lt one.time ends.ahead.time) (nat_lt one.clock ends.ahead.clock)
-      ends.ahead one both.0 (each one refl),
-  pick_so So (int_lt one.time ends.behind.time) (int_lt ends.behind.time one.time)
-      (nat_lt one.clock ends.behind.clock) ends.behind one both.1 (each one refl),
+  pick_so So (int_lt (time_of ends.ahead) (time_of one)) (int_lt (time_of one) (time_of ends.ahead))
+      (nat_lt one.source.clock ends.ahead.source.clock) ends.ahead one both.0 (each one refl),
+  pick_so So (int_lt (time_of one) (time_of ends.behind)) (int_lt (time_of ends.behind) (time_of one))
+      (nat_lt one.source.clock ends.behind.source.clock) ends.behind one both.1 (each one refl),
 )
 
 ends_so : (So : SourceTime → Type 0) (time : ℕ) (w : WorldState) (ends : Option Ends) (rs : List SystemReading)
@@ -167,20 +167,20 @@ pub record ReadsFromTold (time : ℕ) (w : WorldState) (rs : List SystemReading)
   pub member : In system rs
   pub kept : KeptReading
   pub has : system.reading ≡ Some kept
-  pub source : kept.source ≡ s.clock
-  pub shows : clock_time s.clock time w ≡ Some s.time
+  pub source : kept.source ≡ s.source
+  pub shows : clock_time s.source.clock time w ≡ Some s.shown
 
 told_from : (time : ℕ) (w : WorldState) (rs : List SystemReading) (x : SystemReading) (s : SourceTime) → In x rs
     → told_time time w x ≡ Some s → ReadsFromTold time w rs s
 told_from time w rs x s member told = by x.reading refl told
   where
     at_source : (kept : KeptReading) → x.reading ≡ Some kept → (shown : Option ℤ)
-        → clock_time kept.source time w ≡ shown
-        → option_map (λ (z : ℤ). record { clock = kept.source; time = z }) shown ≡ Some s
+        → clock_time kept.source.clock time w ≡ shown
+        → option_map (λ (z : ℤ). record { source = kept.source; shown = z }) shown ≡ Some s
         → ReadsFromTold time w rs s
     at_source kept has None shows is = absurd (none-some s is)
     at_source kept has (Some z) shows is =
-        let one : SourceTime = record { clock = kept.source; time = z } in
+        let one : SourceTime = record { source = kept.source; shown = z } in
         subst (ReadsFromTold time w rs) (same_Some one s is) (record {
           system = x;
           member = member;
@@ -193,7 +193,7 @@ told_from time w rs x s member told = by x.reading refl told
     by : (reading : Option KeptReading) → x.reading ≡ reading → option_and_then (source_at time w) reading ≡ Some s
         → ReadsFromTold time w rs s
     by None has is = absurd (none-some s is)
-    by (Some kept) has is = at_source kept has (clock_time kept.source time w) refl is
+    by (Some kept) has is = at_source kept has (clock_time kept.source.clock time w) refl is
 
 -- two systems, whose sources differ by this
 pub record AreTwo (time : ℕ) (w : WorldState) (rs : List SystemReading) (d : DifferenceState) : Type 0 where
@@ -201,9 +201,9 @@ pub record AreTwo (time : ℕ) (w : WorldState) (rs : List SystemReading) (d : D
   pub second : SourceTime
   pub first_told : ReadsFromTold time w rs first
   pub second_told : ReadsFromTold time w rs second
-  pub ahead : first.clock ≡ d.ahead
-  pub behind : second.clock ≡ d.behind
-  pub differ : unsigned_abs (first.time -ℤ second.time) ≡ d.amount
+  pub ahead : first.source.clock ≡ d.ahead
+  pub behind : second.source.clock ≡ d.behind
+  pub differ : unsigned_abs (time_of first -ℤ time_of second) ≡ d.amount
 
 pub two_told : (time : ℕ) (w : WorldState) (rs : List SystemReading) (d : DifferenceState)
     → told_difference time w rs ≡ Some d → AreTwo time w rs d
@@ -215,13 +215,13 @@ two_told time w rs d is =
         → AreTwo time w rs d
     by None both is = absurd (none-some d is)
     by (Some ends) both is =
-        amount (unsigned_abs (ends.ahead.time -ℤ ends.behind.time) == 0) is
+        amount (unsigned_abs (time_of ends.ahead -ℤ time_of ends.behind) == 0) is
       where
         one : DifferenceState
         one = record {
-          amount = unsigned_abs (ends.ahead.time -ℤ ends.behind.time);
-          ahead = ends.ahead.clock;
-          behind = ends.behind.clock;
+          amount = unsigned_abs (time_of ends.ahead -ℤ time_of ends.behind);
+          ahead = ends.ahead.source.clock;
+          behind = ends.behind.source.clock;
         }
 
         amount : (none : Bool) → (if none then None else Some one) ≡ Some d → AreTwo time w rs d

@@ -49,7 +49,7 @@ use Rattle.gptp_timeline_laws.proofs.MomentLemmas.{Found, timeline_found}
 use Rattle.gptp_timeline_laws.proofs.OriginLemmas.{IsReceived, IsTakenOver, origin}
 use Rattle.gptp_timeline_laws.proofs.ReadLemmas.{is_new, put_other, put_own, quiet_reads}
 use Rattle.gptp_timeline_laws.proofs.ReadsLemmas.{at_most_more, AtMost, counts_not, counts_so, greater_within, idle_reads, later_both, NoReads, reads_both, reads_other, reads_own, unread_none}
-use Rattle.gptp_timeline_laws.proofs.StepLemmas.{clocks_stay, quiet_next, SameClocks}
+use Rattle.gptp_timeline_laws.proofs.StepLemmas.{clocks_stay, quiet_next, same_sources, SameClocks}
 use Rattle.gptp_world.specs.Transitions.{ActTrace}
 
 pub less_each : (last from : ℕ) (ts : List ActTrace) → last < from
@@ -102,8 +102,8 @@ module _ {F : Type 0} (answers : Bounds → ℕ → F → Option ℕ → F → T
     error_same : (base v : WorldState) → SameClocks base v → (time n : ℕ) (kept : KeptReading)
         → reading_error time v n kept ≡ reading_error time base n kept
     error_same base v same time n kept =
-        λ i. option_and_then (λ shown. option_map (λ x. read_by kept shown -ℤ x) (same kept.source time i))
-        (same n time i)
+        λ i. option_and_then (λ shown. option_map (λ x. read_by kept shown -ℤ x)
+        (same_sources base v same kept.source time i)) (same n time i)
 
     -- a receipt that counts after another, or the first
     next_held : (base : WorldState) (rs : List SystemReading) (at now : ℕ)

@@ -47,6 +47,7 @@ use Rattle.gptp_settling_time.proofs.MomentLemmas.{last_by}
 use Rattle.gptp_setup.specs.SettlingParams.{largest_interval}
 use Rattle.gptp_sync_machine.specs.Tree.{IsWayTo}
 use Rattle.gptp_system.specs.State.{local_time, SystemState}
+use Rattle.gptp_system.specs.Takeover.{told_time}
 use Rattle.gptp_theorem.specs.AlikeLaws.{AreAlike}
 use Rattle.gptp_theorem.specs.PlayedLaws.{IsPlayable}
 use Rattle.gptp_theorem.proofs.AlikeLemmas.{distance, turned}
@@ -59,15 +60,16 @@ use Rattle.gptp_timeline.specs.Stretch.{at_of, error_at, receives}
 use Rattle.gptp_timeline.specs.Timeline.{AreErrorsBy, later_than, StretchTrace}
 use Rattle.gptp_timeline.proofs.ErrorLemmas.{errors_within}
 use Rattle.gptp_timeline.proofs.EventLemmas.{filter_in_order}
+use Rattle.gptp_timeline.proofs.HeardLemmas.{receiver_alone}
 use Rattle.gptp_timeline.proofs.PastLemmas.{all_past, by_past, by_sooner, PastBy}
 use Rattle.gptp_timeline.proofs.RestLemmas.{found_live, lives_there, shows_live, stands_there}
 use Rattle.gptp_timeline.proofs.SettlingLemmas.{begins, ends_by, keeps_first, left_first}
 use Rattle.gptp_timeline.proofs.WayLemmas.{way_there}
-use Rattle.gptp_timeline.proofs.WithinLemmas.{has_bound, HasBound, has_error, shown_by, size_within}
+use Rattle.gptp_timeline.proofs.WithinLemmas.{best_apart, has_bound, HasBound, has_error, shown_by, size_within}
 use Rattle.gptp_timeline_laws.specs.ExactSoon.{TimelinesAreExactSoon}
 use Rattle.gptp_timeline_laws.proofs.HeldLemmas.{received_name, uses_follow_up}
 use Rattle.gptp_timeline_laws.proofs.ShortenedLemmas.{bound_by, playable_by, shortened}
-use Rattle.gptp_timeline_laws.proofs.SoonLemmas.{told_time, unfolds}
+use Rattle.gptp_timeline_laws.proofs.SoonLemmas.{told_time as settling_told, unfolds}
 use Rattle.gptp_timeline_laws.proofs.StretchRunLemmas.{ends_on, RunsTo, runs_to}
 use Rattle.gptp_world.specs.Transitions.{ActTrace}
 
@@ -139,7 +141,7 @@ module _ {F : Type 0} (answers : Bounds → ℕ → F → Option ℕ → F → T
       let (root, leads) = lives_there t.before best.clock best clocks there.live refl in
       let leader : live_system best.clock t.after ≡ Some e.leader =
       subst (λ c. live_system c t.after ≡ Some e.leader) best_named e.leads in
-      let ahead : ℤ = local_time s (at_of t) -ℤ local_time root (at_of t) in
+      let ahead : ℤ = local_time s (at_of t) -ℤ told_time root (at_of t) in
       let within = exact has.steps name bound e.offset ahead
       (record {
         uses = uses_follow_up name (at_of t) t.told.timed.act t.before kept.draws t.told.done t.after kept.acts
@@ -158,8 +160,11 @@ module _ {F : Type 0} (answers : Bounds → ℕ → F → Option ℕ → F → T
         is = refl;
       }) in
       let own_time = same_time name s e.own e.lives lives in
-      let root_time = same_time best.clock root e.leader leader leads in
-      let is_off : error ≡ e.offset -ℤ ahead = e.is ∙ (λ i. e.offset -ℤ (own_time i -ℤ root_time i)) in
+      let still = receiver_alone name (at_of t) t.told.timed.act t.before kept.draws t.told.done t.after kept.acts own
+      best.clock (best_apart (snapshot_of t.before) name has.steps best well far there) in
+      let same_root : e.leader ≡ root = same_Some e.leader root (sym leader ∙ still ∙ leads) in
+      let is_off : error ≡ e.offset -ℤ ahead =
+      e.is ∙ (λ i. e.offset -ℤ (own_time i -ℤ told_time (same_root i) (at_of t))) in
       subst (λ z. unsigned_abs z ≤ bound) (sym is_off) (size_within bound e.offset ahead within)
 
 -- ---- a stretch
@@ -270,7 +275,7 @@ pub is_told : (d : DocumentState) (at from : ℕ) → IsPlayable d → exact_fro
 is_told d at from playable is =
     let last = last_change (events_by at d.events) in
     let (s, settling, exact_is) = told_exact (settling_of d last) from is in
-    let (time, among, at_is, told) = told_time (settling_times d) last s settling in
+    let (time, among, at_is, told) = settling_told (settling_times d) last s settling in
     let (earlier, so_then) = time_so d playable time s among told in
     let so : IsSo d playable earlier last s = subst (λ at. IsSo d playable earlier at s) at_is so_then in record {
       choice = s.choice;

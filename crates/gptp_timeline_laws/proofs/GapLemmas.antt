@@ -1,6 +1,6 @@
 -- From one receipt that counts to the next it is no longer than a system waits for Sync, and so what it reads is always
 -- exact.
-use Rattle.std.proofs.Common.{◌≡◌, ◌==◌, ◌⊎◌, ◌≤◌, ◌<◌, ◌+◌, ◌-◌, ◌*◌, ◌^◌, ◌&&◌, not, ℕ, ℤ, Bool, true, false, nat_le, nat_lt, List, [], ◌∷◌, ◌++◌, length, map, Option, Some, None, option_map, option_and_then, if◌then◌else◌, unsigned_abs, refl, sym, ap, subst, ◌∙◌, inl, inr, append_assoc, append-nil, arith}
+use Rattle.std.proofs.Common.{◌≡◌, ◌==◌, ◌⊎◌, ◌≤◌, ◌<◌, ◌+◌, ◌-◌, ◌*◌, ◌^◌, ◌&&◌, not, ℕ, ℤ, ◌+ℤ◌, Bool, true, false, nat_le, nat_lt, List, [], ◌∷◌, ◌++◌, length, map, Option, Some, None, option_map, option_and_then, if◌then◌else◌, unsigned_abs, refl, sym, ap, subst, ◌∙◌, inl, inr, append_assoc, append-nil, arith}
 use Rattle.std.specs.List.{AllByRecursion}
 use Rattle.std.specs.Prelude.{is_some, IsSome}
 use Rattle.std.proofs.Math.Nat.{mul-le-mul_right}
@@ -39,7 +39,7 @@ use Rattle.gptp_scenario.proofs.LogLemmas.{largest_log}
 use Rattle.gptp_settling_time.specs.HowSoon.{BoundsChoice, IsChoiceBound}
 use Rattle.gptp_settling_time.proofs.MomentLemmas.{last_by}
 use Rattle.gptp_setup.proofs.IntervalLemmas.{interval_positive}
-use Rattle.gptp_system.specs.Reading.{held_reading, reading_by}
+use Rattle.gptp_system.specs.Syncing.{held_reading, reading_by}
 use Rattle.gptp_system.specs.State.{can_lead, local_time, SystemState}
 use Rattle.gptp_system.specs.declared.reading.Reading.{Reading}
 use Rattle.gptp_theorem.specs.PlayedLaws.{IsPlayable}
@@ -65,7 +65,7 @@ use Rattle.gptp_timeline.proofs.WithinLemmas.{past_behind}
 use Rattle.gptp_timeline_laws.specs.Age.{GetsTime, ReceivedWithin, TimelinesAlwaysHaveTime, TimelinesAreAlwaysExact, TimelinesHearAgainInTime, wait_at}
 use Rattle.gptp_timeline_laws.specs.Exact.{last_receipt, reads_from}
 use Rattle.gptp_timeline_laws.specs.Moments.{BeginsWith, HasTime, last_time, Moment, world_after}
-use Rattle.gptp_timeline_laws.specs.Sources.{ReadsFrom}
+use Rattle.gptp_timeline_laws.specs.Sources.{ReadsFromClock}
 use Rattle.gptp_timeline_laws.proofs.AgeLemmas.{timelines_hear_in_time}
 use Rattle.gptp_timeline_laws.proofs.BoundLemmas.{readings_both}
 use Rattle.gptp_timeline_laws.proofs.CourseLemmas.{BeginsSo, EndsEvents, IsQuiet, last_on, left_both, parted, parts, passes_quiet, world_on}
@@ -769,7 +769,7 @@ module _ {F : Type 0} (answers : Bounds → ℕ → F → Option ℕ → F → T
           begins are from_is).1
 
       -- then it reads from its best
-      reads_then : ReadsFrom (readings_after done_then rs) name (clock_of gets.best.identity)
+      reads_then : ReadsFromClock (readings_after done_then rs) name (clock_of gets.best.identity)
       reads_then =
           let k = stands_so answers d until options fate lines exceeded t playable shown p w c (at_of act) moment_then
           begins in
@@ -784,7 +784,7 @@ module _ {F : Type 0} (answers : Bounds → ℕ → F → Option ℕ → F → T
           let root = root_then answers d playable names events acts v k.stands k.timed bounds.0 say.snapshot say.is
           name gets.near long gets.best gets.is_best s lives in
           let known = offset_known s lives in
-          subst (λ r. ReadsFrom (readings_after done_then rs) name (clock_of r)) root
+          subst (λ r. ReadsFromClock (readings_after done_then rs) name (clock_of r)) root
           (timelines_read_from_roots answers d until options fate lines exceeded t playable shown p w c rs (at_of act)
           moment_then name s begins has lives (has_slave s slave) known)
         where
@@ -811,7 +811,7 @@ module _ {F : Type 0} (answers : Bounds → ℕ → F → Option ℕ → F → T
                   subst (λ (x : SystemState). IsSome x.offset) same (held_offset r.own r.reading r.held)
 
       -- and goes on to
-      reads_on : ReadsFrom (readings_after moment.done rs) name (clock_of gets.best.identity)
+      reads_on : ReadsFromClock (readings_after moment.done rs) name (clock_of gets.best.identity)
       reads_on =
           let from_best = reads_then in
           let at_is = receipt.at_is in
@@ -856,15 +856,16 @@ module _ {F : Type 0} (answers : Bounds → ℕ → F → Option ℕ → F → T
           let reads = reads_on in
           record {
             read = read_by reads.kept (local_time s time);
-            source = local_time root time;
+            source = local_time root time +ℤ reads.kept.source.base;
             reads = record {
               kept = reads.kept;
               has = reads.has;
               own = local_time s time;
               shows = live_time name time v.stations s lives;
               read_is = refl;
-              source_shows = ap (λ n. clock_time n time v) (reads.is ∙ named)
-                  ∙ live_time gets.best.clock time v.stations root leads;
+              source_shows = ap (option_map (λ z. z +ℤ reads.kept.source.base))
+                  (ap (λ n. clock_time n time v) (reads.is ∙ named)
+                  ∙ live_time gets.best.clock time v.stations root leads);
             };
           }
 

@@ -1,5 +1,5 @@
 -- What a near system reads by a receipt, once the time errors of its network hold, is as exact as they say.
-use Rattle.std.proofs.Common.{◌≡◌, ◌==◌, ◌≤◌, ◌+◌, ◌-◌, ◌^◌, ◌&&◌, ℕ, suc, ℤ, ◌-ℤ◌, Bool, true, false, List, Option, Some, None, option_map, option_and_then, unsigned_abs, refl, sym, ap, subst, ◌∙◌, arith, if◌then◌else◌}
+use Rattle.std.proofs.Common.{◌≡◌, ◌==◌, ◌≤◌, ◌+◌, ◌-◌, ◌^◌, ◌&&◌, ℕ, suc, ℤ, ◌+ℤ◌, ◌-ℤ◌, Bool, true, false, List, Option, Some, None, option_map, option_and_then, unsigned_abs, refl, sym, ap, subst, ◌∙◌, arith, if◌then◌else◌}
 use Rattle.std.specs.Option.{option_map_or}
 use Rattle.std.specs.Prelude.{is_none, IsSome}
 use Rattle.std.proofs.lemmas.Bool.Decides.{nat_tests}
@@ -38,16 +38,18 @@ use Rattle.gptp_scenario.specs.declared.change.Timed.{Timed}
 use Rattle.gptp_setup.specs.SettlingParams.{SettlingParams}
 use Rattle.gptp_sync_machine.specs.Tree.{IsWayTo}
 use Rattle.gptp_correction.specs.declared.sync_in.SyncInfo.{SyncInfo}
-use Rattle.gptp_system.specs.Reading.{held_reading, read_at, reading_by}
+use Rattle.gptp_system.specs.Reading.{read_at}
 use Rattle.gptp_system.specs.State.{clock, local_time, SystemState}
 use Rattle.gptp_system.specs.declared.reading.Reading.{Reading}
+use Rattle.gptp_system.specs.Syncing.{held_reading, reading_by}
+use Rattle.gptp_system.specs.Takeover.{told_time}
 use Rattle.gptp_theorem.specs.Headline.{HasComeDown, UsesFollowUp, WorldIsCalm}
 use Rattle.gptp_theorem.specs.PlayedLaws.{IsPlayable}
 use Rattle.gptp_reading.specs.Reading.{IsBestsTime, reading}
 use Rattle.gptp_reading.specs.Readings.{LeavesReading}
 use Rattle.gptp_reading.proofs.ExactLemmas.{used_shows, worlds_have_readings, worlds_read_exactly}
 use Rattle.gptp_reading.proofs.HeldLemmas.{held_is_read}
-use Rattle.gptp_timeline.specs.Readings.{by_receipt, clock_time, gets, new_in, new_reading, read_by, reading_among, reading_error, received_from, received_reading}
+use Rattle.gptp_timeline.specs.Readings.{base_of, by_receipt, clock_time, gets, new_in, new_reading, read_by, reading_among, reading_error, received_from, received_reading, source_named, source_time}
 use Rattle.gptp_timeline.specs.Receipts.{is_follow_up, received_by}
 use Rattle.gptp_timeline.specs.Shown.{live_system}
 use Rattle.gptp_timeline.specs.Stretch.{at_of, receives}
@@ -55,12 +57,13 @@ use Rattle.gptp_timeline.specs.declared.readings.SystemReading.{SystemReading}
 use Rattle.gptp_timeline.proofs.ShownLemmas.{found}
 use Rattle.gptp_timeline.specs.declared.readings.KeptReading.{KeptReading}
 use Rattle.gptp_timeline.specs.declared.readings.NewReading.{NewReading}
-use Rattle.gptp_timeline.proofs.HeardLemmas.{heard_follow_up, receipt_of, receives_by}
+use Rattle.gptp_timeline.specs.declared.readings.TimeSource.{TimeSource}
+use Rattle.gptp_timeline.proofs.HeardLemmas.{heard_follow_up, receipt_of, receiver_alone, receives_by}
 use Rattle.gptp_timeline.proofs.RestLemmas.{lives_there, shows_live, stands_there}
 use Rattle.gptp_timeline.proofs.SettlingLemmas.{Keeps, keeps_act}
 use Rattle.gptp_timeline.proofs.WayLemmas.{way_there}
-use Rattle.gptp_timeline.proofs.WithinLemmas.{alike, all, calm, far, HasBound, near, paths_bounded, rest, same, size_within, well}
-use Rattle.gptp_timeline_laws.proofs.OriginLemmas.{IsReceived, IsTakenOver, live_time}
+use Rattle.gptp_timeline.proofs.WithinLemmas.{alike, all, best_apart, calm, far, HasBound, near, paths_bounded, rest, same, size_within, well}
+use Rattle.gptp_timeline_laws.proofs.OriginLemmas.{IsReceived, IsTakenOver, live_base, live_time}
 use Rattle.gptp_timeline_laws.proofs.StepLemmas.{SameClocks}
 use Rattle.gptp_world.specs.Transitions.{ActTrace}
 
@@ -108,11 +111,11 @@ pub read_by_receipt : (act : Act) (w : WorldState) (draws : List Draw) (done : D
     → received_by done ≡ Some name → live_system name w' ≡ Some s → held_reading s ≡ Some r
     → (u : NewReading) × (new_reading act done w' rs ≡ Some u) × (u.clock ≡ name)
 read_by_receipt (Deliver link direction) w draws done w' rs name s r k told lives held = (
-  gets name true (reading_among rs name) (received_from (clock_of s.root) r),
+  gets name true (reading_among rs name) (received_from (source_named (clock_of s.root) w') r),
   ap (by_receipt w' rs) told
-      ∙ ap (λ l. option_map (gets name true (reading_among rs name)) (option_and_then received_reading l)) lives
+      ∙ ap (λ l. option_map (gets name true (reading_among rs name)) (option_and_then (received_reading w') l)) lives
       ∙ ap (λ h. option_map (gets name true (reading_among rs name))
-      (option_map (received_from (clock_of s.root)) h)) held,
+      (option_map (received_from (source_named (clock_of s.root) w')) h)) held,
   refl,
 )
 read_by_receipt (Expire number timer) w draws done w' rs name s r (quiet, more) told lives held =
@@ -188,6 +191,11 @@ module _ (name : ℕ) (way : Way) (steps : ℕ) (t : ActTrace) (w : WorldState) 
       lives : live_system name t.after ≡ Some r.own
       lives = subst (λ n. live_system n t.after ≡ Some r.own) named r.lives
 
+      own : receives_by name t.told.done ≡ true
+      own =
+          let itself : name == name ≡ true = grind (arith, nat_tests) in
+          ap (λ o. option_map_or (λ c. c == name) o false) (r.told ∙ ap Some named) ∙ itself
+
       within : (time : ℕ) (error : ℤ) → at_of t ≤ time → reading_error time base name u.after ≡ Some error
           → unsigned_abs error ≤ reading_error_at way steps (time - at_of t)
       within time error behind is =
@@ -201,7 +209,7 @@ module _ (name : ℕ) (way : Way) (steps : ℕ) (t : ActTrace) (w : WorldState) 
           let later : ℕ = time - at_of t in
           let sum : at_of t + later ≡ time = omega (arith, behind) in
           let read : ℤ = read_at r.reading (local_time r.own time) in
-          let shown : ℤ = local_time root time in
+          let shown : ℤ = told_time root time in
           let exact = so.exact later read shown
           (record {
             uses = uses_follow_up name (at_of t) t.told.timed.act w so.draws t.told.done t.after so.acts
@@ -215,16 +223,23 @@ module _ (name : ℕ) (way : Way) (steps : ℕ) (t : ActTrace) (w : WorldState) 
             is_best = there;
             root = root;
             shows = shows_live best.clock w root leads;
-            is = ap (local_time root) (sym sum);
+            is = ap (told_time root) (sym sum);
           }) in
-          let source_shows : clock_time u.after.source time base ≡ Some shown =
-          ap (λ c. clock_time c time base) (r.source ∙ best_named) ∙ sym (before best.clock time)
-          ∙ live_time best.clock time w.stations root leads in
+          let still : live_system best.clock t.after ≡ Some root =
+          receiver_alone name (at_of t) t.told.timed.act w so.draws t.told.done t.after so.acts own best.clock
+          (best_apart (snapshot_of w) name steps best so.well so.far there) ∙ leads in
+          let base_is : base_of best.clock t.after ≡ root.base =
+          live_base best.clock t.after.stations root still in
+          let clock_shows : clock_time best.clock time base ≡ Some (local_time root time) =
+          sym (before best.clock time) ∙ live_time best.clock time w.stations root leads in
+          let source_shows : source_time u.after.source time base ≡ Some shown =
+          ap (λ (s : TimeSource). source_time s time base) (r.source ∙ ap (λ c. source_named c t.after) best_named)
+          ∙ (λ i. option_map (λ z. z +ℤ base_is i) (clock_shows i)) in
           let own_shows : clock_time name time base ≡ Some (local_time r.own time) =
           sym (after name time) ∙ live_time name time t.after.stations r.own lives in
           let reads : read_by u.after (local_time r.own time) ≡ read =
-          ap (λ o. option_map_or (λ (q : Reading). read_at q (local_time r.own time)) o (local_time r.own time))
-          r.left in
+          ap (λ o. option_map_or (λ (q : Reading). read_at q (local_time r.own time)) o
+          (local_time r.own time +ℤ u.after.source.base)) r.left in
           let found : reading_error time base name u.after ≡ Some (read -ℤ shown) =
           (λ i. option_and_then (λ z. option_map (λ x. read_by u.after z -ℤ x) (source_shows i)) (own_shows i))
           ∙ ap (λ z. Some (z -ℤ shown)) reads in

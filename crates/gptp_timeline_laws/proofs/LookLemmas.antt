@@ -9,7 +9,7 @@ use Rattle.gptp_scaled.proofs.ProductLemmas.{distribute, negated, swap}
 use Rattle.gptp_system.specs.Reading.{read_at}
 use Rattle.gptp_system.specs.State.{local_time, SystemState}
 use Rattle.gptp_system.specs.declared.reading.Reading.{Reading}
-use Rattle.gptp_timeline_laws.specs.Looks.{ahead_by, ClockLooksSuffice, error_by, ReadingLooksSuffice}
+use Rattle.gptp_timeline_laws.specs.Looks.{ahead_by, error_by, ReadingLooksSuffice, SourceLooksSuffice}
 use Rattle.gptp_timeline_laws.proofs.LineLemmas.{grouped, IsNearLine, less_line, stays_above, stays_below, times_line}
 
 -- ---- the line of a clock
@@ -96,35 +96,58 @@ natural : (z : ℤ) (most : ℕ) → pos 0 ≤ℤ z → z ≤ℤ pos most → (n
 natural (pos n) most low high = (n, refl, omega (arith, ints))
 natural (negsuc n) most low high = absurd (omega (arith, ints))
 
-module _ (r : Reading) (own source : SystemState) (first time last : ℕ) (fits : FitsRate r.rate)
+-- the base of a source moves what its clock makes of the error
+moved_low : (low read shown base : ℤ) → low ≤ℤ (read -ℤ (shown +ℤ base)) → (low +ℤ base) ≤ℤ (read -ℤ shown)
+moved_low low read shown base above = omega (arith, ints, above)
+
+back_low : (low read shown base : ℤ) → (low +ℤ base) ≤ℤ ((read -ℤ shown) +ℤ pos 3)
+    → low ≤ℤ ((read -ℤ (shown +ℤ base)) +ℤ pos 3)
+back_low low read shown base above = omega (arith, ints, above)
+
+moved_high : (high read shown base : ℤ) → (read -ℤ (shown +ℤ base)) ≤ℤ high → (read -ℤ shown) ≤ℤ (high +ℤ base)
+moved_high high read shown base below = omega (arith, ints, below)
+
+back_high : (high read shown base : ℤ) → (read -ℤ shown) ≤ℤ ((high +ℤ base) +ℤ pos 3)
+    → (read -ℤ (shown +ℤ base)) ≤ℤ (high +ℤ pos 3)
+back_high high read shown base below = omega (arith, ints, below)
+
+module _ (r : Reading) (own source : SystemState) (base : ℤ) (first time last : ℕ) (fits : FitsRate r.rate)
     (early : first ≤ time) (late : time ≤ last) where
   rate : (n : ℕ) × (unit +ℤ r.rate ≡ pos n) × (n ≤ 4398046511104)
   rate = natural (unit +ℤ r.rate) 4398046511104 (omega (arith, ints)) (omega (arith, ints))
 
+  -- without the base
+  abbrev error_at : ℕ → ℤ
+  error_at now = read_at r (local_time own now) -ℤ local_time source now
+
   -- the error is at least as high as at one end, but for three units
-  pub reading_above : (low : ℤ) → low ≤ℤ error_by r own source first → low ≤ℤ error_by r own source last
-      → low ≤ℤ (error_by r own source time +ℤ pos 3)
+  pub reading_above : (low : ℤ) → low ≤ℤ error_by r own source base first → low ≤ℤ error_by r own source base last
+      → low ≤ℤ (error_by r own source base time +ℤ pos 3)
   reading_above low one other =
       let (k, is, few) = rate in
-      stays_above (2199023255552 * 2199023255552)
+      back_low low (read_at r (local_time own time)) (local_time source time) base
+      (stays_above (2199023255552 * 2199023255552)
       (k * 2199023255551 + 2199023255552 * 2199023255551 + 2199023255552 * 0) (0 + 2199023255552 * 2199023255551) 3
       (read_base (clock_base own) r.ingress r.offset r.rate k -ℤ pos 2199023255552 *ℤ clock_base source)
       (pos k *ℤ clock_slope own -ℤ pos 2199023255552 *ℤ clock_slope source) (omega arith) (omega arith) first time last
-      early late (error_by r own source first) (error_by r own source time) (error_by r own source last)
-      (error_line r own source first k is) (error_line r own source time k is) (error_line r own source last k is) low
-      one other
+      early late (error_at first) (error_at time) (error_at last)
+      (error_line r own source first k is) (error_line r own source time k is) (error_line r own source last k is)
+      (low +ℤ base) (moved_low low (read_at r (local_time own first)) (local_time source first) base one)
+      (moved_low low (read_at r (local_time own last)) (local_time source last) base other))
 
-  pub reading_below : (high : ℤ) → error_by r own source first ≤ℤ high → error_by r own source last ≤ℤ high
-      → error_by r own source time ≤ℤ (high +ℤ pos 3)
+  pub reading_below : (high : ℤ) → error_by r own source base first ≤ℤ high
+      → error_by r own source base last ≤ℤ high → error_by r own source base time ≤ℤ (high +ℤ pos 3)
   reading_below high one other =
       let (k, is, few) = rate in
-      stays_below (2199023255552 * 2199023255552)
+      back_high high (read_at r (local_time own time)) (local_time source time) base
+      (stays_below (2199023255552 * 2199023255552)
       (k * 2199023255551 + 2199023255552 * 2199023255551 + 2199023255552 * 0) (0 + 2199023255552 * 2199023255551) 3
       (read_base (clock_base own) r.ingress r.offset r.rate k -ℤ pos 2199023255552 *ℤ clock_base source)
       (pos k *ℤ clock_slope own -ℤ pos 2199023255552 *ℤ clock_slope source) (omega arith) (omega arith) first time last
-      early late (error_by r own source first) (error_by r own source time) (error_by r own source last)
-      (error_line r own source first k is) (error_line r own source time k is) (error_line r own source last k is) high
-      one other
+      early late (error_at first) (error_at time) (error_at last)
+      (error_line r own source first k is) (error_line r own source time k is) (error_line r own source last k is)
+      (high +ℤ base) (moved_high high (read_at r (local_time own first)) (local_time source first) base one)
+      (moved_high high (read_at r (local_time own last)) (local_time source last) base other))
 
 -- ---- two clocks
 
@@ -135,22 +158,46 @@ ahead_line a b time =
     less_line 2199023255552 2199023255551 0 2199023255551 0 (clock_base a) (clock_slope a) (clock_base b)
     (clock_slope b) time (local_time a time) (local_time b time) (clock_line a time) (clock_line b time)
 
-module _ (a b : SystemState) (first time last : ℕ) (early : first ≤ time) (late : time ≤ last) where
-  pub clock_above : (low : ℤ) → low ≤ℤ ahead_by a b first → low ≤ℤ ahead_by a b last
-      → low ≤ℤ (ahead_by a b time +ℤ pos 1)
-  clock_above low one other =
-      stays_above 2199023255552 (2199023255551 + 0) (0 + 2199023255551) 1 (clock_base a -ℤ clock_base b)
-      (clock_slope a -ℤ clock_slope b) (omega arith) (omega arith) first time last early late (ahead_by a b first)
-      (ahead_by a b time) (ahead_by a b last) (ahead_line a b first) (ahead_line a b time) (ahead_line a b last) low
-      one other
+-- bases move how far two clocks differ
+apart_low : (low x y base base' : ℤ) → low ≤ℤ ((x +ℤ base) -ℤ (y +ℤ base')) → (low -ℤ (base -ℤ base')) ≤ℤ (x -ℤ y)
+apart_low low x y base base' above = omega (arith, ints, above)
 
-  pub clock_below : (high : ℤ) → ahead_by a b first ≤ℤ high → ahead_by a b last ≤ℤ high
-      → ahead_by a b time ≤ℤ (high +ℤ pos 1)
-  clock_below high one other =
-      stays_below 2199023255552 (2199023255551 + 0) (0 + 2199023255551) 1 (clock_base a -ℤ clock_base b)
-      (clock_slope a -ℤ clock_slope b) (omega arith) (omega arith) first time last early late (ahead_by a b first)
-      (ahead_by a b time) (ahead_by a b last) (ahead_line a b first) (ahead_line a b time) (ahead_line a b last) high
-      one other
+apart_back_low : (low x y base base' : ℤ) → (low -ℤ (base -ℤ base')) ≤ℤ ((x -ℤ y) +ℤ pos 1)
+    → low ≤ℤ (((x +ℤ base) -ℤ (y +ℤ base')) +ℤ pos 1)
+apart_back_low low x y base base' above = omega (arith, ints, above)
+
+apart_high : (high x y base base' : ℤ) → ((x +ℤ base) -ℤ (y +ℤ base')) ≤ℤ high
+    → (x -ℤ y) ≤ℤ (high -ℤ (base -ℤ base'))
+apart_high high x y base base' below = omega (arith, ints, below)
+
+apart_back_high : (high x y base base' : ℤ) → (x -ℤ y) ≤ℤ ((high -ℤ (base -ℤ base')) +ℤ pos 1)
+    → ((x +ℤ base) -ℤ (y +ℤ base')) ≤ℤ (high +ℤ pos 1)
+apart_back_high high x y base base' below = omega (arith, ints, below)
+
+module _ (a b : SystemState) (base base' : ℤ) (first time last : ℕ) (early : first ≤ time) (late : time ≤ last) where
+  -- without the bases
+  abbrev ahead_at : ℕ → ℤ
+  ahead_at now = local_time a now -ℤ local_time b now
+
+  pub source_above : (low : ℤ) → low ≤ℤ ahead_by a b base base' first → low ≤ℤ ahead_by a b base base' last
+      → low ≤ℤ (ahead_by a b base base' time +ℤ pos 1)
+  source_above low one other =
+      apart_back_low low (local_time a time) (local_time b time) base base'
+      (stays_above 2199023255552 (2199023255551 + 0) (0 + 2199023255551) 1 (clock_base a -ℤ clock_base b)
+      (clock_slope a -ℤ clock_slope b) (omega arith) (omega arith) first time last early late (ahead_at first)
+      (ahead_at time) (ahead_at last) (ahead_line a b first) (ahead_line a b time) (ahead_line a b last)
+      (low -ℤ (base -ℤ base')) (apart_low low (local_time a first) (local_time b first) base base' one)
+      (apart_low low (local_time a last) (local_time b last) base base' other))
+
+  pub source_below : (high : ℤ) → ahead_by a b base base' first ≤ℤ high → ahead_by a b base base' last ≤ℤ high
+      → ahead_by a b base base' time ≤ℤ (high +ℤ pos 1)
+  source_below high one other =
+      apart_back_high high (local_time a time) (local_time b time) base base'
+      (stays_below 2199023255552 (2199023255551 + 0) (0 + 2199023255551) 1 (clock_base a -ℤ clock_base b)
+      (clock_slope a -ℤ clock_slope b) (omega arith) (omega arith) first time last early late (ahead_at first)
+      (ahead_at time) (ahead_at last) (ahead_line a b first) (ahead_line a b time) (ahead_line a b last)
+      (high -ℤ (base -ℤ base')) (apart_high high (local_time a first) (local_time b first) base base' one)
+      (apart_high high (local_time a last) (local_time b last) base base' other))
 
 -- ---- without their signs
 
@@ -164,25 +211,25 @@ size_of : (z : ℤ) (most slack : ℕ) → neg_ℤ (pos most) ≤ℤ (z +ℤ pos
     → unsigned_abs z ≤ most + slack
 size_of z most slack low high = omega (arith, ints)
 
-pub reading_within : (r : Reading) (own source : SystemState) (first time last most : ℕ) → FitsRate r.rate
-    → first ≤ time → time ≤ last → unsigned_abs (error_by r own source first) ≤ most
-    → unsigned_abs (error_by r own source last) ≤ most → unsigned_abs (error_by r own source time) ≤ most + 3
-reading_within r own source first time last most fits early late one other =
-    size_of (error_by r own source time) most 3
-    (reading_above r own source first time last fits early late (neg_ℤ (pos most))
-    (size_low (error_by r own source first) most one) (size_low (error_by r own source last) most other))
-    (reading_below r own source first time last fits early late (pos most)
-    (size_high (error_by r own source first) most one) (size_high (error_by r own source last) most other))
+pub reading_within : (r : Reading) (own source : SystemState) (base : ℤ) (first time last most : ℕ) → FitsRate r.rate
+    → first ≤ time → time ≤ last → unsigned_abs (error_by r own source base first) ≤ most
+    → unsigned_abs (error_by r own source base last) ≤ most → unsigned_abs (error_by r own source base time) ≤ most + 3
+reading_within r own source base first time last most fits early late one other =
+    size_of (error_by r own source base time) most 3
+    (reading_above r own source base first time last fits early late (neg_ℤ (pos most))
+    (size_low (error_by r own source base first) most one) (size_low (error_by r own source base last) most other))
+    (reading_below r own source base first time last fits early late (pos most)
+    (size_high (error_by r own source base first) most one) (size_high (error_by r own source base last) most other))
 
-pub clock_within : (a b : SystemState) (first time last most : ℕ) → first ≤ time → time ≤ last
-    → unsigned_abs (ahead_by a b first) ≤ most → unsigned_abs (ahead_by a b last) ≤ most
-    → unsigned_abs (ahead_by a b time) ≤ most + 1
-clock_within a b first time last most early late one other =
-    size_of (ahead_by a b time) most 1
-    (clock_above a b first time last early late (neg_ℤ (pos most)) (size_low (ahead_by a b first) most one)
-    (size_low (ahead_by a b last) most other))
-    (clock_below a b first time last early late (pos most) (size_high (ahead_by a b first) most one)
-    (size_high (ahead_by a b last) most other))
+pub source_within : (a b : SystemState) (base base' : ℤ) (first time last most : ℕ) → first ≤ time → time ≤ last
+    → unsigned_abs (ahead_by a b base base' first) ≤ most → unsigned_abs (ahead_by a b base base' last) ≤ most
+    → unsigned_abs (ahead_by a b base base' time) ≤ most + 1
+source_within a b base base' first time last most early late one other =
+    size_of (ahead_by a b base base' time) most 1
+    (source_above a b base base' first time last early late (neg_ℤ (pos most))
+    (size_low (ahead_by a b base base' first) most one) (size_low (ahead_by a b base base' last) most other))
+    (source_below a b base base' first time last early late (pos most)
+    (size_high (ahead_by a b base base' first) most one) (size_high (ahead_by a b base base' last) most other))
 
 -- ---- the laws
 
@@ -193,13 +240,13 @@ greater_high : (a b : ℕ) → b ≤ max a b
 greater_high a b = omega arith
 
 pub reading_looks : ReadingLooksSuffice
-reading_looks r own source first time last fits early late =
-    let a = unsigned_abs (error_by r own source first) in
-    let b = unsigned_abs (error_by r own source last) in
-    reading_within r own source first time last (max a b) fits early late (greater_low a b) (greater_high a b)
+reading_looks r own source base first time last fits early late =
+    let a = unsigned_abs (error_by r own source base first) in
+    let b = unsigned_abs (error_by r own source base last) in
+    reading_within r own source base first time last (max a b) fits early late (greater_low a b) (greater_high a b)
 
-pub clock_looks : ClockLooksSuffice
-clock_looks a b first time last early late =
-    let x = unsigned_abs (ahead_by a b first) in
-    let y = unsigned_abs (ahead_by a b last) in
-    clock_within a b first time last (max x y) early late (greater_low x y) (greater_high x y)
+pub source_looks : SourceLooksSuffice
+source_looks a b base base' first time last early late =
+    let x = unsigned_abs (ahead_by a b base base' first) in
+    let y = unsigned_abs (ahead_by a b base base' last) in
+    source_within a b base base' first time last (max x y) early late (greater_low x y) (greater_high x y)

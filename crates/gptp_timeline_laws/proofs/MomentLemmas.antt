@@ -24,7 +24,7 @@ use Rattle.gptp_timeline_laws.proofs.BoundLemmas.{apart_is, error_then_is, good_
 use Rattle.gptp_timeline_laws.proofs.CourseLemmas.{last_on, parted, parts, world_on}
 use Rattle.gptp_timeline_laws.proofs.ReadLemmas.{acts_fit, fit_at_first, none_at_first, RatesFit}
 use Rattle.gptp_timeline_laws.proofs.SeenLemmas.{all_seen, Between, good_after, good_first, good_second, GoodLooks, Seen}
-use Rattle.gptp_timeline_laws.proofs.StepLemmas.{passes_step, SameClocks, Steps, world_same}
+use Rattle.gptp_timeline_laws.proofs.StepLemmas.{passes_step, same_sources, SameClocks, Steps, world_same}
 use Rattle.gptp_timeline_laws.proofs.ToldLemmas.{all_together, SeenTogether}
 use Rattle.gptp_world.specs.Transitions.{ActTrace}
 
@@ -48,7 +48,7 @@ pub error_read : (w v : WorldState) → SameClocks w v → (time : ℕ) (rs : Li
     → reading_error time w name r.kept ≡ Some (read -ℤ source)
 error_read w v same time rs name read source r =
     (λ i. option_and_then (λ shown. option_map (λ t. read_by r.kept shown -ℤ t)
-    ((sym (same r.kept.source time) ∙ r.source_shows) i)) ((sym (same name time) ∙ r.shows) i))
+    ((sym (same_sources w v same r.kept.source time) ∙ r.source_shows) i)) ((sym (same name time) ∙ r.shows) i))
     ∙ ap (λ z. Some (z -ℤ source)) (sym r.read_is)
 
 -- ---- moments, by looks
@@ -93,8 +93,8 @@ module _ (l : LookedAt) (w v : WorldState) (until since left : ℕ) (rs : List S
         let near = sources_then_are low high most w until since left rs us vs end steps same_end k.over k.last fit time
         late early k.together name other r.kept.source r'.kept.source
         (record { kept = r.kept; has = r.has; is = refl }) (record { kept = r'.kept; has = r'.has; is = refl })
-        source source' (sym (same r.kept.source time) ∙ r.source_shows)
-        (sym (same r'.kept.source time) ∙ r'.source_shows) in
+        source source' (sym (same_sources w v same r.kept.source time) ∙ r.source_shows)
+        (sym (same_sources w v same r'.kept.source time) ∙ r'.source_shows) in
         let sum = apart_by low high read read' source source' most
         (between_of low high most good name read source r) (between_of low high most good other read' source' r')
         near in

@@ -9,10 +9,10 @@ use Rattle.gptp_roles.specs.Selection.{clock_of}
 use Rattle.gptp_scenario.specs.declared.change.Act.{Act}
 use Rattle.gptp_scenario.specs.declared.change.Act.TheVariants.{Change as Changing, Deliver, Expire}
 use Rattle.gptp_setup.specs.declared.timer.Timer.TheVariants as timers
-use Rattle.gptp_system.specs.Reading.{held_reading}
 use Rattle.gptp_system.specs.State.{clock, local_time, SystemState}
 use Rattle.gptp_system.specs.declared.reading.Reading.{Reading}
-use Rattle.gptp_timeline.specs.Readings.{by_receipt, by_takeover, clock_among, gets, is_leading, new_reading, own_reading, reading_among, reads_own, received_from, received_reading}
+use Rattle.gptp_system.specs.Syncing.{held_reading}
+use Rattle.gptp_timeline.specs.Readings.{base_among, by_receipt, by_takeover, clock_among, gets, is_leading, new_reading, own_reading, reading_among, reads_own, received_from, received_reading, source_named}
 use Rattle.gptp_timeline.specs.Receipts.{received_by}
 use Rattle.gptp_timeline.specs.Shown.{live_among, live_system}
 use Rattle.gptp_timeline.specs.declared.readings.NewReading.{NewReading}
@@ -26,7 +26,7 @@ pub record IsReceived (done : Done) (w : WorldState) (u : NewReading) : Type 0 w
   pub lives : live_system u.clock w ≡ Some own
   pub reading : Reading
   pub held : held_reading own ≡ Some reading
-  pub source : u.after.source ≡ clock_of own.root
+  pub source : u.after.source ≡ source_named (clock_of own.root) w
   pub left : u.after.received ≡ Some reading
 
 -- a live system without a Slave port took over
@@ -40,12 +40,14 @@ receipt_origin : (done : Done) (w : WorldState) (rs : List SystemReading) (name 
 receipt_origin done w rs name u told is = by (live_system name w) refl is
   where
     by_held : (s : SystemState) → live_system name w ≡ Some s → (held : Option Reading) → held_reading s ≡ held
-        → option_map (gets name true (reading_among rs name)) (option_map (received_from (clock_of s.root)) held)
+        → option_map (gets name true (reading_among rs name))
+        (option_map (received_from (source_named (clock_of s.root) w)) held)
         ≡ Some u → IsReceived done w u
     by_held s lives None none is = absurd (none-some u is)
     by_held s lives (Some r) held is =
         subst (IsReceived done w)
-        (same_Some (gets name true (reading_among rs name) (received_from (clock_of s.root) r)) u is)
+        (same_Some
+        (gets name true (reading_among rs name) (received_from (source_named (clock_of s.root) w) r)) u is)
         (record {
           received = refl;
           told = told;
@@ -58,7 +60,7 @@ receipt_origin done w rs name u told is = by (live_system name w) refl is
         })
 
     by : (live : Option SystemState) → live_system name w ≡ live
-        → option_map (gets name true (reading_among rs name)) (option_and_then received_reading live) ≡ Some u
+        → option_map (gets name true (reading_among rs name)) (option_and_then (received_reading w) live) ≡ Some u
         → IsReceived done w u
     by None lives is = absurd (none-some u is)
     by (Some s) lives is = by_held s lives (held_reading s) refl is
@@ -77,17 +79,17 @@ takeover_origin w rs name u is =
     by (reads_own (reading_among rs name) || not (option_map_or is_leading (live_system name w) false)) refl is
   where
     by_live : (live : Option SystemState) → live_system name w ≡ live → option_map_or is_leading live false ≡ true
-        → IsTakenOver w (gets name false (reading_among rs name) (own_reading name))
+        → IsTakenOver w (gets name false (reading_among rs name) (own_reading w name))
     by_live None none sends = absurd cc
     by_live (Some s) lives sends = record { own = s; lives = lives; sends = sends }
 
     by : (none : Bool)
         → reads_own (reading_among rs name) || not (option_map_or is_leading (live_system name w) false) ≡ none
-        → (if none then None else Some (gets name false (reading_among rs name) (own_reading name))) ≡ Some u
+        → (if none then None else Some (gets name false (reading_among rs name) (own_reading w name))) ≡ Some u
         → IsTakenOver w u
     by true test is = absurd (none-some u is)
     by false test is =
-        subst (IsTakenOver w) (same_Some (gets name false (reading_among rs name) (own_reading name)) u is)
+        subst (IsTakenOver w) (same_Some (gets name false (reading_among rs name) (own_reading w name)) u is)
         (by_live (live_system name w) refl (not_false (option_map_or is_leading (live_system name w) false)
         (or_false (reads_own (reading_among rs name))
         (not (option_map_or is_leading (live_system name w) false)) test)))
@@ -116,5 +118,20 @@ live_time name time (x ∷ xs) s is = by (clock x.system == name) refl x.live re
     by true own true live rest is =
         let same : x.system ≡ s = same_Some x.system s (rw (own, live) at is) in
         rw own (ap (λ (y : SystemState). Some (local_time y time)) same)
+    by true own false live rest is = absurd (none-some s (rw (own, live) at is))
+    by false own live is_live rest is = rw own (rest (rw own at is))
+
+-- and has its base
+pub live_base : (name : ℕ) (stations : List Station) (s : SystemState) → live_among name stations ≡ Some s
+    → base_among name stations ≡ s.base
+live_base name [] s is = absurd (none-some s is)
+live_base name (x ∷ xs) s is = by (clock x.system == name) refl x.live refl (live_base name xs s) is
+  where
+    by : (own : Bool) → clock x.system == name ≡ own → (live : Bool) → x.live ≡ live
+        → (live_among name xs ≡ Some s → base_among name xs ≡ s.base) → live_among name (x ∷ xs) ≡ Some s
+        → base_among name (x ∷ xs) ≡ s.base
+    by true own true live rest is =
+        let same : x.system ≡ s = same_Some x.system s (rw (own, live) at is) in
+        rw own (ap (λ (y : SystemState). y.base) same)
     by true own false live rest is = absurd (none-some s (rw (own, live) at is))
     by false own live is_live rest is = rw own (rest (rw own at is))

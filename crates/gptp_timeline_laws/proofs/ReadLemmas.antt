@@ -13,11 +13,10 @@ use Rattle.gptp_scaled.specs.Rate.{FitsRate}
 use Rattle.gptp_scenario.specs.declared.change.Act.{Act}
 use Rattle.gptp_scenario.specs.declared.change.Act.TheVariants.{Change as Changing, Deliver, Expire}
 use Rattle.gptp_setup.specs.declared.timer.Timer.TheVariants as timers
-use Rattle.gptp_system.specs.Reading.{reading_by}
 use Rattle.gptp_system.specs.State.{SystemState}
-use Rattle.gptp_system.specs.Syncing.{slave_rate}
+use Rattle.gptp_system.specs.Syncing.{reading_by, slave_rate}
 use Rattle.gptp_system.specs.declared.reading.Reading.{Reading}
-use Rattle.gptp_timeline.specs.Readings.{by_receipt, by_takeover, gets, is_leading, new_in, new_reading, no_reading, own_reading, put_reading, read_after, reading_among, readings_after, readings_by, reads_own, received_from, received_reading, failed_by}
+use Rattle.gptp_timeline.specs.Readings.{by_receipt, by_takeover, gets, is_leading, new_in, new_reading, no_reading, own_reading, put_reading, read_after, reading_among, readings_after, readings_by, reads_own, received_from, received_reading, failed_by, source_named}
 use Rattle.gptp_timeline.specs.Receipts.{received_by}
 use Rattle.gptp_timeline.specs.Shown.{live_system}
 use Rattle.gptp_timeline.specs.Stretch.{is_change}
@@ -72,18 +71,20 @@ nearest_fits z = omega (arith, ints, clamps)
 abbrev pub RateFits : KeptReading → Type 0
 RateFits kept = (r : Reading) → kept.received ≡ Some r → FitsRate r.rate
 
-received_fits : (s : SystemState) (kept : KeptReading) → received_reading s ≡ Some kept → RateFits kept
-received_fits s kept is r received = by s.known s.offset is
+received_fits : (w : WorldState) (s : SystemState) (kept : KeptReading) → received_reading w s ≡ Some kept
+    → RateFits kept
+received_fits w s kept is r received = by s.known s.offset is
   where
     by : (known : Option SyncInfo) (offset : Option ℤ)
-        → option_map (received_from (clock_of s.root))
+        → option_map (received_from (source_named (clock_of s.root) w))
         (option_and_then (λ k. option_map (λ o. reading_by s k o) offset) known) ≡ Some kept
         → FitsRate r.rate
     by None offset is = absurd (none-some kept is)
     by (Some known) None is = absurd (none-some kept is)
     by (Some known) (Some offset) is =
-        let one : received_from (clock_of s.root) (reading_by s known offset) ≡ kept =
-        same_Some (received_from (clock_of s.root) (reading_by s known offset)) kept is in
+        let source = source_named (clock_of s.root) w in
+        let one : received_from source (reading_by s known offset) ≡ kept =
+        same_Some (received_from source (reading_by s known offset)) kept is in
         let same : reading_by s known offset ≡ r =
         same_Some (reading_by s known offset) r (ap (λ (k : KeptReading). k.received) one ∙ received) in
         subst (λ (x : Reading). FitsRate x.rate) same (nearest_fits (known.rate +ℤ slave_rate s))
@@ -108,10 +109,10 @@ receipt_new w rs (Some name) u is = by (live_system name w) is
         (record { before = refl; fits = fits k refl })
 
     by : (live : Option SystemState)
-        → option_map (gets name true (reading_among rs name)) (option_and_then received_reading live) ≡ Some u
+        → option_map (gets name true (reading_among rs name)) (option_and_then (received_reading w) live) ≡ Some u
         → IsNew rs u
     by None is = absurd (none-some u is)
-    by (Some s) is = by_kept (received_reading s) (λ k e. received_fits s k e) is
+    by (Some s) is = by_kept (received_reading w s) (λ k e. received_fits w s k e) is
 
 takeover_new : (w : WorldState) (rs : List SystemReading) (name : ℕ) (u : NewReading)
     → by_takeover w rs name ≡ Some u → IsNew rs u
@@ -119,11 +120,11 @@ takeover_new w rs name u is =
     by (reads_own (reading_among rs name) || not (option_map_or is_leading (live_system name w) false)) is
   where
     by : (none : Bool)
-        → (if none then None else Some (gets name false (reading_among rs name) (own_reading name))) ≡ Some u
+        → (if none then None else Some (gets name false (reading_among rs name) (own_reading w name))) ≡ Some u
         → IsNew rs u
     by true is = absurd (none-some u is)
     by false is =
-        subst (IsNew rs) (same_Some (gets name false (reading_among rs name) (own_reading name)) u is)
+        subst (IsNew rs) (same_Some (gets name false (reading_among rs name) (own_reading w name)) u is)
         (record { before = refl; fits = λ r no. absurd (none-some r no) })
 
 pub is_new : (act : Act) (done : Done) (w : WorldState) (rs : List SystemReading) (u : NewReading)

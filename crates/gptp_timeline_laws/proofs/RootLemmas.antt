@@ -27,10 +27,10 @@ use Rattle.gptp_scenario.specs.declared.change.Act.TheVariants.{Change as Changi
 use Rattle.gptp_scenario.specs.declared.change.Change.{Change}
 use Rattle.gptp_scenario.specs.declared.change.Change.TheVariants.{Fail, Inject, LinkDown, LinkSet, LinkUp, Priority1, Recover}
 use Rattle.gptp_scenario.specs.declared.change.Timed.{Timed}
-use Rattle.gptp_system.specs.Reading.{held_reading, reading_by}
 use Rattle.gptp_system.specs.State.{clock, SystemState}
 use Rattle.gptp_system.proofs.TypeLemmas.{type_is}
 use Rattle.gptp_system.specs.declared.reading.Reading.{Reading}
+use Rattle.gptp_system.specs.Syncing.{held_reading, reading_by}
 use Rattle.gptp_theorem.specs.Headline.{UsesFollowUp}
 use Rattle.gptp_reading.proofs.KnownLemmas.{acts_hold, EachHolds, HasLearned, holds_begin}
 use Rattle.gptp_reading.proofs.RunLemmas.{IsKeptAct}
@@ -41,12 +41,13 @@ use Rattle.gptp_timeline.specs.Timeline.{none_carried, tracks}
 use Rattle.gptp_timeline.specs.declared.readings.KeptReading.{KeptReading}
 use Rattle.gptp_timeline.specs.declared.readings.NewReading.{NewReading}
 use Rattle.gptp_timeline.specs.declared.readings.SystemReading.{SystemReading}
+use Rattle.gptp_timeline.specs.declared.readings.TimeSource.{TimeSource}
 use Rattle.gptp_timeline.proofs.NameLemmas.{acts_named, AreNamed, same_named}
 use Rattle.gptp_timeline.proofs.RestLemmas.{found_live}
 use Rattle.gptp_timeline.proofs.SettlingLemmas.{keeps_first}
 use Rattle.gptp_timeline.proofs.ShownLemmas.{found}
 use Rattle.gptp_timeline_laws.specs.Moments.{world_after}
-use Rattle.gptp_timeline_laws.specs.Sources.{ReadsFrom, TimelinesReadFromRoots}
+use Rattle.gptp_timeline_laws.specs.Sources.{ReadsFromClock, TimelinesReadFromRoots}
 use Rattle.gptp_timeline_laws.proofs.BoundLemmas.{readings_both}
 use Rattle.gptp_timeline_laws.proofs.HeldLemmas.{and_first, read_by_receipt}
 use Rattle.gptp_timeline_laws.proofs.OriginLemmas.{IsReceived, IsTakenOver, origin}
@@ -157,7 +158,7 @@ fails_dead (Changing change) w draws done w' n own (quiet, k) is place station t
 
 -- a Slave port says that it reads from the clock of the root
 abbrev Follows : List SystemReading → ℕ → ℕ → Option ℕ → Type 0
-Follows rs name root slave = IsSome slave → ReadsFrom rs name (clock_of root)
+Follows rs name root slave = IsSome slave → ReadsFromClock rs name (clock_of root)
 
 held_known : (s : SystemState) → IsSome s.known → IsSome s.offset → (r : Reading) × (held_reading s ≡ Some r)
 held_known s known offset = by s.known s.offset refl refl known offset
@@ -206,14 +207,14 @@ module _ (t : ActTrace) (w : WorldState) (draws : List Draw) (sound : IsSound t.
         (received_it name t.told.done learned.uses) lives held
 
     from_old : reading_among (read_after t rs) name ≡ reading_among rs name
-        → (HasLearned t.told.done s → ⊥) → ReadsFrom (read_after t rs) name (clock_of s.root)
+        → (HasLearned t.told.done s → ⊥) → ReadsFromClock (read_after t rs) name (clock_of s.root)
     from_old same no_new =
         elim (acts_hold (Follows rs) act w draws t.told.done t.after sound acts each place station there live) [
           | inl holds ↦ (let r = holds known slave in record { kept = r.kept; has = same ∙ r.has; is = r.is })
           | inr learned ↦ absurd (no_new learned)
         ]
 
-    reads : ReadsFrom (read_after t rs) name (clock_of s.root)
+    reads : ReadsFromClock (read_after t rs) name (clock_of s.root)
     reads = by (new_in t rs) refl
       where
         failed_other : (o : Option ℕ) → failed_by act ≡ o
@@ -224,14 +225,14 @@ module _ (t : ActTrace) (w : WorldState) (draws : List Draw) (sound : IsSound t.
             (λ same. fails_dead act w draws t.told.done t.after n own acts one place station there live same))
 
         by_origin : (u : NewReading) → u.clock ≡ name → IsReceived t.told.done t.after u ⊎ IsTakenOver t.after u
-            → ReadsFrom (put_reading u.clock (Some u.after) rs) name (clock_of s.root)
+            → ReadsFromClock (put_reading u.clock (Some u.after) rs) name (clock_of s.root)
         by_origin u mine (inl r) =
             let state : r.own ≡ s =
             same_Some r.own s (sym r.lives ∙ ap (λ n. live_system n t.after) mine ∙ lives) in record {
               kept = u.after;
               has = ap (reading_among (put_reading u.clock (Some u.after) rs)) (sym mine)
                   ∙ put_named u.clock (Some u.after) rs (subst (λ n. In n (names_of rs)) (sym mine) listed);
-              is = r.source ∙ ap (λ (x : SystemState). clock_of x.root) state;
+              is = ap (λ (x : TimeSource). x.clock) r.source ∙ ap (λ (x : SystemState). clock_of x.root) state;
             }
         by_origin u mine (inr taken) =
             let state : taken.own ≡ s =
@@ -239,17 +240,17 @@ module _ (t : ActTrace) (w : WorldState) (draws : List Draw) (sound : IsSound t.
             absurd (slave_none taken.own.slave (and_first (is_none taken.own.slave) _ taken.sends)
             (subst (λ (x : SystemState). IsSome x.slave) (sym state) slave))
 
-        by : (new : Option NewReading) → new_in t rs ≡ new → ReadsFrom (read_after t rs) name (clock_of s.root)
+        by : (new : Option NewReading) → new_in t rs ≡ new → ReadsFromClock (read_after t rs) name (clock_of s.root)
         by None is =
             from_old (ap (λ o. reading_among (readings_by act o rs) name) is ∙ failed_other (failed_by act) refl)
             (λ learned. (let (u, new, mine) = gets learned in none-some u (sym is ∙ new)))
         by (Some u) is = own_or_other (name == u.clock) refl
           where
             own_or_other : (test : Bool) → name == u.clock ≡ test
-                → ReadsFrom (read_after t rs) name (clock_of s.root)
+                → ReadsFromClock (read_after t rs) name (clock_of s.root)
             own_or_other true test =
                 let mine : u.clock ≡ name = grind (arith, nat_tests) in
-                subst (λ o. ReadsFrom (readings_by act o rs) name (clock_of s.root)) (sym is)
+                subst (λ o. ReadsFromClock (readings_by act o rs) name (clock_of s.root)) (sym is)
                 (by_origin u mine (origin act t.told.done t.after rs u is))
             own_or_other false test =
                 let apart : name ≡ u.clock → ⊥ = grind (arith, nat_tests) in
@@ -317,7 +318,8 @@ timelines_read_from_roots answers d until options fate lines exceeded t playable
     let was = readings_are (tracks options) names k.before c.readings rs k.readings has in
     let after : readings_after (k.before ++ moment.done) none ≡ readings_after moment.done rs =
     readings_both k.before moment.done none ∙ ap (readings_after moment.done) (sym was) in
-    subst (λ us. ReadsFrom us name (clock_of s.root)) after
-    (subst (λ n. ReadsFrom (readings_after (k.before ++ moment.done) none) n (clock_of s.root)) live.is_named
-    (subst (λ (x : SystemState). ReadsFrom (readings_after (k.before ++ moment.done) none) (clock live.station.system)
+    subst (λ us. ReadsFromClock us name (clock_of s.root)) after
+    (subst (λ n. ReadsFromClock (readings_after (k.before ++ moment.done) none) n (clock_of s.root)) live.is_named
+    (subst (λ (x : SystemState). ReadsFromClock (readings_after (k.before ++ moment.done) none)
+    (clock live.station.system)
     (clock_of x.root)) live.state one))

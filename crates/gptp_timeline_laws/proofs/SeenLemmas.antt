@@ -24,9 +24,9 @@ use Rattle.gptp_timeline.specs.declared.readings.NewReading.{NewReading}
 use Rattle.gptp_timeline.specs.declared.readings.SystemReading.{SystemReading}
 use Rattle.gptp_timeline_laws.specs.Looks.{ahead_by, error_by}
 use Rattle.gptp_timeline_laws.specs.Moments.{last_time, next_time}
-use Rattle.gptp_timeline_laws.proofs.LookLemmas.{clock_above, clock_below, reading_above, reading_below}
+use Rattle.gptp_timeline_laws.proofs.LookLemmas.{reading_above, reading_below, source_above, source_below}
 use Rattle.gptp_timeline_laws.proofs.ReadLemmas.{is_new, put_other, put_own, quiet_reads, RateFits}
-use Rattle.gptp_timeline_laws.proofs.StepLemmas.{IsStep, next_late, SameClocks, Steps}
+use Rattle.gptp_timeline_laws.proofs.StepLemmas.{IsStep, next_late, same_sources, SameClocks, Steps}
 use Rattle.gptp_world.specs.Transitions.{ActTrace}
 
 -- ---- what is looked at lies between bounds
@@ -82,50 +82,54 @@ clock_of_system name time (x ∷ xs) = by (clock x.system == name) (clock_of_sys
     by true rest = refl
     by false rest = rest
 
--- what is read by a reading, or by the own clock, less what the source shows
-abbrev error_with : Option Reading → SystemState → SystemState → ℕ → ℤ
-error_with received own source time =
-    option_map_or (λ r. read_at r (local_time own time)) received (local_time own time) -ℤ local_time source time
+-- what is read by a reading, or by the own clock and the base, less the time of the source
+abbrev error_with : Option Reading → SystemState → SystemState → ℤ → ℕ → ℤ
+error_with received own source base time =
+    option_map_or (λ r. read_at r (local_time own time)) received (local_time own time +ℤ base)
+    -ℤ (local_time source time +ℤ base)
 
-abbrev error_found : Option Reading → Option SystemState → Option SystemState → ℕ → Option ℤ
-error_found received own source time =
-    option_and_then (λ (s : SystemState). option_map (λ (x : SystemState). error_with received s x time) source) own
+abbrev error_found : Option Reading → Option SystemState → Option SystemState → ℤ → ℕ → Option ℤ
+error_found received own source base time =
+    option_and_then (λ (s : SystemState). option_map (λ (x : SystemState). error_with received s x base time) source)
+    own
 
 -- the same, by systems that are found by their clocks
 found_error : (time : ℕ) (w : WorldState) (name : ℕ) (kept : KeptReading)
     → reading_error time w name kept
-    ≡ error_found kept.received (system_among name w.stations) (system_among kept.source w.stations) time
+    ≡ error_found kept.received (system_among name w.stations) (system_among kept.source.clock w.stations)
+    kept.source.base time
 found_error time w name kept =
     (λ i. option_and_then (λ shown. option_map (λ at. read_by kept shown -ℤ at)
-    (clock_of_system kept.source time w.stations i)) (clock_of_system name time w.stations i))
-    ∙ by (system_among name w.stations) (system_among kept.source w.stations)
+    (option_map (λ told. told +ℤ kept.source.base) (clock_of_system kept.source.clock time w.stations i)))
+    (clock_of_system name time w.stations i))
+    ∙ by (system_among name w.stations) (system_among kept.source.clock w.stations)
   where
     by : (own source : Option SystemState)
         → option_and_then (λ shown. option_map (λ at. read_by kept shown -ℤ at)
-        (option_map (λ s. local_time s time) source)) (option_map (λ s. local_time s time) own)
-        ≡ option_and_then (λ (s : SystemState). option_map (λ (x : SystemState).
-        option_map_or (λ r. read_at r (local_time s time)) kept.received (local_time s time) -ℤ local_time x time)
-        source) own
+        (option_map (λ told. told +ℤ kept.source.base) (option_map (λ s. local_time s time) source)))
+        (option_map (λ s. local_time s time) own)
+        ≡ error_found kept.received own source kept.source.base time
     by None source = refl
     by (Some s) None = refl
     by (Some s) (Some x) = refl
 
 -- between two moments at which an error lies between bounds
-between_of : (low high : ℤ) (received : Option Reading) (own source : SystemState) (first time last : ℕ)
+between_of : (low high : ℤ) (received : Option Reading) (own source : SystemState) (base : ℤ) (first time last : ℕ)
     → ((r : Reading) → received ≡ Some r → FitsRate r.rate) → first ≤ time → time ≤ last
-    → Between low high (error_with received own source first) → Between low high (error_with received own source last)
-    → Between (low -ℤ pos 3) (high +ℤ pos 3) (error_with received own source time)
-between_of low high None own source first time last fits early late a b =
-    let above = clock_above own source first time last early late low a.above b.above in
-    let below = clock_below own source first time last early late high a.below b.below in
-    plain (ahead_by own source time) above below
+    → Between low high (error_with received own source base first)
+    → Between low high (error_with received own source base last)
+    → Between (low -ℤ pos 3) (high +ℤ pos 3) (error_with received own source base time)
+between_of low high None own source base first time last fits early late a b =
+    let above = source_above own source base base first time last early late low a.above b.above in
+    let below = source_below own source base base first time last early late high a.below b.below in
+    plain (ahead_by own source base base time) above below
   where
     plain : (e : ℤ) → low ≤ℤ (e +ℤ pos 1) → e ≤ℤ (high +ℤ pos 1) → Between (low -ℤ pos 3) (high +ℤ pos 3) e
     plain e above below = record { above = omega (arith, ints, above); below = omega (arith, ints, below) }
-between_of low high (Some r) own source first time last fits early late a b =
-    let above = reading_above r own source first time last (fits r refl) early late low a.above b.above in
-    let below = reading_below r own source first time last (fits r refl) early late high a.below b.below in
-    plain (error_by r own source time) above below
+between_of low high (Some r) own source base first time last fits early late a b =
+    let above = reading_above r own source base first time last (fits r refl) early late low a.above b.above in
+    let below = reading_below r own source base first time last (fits r refl) early late high a.below b.below in
+    plain (error_by r own source base time) above below
   where
     plain : (e : ℤ) → low ≤ℤ (e +ℤ pos 3) → e ≤ℤ (high +ℤ pos 3) → Between (low -ℤ pos 3) (high +ℤ pos 3) e
     plain e above below = record { above = omega (arith, ints, above); below = below }
@@ -158,8 +162,8 @@ module _ (low high : ℤ) (most : ℕ) (w : WorldState) where
   error_same : (v : WorldState) → SameClocks w v → (time name : ℕ) (kept : KeptReading)
       → reading_error time v name kept ≡ error_then time name kept
   error_same v same time name kept =
-      λ i. option_and_then (λ shown. option_map (λ at. read_by kept shown -ℤ at) (same kept.source time i))
-      (same name time i)
+      λ i. option_and_then (λ shown. option_map (λ at. read_by kept shown -ℤ at)
+      (same_sources w v same kept.source time i)) (same name time i)
 
   -- what is looked at is good
   good_look : (name : ℕ) (error : Option ℤ)
@@ -322,20 +326,21 @@ module _ (low high : ℤ) (most : ℕ) (w : WorldState) where
       → LookedBefore name kept since → LookedAfter name kept from → since ≤ time → time ≤ from → (error : ℤ)
       → error_then time name kept ≡ Some error → Between (low -ℤ pos 3) (high +ℤ pos 3) error
   error_at_moment name kept since from time fits before after early late error is =
-      by (system_among name w.stations) (system_among kept.source w.stations)
+      by (system_among name w.stations) (system_among kept.source.clock w.stations)
       (subst IsGood (found_error before.time w name kept) before.good)
       (subst IsGood (found_error after.time w name kept) after.good)
       (sym (found_error time w name kept) ∙ is)
     where
-      by : (own source : Option SystemState) → IsGood (error_found kept.received own source before.time)
-          → IsGood (error_found kept.received own source after.time)
-          → error_found kept.received own source time ≡ Some error
+      by : (own source : Option SystemState)
+          → IsGood (error_found kept.received own source kept.source.base before.time)
+          → IsGood (error_found kept.received own source kept.source.base after.time)
+          → error_found kept.received own source kept.source.base time ≡ Some error
           → Between (low -ℤ pos 3) (high +ℤ pos 3) error
       by None source a b is = absurd (none-some error is)
       by (Some own) None a b is = absurd (none-some error is)
       by (Some own) (Some source) a b is =
           let first = before.early in let last = after.late in
           subst (Between (low -ℤ pos 3) (high +ℤ pos 3))
-          (same_Some (error_with kept.received own source time) error is)
-          (between_of low high kept.received own source before.time time after.time fits (omega (arith, first, early))
-          (omega (arith, last, late)) a b)
+          (same_Some (error_with kept.received own source kept.source.base time) error is)
+          (between_of low high kept.received own source kept.source.base before.time time after.time fits
+          (omega (arith, first, early)) (omega (arith, last, late)) a b)

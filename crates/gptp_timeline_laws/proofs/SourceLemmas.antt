@@ -21,6 +21,7 @@ use Rattle.gptp_timeline.specs.declared.looks.TimeMeasures.{TimeMeasures}
 use Rattle.gptp_timeline.specs.declared.measures.Greatest.{Greatest}
 use Rattle.gptp_timeline.specs.declared.readings.NewReading.{NewReading}
 use Rattle.gptp_timeline.specs.declared.readings.SystemReading.{SystemReading}
+use Rattle.gptp_timeline.specs.declared.readings.TimeSource.{TimeSource}
 use Rattle.gptp_timeline.proofs.EventLemmas.{Each, filter_each}
 use Rattle.gptp_timeline.proofs.SettlingLemmas.{IsFitEvent, Keeps}
 use Rattle.gptp_timeline_laws.specs.Sources.{AreLater, ReadsFrom, TimelinesKeepSources}
@@ -100,7 +101,7 @@ module _ (changed : List Greatest) where
   later_rest (Some g) t ts later = later.1
 
   stand : (rs : List SystemReading) (left : ℕ) (ts : List ActTrace) → AllByRecursion IsQuiet ts → Among rs left ts
-      → AreLater (greatest_from None changed) ts → (name source : ℕ)
+      → AreLater (greatest_from None changed) ts → (name : ℕ) (source : TimeSource)
       → ReadsFrom rs name source ↔ ReadsFrom (readings_after ts rs) name source
   stand rs left [] quiet among later name source = (λ r. r, λ r. r)
   stand rs left (t ∷ ts) quiet among later name source =

@@ -1,5 +1,5 @@
 -- Acts that are no events, one after another, and the clocks of systems meanwhile.
-use Rattle.std.proofs.Common.{◌≡◌, ◌==◌, ◌≤◌, ℕ, suc, false, List, [], ◌∷◌, ◌++◌, Option, Some, slice_get, if◌then◌else◌, refl, sym, ap, ◌∙◌, arith}
+use Rattle.std.proofs.Common.{◌≡◌, ◌==◌, ◌≤◌, ℕ, suc, ◌+ℤ◌, false, List, [], ◌∷◌, ◌++◌, Option, Some, option_map, slice_get, if◌then◌else◌, refl, sym, ap, ◌∙◌, arith}
 use Rattle.gptp_invariants.specs.ChoiceCalm.{setups_of}
 use Rattle.gptp_invariants.proofs.ChoiceCalmKeptLemmas.{acts_keep}
 use Rattle.gptp_links.specs.declared.bounds.Bounds.{Bounds}
@@ -17,8 +17,9 @@ use Rattle.gptp_scenario.specs.declared.change.Timed.{Timed}
 use Rattle.gptp_setup.specs.declared.setup.Setup.{Setup}
 use Rattle.gptp_system.specs.State.{clock, local_time}
 use Rattle.gptp_theorem.specs.PlayedLaws.{IsPlayable}
-use Rattle.gptp_timeline.specs.Readings.{clock_among, clock_time}
+use Rattle.gptp_timeline.specs.Readings.{clock_among, clock_time, source_time}
 use Rattle.gptp_timeline.specs.Stretch.{at_of, is_change}
+use Rattle.gptp_timeline.specs.declared.readings.TimeSource.{TimeSource}
 use Rattle.gptp_timeline.proofs.SettlingLemmas.{act_time, Keeps, keeps_act, no_change}
 use Rattle.gptp_timeline_laws.specs.Moments.{last_time, next_time, world_after}
 use Rattle.gptp_world.specs.Transitions.{ActTrace, Passes}
@@ -28,6 +29,11 @@ use Rattle.gptp_world.specs.Transitions.{ActTrace, Passes}
 -- each clock shows the same in both, at every time
 abbrev pub SameClocks : WorldState → WorldState → Type 0
 SameClocks w v = (name time : ℕ) → clock_time name time v ≡ clock_time name time w
+
+-- so each source has the same time
+pub same_sources : (w v : WorldState) → SameClocks w v → (source : TimeSource) (time : ℕ)
+    → source_time source time v ≡ source_time source time w
+same_sources w v same source time = ap (option_map (λ shown. shown +ℤ source.base)) (same source.clock time)
 
 -- a station has its clock, which shows the time of its setup
 record IsClocked (station : Station) : Type 0 where

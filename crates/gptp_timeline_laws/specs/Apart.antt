@@ -35,8 +35,8 @@ pub record ReadFromBoth (p : StretchTrace) (w : WorldState) (rs : List SystemRea
     pub other_source : ℤ
     pub reads : ReadsAt time (world_after done w) (readings_after done rs) name read source
     pub other_reads : ReadsAt time (world_after done w) (readings_after done rs) other other_read other_source
-    pub ahead_is : reads.kept.source ≡ d.ahead
-    pub behind_is : other_reads.kept.source ≡ d.behind
+    pub ahead_is : reads.kept.source.clock ≡ d.ahead
+    pub behind_is : other_reads.kept.source.clock ≡ d.behind
     pub differ : unsigned_abs (source -ℤ other_source) ≡ d.amount
 
 -- Where told sources differ, there is a moment of their greatest difference. If it comes after the events of the

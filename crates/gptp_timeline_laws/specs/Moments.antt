@@ -10,7 +10,7 @@ use Rattle.gptp_model.specs.World.{WorldState}
 use Rattle.gptp_network.specs.Document.{DocumentState}
 use Rattle.gptp_theorem.specs.PlayedLaws.{IsPlayable}
 use Rattle.gptp_timeline.specs.Looks.{apart, events_left}
-use Rattle.gptp_timeline.specs.Readings.{clock_time, read_by, reading_among, readings_after}
+use Rattle.gptp_timeline.specs.Readings.{clock_time, read_by, reading_among, readings_after, source_time}
 use Rattle.gptp_timeline.specs.Stretch.{at_of}
 use Rattle.gptp_timeline.specs.Timeline.{Carried, carry, none_carried, stretch_of, StretchTrace, TimelineOf, tracks}
 use Rattle.gptp_timeline.specs.declared.looks.TimeMeasures.{TimeMeasures}
@@ -62,14 +62,14 @@ BeginsWith (q ∷ qs) w c p v e = IsFirst q p w v c e ⊎ BeginsWith qs q.after 
 
 -- ---- what is read
 
--- At a time a system reads this, where its source is a system that shows that.
+-- At a time a system reads this, where the time of its source is that.
 pub record ReadsAt (time : ℕ) (w : WorldState) (rs : List SystemReading) (name : ℕ) (read source : ℤ) : Type 0 where
   pub kept : KeptReading
   pub has : reading_among rs name ≡ Some kept
   pub own : ℤ
   pub shows : clock_time name time w ≡ Some own
   pub read_is : read ≡ read_by kept own
-  pub source_shows : clock_time kept.source time w ≡ Some source
+  pub source_shows : source_time kept.source time w ≡ Some source
 
 -- a system has time: it reads something then, and so does its source
 pub record HasTime (time : ℕ) (w : WorldState) (rs : List SystemReading) (name : ℕ) : Type 0 where

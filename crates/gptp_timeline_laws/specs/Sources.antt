@@ -21,15 +21,22 @@ use Rattle.gptp_timeline.specs.declared.looks.TimeMeasures.{TimeMeasures}
 use Rattle.gptp_timeline.specs.declared.measures.Greatest.{Greatest}
 use Rattle.gptp_timeline.specs.declared.readings.KeptReading.{KeptReading}
 use Rattle.gptp_timeline.specs.declared.readings.SystemReading.{SystemReading}
+use Rattle.gptp_timeline.specs.declared.readings.TimeSource.{TimeSource}
 use Rattle.gptp_timeline.specs.declared.timeline.TimelineOptions.{TimelineOptions}
 use Rattle.gptp_timeline_laws.specs.Moments.{BeginsWith, Moment, world_after}
 use Rattle.gptp_world.specs.Transitions.{ActTrace}
 
 -- a system has time, from this source
-pub record ReadsFrom (rs : List SystemReading) (name source : ℕ) : Type 0 where
+pub record ReadsFrom (rs : List SystemReading) (name : ℕ) (source : TimeSource) : Type 0 where
   pub kept : KeptReading
   pub has : reading_among rs name ≡ Some kept
   pub is : kept.source ≡ source
+
+-- or from a source that has this clock
+pub record ReadsFromClock (rs : List SystemReading) (name number : ℕ) : Type 0 where
+  pub kept : KeptReading
+  pub has : reading_among rs name ≡ Some kept
+  pub is : kept.source.clock ≡ number
 
 -- these acts are all later than a change of source, where there was one
 abbrev pub AreLater : Option Greatest → List ActTrace → Type 0
@@ -43,7 +50,7 @@ SourcesStand start first passages = (p : StretchTrace) (w : WorldState) (c : Car
     (rs : List SystemReading) (m : TimeMeasures) (time : ℕ) (moment : Moment p time)
     → BeginsWith passages start first p w c → c.readings ≡ Some rs → (stretch_of names c p).times ≡ Some m
     → AreLater m.changed moment.ahead
-    → (name source : ℕ)
+    → (name : ℕ) (source : TimeSource)
     → ReadsFrom (readings_after moment.done rs) name source ↔ ReadsFrom (readings_after p.acts rs) name source
 
 abbrev pub TimelinesKeepSources : {F : Type 0} → (Bounds → ℕ → F → Option ℕ → F → Type 0) → Type 0
@@ -54,16 +61,16 @@ TimelinesKeepSources {F} answers = (d : DocumentState) (until : ℕ) (options : 
 -- ---- the root
 
 -- At each moment of a stretch after its events each live system that has a Slave port, and whose offset is known, reads
--- from the clock of the root that it follows.
+-- from a source that has the clock of the root that it follows.
 abbrev pub RootsAreSources : WorldState → Carried → List StretchTrace → Type 0
 RootsAreSources start first passages = (p : StretchTrace) (w : WorldState) (c : Carried) (rs : List SystemReading)
     (time : ℕ) (moment : Moment p time) (name : ℕ) (s : SystemState)
     → BeginsWith passages start first p w c → c.readings ≡ Some rs
     → live_system name (world_after moment.done w) ≡ Some s → IsSome s.slave → IsSome s.offset
-    → ReadsFrom (readings_after moment.done rs) name (clock_of s.root)
+    → ReadsFromClock (readings_after moment.done rs) name (clock_of s.root)
 
--- Where the network is calm where the stretch begins, and the span is over, this is the best of the component of each
--- near system.
+-- Where the network is calm where the stretch begins, and the span is over, this root is the best of the component of
+-- each near system.
 abbrev pub BestsAreSources : DocumentState → WorldState → Carried → List StretchTrace → Type 0
 BestsAreSources d start first passages = (p : StretchTrace) (w : WorldState) (c : Carried) (rs : List SystemReading)
     (g : Snapshot) (time span name root : ℕ) (moment : Moment p time) (s : SystemState)
@@ -71,7 +78,7 @@ BestsAreSources d start first passages = (p : StretchTrace) (w : WorldState) (c 
     → p.from + span ≤ time
     → IsSnapshot d p.from g → IsNear g name → IsBestIdentity g name root
     → live_system name (world_after moment.done w) ≡ Some s → IsSome s.slave → IsSome s.offset
-    → ReadsFrom (readings_after moment.done rs) name (clock_of root)
+    → ReadsFromClock (readings_after moment.done rs) name (clock_of root)
 
 -- as long as clocks can show the time
 abbrev pub TimelinesReadFromRoots : {F : Type 0} → (Bounds → ℕ → F → Option ℕ → F → Type 0) → Type 0

@@ -11,8 +11,9 @@ pub fn timelines_keep_sources<F: Fate>()
     ensures { TimelinesKeepSources F.answers }
 {}
 
-/// At every moment each live system that has a Slave port, and whose offset is known, reads from the clock of the root
-/// that it follows: what it read by before a change of its root or of its Slave port is no offset of it any more.
+/// At every moment each live system that has a Slave port, and whose offset is known, reads from a source that has the
+/// clock of the root that it follows: what it read by before a change of its root or of its Slave port is no offset of
+/// it any more.
 pub fn timelines_read_from_roots<F: Fate>()
     ensures { TimelinesReadFromRoots F.answers }
 {}

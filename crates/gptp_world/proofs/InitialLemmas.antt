@@ -64,14 +64,20 @@ told_of f (Some x) told e = (x, refl, same_Some (f x) told e)
 
 -- the system that is told of
 pub member_told : (n : NetworkState) (place : ℕ) (found : Option (ℕ × ℕ × ℕ × ℤ × ArrayVec ℤ))
-    (told : ℕ × ℕ × ℕ × ℤ × ArrayVec ℤ)
+    (told : ℕ × ℕ × ℕ × ℤ × ArrayVec ℤ) (flag : Option Bool) (continues : Bool)
     → found ≡ option_map (λ (m : SystemSpec). (m.identity, m.ports, m.phase, m.drift, m.intervals))
     (slice_get n.systems place)
-    → found ≡ Some told → slice_get n.systems place ≡ Some (member told.0 told.1 told.2 told.3 told.4)
-member_told n place found told is some =
+    → found ≡ Some told → flag ≡ option_map (λ (m : SystemSpec). m.continues) (slice_get n.systems place)
+    → flag ≡ Some continues
+    → slice_get n.systems place ≡ Some (member told.0 told.1 told.2 told.3 continues told.4)
+member_told n place found told flag continues is some flag_is on =
     let tells : SystemSpec → ℕ × ℕ × ℕ × ℤ × ArrayVec ℤ = λ m. (m.identity, m.ports, m.phase, m.drift, m.intervals) in
     let x = told_of tells (slice_get n.systems place) told (sym is ∙ some) in
-    x.1 ∙ ap (λ (v : ℕ × ℕ × ℕ × ℤ × ArrayVec ℤ). Some (member v.0 v.1 v.2 v.3 v.4)) x.2
+    let same : x.0.continues ≡ continues =
+    same_Some x.0.continues continues
+    (sym (ap (option_map (λ (m : SystemSpec). m.continues)) x.1) ∙ sym flag_is ∙ on) in
+    x.1 ∙ ap (λ b. Some (member x.0.identity x.0.ports x.0.phase x.0.drift b x.0.intervals)) same
+    ∙ ap (λ (v : ℕ × ℕ × ℕ × ℤ × ArrayVec ℤ). Some (member v.0 v.1 v.2 v.3 continues v.4)) x.2
 
 -- its drift fits the machine's number
 pub drift_back : (drift : ℤ) → IsDrift drift → to_z w32 (of_z w32 drift) ≡ drift
@@ -89,6 +95,7 @@ pub set_up : (n : NetworkState) (m : SystemSpec) (made : Setup) (largest : ℤ) 
       ports = m.ports;
       phase = m.phase;
       drift = to_z w32 (of_z w32 m.drift);
+      continues = m.continues;
       intervals = m.intervals;
       largest = to_z w8 (of_z w8 largest);
       params = params;

@@ -84,12 +84,14 @@ fn station_in(network: &Network, place: usize) -> Station
 {
     network.well_formed();
     let (identity, ports, phase, drift, intervals) = network.system_at(place).unwrap();
+    let continues = network.continues_at(place).unwrap();
     let largest = network.largest();
     let setup = Setup {
         identity,
         ports,
         phase,
         drift,
+        continues,
         intervals,
         largest,
         params: network.params(),

@@ -24,7 +24,7 @@ impl WorldCore {
     ghost use Rattle.gptp_scenario.specs.Allowed.{IsFitAct};
     ghost use Rattle.gptp_model.specs.Prompt.{DelaysFitIntervals};
     ghost use Rattle.gptp_model.specs.Sound.{IsSound};
-    ghost use Rattle.gptp_model.specs.Views.{FollowsRoot, HasPort, HasRole, IsLiveSystem, IsNextAct, ShowsLive, ShowsTime, rising_clocks};
+    ghost use Rattle.gptp_model.specs.Views.{FollowsRoot, HasBase, HasPort, HasRole, IsLiveSystem, IsNextAct, ShowsLive, ShowsTime, rising_clocks};
     ghost use Rattle.gptp_invariants.specs.WorldSettlingInvariant.{SettlingInvariant};
     ghost use Rattle.gptp_invariants.specs.WorldShown.{FollowsAtOnce, FollowsByDistance, FollowsByPaths, FollowsInTime};
     ghost use Rattle.gptp_invariants.specs.WorldShown.{IsCapableInTime, IsEnabledInTime};
@@ -123,6 +123,17 @@ impl WorldCore {
     {
         match self.parts.net.directory.place_of(clock) {
             Some(place) => Some(self.parts.stations[place].system.local(t)),
+            None => None,
+        }
+    }
+
+    /// The base of a system, live or not; `None` where there is no such system.
+    pub(crate) fn base(&self, clock: ClockId) -> Option<ScaledNs>
+        ensures some { IfSome result (λ base. AtSystem clock self.now (HasBase base)) }
+        ensures none { IfNone result ((base : ℤ) → AtSystem clock self.now (HasBase base) → ⊥) }
+    {
+        match self.parts.net.directory.place_of(clock) {
+            Some(place) => Some(self.parts.stations[place].system.base()),
             None => None,
         }
     }

@@ -38,7 +38,7 @@ impl<F: Fate + Drop> World<F> {
     ghost use Rattle.gptp_invariants.specs.SyncExact.{IsHeardExact};
     ghost use Rattle.gptp_invariants.specs.SyncTimedClaim.{WorldInvariant};
     ghost use Rattle.gptp_invariants.specs.ChoiceTraces.{AreHeldCleanInTime, AreHeldWholeInTime, AreHeldWholeSooner, IsCleanInTime, IsHeardClean};
-    ghost use Rattle.gptp_model.specs.Views.{FollowsRoot, HasPort, HasRole, IsLiveSystem, IsNextAct, ShowsLive, ShowsTime, rising_clocks};
+    ghost use Rattle.gptp_model.specs.Views.{FollowsRoot, HasBase, HasPort, HasRole, IsLiveSystem, IsNextAct, ShowsLive, ShowsTime, rising_clocks};
     ghost use Rattle.gptp_world.specs.Memory.{AsksForNoMemory};
     ghost use Rattle.gptp_world.specs.Used.{snapshot_link};
 
@@ -255,6 +255,15 @@ impl<F: Fate + Drop> World<F> {
         ensures none { IfNone result ((shown : ℤ) → AtSystem clock self.now.world_core (ShowsTime t shown) → ⊥) }
     {
         self.world_core.local(clock, t)
+    }
+
+    /// By how much the time that a system tells, live or not, is ahead of its clock, in 2^-16 ns; `None` where there is no
+    /// such system. A system that has failed keeps it until it starts again.
+    pub fn base(&self, clock: ClockId) -> Option<ScaledNs>
+        ensures some { IfSome result (λ base. AtSystem clock self.now.world_core (HasBase base)) }
+        ensures none { IfNone result ((base : ℤ) → AtSystem clock self.now.world_core (HasBase base) → ⊥) }
+    {
+        self.world_core.base(clock)
     }
 
     /// Whether there is a live system with a clock.

@@ -48,7 +48,7 @@ pub(crate) fn port(number: u16, port: u16) -> PortId {
 pub(crate) fn line(alloc: Global, systems: u16) -> Result<Network, NetworkFault> {
     let mut network = Network::new(alloc, PARAMS)?;
     for number in 1..=systems {
-        network.add_system(identity(number), 2, 0, 0, intervals(&[0, 0]))?;
+        network.add_system(identity(number), 2, 0, 0, false, intervals(&[0, 0]))?;
     }
     for number in 1..systems {
         network.add_link(port(number, 2), port(number + 1, 1), 500, 500, 0, true)?;

@@ -36,8 +36,8 @@ fn a_system_is_refused_by_its_intervals(rt: HostRuntime) -> Result<(), Fail> {
         (network.least_interval(), network.largest()),
         (2_000_000_000, 1),
     );
-    network.add_system(identity(1), 2, 0, 0, intervals(&[2, 2]))?;
-    network.add_system(identity(2), 1, 0, 0, intervals(&[3]))?;
+    network.add_system(identity(1), 2, 0, 0, false, intervals(&[2, 2]))?;
+    network.add_system(identity(2), 1, 0, 0, false, intervals(&[3]))?;
     same(
         &rt,
         (network.least_interval(), network.largest()),
@@ -63,12 +63,12 @@ fn a_system_is_refused_by_its_intervals(rt: HostRuntime) -> Result<(), Fail> {
         ("a link is slow", 3, &[2, 0], NetworkFault::DelayTooLong),
     ];
     for (name, clock, logs, want) in rows {
-        let added = network.add_system(identity(clock), 2, 0, 0, intervals(logs));
+        let added = network.add_system(identity(clock), 2, 0, 0, false, intervals(logs));
         same_at(&rt, &name, added, Err(want));
         same_at(&rt, &name, network.systems(), 2);
         same_at(&rt, &name, network.least_interval(), 4_000_000_000);
     }
-    network.add_system(identity(3), 2, 0, 0, intervals(&[1, 4]))?;
+    network.add_system(identity(3), 2, 0, 0, false, intervals(&[1, 4]))?;
     same(
         &rt,
         (network.least_interval(), network.largest()),

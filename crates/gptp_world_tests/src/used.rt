@@ -46,7 +46,7 @@ fn line(alloc: Global) -> Result<Network, NetworkFault> {
         let identity = Identity::of_octets([
             246, 248, 254, 0x43, 0x6a, 248, 0, 0, 0, 0, 0, 0, 0, number,
         ]);
-        network.add_system(identity, 2, 0, 0, intervals(&[0, 0]))?;
+        network.add_system(identity, 2, 0, 0, false, intervals(&[0, 0]))?;
     }
     network.add_link(port(1, 2), port(2, 1), 500, 500, 0, true)?;
     network.add_link(port(3, 1), port(2, 2), 500, 500, 0, true)?;

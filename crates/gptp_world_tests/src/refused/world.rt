@@ -33,8 +33,8 @@ const SETTLED: u64 = 10_000_000_000;
 /// Two systems, whose first ports a link joins; each frame takes 500 ns.
 fn two(alloc: Global) -> Result<Network, NetworkFault> {
     let mut network = Network::new(alloc, PARAMS)?;
-    network.add_system(identity(246, 1), 1, 0, 0, intervals(&[0]))?;
-    network.add_system(identity(246, 2), 1, 0, 0, intervals(&[0]))?;
+    network.add_system(identity(246, 1), 1, 0, 0, false, intervals(&[0]))?;
+    network.add_system(identity(246, 2), 1, 0, 0, false, intervals(&[0]))?;
     network.add_link(port(1, 1), port(2, 1), 500, 500, 0, true)?;
     Ok(network)
 }

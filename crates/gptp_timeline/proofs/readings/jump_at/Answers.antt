@@ -13,10 +13,10 @@ returns-in-Some-clause-is g c =
     let step : to_z w128 (of_z w128 c.more_by.result) ≡ c.more_by.result =
     to_z-of_z w128 c.more_by.result (record { sfits = c.more_by.type_inv }) in
     jump_is c.args.at c.args.world.now.world_core c.args.new.now c.in-Some.kept c.args.shown c.in-Some.is
-    c.requires.shows c.read_by-read.result c.read_by-old.result (to_z w128 (of_z w128 c.more_by.result)) c.time_of-time.result
-    c.off-after.result c.source_time.result c.off.result c.read_by-read.ensures.is c.read_by-old.ensures.is
-    c.time_of-time.ensures.is
-    (c.off-after.ensures.is ∙ ap (λ r. option_map (λ time. r -ℤ time) c.time_of-time.result) read)
-    c.source_time.ensures.is
-    (c.off.ensures.is ∙ ap (λ r. option_map (λ time. r -ℤ time) c.source_time.result) old)
+    c.requires.shows c.read_by-read.result c.read_by-old.result (to_z w128 (of_z w128 c.more_by.result)) c.source_time-time.result
+    c.off-after.result c.time_beside.result c.off.result c.read_by-read.ensures.is c.read_by-old.ensures.is
+    c.source_time-time.ensures.is
+    (c.off-after.ensures.is ∙ ap (λ r. option_map (λ time. r -ℤ time) c.source_time-time.result) read)
+    c.time_beside.ensures.is
+    (c.off.ensures.is ∙ ap (λ r. option_map (λ time. r -ℤ time) c.time_beside.result) old)
     (step ∙ c.more_by.ensures ∙ (λ i. read i -ℤ old i))

@@ -4,6 +4,7 @@ use mir.Syntax.{w128}
 use Rattle.gptp_model.specs.World.{WorldState}
 use Rattle.gptp_roles.specs.Selection.{clock_of}
 use Rattle.gptp_system.specs.State.{local_time, SystemState}
+use Rattle.gptp_system.specs.Takeover.{told_time}
 use Rattle.gptp_timeline.specs.Receipts.{offset_error}
 use Rattle.gptp_timeline.specs.Shown.{live_system}
 use Rattle.gptp_timeline.proofs.ShownLemmas.{live_shown, none_shown}
@@ -13,11 +14,11 @@ use Rattle.gptp_timeline.proofs.receipts.error_of.Goals as goal
 by_leader : (at : ℕ) (s : SystemState) (w : WorldState) (offset : ℤ) (leader : ℕ) (live : Option SystemState)
     → Some offset ≡ s.offset → leader ≡ clock_of s.root → live_system leader w ≡ live
     → offset_error at s w
-    ≡ option_map (λ (l : SystemState). offset -ℤ (local_time s at -ℤ local_time l at)) live
+    ≡ option_map (λ (l : SystemState). offset -ℤ (local_time s at -ℤ told_time l at)) live
 by_leader at s w offset leader live known named is =
-    ap (option_and_then (λ (o : ℤ). option_map (λ (l : SystemState). o -ℤ (local_time s at -ℤ local_time l at))
+    ap (option_and_then (λ (o : ℤ). option_map (λ (l : SystemState). o -ℤ (local_time s at -ℤ told_time l at))
     (live_system (clock_of s.root) w))) (sym known)
-    ∙ ap (option_map (λ (l : SystemState). offset -ℤ (local_time s at -ℤ local_time l at)))
+    ∙ ap (option_map (λ (l : SystemState). offset -ℤ (local_time s at -ℤ told_time l at)))
     (ap (λ n. live_system n w) (sym named) ∙ is)
 
 pub returns-in-Some-system : goal.returns-in-Some-system

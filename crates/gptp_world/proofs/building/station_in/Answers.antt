@@ -14,7 +14,8 @@ use Rattle.gptp_world.proofs.building.station_in.Goals as goal
 pub new-system-requires-clause-ports : goal.new-system-requires-clause-ports
 new-system-requires-clause-ports c =
     let n = c.args.network.now in
-    let here = member_told n c.args.place _ _ c.system_at.ensures c.unwrap-identity.ensures in
+    let here = member_told n c.args.place _ _ _ _ c.system_at.ensures c.unwrap-identity.ensures
+    c.continues_at.ensures c.unwrap-continues.ensures in
     let limits = c.well_formed-2.ensures.systems c.args.place _ here in
     let most = c.largest-largest.ensures in
     let made = set_up n _ c.copy.result _ _ limits.drift most.range most.is c.params.ensures c.copy.ensures in
@@ -23,7 +24,8 @@ new-system-requires-clause-ports c =
 pub new-system-requires-clause-phase : goal.new-system-requires-clause-phase
 new-system-requires-clause-phase c =
     let n = c.args.network.now in
-    let here = member_told n c.args.place _ _ c.system_at.ensures c.unwrap-identity.ensures in
+    let here = member_told n c.args.place _ _ _ _ c.system_at.ensures c.unwrap-identity.ensures
+    c.continues_at.ensures c.unwrap-continues.ensures in
     let limits = c.well_formed-2.ensures.systems c.args.place _ here in
     let most = c.largest-largest.ensures in
     let made = set_up n _ c.copy.result _ _ limits.drift most.range most.is c.params.ensures c.copy.ensures in
@@ -32,7 +34,8 @@ new-system-requires-clause-phase c =
 pub new-system-requires-clause-drift : goal.new-system-requires-clause-drift
 new-system-requires-clause-drift c =
     let n = c.args.network.now in
-    let here = member_told n c.args.place _ _ c.system_at.ensures c.unwrap-identity.ensures in
+    let here = member_told n c.args.place _ _ _ _ c.system_at.ensures c.unwrap-identity.ensures
+    c.continues_at.ensures c.unwrap-continues.ensures in
     let limits = c.well_formed-2.ensures.systems c.args.place _ here in
     let most = c.largest-largest.ensures in
     let made = set_up n _ c.copy.result _ _ limits.drift most.range most.is c.params.ensures c.copy.ensures in
@@ -41,7 +44,8 @@ new-system-requires-clause-drift c =
 pub new-system-requires-clause-intervals : goal.new-system-requires-clause-intervals
 new-system-requires-clause-intervals c =
     let n = c.args.network.now in
-    let here = member_told n c.args.place _ _ c.system_at.ensures c.unwrap-identity.ensures in
+    let here = member_told n c.args.place _ _ _ _ c.system_at.ensures c.unwrap-identity.ensures
+    c.continues_at.ensures c.unwrap-continues.ensures in
     let limits = c.well_formed-2.ensures.systems c.args.place _ here in
     let most = c.largest-largest.ensures in
     let made = set_up n _ c.copy.result _ _ limits.drift most.range most.is c.params.ensures c.copy.ensures in
@@ -50,11 +54,12 @@ new-system-requires-clause-intervals c =
 pub returns : goal.returns
 returns c =
     let n = c.args.network.now in
-    let here = member_told n c.args.place _ _ c.system_at.ensures c.unwrap-identity.ensures in
+    let here = member_told n c.args.place _ _ _ _ c.system_at.ensures c.unwrap-identity.ensures
+    c.continues_at.ensures c.unwrap-continues.ensures in
     let limits = c.well_formed-2.ensures.systems c.args.place _ here in
     let most = c.largest-largest.ensures in
     let told = c.unwrap-identity.result in
-    let member : SystemSpec = member told.0 told.1 told.2 told.3 told.4 in
+    let member : SystemSpec = member told.0 told.1 told.2 told.3 c.unwrap-continues.result told.4 in
     let made = set_up n member c.copy.result _ _ limits.drift most.range most.is c.params.ensures c.copy.ensures in
     let station : Setup → SystemState → Station =
     λ setup system. record { setup = setup; system = system; live = false } in
