@@ -62,8 +62,8 @@ impl<F: Fate + Drop> World<F> {
     /// dropped there.
     ///
     /// Where a Follow_Up is delivered and a near system uses it, the offset that it leaves is within the time error of
-    /// the system's way of its clock less its root's, once the world has been calm for the settling span and for as
-    /// long as a Sync takes down that way at most.
+    /// the system's way of its clock less what its root tells, once the world has been calm for the settling span and
+    /// for as long as a Sync takes down that way at most.
     ///
     /// A failure and other bounds of a link ask for no memory, nor does a change that finds its link or system as it
     /// should become, or an injection where the link is down: these are never refused with `OutOfMemory`.
