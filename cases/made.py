@@ -143,12 +143,12 @@ def largest_linted():
     return f"chance {identity(1)} {identity(2)}\n{calm}"
 
 
-def full_of_events():
-    """Two systems, and 4,093 events by which nothing changes."""
+def full_of_events(count):
+    """Two systems, and so many events by which nothing changes."""
     ends = '[[system]]\nclock = "{}"\nports = 1\n'
     systems = "".join(ends.format(clock(number)) for number in (1, 2))
     event = f'{{at=0,kind="recover",clock="{clock(1)}"}}'
-    return f"version = 1\nevent=[{','.join([event] * 4093)}]\n[network]\n{systems}{link(1, 1, 2, 1, 100, 140)}"
+    return f"version = 1\nevent=[{','.join([event] * count)}]\n[network]\n{systems}{link(1, 1, 2, 1, 100, 140)}"
 
 
 def files():
@@ -178,7 +178,8 @@ def files():
         "1048577_zeros": "0" * 1_048_577,
         "1048577_line_feeds": "\n" * 1_048_577,
         "1048580_line_feeds": "\n" * 1_048_580,
-        "full_of_events.toml": full_of_events(),
+        "full_of_events.toml": full_of_events(4093),
+        "two_events_left.toml": full_of_events(4094),
         "largest.toml": largest(),
         "largest.linted": largest_linted(),
     }
