@@ -41,7 +41,7 @@ use Rattle.gptp_system.proofs.TypeLemmas.{type_is, type_number}
 use Rattle.gptp_vector.specs.declared.vector.Vector.{Vector}
 use Rattle.gptp_timeline.specs.Compared.{compared_by_expiry, compared_by_frame, compared_by_type, is_choice_as, is_known_as, left_by, left_where, same_port_at}
 use Rattle.gptp_timeline.specs.Ports.{shown_port, shown_ports, shows_same_port}
-use Rattle.gptp_timeline.specs.Shown.{live_among, live_system, same_slave, same_way, shown, shown_of}
+use Rattle.gptp_timeline.specs.Shown.{live_among, live_system, same_way, shown, shown_of}
 use Rattle.gptp_timeline.specs.declared.compared.Compared.{Compared}
 use Rattle.gptp_timeline.specs.declared.compared.Compared.TheVariants as compares
 use Rattle.gptp_timeline.specs.declared.ports.ShownPort.{ShownPort}

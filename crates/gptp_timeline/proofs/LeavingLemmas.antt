@@ -40,7 +40,6 @@ use Rattle.gptp_system.specs.declared.port.Port.{Port}
 use Rattle.gptp_system.specs.declared.sending.Sending.{Sending}
 use Rattle.gptp_system.proofs.PortLemmas.{counted-map}
 use Rattle.gptp_system.proofs.TypeLemmas.{type_is, type_number}
-use Rattle.gptp_messages.specs.declared.follow_up.FollowUp.{FollowUp}
 use Rattle.gptp_timeline.specs.Leaving.{FrameLeaves, LeavesAll, TimerLeaves, TypeLeaves, can_take_over}
 use Rattle.gptp_timeline.specs.Readings.{by_expiry, by_receipt}
 use Rattle.gptp_timeline.specs.declared.readings.SystemReading.{SystemReading}
