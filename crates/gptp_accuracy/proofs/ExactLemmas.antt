@@ -1,5 +1,5 @@
 -- The systems of the settled choice with their time errors, line by line.
-use Rattle.std.proofs.Common.{◌≡◌, ◌↔◌, inl, inr, ℕ, ◌+◌, Bool, IsTrue, true, false, not, ◌&&◌, if◌then◌else◌, List, [], ◌∷◌, ◌++◌, length, map, Option, Some, None, slice_get, refl, sym, ap, ap₂, subst, ◌∙◌, arith}
+use Rattle.std.proofs.Common.{◌≡◌, ◌↔◌, inl, inr, ℕ, ◌+◌, Bool, IsTrue, true, false, not, ◌&&◌, if◌then◌else◌, List, [], ◌∷◌, ◌++◌, length, map, Some, None, slice_get, refl, sym, ap, ap₂, subst, ◌∙◌, arith}
 use Rattle.std.proofs.lemmas.List.{length-map, map-append, take_all}
 use Rattle.std.proofs.lemmas.Option.{same_Some}
 use Rattle.gptp_lists.proofs.MappedLemmas.{mapped_there, taken}
@@ -15,7 +15,7 @@ use Rattle.gptp_scenario.specs.declared.change.Timed.{Timed}
 use Rattle.gptp_checker.proofs.PlaceLemmas.{AreLinesFor, lines_of_passed}
 use Rattle.gptp_error_laws.specs.TimeError.{Way, time_error}
 use Rattle.gptp_accuracy.specs.Passing.{AreNearWithin, IsDoneAt}
-use Rattle.gptp_accuracy.specs.Readings.{ReadingTerms, reading_terms}
+use Rattle.gptp_accuracy.specs.Readings.{reading_terms}
 use Rattle.gptp_accuracy.specs.Sums.{AreSummed, SumsAreWithin, terms_of}
 use Rattle.gptp_accuracy.specs.TimeErrors.{AreEntries, AreExact, HasByWay, IsEntry, IsErrorOf, IsReadingOf, IsSystemOf, if_promised, root_is_capable}
 use Rattle.gptp_accuracy.specs.Ways.{IsWay}

@@ -12,7 +12,7 @@ use Rattle.gptp_network.specs.Document.{DocumentState}
 use Rattle.gptp_network.specs.Snapshot.{events_by}
 use Rattle.gptp_network.proofs.LawLemmas.{one_snapshot}
 use Rattle.gptp_error_laws.specs.TimeError.{Way, time_error}
-use Rattle.gptp_accuracy.specs.AccuracyText.{accuracy_time_line, accuracy_verdict, accuracy_verdict_lines, error_is_exceeded, first_above, system_line}
+use Rattle.gptp_accuracy.specs.AccuracyText.{accuracy_time_line, accuracy_verdict, accuracy_verdict_lines, first_above, system_line}
 use Rattle.gptp_accuracy.specs.Laws.{OneAccuracy}
 use Rattle.gptp_accuracy.specs.Readings.{ReadingTerms, reading_terms}
 use Rattle.gptp_accuracy.specs.TimeErrors.{AreExact, AreTimeErrors, HasByWay, IsErrorOf, IsExact, IsReadingOf, greatest_age}

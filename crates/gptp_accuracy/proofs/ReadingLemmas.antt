@@ -1,14 +1,14 @@
 -- What the error of a reading follows from, by the sums of a way.
-use Rattle.std.proofs.Common.{◌≡◌, ℕ, zero, suc, ◌*◌, ◌+◌, ◌-◌, ◌≤◌, pos, length, Option, Some, None, option_map, refl, sym, ap, subst, ◌∙◌, List, inl, inr, arith}
+use Rattle.std.proofs.Common.{◌≡◌, ℕ, zero, suc, ◌*◌, ◌+◌, ◌-◌, pos, length, Option, Some, None, option_map, refl, sym, ap, ◌∙◌, List, arith}
 use Rattle.gptp_pdelay.specs.GoodLink.{ceil_div}
 use Rattle.gptp_setup.specs.declared.setup.Params.{Params}
 use Rattle.gptp_graph.specs.Snapshot.{Snapshot}
 use Rattle.gptp_scenario.specs.Network.{NetworkState}
 use Rattle.gptp_scenario.specs.declared.change.Timed.{Timed}
-use Rattle.gptp_error_laws.specs.TimeError.{WayLink, Way, jitter_at, rates_error_at, reading_error, reading_error_after, reading_error_at, time_error, time_error_at}
+use Rattle.gptp_error_laws.specs.TimeError.{WayLink, Way, jitter_at, rates_error_at, reading_error, reading_error_after, reading_error_at, time_error_at}
 use Rattle.gptp_accuracy.specs.Laws.{ReadingErrorsAreOfWays}
-use Rattle.gptp_accuracy.specs.Readings.{ReadingTerms, AreTermsWithin, error_after, rates_error_after, reading_terms}
-use Rattle.gptp_accuracy.specs.Sums.{AreSummed, SumsAreWithin, rates_error_of, terms_of}
+use Rattle.gptp_accuracy.specs.Readings.{ReadingTerms, error_after, rates_error_after, reading_terms}
+use Rattle.gptp_accuracy.specs.Sums.{AreSummed, rates_error_of, terms_of}
 use Rattle.gptp_accuracy.specs.TimeErrors.{HasByWay}
 use Rattle.gptp_accuracy.specs.declared.errors.SystemError.{SystemError}
 use Rattle.gptp_accuracy.specs.declared.sums.Sums.{Sums}

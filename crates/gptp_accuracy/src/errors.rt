@@ -1,8 +1,6 @@
 //! The time errors of all systems of a document.
 
-ghost use Rattle.std.specs.Prelude.{◌≡◌, ◌+◌, ◌≤◌, ◌<◌, ◌↔◌, ℕ, IsTrue, false, length, IfOk, OnOk, map};
-ghost use Rattle.gptp_lists.specs.Members.{In};
-ghost use Rattle.gptp_graph.specs.Labelling.{line_clocks};
+ghost use Rattle.std.specs.Prelude.{◌≡◌, ◌+◌, ◌≤◌, ◌<◌, false, length, IfOk, OnOk};
 ghost use Rattle.gptp_scenario.specs.Allowed.{AreAllowed};
 ghost use Rattle.gptp_scenario.specs.Calm.{last_change};
 ghost use Rattle.gptp_network.specs.Events.{AreInOrder};

@@ -1,6 +1,6 @@
 //! The forms of lines.
 
-ghost use Rattle.std.specs.Prelude.{◌≡◌, ◌≢◌, ◌↔◌, ◌++◌, List, ℕ, Option, Some, None, codes, IfSome, IfNone, IsTrue, option_map};
+ghost use Rattle.std.specs.Prelude.{◌≡◌, ◌≢◌, ◌↔◌, Option, Some, None, IfSome, IfNone, IsTrue, option_map};
 ghost use Rattle.gptp_graph.specs.SettledRole as settled;
 ghost use Rattle.gptp_certificate_text.specs.Certificate.{role_of};
 ghost use Rattle.gptp_certificate_text.specs.Forms as forms;

@@ -1,6 +1,6 @@
 //! Reading a certificate from its text.
 
-ghost use Rattle.std.specs.Prelude.{◌≡◌, ◌⊎◌, List, ℕ, ◌≢◌, ◌<◌, ◌++◌, ◌∷◌, length, IfOk, IfErr, IfSome, IfNone};
+ghost use Rattle.std.specs.Prelude.{◌≡◌, ◌⊎◌, List, ℕ, ◌≢◌, ◌<◌, ◌++◌, ◌∷◌, IfOk, IfErr, IfSome, IfNone};
 ghost use Rattle.gptp_certificate_text.specs.Certificate.{lines_of, IsVersion};
 ghost use Rattle.gptp_certificate_text.specs.CertificateText.{certificate_text, end_text, head_text};
 ghost use Rattle.gptp_certificate_text.specs.Entries.{IsReadable, StandInOrder, entries_of};

@@ -3,7 +3,7 @@
 ghost use Rattle.std.specs.Prelude.{◌≡◌, ◌<◌, ◌+◌, List, ℕ, [], ◌∷◌, ◌++◌, length, map, IfOk, OnOk, OnErr, Some, slice_get, string_bytes};
 ghost use Rattle.gptp_words.specs.Lines.{text_of};
 ghost use Rattle.gptp_certificate_text.specs.Certificate.{line_of, lines_of, parent_of, port_line_of};
-ghost use Rattle.gptp_certificate_text.specs.CertificateText.{PrintsLine, certificate_lines, certificate_text, end_text, entry_text, front_text, parent_words};
+ghost use Rattle.gptp_certificate_text.specs.CertificateText.{PrintsLine, certificate_lines, certificate_text, entry_text, parent_words};
 ghost use Rattle.gptp_certificate_text.specs.Entries.{PortEntry, entries_of, entries_of_line, system_entry};
 
 use crate::certificate::{Certificate, SystemLine};

@@ -1,6 +1,6 @@
 //! The words of a line.
 
-ghost use Rattle.std.specs.Prelude.{◌≡◌, ◌≢◌, ◌↔◌, ◌≤◌, ◌==◌, ◌∷◌, ◌++◌, not, List, ℕ, Bool, length, IfSome, IfNone, IsTrue};
+ghost use Rattle.std.specs.Prelude.{◌≡◌, ◌≢◌, ◌↔◌, ◌≤◌, ◌==◌, ◌∷◌, ◌++◌, not, List, ℕ, length, IfSome, IfNone, IsTrue};
 ghost use Rattle.std.specs.List.{list_all, position_or_len};
 ghost use Rattle.gptp_certificate_text.specs.Words.{is_blank, IsWord, Lacks};
 

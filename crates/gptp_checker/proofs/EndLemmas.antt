@@ -1,7 +1,6 @@
 -- The first end of the links across which what is stated doesn't agree.
 use Rattle.std.proofs.Common.{◌≡◌, ◌⊎◌, ◌<◌, ◌≤◌, ◌+◌, ℕ, List, length, Option, Some, None, IfSome, IfNone, slice_get, refl, sym, ap, subst, ◌∙◌, inl, inr, arith}
 use Rattle.std.proofs.lemmas.Option.{slice_get_within}
-use Rattle.gptp_lists.specs.Members.{In}
 use Rattle.gptp_lists.proofs.MappedLemmas.{same_there, some_same}
 use Rattle.gptp_lists.proofs.SystemSpecLemmas.{In-slice_get, slice_get-In}
 use Rattle.gptp_graph.specs.Labelling.{SystemLine}

@@ -1,5 +1,5 @@
 -- A test of a certificate passes exactly where it passes for each line, port or link.
-use Rattle.std.proofs.Common.{Bool, IsTrue, ◌≡◌, ◌↔◌, ◌<◌, ◌≤◌, ◌+◌, ℕ, zero, suc, false, List, Some, refl, sym, subst, inl, inr, arith}
+use Rattle.std.proofs.Common.{Bool, IsTrue, ◌≡◌, ◌↔◌, ◌<◌, ◌≤◌, ◌+◌, ℕ, zero, suc, false, List, refl, sym, subst, inl, inr, arith}
 use Rattle.std.specs.List.{range_with_len}
 use Rattle.gptp_lists.specs.Members.{In}
 use Rattle.gptp_graph.specs.Snapshot.{Snapshot, PortIdentity, Link, port_of, Joins, Adjacent, IsWellFormed}

@@ -1,5 +1,5 @@
 -- The first of those that fail: in rising order what stands before a place is all that is lower.
-use Rattle.std.proofs.Common.{◌≡◌, ◌≢◌, ◌<◌, ◌+◌, ◌↔◌, ℕ, zero, suc, Bool, IsTrue, true, false, not, is_some, Option, Some, None, IfSome, IfNone, List, [], ◌∷◌, map, option_map, slice_get, refl, sym, ap, subst, ◌∙◌, inl, inr, arith}
+use Rattle.std.proofs.Common.{◌≡◌, ◌≢◌, ◌<◌, ◌↔◌, ℕ, zero, suc, Bool, IsTrue, true, false, not, is_some, Option, Some, None, IfSome, IfNone, List, [], ◌∷◌, map, option_map, slice_get, refl, sym, ap, subst, ◌∙◌, inl, inr, arith}
 use Rattle.std.specs.List.{range_with_len}
 use Rattle.gptp_lists.specs.Members.{In}
 use Rattle.gptp_lists.proofs.MappedLemmas.{mapped_there, same_there, some_same}
@@ -11,8 +11,8 @@ use Rattle.gptp_graph.specs.Snapshot.{IsWellFormed, System, Snapshot, clocks}
 use Rattle.gptp_graph.proofs.RisingLemmas.{Different-rising}
 use Rattle.gptp_checker.specs.Faults.{test_of}
 use Rattle.gptp_checker.specs.LineTests.{PassesEachLine, PassesLine}
-use Rattle.gptp_checker.specs.Located.{LinesAreKnown, AreStated, DiffersAt, HasAllPorts, IsFirstLine, IsFirstPort, IsKnownLine, IsLeastSuch, IsLocation, IsMissing, IsStrange}
-use Rattle.gptp_checker.specs.Places.{IsLineAt, IsSystemAt}
+use Rattle.gptp_checker.specs.Located.{LinesAreKnown, AreStated, DiffersAt, HasAllPorts, IsFirstLine, IsFirstPort, IsKnownLine, IsLeastSuch, IsMissing, IsStrange}
+use Rattle.gptp_checker.specs.Places.{IsSystemAt}
 use Rattle.gptp_checker.specs.declared.fault.Fault.{Fault}
 use Rattle.gptp_checker.specs.declared.fault.Fault.TheVariants.{Systems}
 use Rattle.gptp_checker.specs.declared.line_test.LineTest.{LineTest}

@@ -7,7 +7,6 @@ use Rattle.gptp_certificate_text.specs.Certificate.{port_line_of, role_of}
 use Rattle.gptp_graph.specs.Labelling.{PortLine}
 use Rattle.gptp_lists.specs.Members.{In}
 use Rattle.gptp_graph.specs.SettledRole as settled
-use Rattle.gptp_lists.proofs.SystemSpecLemmas.{In-slice_get}
 use Rattle.gptp_roles.specs.declared.role.Role.{Role}
 use Rattle.gptp_roles.specs.declared.role.Role.TheVariants.{Disabled, Master, Slave, Passive}
 use Rattle.gptp_roles.specs.contracts.role.Role.{the_type}

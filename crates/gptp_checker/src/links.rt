@@ -6,7 +6,6 @@ ghost use Rattle.gptp_graph.specs.LocalTests.{PassesLink, PassesSystems};
 ghost use Rattle.gptp_graph.specs.Snapshot.{Link};
 ghost use Rattle.gptp_checker.specs.LineTests.{AgreeAcross, AgreeOver};
 ghost use Rattle.gptp_checker.specs.Located.{IsBefore, IsEarliest, IsFirstEnd, IsFirstUpTo};
-ghost use Rattle.gptp_network.specs.Snapshot.{port_identity};
 
 use crate::stated::line_of;
 use gptp_certificate_text::{Certificate, SystemLine};

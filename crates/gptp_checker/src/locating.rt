@@ -1,6 +1,6 @@
 //! The first place at which a certificate fails the test of its fault.
 
-ghost use Rattle.std.specs.Prelude.{◌≡◌, ◌≢◌, IfNone, IfSome};
+ghost use Rattle.std.specs.Prelude.{◌≢◌, IfNone, IfSome};
 ghost use Rattle.gptp_graph.specs.LocalTests.{PassesSystems};
 ghost use Rattle.gptp_certificate_text.specs.Certificate.{line_of};
 ghost use Rattle.gptp_checker.specs.Faults.{test_of};

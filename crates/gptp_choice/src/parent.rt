@@ -1,6 +1,6 @@
 //! Whom a system follows.
 
-ghost use Rattle.std.specs.Prelude.{◌≡◌, ◌↔◌, ◌<◌, ◌≤◌, ℕ, IfNone, IfSome, IsTrue, option_map, suc};
+ghost use Rattle.std.specs.Prelude.{◌≡◌, ◌↔◌, ◌<◌, ℕ, IfNone, IfSome, IsTrue, option_map, suc};
 ghost use Rattle.gptp_certificate_text.specs.Certificate.{parent_of};
 ghost use Rattle.gptp_components.specs.Distances.{AreDistances};
 ghost use Rattle.gptp_graph.specs.Distance.{IsDistance};

@@ -1,6 +1,6 @@
 //! The roles of a system's ports.
 
-ghost use Rattle.std.specs.Prelude.{◌≡◌, ◌↔◌, ◌⊎◌, ◌<◌, Bool, IfOk, IsTrue, OnOk, map, option_map, suc};
+ghost use Rattle.std.specs.Prelude.{◌≡◌, ◌↔◌, ◌⊎◌, ◌<◌, IfOk, IsTrue, map, option_map};
 ghost use Rattle.gptp_certificate_text.specs.Certificate.{parent_of, port_line_of, role_of};
 ghost use Rattle.gptp_components.specs.Distances.{AreDistances};
 ghost use Rattle.gptp_graph.specs.Distance.{IsDistance};

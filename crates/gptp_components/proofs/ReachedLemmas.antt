@@ -1,17 +1,16 @@
 -- The component of a root, by rising distance.
-use Rattle.std.proofs.Common.{◌≡◌, ◌⊎◌, ◌<◌, ◌≤◌, ◌∙◌, ℕ, zero, suc, List, [], ◌∷◌, length, Option, refl, sym, ap, subst, inl, inr, arith}
+use Rattle.std.proofs.Common.{◌≡◌, ◌<◌, ◌≤◌, ◌∙◌, ℕ, zero, suc, List, [], ◌∷◌, length, Option, refl, sym, ap, subst, inl, inr, arith}
 use Rattle.std.proofs.lemmas.Bool.{cases_lt}
 use Rattle.gptp_lists.specs.Members.{In}
 use Rattle.gptp_graph.specs.Best.{IsBest}
 use Rattle.gptp_graph.specs.Distance.{IsDistance}
 use Rattle.gptp_graph.specs.SettledChoice.{IsBestIdentity}
-use Rattle.gptp_graph.specs.Snapshot.{System, PortIdentity, Snapshot, IsWellFormed, port_of}
-use Rattle.gptp_graph.proofs.BestLemmas.{IsBest-unique}
+use Rattle.gptp_graph.specs.Snapshot.{System, Snapshot, IsWellFormed, port_of}
 use Rattle.gptp_graph.proofs.DistanceLemmas.{IsDistance-best, IsDistance-bounded, IsDistance-neighbour, IsDistance-unique, best_at_zero, nearer_neighbour}
 use Rattle.gptp_graph.proofs.ExistenceLemmas.{distance_exists}
 use Rattle.gptp_graph.proofs.LinkLemmas.{Adjacent-clock, Adjacent-sym}
 use Rattle.gptp_graph.proofs.PathLemmas.{Reaches-clock, Reaches-sym}
-use Rattle.gptp_graph.proofs.SystemLemmas.{In-clocks, same_identity}
+use Rattle.gptp_graph.proofs.SystemLemmas.{same_identity}
 use Rattle.gptp_components.specs.Distances.{IsDistanceOf}
 use Rattle.gptp_components.specs.Search.{AtEdge, IsComponentFound, IsFound, IsFoundTo, IsNewRoot, IsPut, IsSpread}
 use Rattle.gptp_components.specs.declared.distance.Distance.{Distance}

@@ -1,10 +1,10 @@
 -- From the systems at the edge to their neighbours.
-use Rattle.std.proofs.Common.{◌≡◌, ◌⊎◌, ◌<◌, ◌≤◌, ◌++◌, ◌∙◌, ℕ, zero, suc, List, [], ◌∷◌, length, Option, refl, sym, ap, subst, inl, inr, arith}
+use Rattle.std.proofs.Common.{◌≡◌, ◌≤◌, ◌++◌, ◌∙◌, ℕ, suc, List, [], ◌∷◌, Option, refl, sym, subst, inl, inr, arith}
 use native.Mathlib.Decide.{ℕ_discrete}
 use Rattle.gptp_lists.specs.Members.{In}
 use Rattle.gptp_lists.proofs.SystemSpecLemmas.{In-parts}
 use Rattle.gptp_graph.specs.Snapshot.{System, PortIdentity, Snapshot, IsLinked, IsWellFormed, Joins, port_of}
-use Rattle.gptp_components.specs.Search.{AtEdge, IsFound, IsLookedAt, IsPut, IsSpread, IsWaiting}
+use Rattle.gptp_components.specs.Search.{AtEdge, IsFound, IsPut, IsSpread, IsWaiting}
 use Rattle.gptp_components.specs.declared.distance.Distance.{Distance}
 
 module _ (g : Snapshot) (next : Distance) where

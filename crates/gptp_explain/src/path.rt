@@ -7,7 +7,6 @@ ghost use Rattle.gptp_graph.specs.Parent.{IsParent, ParentLink};
 ghost use Rattle.gptp_graph.specs.SettledChoice.{IsSettledChoice};
 ghost use Rattle.gptp_words.specs.Digits.{clock_text};
 ghost use Rattle.gptp_explain.specs.Explained.{LeadsUp, path_line};
-ghost use Rattle.gptp_explain.specs.Writing.{AppendsLine};
 
 use gptp_certificate_text::Certificate;
 use gptp_checker::line_of;

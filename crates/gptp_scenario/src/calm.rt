@@ -1,8 +1,8 @@
 //! Whether a network is calm after changes.
 
-ghost use Rattle.std.specs.Prelude.{◌≡◌, ◌↔◌, ◌≤◌, ◌+◌, ◌*◌, ℕ, IsTrue, true, length};
+ghost use Rattle.std.specs.Prelude.{◌≡◌, ◌↔◌, ◌≤◌, ◌+◌, ◌*◌, IsTrue, true, length};
 ghost use Rattle.gptp_scenario.specs.Calm.{IsLive, IsUsed, IsQuiet, Rests, AllRest, SyncsComeInTime, IsCalm};
-ghost use Rattle.gptp_scenario.specs.Change.{standing, is_at, system_changed, link_changed, system_acted, link_acted, system_after, link_after, live_after, joined_after};
+ghost use Rattle.gptp_scenario.specs.Change.{is_at, system_changed, link_changed, system_acted, link_acted, system_after, link_after, live_after, joined_after};
 ghost use Rattle.gptp_scenario.specs.Params.{KeepParams};
 ghost use Rattle.gptp_scenario.specs.InUse.{is_used, count_live, lives};
 ghost use Rattle.gptp_scenario.specs.SyncWait.{sync_paths};

@@ -1,12 +1,12 @@
 //! Networks.
 
-ghost use Rattle.std.specs.Prelude.{◌≡◌, ◌↔◌, ◌≤◌, ◌≤ℤ◌, ℤ, IsTrue, ◌&&◌, ◌||◌, true, false, length, OnOk, OnErr, IfOk, option_copied, slice_get, None, Some, IfErr};
+ghost use Rattle.std.specs.Prelude.{◌≡◌, ◌↔◌, ◌≤◌, ◌≤ℤ◌, ℤ, IsTrue, ◌&&◌, ◌||◌, true, false, length, OnOk, OnErr, IfOk, slice_get, None, Some, IfErr};
 ghost use Rattle.std.specs.List.{All, list_all, list_any};
 ghost use Rattle.std.specs.Option.{option_and_then, option_map};
 ghost use Rattle.gptp_lists.specs.Members.{In};
 ghost use Rattle.gptp_scenario.specs.Faults.{IsRefusal};
 ghost use Rattle.gptp_scenario.specs.Params.{is_log, params_fault};
-ghost use Rattle.gptp_scenario.specs.Network.{member, wire, without_members, with_system, with_link, logs_of, smallest_of, largest_of, is_member_in_range, is_member_timed, is_any_slower, is_wire_in_range, are_bounds_in_range, members_have_clock, has_port, is_taken, same_port, system_fault, link_fault, IsNetwork, IsMember, IsMemberTimed, IsPort, IsFree, IsNewClock, CanAddSystem, CanAddLink};
+ghost use Rattle.gptp_scenario.specs.Network.{member, wire, without_members, with_system, with_link, logs_of, smallest_of, largest_of, is_member_in_range, is_member_timed, is_any_slower, is_wire_in_range, are_bounds_in_range, members_have_clock, has_port, is_taken, system_fault, link_fault, IsNetwork, IsMember, IsMemberTimed, IsPort, IsFree, IsNewClock, CanAddSystem, CanAddLink};
 ghost use Rattle.gptp_links.specs.Bounds.{Fit};
 ghost use Rattle.gptp_scenario.specs.Calm.{IsCalm};
 ghost use Rattle.gptp_scenario.specs.Change.{joined_after, live_after};

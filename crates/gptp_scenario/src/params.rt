@@ -1,7 +1,7 @@
 //! The limits of what is the same for all systems.
 
-ghost use Rattle.std.specs.Prelude.{◌≡◌, ◌≤◌, true, None};
-ghost use Rattle.gptp_setup.specs.Intervals.{IsLog, interval_of};
+ghost use Rattle.std.specs.Prelude.{◌≡◌, true, None};
+ghost use Rattle.gptp_setup.specs.Intervals.{interval_of};
 ghost use Rattle.gptp_scenario.specs.Params.{is_log, are_in_range, are_intervals_in_range, are_counts_in_range, are_times_in_range, is_between, is_timed, AreInRange, KeepParams, params_fault};
 
 use crate::fault::NetworkFault;

@@ -1,6 +1,6 @@
 //! What Sync has to cross in a network, and for how long a settled system waits for it at most.
 
-ghost use Rattle.std.specs.Prelude.{◌≡◌, ◌<◌, ◌≤◌, ◌↔◌, ℕ, IsTrue, length, slice_get};
+ghost use Rattle.std.specs.Prelude.{◌≡◌, ◌<◌, ◌≤◌, ◌↔◌, IsTrue, length, slice_get};
 ghost use Rattle.std.specs.List.{count_by, list_any};
 ghost use Rattle.gptp_scenario.specs.InUse.{any_differ, far_clock, greatest_delay, leads_elsewhere, lives_between, neighbour, neighbours, path_systems, with_delay};
 ghost use Rattle.gptp_scenario.specs.Params.{KeepParams};

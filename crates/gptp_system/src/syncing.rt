@@ -1,6 +1,6 @@
 //! Time: what a Sync, a Follow_Up and the timers of both make of a system.
 
-ghost use Rattle.std.specs.Prelude.{◌≡◌, ◌==◌, ◌&&◌, ◌/◌, ◌^◌, ◌<◌, ◌≤◌, ◌++◌, ◌∷◌, [], None, nat_lt, length, pos, if◌then◌else◌, OkIff};
+ghost use Rattle.std.specs.Prelude.{◌≡◌, ◌==◌, ◌&&◌, ◌/◌, ◌<◌, ◌≤◌, ◌++◌, ◌∷◌, [], None, length, pos, if◌then◌else◌, OkIff};
 ghost use Rattle.std.specs.Option.{option_copied, option_map_or};
 ghost use Rattle.arrayvec.specs.ArrayVec.{array_vec_len};
 ghost use Rattle.gptp_correction.specs.Correction.{held_sum};
@@ -266,7 +266,7 @@ impl State {
     ghost use Rattle.gptp_setup.specs.Intervals.{IsMoment};
     ghost use Rattle.gptp_setup.specs.SettlingParams.{has_sync_timeout};
     ghost use Rattle.gptp_system.specs.Ready.{IsReady, state_of};
-    ghost use Rattle.gptp_system.specs.Syncing.{held_reading, is_followed, is_slave_at, is_leading, slave_delay, slave_rate, telling, told_by, HearsFollowUp, HearsSync, IsDropped, IsForgotten};
+    ghost use Rattle.gptp_system.specs.Syncing.{held_reading, is_followed, is_slave_at, slave_delay, slave_rate, telling, told_by, HearsFollowUp, HearsSync, IsDropped, IsForgotten};
     ghost use Rattle.gptp_system.specs.Syncing.{OffsetIsKnown, IsRefreshed, IsRelayed, IsSentOn, IsToldAtLimits, KnowsBy, RelayExpires, SyncExpires};
 
     /// All Master ports tell a time.

@@ -1,10 +1,10 @@
 //! How a system goes on with the time that it read where it becomes grandmaster.
 
-ghost use Rattle.std.specs.Prelude.{◌≡◌, ◌<ℤ◌, ◌≤ℤ◌, ◌&&◌, pos, if◌then◌else◌};
+ghost use Rattle.std.specs.Prelude.{◌≡◌, ◌≤ℤ◌, ◌&&◌, pos, if◌then◌else◌};
 ghost use Rattle.std.specs.List.{list_any};
 ghost use Rattle.gptp_pdelay.specs.Clock.{IsTime};
 ghost use Rattle.gptp_system.specs.State.{is_mine};
-ghost use Rattle.gptp_system.specs.Takeover.{base_to, can_go_on, reads_own, time_limit};
+ghost use Rattle.gptp_system.specs.Takeover.{base_to, can_go_on, reads_own};
 
 use crate::reading::TimeRead;
 use crate::state::State;

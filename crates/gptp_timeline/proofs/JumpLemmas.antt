@@ -3,7 +3,6 @@ use Rattle.std.proofs.Common.{◌≡◌, ℕ, ℤ, ◌-ℤ◌, Option, Some, opt
 use Rattle.gptp_model.specs.World.{WorldState}
 use Rattle.gptp_timeline.specs.Jumps.{error_before, jump_of}
 use Rattle.gptp_timeline.specs.Readings.{clock_time, read_by, reading_error, source_time, step_of}
-use Rattle.gptp_timeline.specs.declared.readings.Jump.{Jump}
 use Rattle.gptp_timeline.specs.declared.readings.KeptReading.{KeptReading}
 use Rattle.gptp_timeline.specs.declared.readings.NewReading.{NewReading}
 

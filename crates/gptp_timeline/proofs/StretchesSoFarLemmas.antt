@@ -8,7 +8,6 @@ use Rattle.gptp_timeline.specs.Readings.{readings_after}
 use Rattle.gptp_timeline.specs.Stretch.{waits}
 use Rattle.gptp_timeline.specs.Timeline.{all_exceeded, Carried, carry, StretchTrace, stretch_of}
 use Rattle.gptp_timeline.specs.declared.ends.StretchesSoFar.{StretchesSoFar}
-use Rattle.gptp_timeline.specs.declared.limits.Limit.{Limit}
 use Rattle.gptp_timeline.specs.declared.limits.Limits.{Limits}
 use Rattle.gptp_timeline.specs.declared.readings.SystemReading.{SystemReading}
 use Rattle.gptp_timeline.proofs.AsideLemmas.{nobody_acts, nobody_begins, nobody_over}

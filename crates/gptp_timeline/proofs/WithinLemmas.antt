@@ -1,5 +1,5 @@
 -- Errors of receipts are within the bounds that time errors say.
-use Rattle.std.proofs.Common.{◌≡◌, ◌≤◌, ◌<◌, ◌+◌, ◌*◌, ◌^◌, ◌-ℤ◌, ℕ, zero, suc, ℤ, Bool, true, List, [], ◌∷◌, ◌++◌, nat_le, Option, Some, None, option_map, option_and_then, unsigned_abs, inl, inr, refl, sym, ap, subst, ◌∙◌, append_assoc, append-nil, arith}
+use Rattle.std.proofs.Common.{◌≡◌, ◌≤◌, ◌<◌, ◌+◌, ◌*◌, ◌^◌, ◌-ℤ◌, ℕ, zero, suc, ℤ, Bool, true, List, [], ◌∷◌, ◌++◌, nat_le, Option, Some, None, option_map, option_and_then, unsigned_abs, refl, sym, ap, subst, ◌∙◌, append_assoc, append-nil, arith}
 use Rattle.std.specs.List.{AllByRecursion}
 use Rattle.std.proofs.Math.Nat.{le_refl, mul-le-mul}
 use Rattle.std.proofs.lemmas.Int.{ints}

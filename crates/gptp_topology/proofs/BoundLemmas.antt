@@ -12,7 +12,7 @@ use Rattle.gptp_vector.specs.declared.port.PortId.{PortId}
 use Rattle.gptp_scenario.specs.Allowed.{AreAllowed}
 use Rattle.gptp_scenario.specs.Calm.{AllRest, IsCalm, Rests}
 use Rattle.gptp_scenario.specs.Change.{link_after, system_after}
-use Rattle.gptp_scenario.specs.InUse.{any_differ, far_clock, greatest_delay, lives, neighbour, neighbours, path_systems}
+use Rattle.gptp_scenario.specs.InUse.{any_differ, greatest_delay, lives, neighbours, path_systems}
 use Rattle.gptp_scenario.specs.InUse as plans
 use Rattle.gptp_scenario.specs.Network.{IsNetwork, IsPort, NetworkState, pace_of}
 use Rattle.gptp_scenario.specs.SettlingTime.{settling_span, settling_span_with}

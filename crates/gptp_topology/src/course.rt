@@ -1,7 +1,7 @@
 //! How one link stands at each time.
 
 ghost use Rattle.std.specs.Prelude.{◌≡◌, ◌++◌, ◌∷◌, ◌<◌, ◌+◌, [], IfOk, OnOk, drop, length, map, take};
-ghost use Rattle.gptp_scenario.specs.Change.{is_at, link_acted, link_changed, system_acted, system_changed};
+ghost use Rattle.gptp_scenario.specs.Change.{is_at, link_acted, link_changed, system_changed};
 ghost use Rattle.gptp_topology.specs.Course.{acted, course_at_time, cable_of, course_from, first, is_cable_end, is_link_named, names_link, cable_is_used, lives_acted, named, named_by, names_of, naming, past, cable_wire};
 
 use gptp_links::Bounds;

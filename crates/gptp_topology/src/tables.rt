@@ -1,8 +1,7 @@
 //! How the systems and the links of a network stand, by place, as its events come, and what bounds its settling then.
 
-ghost use Rattle.std.specs.Prelude.{◌≡◌, ◌≤◌, ◌+◌, map, length, IfOk, OnOk};
+ghost use Rattle.std.specs.Prelude.{◌≡◌, ◌≤◌, ◌+◌, map, length, IfOk};
 ghost use Rattle.std.specs.List.{count_by, list_any};
-ghost use Rattle.gptp_scenario.specs.Network.{NetworkState};
 ghost use Rattle.gptp_topology.specs.Course.{first, cable_wire, named};
 ghost use Rattle.gptp_topology.specs.Tables.{TablesActed, AreFirstTables, AreMarked, acted_along, acted_at, are_calm, bound_of, cables_of, delay_in_use, crossing_delay, first_used, greatest_used, late_of, link_named, marked_elsewhere, leads_to_two, marked_between, mark_of, may_lapse, marked_path_bound, marked_paths, named_there, neighbours_at, paths_of, used_at};
 

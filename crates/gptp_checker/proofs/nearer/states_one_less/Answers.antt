@@ -1,4 +1,4 @@
-use Rattle.std.proofs.Common.{◌+◌, ap, sym, eq-eqb, ◌∙◌, arith}
+use Rattle.std.proofs.Common.{◌+◌, eq-eqb, arith}
 use Rattle.std.proofs.lemmas.Bool.{eqb-true}
 use Rattle.gptp_checker.proofs.StatedLemmas.{same_number}
 use Rattle.gptp_checker.proofs.nearer.states_one_less.Goals as goal

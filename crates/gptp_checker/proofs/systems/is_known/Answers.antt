@@ -1,10 +1,9 @@
-use Rattle.std.proofs.Common.{◌≡◌, Some, slice_get, sym, subst, ◌∙◌}
+use Rattle.std.proofs.Common.{◌≡◌, sym, subst, ◌∙◌}
 use Rattle.gptp_certificate_text.specs.Certificate.{line_of}
 use Rattle.gptp_graph.specs.Snapshot.{System}
 use Rattle.gptp_lists.proofs.MappedLemmas.{some_same}
 use Rattle.gptp_lists.proofs.SystemSpecLemmas.{In-slice_get, slice_get-In}
 use Rattle.gptp_network.specs.Snapshot.{system_of}
-use Rattle.gptp_checker.specs.Located.{HasAllPorts}
 use Rattle.gptp_checker.specs.Places.{IsSystemAt}
 use Rattle.gptp_checker.proofs.LocatedLemmas.{known_by}
 use Rattle.gptp_checker.proofs.systems.is_known.Goals as goal

@@ -1,4 +1,4 @@
-use Rattle.std.proofs.Common.{◌∙◌, subst, sym}
+use Rattle.std.proofs.Common.{subst, sym}
 use Rattle.gptp_graph.specs.SettledChoice.{IsBestIdentity}
 use Rattle.gptp_components.proofs.ComponentLemmas.{one_best, reaches_by_best, same_best}
 use Rattle.gptp_components.proofs.laws.one_component.Goals as goal

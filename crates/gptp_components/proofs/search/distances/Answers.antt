@@ -1,4 +1,4 @@
-use Rattle.std.proofs.Common.{◌≡◌, ◌∙◌, length, subst, sym, arith}
+use Rattle.std.proofs.Common.{◌∙◌, subst, sym, arith}
 use Rattle.gptp_components.specs.Search.{AreAllFound}
 use Rattle.gptp_components.proofs.RankedLemmas.{all_by_rank, found_nothing}
 use Rattle.gptp_components.proofs.search.distances.Goals as goal

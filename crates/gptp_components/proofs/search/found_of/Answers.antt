@@ -1,5 +1,3 @@
-use Rattle.std.proofs.Common.{Option, Some, None, IfNone, slice_get, ◌≡◌, subst}
-use Rattle.gptp_components.specs.declared.distance.Distance.{Distance}
 use Rattle.gptp_components.proofs.FoundLemmas.{unfound_there}
 use Rattle.gptp_components.proofs.search.found_of.Goals as goal
 

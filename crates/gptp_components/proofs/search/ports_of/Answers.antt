@@ -2,7 +2,7 @@ use Rattle.std.proofs.Common.{◌≡◌, ◌∙◌, ap, sym}
 use Rattle.std.proofs.lemmas.Option.{same_Some}
 use Rattle.gptp_lists.proofs.SystemSpecLemmas.{In-slice_get}
 use Rattle.gptp_graph.specs.Snapshot.{System}
-use Rattle.gptp_graph.proofs.SystemLemmas.{In-clocks, same_clock}
+use Rattle.gptp_graph.proofs.SystemLemmas.{same_clock}
 use Rattle.gptp_network.specs.Snapshot.{system_of}
 use Rattle.gptp_components.proofs.FoundLemmas.{place_of_system}
 use Rattle.gptp_components.proofs.search.ports_of.Goals as goal

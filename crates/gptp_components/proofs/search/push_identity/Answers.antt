@@ -1,4 +1,4 @@
-use Rattle.std.proofs.Common.{◌≡◌, ◌∙◌, sym}
+use Rattle.std.proofs.Common.{◌∙◌, sym}
 use Rattle.gptp_network.specs.Snapshot.{system_of}
 use Rattle.gptp_components.proofs.RankedLemmas.{identities_more, no_gap}
 use Rattle.gptp_components.proofs.search.push_identity.Goals as goal

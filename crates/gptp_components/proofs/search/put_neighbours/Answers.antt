@@ -1,4 +1,4 @@
-use Rattle.std.proofs.Common.{◌≡◌, ◌+◌, ◌∙◌, arith}
+use Rattle.std.proofs.Common.{◌∙◌, arith}
 use Rattle.gptp_components.proofs.SpreadLemmas.{spread_at, spread_done}
 use Rattle.gptp_components.proofs.search.put_neighbours.Goals as goal
 

@@ -1,4 +1,4 @@
-use Rattle.std.proofs.Common.{◌≡◌, ◌∙◌, ◌++◌, ◌∷◌, [], length, refl, subst, sym, take}
+use Rattle.std.proofs.Common.{◌∙◌, [], length, refl, subst, sym, take}
 use Rattle.std.proofs.lemmas.Option.{slice_get_read}
 use Rattle.gptp_lists.proofs.MappedLemmas.{taken}
 use Rattle.gptp_lists.proofs.SystemSpecLemmas.{In-slice_get}

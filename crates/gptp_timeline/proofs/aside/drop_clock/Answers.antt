@@ -1,4 +1,4 @@
-use Rattle.std.proofs.Common.{◌==◌, ◌∙◌, filter, not, rules, sym, ap}
+use Rattle.std.proofs.Common.{◌==◌, ◌∙◌, not, rules, sym, ap}
 use Rattle.std.proofs.lemmas.Fn.{filter_same}
 use Rattle.gptp_timeline.specs.Aside.{without_clock}
 use Rattle.gptp_timeline.proofs.aside.drop_clock.Goals as goal

@@ -1,4 +1,4 @@
-use Rattle.std.proofs.Common.{◌≡◌, refl, subst, sym}
+use Rattle.std.proofs.Common.{refl, subst, sym}
 use Rattle.gptp_timeline.specs.Watch.{WatchedRise, WatchState}
 use Rattle.gptp_timeline.proofs.PlaceLemmas.{placed_there}
 use Rattle.gptp_timeline.proofs.watch.Watch.place_of.Goals as goal
