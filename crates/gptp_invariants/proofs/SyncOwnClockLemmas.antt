@@ -43,7 +43,7 @@ base_stays input now s s' off (inr (inr (sync, restarts))) = restarts.base ∙ b
         ∙ never (takes_over s)
 
 -- what every act keeps
-KeepsAsSetUp : WorldState → WorldState → Type 0
+abbrev KeepsAsSetUp : WorldState → WorldState → Type 0
 KeepsAsSetUp w w' = TellAsSetUp w → TellAsSetUp w'
 
 called : (place : ℕ) (input : Input) (w : WorldState) (draws : List Draw) (answer : Answer) (w' : WorldState)
@@ -63,7 +63,7 @@ called place input w draws answer w' k so =
 keeps : Elementary KeepsAsSetUp
 keeps = record {
   same = λ w so. so;
-  on = λ u v w first then so. then (first so);
+  on = λ u v w first second so. second (first so);
   called = called;
   taken = λ link direction octets channel w net k so. so;
   stopped = λ place timer w so. so;

@@ -52,25 +52,26 @@ module _ (So : WorldState → WorldState → Type 0) (e : Elementary So) where
   stays : (w w' : WorldState) → w' ≡ w → So w w'
   stays w w' is = subst (So w) (sym is) (e.same w)
 
-  pub called_if_live : (place : ℕ) (input : Input) (w : WorldState) (draws : List Draw) (w' : WorldState)
+  called_if_live : (place : ℕ) (input : Input) (w : WorldState) (draws : List Draw) (w' : WorldState)
       → CallsIfLive place input w draws w' → So w w'
   called_if_live place input w draws w' (inl (answer, calls)) = e.called place input w draws answer w' calls
   called_if_live place input w draws w' (inr (failed, none, is)) = stays w w' is
 
-  pub told : (input : ℕ → Input) (channel : Channel) (w : WorldState) (draws : List Draw) (w' : WorldState)
+  told : (input : ℕ → Input) (channel : Channel) (w : WorldState) (draws : List Draw) (w' : WorldState)
       → TellsEnds input channel w draws w' → So w w'
   told input channel w draws w' k =
       e.on w k.between w' (called_if_live k.place_a (input channel.a.port) w k.first k.between k.at_a)
       (called_if_live k.place_b (input channel.b.port) k.between k.second w' k.at_b)
 
-  pub called_all : (place : ℕ) (inputs : List Input) (w : WorldState) (draws : List Draw) (w' : WorldState)
+  called_all : (place : ℕ) (inputs : List Input) (w : WorldState) (draws : List Draw) (w' : WorldState)
       → CallsAll place inputs w draws w' → So w w'
   called_all place [] w draws w' (none, is) = stays w w' is
   called_all place (input ∷ inputs) w draws w' (first, rest, between, answer, is, calls, more) =
       e.on w between w' (e.called place input w first answer between calls)
       (called_all place inputs between rest w' more)
 
-  pub started_by : (place : ℕ) (w : WorldState) (draws : List Draw) (w' : WorldState) → Starts place w draws w' → So w w'
+  started_by : (place : ℕ) (w : WorldState) (draws : List Draw) (w' : WorldState) → Starts place w draws w'
+      → So w w'
   started_by place w draws w' k =
       let new : Station = fresh w.time k.station in
       let begun : WorldState = record (with_station place new w) { net = all_timers place new w.net } in
@@ -83,26 +84,26 @@ module _ (So : WorldState → WorldState → Type 0) (e : Elementary So) where
   started_all (place ∷ places) w draws w' (first, rest, between, is, one, more) =
       e.on w between w' (started_by place w first between one) (started_all places between rest w' more)
 
-  pub gone_down : (up : Bool) (place : ℕ) (channel : Channel) (w : WorldState) (draws : List Draw) (w' : WorldState)
+  gone_down : (up : Bool) (place : ℕ) (channel : Channel) (w : WorldState) (draws : List Draw) (w' : WorldState)
       → slice_get w.net.channels place ≡ Some channel → GoesDownIf up place channel w draws w' → So w w'
   gone_down false place channel w draws w' here k = stays w w' k.1
   gone_down true place channel w draws w' here k =
       let down : WorldState = record w { net = taken_down place channel w.net } in
       e.on w down w' (e.downed place channel w here) (told PortDown channel down draws w' k)
 
-  pub come_up : (up : Bool) (place : ℕ) (channel : Channel) (w : WorldState) (draws : List Draw) (w' : WorldState)
+  come_up : (up : Bool) (place : ℕ) (channel : Channel) (w : WorldState) (draws : List Draw) (w' : WorldState)
       → slice_get w.net.channels place ≡ Some channel → ComesUpIf up place channel w draws w' → So w w'
   come_up true place channel w draws w' here k = stays w w' k.1
   come_up false place channel w draws w' here k =
       let up : WorldState = record w { net = brought_up place channel w.net } in
       e.on w up w' (e.upped place channel w here) (told PortUp channel up draws w' k)
 
-  pub failed_if : (live : Bool) (place : ℕ) (station : Station) (w : WorldState) (draws : List Draw) (w' : WorldState)
+  failed_if : (live : Bool) (place : ℕ) (station : Station) (w : WorldState) (draws : List Draw) (w' : WorldState)
       → slice_get w.stations place ≡ Some station → FailsIf live place station w draws w' → So w w'
   failed_if true place station w draws w' here k = subst (So w) (sym k.1) (e.fails place station w here)
   failed_if false place station w draws w' here k = stays w w' k.1
 
-  pub recovered_if : (live : Bool) (place : ℕ) (w : WorldState) (draws : List Draw) (w' : WorldState)
+  recovered_if : (live : Bool) (place : ℕ) (w : WorldState) (draws : List Draw) (w' : WorldState)
       → RecoversIf live place w draws w' → So w w'
   recovered_if true place w draws w' k = stays w w' k.1
   recovered_if false place w draws w' k = started_by place w draws w' k
@@ -112,7 +113,7 @@ module _ (So : WorldState → WorldState → Type 0) (e : Elementary So) where
   injected_if true from octets w draws w' k = e.injected from octets w draws w' k
   injected_if false from octets w draws w' k = stays w w' k.1
 
-  pub changed : (change : Change) (w : WorldState) (draws : List Draw) (w' : WorldState) → Changes change w draws w'
+  changed : (change : Change) (w : WorldState) (draws : List Draw) (w' : WorldState) → Changes change w draws w'
       → So w w'
   changed (LinkDown number port) w draws w' k = gone_down k.channel.up k.place k.channel w draws w' k.is.here k.so
   changed (LinkUp number port) w draws w' k = come_up k.channel.up k.place k.channel w draws w' k.is.here k.so
@@ -132,14 +133,14 @@ module _ (So : WorldState → WorldState → Type 0) (e : Elementary So) where
   heard place port octets w draws (Some answer) w' k = e.called place (FrameHeard port octets) w draws answer w' k
   heard place port octets w draws None w' k = stays w w' k.2
 
-  pub delivered : (link : ℕ) (direction : Direction) (octets : List ℕ) (w : WorldState) (draws : List Draw)
+  delivered : (link : ℕ) (direction : Direction) (octets : List ℕ) (w : WorldState) (draws : List Draw)
       (answer : Option Answer) (w' : WorldState) → Delivers link direction octets w draws answer w' → So w w'
   delivered link direction octets w draws answer w' k =
       let taken : WorldState = record w { net = k.net } in
       e.on w taken w' (e.taken link direction octets k.channel w k.net k.takes)
       (heard k.place (receiver direction k.channel).port octets taken draws answer w' k.hears)
 
-  pub expired : (place : ℕ) (timer : Timer) (w : WorldState) (draws : List Draw) (w' : WorldState)
+  expired : (place : ℕ) (timer : Timer) (w : WorldState) (draws : List Draw) (w' : WorldState)
       → TimerRunsOut place timer w draws w' → So w w'
   expired place timer w draws w' k =
       let at : WorldState =
