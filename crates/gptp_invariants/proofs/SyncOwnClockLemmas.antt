@@ -90,8 +90,8 @@ pub own_begins : {F : Type 0} (answers : Bounds → ℕ → F → Option ℕ →
 own_begins answers n fate fate_after w k =
     started_all KeepsAsSetUp keeps (range_with_len 0 (length n.systems)) (initial n) k.draws w k.starts
     (λ place station here.
-        let (member, there, is) = mapped (station_of (pace_of n)) n.systems place station here in
-        subst TellsAsSetUp is (record { continues = refl; own = λ off. refl }))
+    let (member, there, is) = mapped (station_of (pace_of n)) n.systems place station here in
+    subst TellsAsSetUp is (record { continues = refl; own = λ off. refl }))
 
 -- and stays so
 pub own_kept : {F : Type 0} (answers : Bounds → ℕ → F → Option ℕ → F → Type 0) (timed : Timed) (fate fate_after : F)

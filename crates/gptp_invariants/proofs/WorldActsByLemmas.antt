@@ -42,7 +42,7 @@ pub record Elementary (So : WorldState → WorldState → Type 0) : Type 0 where
       → So w (with_station place (with_setup value station) w)
   pub renewed : (place : ℕ) (station : Station) (w : WorldState) → slice_get w.stations place ≡ Some station
       → So w (record (with_station place (fresh w.time station) w) {
-        net = all_timers place (fresh w.time station) w.net
+        net = all_timers place (fresh w.time station) w.net;
       })
   pub injected : (from : PortId) (octets : List ℕ) (w : WorldState) (draws : List Draw) (w' : WorldState)
       → Injects from octets w draws w' → So w w'

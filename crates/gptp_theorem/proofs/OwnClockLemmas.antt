@@ -14,7 +14,7 @@ pub own_told : StandsTelling
 own_told n events w place m station time so all there here off =
     let after = shape_after (pace_of n) events in
     let same = some_same (shape station) (after m)
-        (sym (mapped_there shape w.stations place station here) ∙ ap (λ shapes. slice_get shapes place) so.systems
-        ∙ mapped_there after n.systems place m there) in
+    (sym (mapped_there shape w.stations place station here) ∙ ap (λ shapes. slice_get shapes place) so.systems
+    ∙ mapped_there after n.systems place m there) in
     without_base (local_time station.system time) station.system.base
     ((all.own place station here).own (ap (λ (x : Shape). x.setup.continues) same ∙ off))
