@@ -154,6 +154,7 @@ def full_of_events(count):
 def files():
     """The text of each file, by its name."""
     return {
+        "line_of_5.toml": line(5, ""),
         "line_of_9.toml": line(9),
         "line_of_300.toml": line(300),
         "line_of_257_that_breaks.toml": line_that_breaks(),
@@ -180,6 +181,7 @@ def files():
         "1048580_line_feeds": "\n" * 1_048_580,
         "full_of_events.toml": full_of_events(4093),
         "two_events_left.toml": full_of_events(4094),
+        "four_events_left.toml": full_of_events(4092),
         "largest.toml": largest(),
         "largest.linted": largest_linted(),
     }
