@@ -31,7 +31,8 @@ pub(crate) fn delays_at(
     ensures { (w : LinkSpec) → In w network.now.links → IsEnd (record { clock = clock; port = port }) w
         → HasDelays network.now events.now clock port result.0 result.1 }
 {
-    let _ = (network, events);
+    let _ = network;
+    let _ = events;
     let own = PortId { clock, port };
     for standing in standings {
         if is_at(&standing.cable, &own) {

@@ -6,5 +6,4 @@ use Rattle.gptp_accuracy.proofs.delays.delays_at.Given as goal
 
 abbrev pub invariant-loop-standing : goal.invariant-loop-standing
 invariant-loop-standing l =
-    (k : ℕ) (w : LinkSpec) → k < l.standing-index → slice_get l.network.links k ≡ Some w
-    → IsEnd (record { clock = l.clock; port = l.port }) w → ⊥
+    (k : ℕ) (w : LinkSpec) → k < l.standing-index → slice_get l.network.links k ≡ Some w → IsEnd l.own w → ⊥
