@@ -1,6 +1,7 @@
 pub mod Ways
 pub mod Readings
 pub mod Sums
+pub mod Tables
 pub mod Passing
 pub mod Settlings
 pub mod TimeErrors

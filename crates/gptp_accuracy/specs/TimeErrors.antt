@@ -6,10 +6,12 @@ use Rattle.gptp_graph.specs.Distance.{IsDistance}
 use Rattle.gptp_graph.specs.Labelling.{SystemLine, line_clocks}
 use Rattle.gptp_graph.specs.SettledChoice.{IsBestIdentity}
 use Rattle.gptp_graph.specs.Snapshot.{Snapshot, IsWellFormed, clocks}
+use Rattle.gptp_setup.specs.declared.setup.Params.{Params}
 use Rattle.gptp_scenario.specs.Calm.{IsCalm, last_change}
 use Rattle.gptp_scenario.specs.Network.{NetworkState}
 use Rattle.gptp_scenario.specs.SyncWait.{sync_paths, sync_wait}
 use Rattle.gptp_scenario.specs.declared.change.Timed.{Timed}
+use Rattle.gptp_scenario.specs.declared.sync_wait.SyncPaths.{SyncPaths}
 use Rattle.gptp_network.specs.Document.{DocumentState}
 use Rattle.gptp_network.specs.Snapshot.{IsSnapshot, events_by}
 use Rattle.gptp_error_laws.specs.TimeError.{Way, time_error}
@@ -34,9 +36,11 @@ exact_from d until =
 
 -- How old the last receipt of a system is at most, from when on a network that is calm then has settled: for how long
 -- it waits for the next. It is known where what the Slave port holds lapses for want of Sync.
+abbrev pub age_over : Params → SyncPaths → Bool → Option ℕ
+age_over p paths calm = if calm && not (p.sync_timeout == 0) then Some (sync_wait p paths) else None
+
 abbrev pub greatest_age : NetworkState → List Timed → Bool → Option ℕ
-greatest_age n events calm =
-    if calm && not (n.params.sync_timeout == 0) then Some (sync_wait n.params (sync_paths n events)) else None
+greatest_age n events calm = age_over n.params (sync_paths n events) calm
 
 -- What a system that follows this root over so many steps has by its way. It has none where the network isn't calm, the
 -- system is far, or its root can't be grandmaster.

@@ -1,12 +1,10 @@
 -- The way to a system: the links over which it gets time, from the best of its component down.
-use Rattle.std.specs.Prelude.{◌≡◌, ℕ, zero, suc, ℤ, true, List, []}
+use Rattle.std.specs.Prelude.{◌≡◌, ℕ, zero, suc, ℤ, List, []}
 use Rattle.gptp_lists.specs.Members.{In}
 use Rattle.gptp_graph.specs.Distance.{IsDistance}
 use Rattle.gptp_graph.specs.Parent.{ParentLink, IsParent}
 use Rattle.gptp_graph.specs.Snapshot.{Snapshot}
-use Rattle.gptp_vector.specs.declared.port.PortId.{PortId}
 use Rattle.gptp_roles.specs.Selection.{clock_of}
-use Rattle.gptp_links.specs.declared.bounds.Bounds.{Bounds}
 use Rattle.gptp_setup.specs.Intervals.{interval_of}
 use Rattle.gptp_setup.specs.declared.setup.Params.{Params}
 use Rattle.gptp_scenario.specs.Change.{link_after}
@@ -23,10 +21,6 @@ pub record HasDrift (n : NetworkState) (clock : ℕ) (drift : ℤ) : Type 0 wher
   pub there : In system n.systems
   pub is : clock_of system.identity ≡ clock
   pub drift_is : drift ≡ system.drift
-
--- a link that is up, with these ports and bounds
-abbrev pub unbroken : PortId → PortId → Bounds → LinkSpec
-unbroken a b bounds = record { a = a; b = b; bounds = bounds; up = true }
 
 -- these are the delays of the link at a port, as they are in force after the events
 pub record HasDelays (n : NetworkState) (events : List Timed) (clock port least most : ℕ) : Type 0 where

@@ -3,23 +3,23 @@
 ghost use Rattle.std.specs.Prelude.{◌≡◌, ◌+◌, ◌≤◌, ◌<◌, false, length, IfOk, OnOk};
 ghost use Rattle.gptp_scenario.specs.Allowed.{AreAllowed};
 ghost use Rattle.gptp_scenario.specs.Calm.{last_change};
-ghost use Rattle.gptp_network.specs.Events.{AreInOrder};
 ghost use Rattle.gptp_network.specs.Snapshot.{events_by};
 ghost use Rattle.gptp_certificate_text.specs.Certificate.{line_of};
 ghost use Rattle.gptp_accuracy.specs.Passing.{AreNearWithin};
 ghost use Rattle.gptp_accuracy.specs.Settlings.{AreTimesOf};
 ghost use Rattle.gptp_accuracy.specs.Sums.{SumsAreWithin, terms_of};
-ghost use Rattle.gptp_accuracy.specs.TimeErrors.{AreEntries, AreTimeErrors, IsSystemOf, if_promised, exact_from, greatest_age};
+ghost use Rattle.gptp_accuracy.specs.TimeErrors.{AreEntries, AreTimeErrors, IsSystemOf, age_over, exact_from, if_promised};
 
 use crate::reading::ReadingError;
 use crate::settlings::settling_of;
 use crate::sums::Sums;
+use crate::tables::tables_after;
 use crate::ways::sums_of_all;
 use gptp_certificate_text::{Certificate, SystemLine};
 use gptp_choice::settled_choice;
 use gptp_how_soon::{SettlingTime, settling_times};
 use gptp_network::Document;
-use gptp_scenario::{Network, Timed};
+use gptp_scenario::{Network, SyncPaths, Timed};
 use gptp_vector::{ClockId, Identity};
 use std::alloc::{AllocError, Global};
 
@@ -71,11 +71,13 @@ pub struct TimeErrors {
     pub systems: Vec<SystemError>,
 }
 
-/// The events with time up to a time.
-fn events_by(events: &[Timed], until: u64) -> &[Timed]
-    requires { AreInOrder events.now }
-    ensures { result.now ≡ events_by until events.now }
+/// The events of a document with time up to a time.
+fn events_by(document: &Document, until: u64) -> &[Timed]
+    ensures events { result.now ≡ events_by until document.now.events }
+    ensures allowed { AreAllowed result.now }
 {
+    document.well_formed();
+    let events = document.events();
     let count = events.partition_point(|event| event.at <= until);
     &events[..count]
 }
@@ -99,22 +101,22 @@ pub fn exact_from(document: &Document, times: &[SettlingTime], until: u64) -> Op
     requires { AreTimesOf document.now times.now }
     ensures { result ≡ exact_from document.now until }
 {
-    document.well_formed();
-    let events = events_by(document.events(), until);
+    let events = events_by(document, until);
     match settling_of(times, last_change(events)) {
         Some(settling) => Some(settling.exact_from),
         None => None,
     }
 }
 
-/// How old the last receipt of a system is at most after these events, once the network has settled, in ns.
-fn greatest_age(network: &Network, events: &[Timed], calm: bool) -> Option<u64>
-    requires { AreAllowed events.now }
-    ensures { result ≡ greatest_age network.now events.now calm }
+/// How old the last receipt of a system is at most, once the network has settled, in ns, where Sync has these paths to
+/// cross.
+fn greatest_age(network: &Network, paths: SyncPaths, calm: bool) -> Option<u64>
+    requires few { paths.systems ≤ 512 }
+    requires short { paths.delay ≤ 16000000000 }
+    ensures { result ≡ age_over network.now.params paths calm }
 {
-    network.well_formed();
     if calm && network.params().sync_timeout != 0 {
-        Some(network.sync_wait(network.sync_paths(events)))
+        Some(network.sync_wait(paths))
     } else {
         None
     }
@@ -209,21 +211,23 @@ pub fn time_errors_among(
     requires { AreTimesOf document.now times.now }
     ensures { IfOk result (AreTimeErrors document.now until) }
 {
-    document.well_formed();
     let network = document.network();
-    let events = events_by(document.events(), until);
+    let events = events_by(document, until);
     let snapshot = document.snapshot(alloc, until)?;
     let certificate = settled_choice(alloc, &snapshot)?;
     snapshot.well_formed();
     certificate.well_formed();
-    let calm = network.is_calm(events);
-    let sums = sums_of_all(alloc, network, events, &snapshot, &certificate)?;
+    let tables = tables_after(alloc, network, events)?;
+    let paths = tables.sync_paths();
+    let calm = tables.is_calm(network, paths);
+    let standings = tables.standings.as_slice();
+    let sums = sums_of_all(alloc, network, events, standings, &snapshot, &certificate)?;
     let systems = systems_of(alloc, calm, &certificate, &sums)?;
     let from = exact_from(document, times, until);
     Ok(TimeErrors {
         time: last_change(events),
         from,
-        age: greatest_age(network, events, from.is_some()),
+        age: greatest_age(network, paths, from.is_some()),
         systems,
     })
 }

@@ -14,6 +14,7 @@ mod options;
 mod reading;
 mod settlings;
 mod sums;
+mod tables;
 mod text;
 mod ways;
 

@@ -12,6 +12,7 @@ ghost use Rattle.gptp_scenario.specs.declared.network.SystemSpec.{SystemSpec};
 ghost use Rattle.gptp_scenario.specs.declared.network.LinkSpec.{LinkSpec};
 ghost use Rattle.gptp_network.specs.Snapshot.{StandsAfter};
 ghost use Rattle.gptp_network.specs.SnapshotTables.{HasClock};
+ghost use Rattle.gptp_how_soon.specs.Links.{standings_after};
 ghost use Rattle.gptp_certificate_text.specs.Certificate.{line_of};
 ghost use Rattle.gptp_accuracy.specs.Passing.{AreBySteps, ArePlaces, IsDoneAt, IsParentDone, IsSummedUp};
 ghost use Rattle.gptp_accuracy.specs.Ways.{HasDelays, HasDrift};
@@ -22,6 +23,7 @@ use crate::sums::{Link, Sums};
 use gptp_certificate_text::{Certificate, SystemLine};
 use gptp_network::Snapshot;
 use gptp_scenario::{Network, Timed};
+use gptp_topology::Standing;
 use gptp_vector::ClockId;
 use std::alloc::{AllocError, Global};
 
@@ -75,13 +77,20 @@ fn sums_of(snapshot: &Snapshot, sums: &[Sums], clock: ClockId) -> Sums
 }
 
 /// The link of a way at a port of a system.
-fn link_to(network: &Network, events: &[Timed], clock: ClockId, port: u16) -> Link
+fn link_to(
+    network: &Network,
+    events: &[Timed],
+    standings: &[Standing],
+    clock: ClockId,
+    port: u16,
+) -> Link
+    requires { standings.now ≡ standings_after network.now events.now }
     ensures delays { (w : LinkSpec) → In w network.now.links → IsEnd (record { clock = clock; port = port }) w
         → HasDelays network.now events.now clock port result.least result.most }
     ensures drift { (m : SystemSpec) → In m network.now.systems → clock_of m.identity ≡ clock
         → HasDrift network.now clock result.drift }
 {
-    let (least, most) = delays_at(network, events, clock, port);
+    let (least, most) = delays_at(network, events, standings, clock, port);
     Link {
         least,
         most,
@@ -93,10 +102,12 @@ fn link_to(network: &Network, events: &[Timed], clock: ClockId, port: u16) -> Li
 fn sums_to(
     network: &Network,
     events: &[Timed],
+    standings: &[Standing],
     snapshot: &Snapshot,
     sums: &[Sums],
     line: &SystemLine,
 ) -> Sums
+    requires links { standings.now ≡ standings_after network.now events.now }
     requires stands { StandsAfter network.now events.now snapshot.now }
     requires allowed { AreAllowed events.now }
     requires settled { IsSettledLine snapshot.now (line_of line.now) }
@@ -109,7 +120,7 @@ fn sums_to(
     snapshot.well_formed();
     match line.parent {
         Some((port, there)) => sums_of(snapshot, sums, there.clock).behind(
-            &link_to(network, events, line.clock, port),
+            &link_to(network, events, standings, line.clock, port),
             &network.params(),
         ),
         None => Sums::at_root(drift_of(network, line.clock)),
@@ -121,10 +132,12 @@ fn sum_up(
     sums: &mut Vec<Sums>,
     network: &Network,
     events: &[Timed],
+    standings: &[Standing],
     snapshot: &Snapshot,
     certificate: &Certificate,
     place: usize,
 )
+    requires links { standings.now ≡ standings_after network.now events.now }
     requires stands { StandsAfter network.now events.now snapshot.now }
     requires allowed { AreAllowed events.now }
     requires choice { IsSettledChoice snapshot.now certificate.now.lines }
@@ -137,7 +150,7 @@ fn sum_up(
 {
     certificate.well_formed();
     if let Some(line) = certificate.line(place) {
-        let to = sums_to(network, events, snapshot, sums, line);
+        let to = sums_to(network, events, standings, snapshot, sums, line);
         sums[place] = to;
     }
 }
@@ -153,15 +166,17 @@ fn no_sums(alloc: Global, count: usize) -> Result<Vec<Sums>, AllocError>
     Ok(sums)
 }
 
-/// What is summed up on the way to each system of a certificate, by its place. In one pass from the roots down: each
-/// way is that of the parent, and one link more.
+/// What is summed up on the way to each system of a certificate, by its place, where the links of the network stand so
+/// after these events. In one pass from the roots down: each way is that of the parent, and one link more.
 pub(crate) fn sums_of_all(
     alloc: Global,
     network: &Network,
     events: &[Timed],
+    standings: &[Standing],
     snapshot: &Snapshot,
     certificate: &Certificate,
 ) -> Result<Vec<Sums>, AllocError>
+    requires links { standings.now ≡ standings_after network.now events.now }
     requires stands { StandsAfter network.now events.now snapshot.now }
     requires allowed { AreAllowed events.now }
     requires choice { IsSettledChoice snapshot.now certificate.now.lines }
@@ -174,7 +189,15 @@ pub(crate) fn sums_of_all(
     let mut sums = no_sums(alloc, certificate.len())?;
     let places = places_by_steps(alloc, certificate)?;
     for (_, place) in &places {
-        sum_up(&mut sums, network, events, snapshot, certificate, *place);
+        sum_up(
+            &mut sums,
+            network,
+            events,
+            standings,
+            snapshot,
+            certificate,
+            *place,
+        );
     }
     Ok(sums)
 }

@@ -4,7 +4,6 @@ use Rattle.gptp_scenario.specs.Network.{IsEnd}
 use Rattle.gptp_scenario.specs.declared.network.LinkSpec.{LinkSpec}
 use Rattle.gptp_accuracy.proofs.delays.delays_at.Given as goal
 
-abbrev pub invariant-loop-place : goal.invariant-loop-place
-invariant-loop-place l =
-    (k : ℕ) (w : LinkSpec) → k < l.place → slice_get l.network.links k ≡ Some w
-    → IsEnd (record { clock = l.clock; port = l.port }) w → ⊥
+abbrev pub invariant-loop-standing : goal.invariant-loop-standing
+invariant-loop-standing l =
+    (k : ℕ) (w : LinkSpec) → k < l.standing-index → slice_get l.network.links k ≡ Some w → IsEnd l.own w → ⊥
