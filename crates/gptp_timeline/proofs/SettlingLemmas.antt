@@ -30,10 +30,12 @@ use Rattle.gptp_invariants.specs.WorldSettlingInvariant.{KeepsAll}
 use Rattle.gptp_invariants.specs.WorldEncodableLaws.{SetsAnOctet}
 use Rattle.gptp_invariants.specs.ChoiceSeenLaws.{IsNoChange}
 use Rattle.gptp_invariants.specs.WorldStanding.{snapshot_of}
+use Rattle.gptp_invariants.specs.SyncOwnClock.{TellAsSetUp}
 use Rattle.gptp_invariants.specs.SyncTimedClaim.{CarriesWhereCalm}
 use Rattle.gptp_invariants.proofs.ChoiceCalmKeptLemmas.{acts_keep, same_snapshot}
 use Rattle.gptp_invariants.proofs.WorldClaimLemmas.{claim_begins, claim_kept, claim_later}
 use Rattle.gptp_invariants.proofs.SyncFollowClaimLemmas.{carries_begins, carries_kept, carries_later}
+use Rattle.gptp_invariants.proofs.SyncOwnClockLemmas.{own_begins, own_kept}
 use Rattle.gptp_invariants.proofs.WorldStandsLemmas.{stands_well}
 use Rattle.gptp_links.specs.declared.bounds.Bounds.{Bounds}
 use Rattle.gptp_lists.specs.Members.{In}
@@ -114,6 +116,7 @@ module _ {F : Type 0} (answers : Bounds → ℕ → F → Option ℕ → F → T
   pub record Keeps (events : List Timed) (w : WorldState) : Type 0 where
     pub claimed : KeepsAll pace w
     pub carries : CarriesWhereCalm pace w
+    pub own : TellAsSetUp w
     pub stands : StandsAsPlanned d.network events w
     pub slow : NoneFaster least w
     pub named : AreNamed names w
@@ -125,6 +128,7 @@ module _ {F : Type 0} (answers : Bounds → ℕ → F → Option ℕ → F → T
       let claimed = claim_begins answers d.network fate fate_after w playable.network sound begun in record {
         claimed = claimed;
         carries = carries_begins answers d.network fate fate_after w playable.network sound begun;
+        own = own_begins answers d.network fate fate_after w begun;
         stands = begun_stands answers d.network fate fate_after w begun;
         slow = begun_none_faster answers d.network fate fate_after w sound.wired.setups begun;
         named = subst (λ ns. AreNamed ns w) (sym are) (first_names w claimed.world.sound.wired);
@@ -158,6 +162,7 @@ module _ {F : Type 0} (answers : Bounds → ℕ → F → Option ℕ → F → T
   keeps_later events w time later first keeps = record {
     claimed = claim_later pace w time later first keeps.claimed;
     carries = carries_later pace w time later first keeps.claimed keeps.carries;
+    own = keeps.own;
     stands = time_stands d.network events w time keeps.stands;
     slow = keeps.slow;
     named = same_named names w (at time w) refl keeps.named;
@@ -172,6 +177,7 @@ module _ {F : Type 0} (answers : Bounds → ℕ → F → Option ℕ → F → T
         claimed = claim_kept answers pace timed fate drawn w t.after t.told.done fit prompt octet was keeps.claimed;
         carries = carries_kept answers pace timed fate drawn w t.after t.told.done fit prompt octet was keeps.claimed
             keeps.carries;
+        own = own_kept answers timed fate drawn w t.after t.told.done was keeps.own;
         stands = acts_stand d.network events timed.act (at timed.at w) was.draws t.told.done t.after
             (no_change next.item timed.act w next.act) was.acts
             (time_stands d.network events w timed.at keeps.stands);
@@ -226,6 +232,7 @@ module _ {F : Type 0} (answers : Bounds → ℕ → F → Option ℕ → F → T
             on.claimed;
         carries = carries_kept answers pace event k.drawn fate_after k.between w' k.done fit.fit prompt fit.octet k.made
             on.claimed on.carries;
+        own = own_kept answers event k.drawn fate_after k.between w' k.done k.made on.own;
         stands = changes_stand d.network before event fit.change k.between k.made.draws k.done w' fit.act
             on.claimed.world.sound k.made.acts on.stands;
         slow = stays_none_faster least k.between w'

@@ -259,7 +259,7 @@ module _ {F : Type 0} (answers : Bounds → ℕ → F → Option ℕ → F → T
             ∙ sym (shown_by pace w keeps.claimed number s before (at_of t))
 
         pub all : WorldInvariant w
-        all = record { pace = pace; is = keeps.claimed; carries = keeps.carries }
+        all = record { pace = pace; is = keeps.claimed; carries = keeps.carries; own = keeps.own }
 
         error_is : IsWayError calm.0.pace.params w name (suc has.steps) bound
         error_is =
