@@ -25,6 +25,7 @@ use Rattle.gptp_graph.specs.Snapshot.{Snapshot, System, port_of}
 use Rattle.gptp_graph.proofs.LinkLemmas.{Joins-sym}
 use Rattle.gptp_invariants.specs.ChoiceCalm.{IsQuietWorld, sync_paths_of}
 use Rattle.gptp_invariants.specs.WorldCalmFor.{IsCalmFor}
+use Rattle.gptp_invariants.specs.SyncTimedClaim.{WorldInvariant}
 use Rattle.gptp_invariants.specs.WorldSettlingInvariant.{SettlingInvariant}
 use Rattle.gptp_invariants.specs.SyncExact.{IsAhead, IsWayError, IsExactInTime, IsHeardExact, exact_span}
 use Rattle.gptp_invariants.specs.SyncFollowers.{bound_at, follower_parts}
