@@ -32,13 +32,13 @@ module _ (name from wait : ℕ) (B : ℕ → ℕ) (acts : List ActTrace)
     (right : (t : ActTrace) → In t acts → from ≤ at_of t → IsRight name B t t.before) where
   -- What is kept after acts: the last receipt that counts is the last of all, and it was never longer from one to the
   -- next.
-  record IsShort (done : List ActTrace) (r : ExactReads) (now : ℕ) : Type 0 where
-    late : from ≤ r.last
-    early : r.last ≤ now
-    last : (a : ActTrace) → In a done → receives name a ≡ true → at_of a ≤ r.last
-    short : r.longest ≤ wait
+  pub record IsShort (done : List ActTrace) (r : ExactReads) (now : ℕ) : Type 0 where
+    pub late : from ≤ r.last
+    pub early : r.last ≤ now
+    pub last : (a : ActTrace) → In a done → receives name a ≡ true → at_of a ≤ r.last
+    pub short : r.longest ≤ wait
 
-  abbrev AreShort : List ActTrace → List SystemReads → ℕ → Type 0
+  abbrev pub AreShort : List ActTrace → List SystemReads → ℕ → Type 0
   AreShort done xs now = (r : ExactReads) → reads_among xs name ≡ Some r → IsShort done r now
 
   module _ (t : ActTrace) (among : In t acts) (rs : List SystemReading) (xs : List SystemReads) (done : List ActTrace)

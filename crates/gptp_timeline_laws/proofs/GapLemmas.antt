@@ -67,7 +67,7 @@ use Rattle.gptp_timeline_laws.proofs.SourceLemmas.{quiet_after, quiet_before}
 use Rattle.gptp_timeline_laws.proofs.StandsLemmas.{best_then, lives_then, root_then, slave_then, span_over_then, stands_so, well}
 use Rattle.gptp_timeline_laws.proofs.TurnLemmas.{AreInTurn, courses_turn, IsLastReceipt, last_of, last_receipt_is, next_of, turn_each, turn_parts}
 use Rattle.gptp_world.specs.Transitions.{ActTrace}
-use Rattle.gptp_timeline_laws.proofs.GapActsLemmas.{ended_short, over_short}
+use Rattle.gptp_timeline_laws.proofs.GapActsLemmas.{AreShort, ended_short, over_short}
 use Rattle.gptp_timeline_laws.proofs.GapStretchLemmas.{EventsFirst, age_is, begins_then, ends_none, events_first, gets_time, has_slave, held_offset, last_from, none_left, older, over_by, span_at, stays_on}
 
 module _ {F : Type 0} (answers : Bounds → ℕ → F → Option ℕ → F → Type 0) (d : DocumentState) (until : ℕ)
