@@ -15,6 +15,7 @@ use Rattle.gptp_how_soon.specs.Times.{View, events_at, gained_at, last_set, read
 use Rattle.gptp_how_soon.specs.declared.bounds.Settling.{Settling}
 use Rattle.gptp_how_soon.specs.declared.bounds.SettlingTime.{SettlingTime}
 use Rattle.gptp_settling_time.specs.HowSoon.{BoundsChoice, BoundsEvents, BoundsStart, IsChoiceBoundAfter, NoneBetween}
+use Rattle.gptp_settling_time.proofs.FollowedLemmas.{all_still}
 use Rattle.gptp_settling_time.proofs.MomentLemmas.{parted}
 use Rattle.gptp_how_soon_laws.specs.Choice.{SettlingsAreChoiceBounds}
 use Rattle.gptp_how_soon_laws.proofs.RowLemmas.{HasComeToRest, bounds_choice, gained, never_unchanged, started, tells, unchanged}
@@ -108,7 +109,10 @@ module _ (d : DocumentState) (playable : IsPlayable d) where
         let bound =
         bounds_choice n Sharp (made ++ now) (row_at v) (gained_at n v) it.calm
         (λ row. let (rest, idle) = unchanged n playable.network all b at late row in
-        sharp 0 rest (elim idle [ inl still ↦ inl (still, refl) | inr wider ↦ inr (inl (wider, refl)) ]))
+        sharp 0 rest (elim idle [
+          | inl nothing ↦ inl (all_still n made now nothing, refl)
+          | inr wider ↦ inr (inl (wider, refl))
+        ]))
         (λ row off. let (rest, gains) = gained n playable.network all b at late row off in
         sharp (gained_at n v) rest (inr (inr (ready_at n v, gains)))) in
         record {

@@ -1,5 +1,5 @@
 -- An event that changes nothing leaves the paths of a network as they are, and so does one that turns a link with a
--- failed end.
+-- failed end, and a priority1.
 use Rattle.std.proofs.Common.{◌≡◌, ◌⊎◌, inl, inr, ◌+◌, ℕ, Bool, true, false, cond, List, [], ◌∷◌, ◌++◌, Option, Some, None, slice_get, refl, sym, ap, ap₂, subst, ◌∙◌}
 use Rattle.std.specs.Prelude.{◌&&◌, ◌||◌, ◌==◌, if◌then◌else◌, max, min}
 use Rattle.std.specs.List.{cons_option, count_by, filter_map, list_any}
@@ -130,6 +130,13 @@ set_so clock port up w already = by (is_at clock port w) refl
         (sym (already (is_end clock port w at)))
     by false at = refl
 
+-- with another priority1 a system lives as before
+priority_lives : (made : List Timed) (m : SystemSpec) (value : ℕ) (test : Bool)
+    → (if test then with_priority1 value (system_after made m) else system_after made m).live
+    ≡ (system_after made m).live
+priority_lives made m value true = refl
+priority_lives made m value false = refl
+
 module _ (n : NetworkState) (network : IsNetwork n) (made : List Timed) where
   -- a system of this clock that lives or has failed already does so still
   live_so : (clock own : ℕ) (live : Bool) (m : SystemSpec)
@@ -165,13 +172,8 @@ module _ (n : NetworkState) (network : IsNetwork n) (made : List Timed) where
       let same = same_there n.systems place idle.system m
       (subst (λ i. slice_get n.systems i ≡ Some idle.system) one idle.there) there in
       subst (λ x. (system_after made x).live ≡ true) same idle.live)
-  system_idles (Priority1 number value) idle m member = priority_lives (number == clock_of m.identity)
-    where
-      priority_lives : (test : Bool)
-          → (if test then with_priority1 value (system_after made m) else system_after made m).live
-          ≡ (system_after made m).live
-      priority_lives true = refl
-      priority_lives false = refl
+  system_idles (Priority1 number value) idle m member =
+      priority_lives made m value (number == clock_of m.identity)
   system_idles (Inject number port octets) idle m member = refl
 
   link_idles : (change : Change) → IsIdleAfter n made change → (v : LinkSpec) → In v n.links
@@ -320,3 +322,17 @@ module _ (n : NetworkState) (made : List Timed) where
       bounds (Changing (Inject clock port octets)) none v = absurd none
       bounds (Deliver link direction) none v = absurd none
       bounds (Expire clock timer) none v = absurd none
+
+  -- and so does a priority1
+  pub priority_paths : (event : Timed) (number value : ℕ) → event.act ≡ Changing (Priority1 number value)
+      → sync_paths n (made ++ event ∷ []) ≡ sync_paths n made
+  priority_paths event number value is =
+      paths_same n made (made ++ event ∷ [])
+      (λ m member.
+      ap (λ s. s.live) (system_behind made event (clock_of m.identity) (standing m))
+      ∙ ap (λ act. (system_acted act (clock_of m.identity) (system_after made m)).live) is
+      ∙ priority_lives made m value (number == clock_of m.identity))
+      (λ v member. ap (is_used n.systems made) (stays v)) (λ v member. ap (λ (w : LinkSpec). w.bounds) (stays v))
+    where
+      stays : (v : LinkSpec) → link_after (made ++ event ∷ []) v ≡ link_after made v
+      stays v = link_behind made event v ∙ ap (λ act. link_acted act (link_after made v)) is
