@@ -5,6 +5,7 @@
 #![tactic(auto)]
 
 mod bounds;
+mod chosen;
 mod kinds;
 mod links;
 mod rest;
