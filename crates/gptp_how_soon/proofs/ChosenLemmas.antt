@@ -61,6 +61,12 @@ leads_first : (links : List Ends) (i m j far : ℕ) → Touches links i m → Le
 leads_first links i m j zero touches same = (i, refl, subst (Touches links i) same touches)
 leads_first links i m j (suc far) touches (k, leads, last) = (k, leads_first links i m k far touches leads, last)
 
+-- the system of a network at a place has this clock
+pub record IsAt (n : NetworkState) (i v : ℕ) : Type 0 where
+  pub system : SystemSpec
+  pub there : slice_get n.systems i ≡ Some system
+  pub clock : clock_of system.identity ≡ v
+
 module _ (n : NetworkState) (network : IsNetwork n) (events : List Timed) (g : Snapshot)
     (stands : StandsAfter n events g) (well : IsWellFormed g) where
   abbrev links : List Ends
@@ -72,18 +78,12 @@ module _ (n : NetworkState) (network : IsNetwork n) (events : List Timed) (g : S
   abbrev starts : List Chosen
   starts = map itself (systems_after n events)
 
-  -- the system at a place has this clock
-  pub record IsAt (i v : ℕ) : Type 0 where
-    pub system : SystemSpec
-    pub there : slice_get n.systems i ≡ Some system
-    pub clock : clock_of system.identity ≡ v
-
-  one_clock : (i v w : ℕ) → IsAt i v → IsAt i w → v ≡ w
+  one_clock : (i v w : ℕ) → IsAt n i v → IsAt n i w → v ≡ w
   one_clock i v w a b =
       sym a.clock ∙ ap (λ (m : SystemSpec). clock_of m.identity)
       (same_there n.systems i a.system b.system a.there b.there) ∙ b.clock
 
-  one_place : (i j v : ℕ) → IsAt i v → IsAt j v → i ≡ j
+  one_place : (i j v : ℕ) → IsAt n i v → IsAt n j v → i ≡ j
   one_place i j v a b = network.clocks i j a.system b.system a.there b.there (a.clock ∙ sym b.clock)
 
   once : Once firsts
@@ -93,17 +93,17 @@ module _ (n : NetworkState) (network : IsNetwork n) (events : List Timed) (g : S
       network.clocks i j m k m_there k_there
       (ap (λ (q : ours.System). q.clock) m_is ∙ same ∙ sym (ap (λ (q : ours.System). q.clock) k_is))
 
-  place_is : (i v : ℕ) → IsAt i v → place_of firsts v ≡ i
+  place_is : (i v : ℕ) → IsAt n i v → place_of firsts v ≡ i
   place_is i v a =
       is_place v firsts once i (first_system a.system) (mapped_there first_system n.systems i a.system a.there) a.clock
 
-  at_port : (p : PortId) → IsPort n.systems p → IsAt (place_of firsts p.clock) p.clock
+  at_port : (p : PortId) → IsPort n.systems p → IsAt n (place_of firsts p.clock) p.clock
   at_port p port =
-      let at : IsAt port.place p.clock = record { system = port.system; there = port.there; clock = port.clock } in
-      subst (λ i. IsAt i p.clock) (sym (place_is port.place p.clock at)) at
+      let at : IsAt n port.place p.clock = record { system = port.system; there = port.there; clock = port.clock } in
+      subst (λ i. IsAt n i p.clock) (sym (place_is port.place p.clock at)) at
 
   -- a system of the snapshot stands at a place
-  at_clock : (v : ℕ) → In v (clocks g) → (i : ℕ) × IsAt i v
+  pub at_clock : (v : ℕ) → In v (clocks g) → (i : ℕ) × IsAt n i v
   at_clock v member =
       let (s, live, same) = from_map (λ (s : System). s.clock) v g.systems member in
       let (m, among, is) = member_there n network events g stands s live in
@@ -123,26 +123,27 @@ module _ (n : NetworkState) (network : IsNetwork n) (events : List Timed) (g : S
   three_parts true false c is = absurd cc
   three_parts false b c is = absurd cc
 
-  joined : (w : LinkSpec) → In w n.links → is_used_then n events w ≡ true → Adjacent g w.a.clock w.b.clock
-  joined w member used =
+  pub link_stands : (w : LinkSpec) → In w n.links → is_used_then n events w ≡ true → In (link_of (w.a, w.b)) g.links
+  link_stands w member used =
       let (up, a, b) =
       three_parts (link_after events w).up (lives n.systems events w.a.clock) (lives n.systems events w.b.clock) used in
       let there : joined_after events w ≡ Some (w.a, w.b) = ap (λ test. cond test (Some (w.a, w.b)) None) up in
-      let link : In (link_of (w.a, w.b)) g.links =
       subst (In (link_of (w.a, w.b))) (sym stands.links)
       (kept (joins_two g.systems) (link_of (w.a, w.b)) (map link_of (filter_map (joined_after events) n.links))
       (In-map link_of (w.a, w.b) (filter_map (joined_after events) n.links)
       (given (joined_after events) w (w.a, w.b) n.links member there))
       (and_from (has_clock g.systems w.a.clock) (has_clock g.systems w.b.clock)
-      (live_there n network events g stands w.a.clock a) (live_there n network events g stands w.b.clock b))) in
-      (w.a.port, w.b.port, inl link)
+      (live_there n network events g stands w.a.clock a) (live_there n network events g stands w.b.clock b)))
+
+  joined : (w : LinkSpec) → In w n.links → is_used_then n events w ≡ true → Adjacent g w.a.clock w.b.clock
+  joined w member used = (w.a.port, w.b.port, inl (link_stands w member used))
 
   -- so do the places that a link touches
   record IsJoined (i j : ℕ) : Type 0 where
     from : ℕ
     to : ℕ
-    at_from : IsAt i from
-    at_to : IsAt j to
+    at_from : IsAt n i from
+    at_to : IsAt n j to
     adjacent : Adjacent g from to
 
   joined_in : (i j : ℕ) → In (record { a = i; b = j }) links → IsJoined i j
@@ -155,8 +156,8 @@ module _ (n : NetworkState) (network : IsNetwork n) (events : List Timed) (g : S
       record {
         from = w.a.clock;
         to = w.b.clock;
-        at_from = subst (λ k. IsAt k w.a.clock) (ap (λ (e : Ends). e.a) is) (at_port w.a wire.a);
-        at_to = subst (λ k. IsAt k w.b.clock) (ap (λ (e : Ends). e.b) is) (at_port w.b wire.b);
+        at_from = subst (λ k. IsAt n k w.a.clock) (ap (λ (e : Ends). e.a) is) (at_port w.a wire.a);
+        at_to = subst (λ k. IsAt n k w.b.clock) (ap (λ (e : Ends). e.b) is) (at_port w.b wire.b);
         adjacent = joined w known used;
       }
 
@@ -173,7 +174,7 @@ module _ (n : NetworkState) (network : IsNetwork n) (events : List Timed) (g : S
       }
 
   -- and neighbours are touched by one
-  used_then : (w : LinkSpec) → is_used n.systems events (link_after events w) ≡ true
+  pub used_then : (w : LinkSpec) → is_used n.systems events (link_after events w) ≡ true
       → is_used_then n events w ≡ true
   used_then w used =
       let v = link_after events w in
@@ -185,7 +186,7 @@ module _ (n : NetworkState) (network : IsNetwork n) (events : List Timed) (g : S
       (subst (λ (p : PortId). lives n.systems events p.clock ≡ true) ends.a a)
       (subst (λ (p : PortId). lives n.systems events p.clock ≡ true) ends.b b))
 
-  link_touches : (l : Link) → In l g.links → (i j : ℕ) → IsAt i l.a.clock → IsAt j l.b.clock
+  link_touches : (l : Link) → In l g.links → (i j : ℕ) → IsAt n i l.a.clock → IsAt n j l.b.clock
       → In (record { a = i; b = j }) links
   link_touches l member i j at_a at_b =
       let r = runs n network events g stands l member in
@@ -197,7 +198,7 @@ module _ (n : NetworkState) (network : IsNetwork n) (events : List Timed) (g : S
       (In-map (ends_of n) r.wire (filter (is_used_then n events) n.links)
       (kept (is_used_then n events) r.wire n.links r.member (used_then r.wire r.used)))
 
-  touched : (v w i j : ℕ) → Adjacent g v w → IsAt i v → IsAt j w → Touches links i j
+  touched : (v w i j : ℕ) → Adjacent g v w → IsAt n i v → IsAt n j w → Touches links i j
   touched v w i j (p, q, inl member) at_v at_w =
       inl (link_touches (record { a = port_of v p; b = port_of w q }) member i j at_v at_w)
   touched v w i j (p, q, inr member) at_v at_w =
@@ -207,14 +208,14 @@ module _ (n : NetworkState) (network : IsNetwork n) (events : List Timed) (g : S
 
   record HasRoute (v j far : ℕ) : Type 0 where
     end : ℕ
-    at : IsAt j end
+    at : IsAt n j end
     over : List ℕ
     route : Route g v end over
     long : length over ≡ far
 
-  route_of : (i j far v : ℕ) → Leads links i j far → IsAt i v → HasRoute v j far
+  route_of : (i j far v : ℕ) → Leads links i j far → IsAt n i v → HasRoute v j far
   route_of i j zero v same at =
-      record { end = v; at = subst (λ k. IsAt k v) same at; over = []; route = refl; long = refl }
+      record { end = v; at = subst (λ k. IsAt n k v) same at; over = []; route = refl; long = refl }
   route_of i j (suc far) v (m, leads, touches) at =
       let r = route_of i m far v leads at in
       let x = joined_by m j touches in
@@ -229,15 +230,15 @@ module _ (n : NetworkState) (network : IsNetwork n) (events : List Timed) (g : S
         long = omega (arith, long, length-append r.over (x.to ∷ []));
       }
 
-  leads_over : (v w i j : ℕ) (us : List ℕ) → Route g v w us → IsAt i v → IsAt j w → Leads links i j (length us)
-  leads_over v w i j [] here at_v at_w = one_place i j w (subst (IsAt i) here at_v) at_w
+  leads_over : (v w i j : ℕ) (us : List ℕ) → Route g v w us → IsAt n i v → IsAt n j w → Leads links i j (length us)
+  leads_over v w i j [] here at_v at_w = one_place i j w (subst (IsAt n i) here at_v) at_w
   leads_over v w i j (u ∷ us) (step, rest) at_v at_w =
       let (m, at_u) = at_clock u (Adjacent-clock g v u well step) in
       leads_first links i m j (length us) (touched v u i m step at_v at_u) (leads_over u w m j us rest at_u at_w)
 
   -- ---- what is chosen
 
-  start_at : (i v : ℕ) (at : IsAt i v) → slice_get starts i ≡ Some (itself (system_then events at.system))
+  start_at : (i v : ℕ) (at : IsAt n i v) → slice_get starts i ≡ Some (itself (system_then events at.system))
   start_at i v at =
       mapped_there itself (systems_after n events) i (system_then events at.system)
       (mapped_there (system_then events) n.systems i at.system at.there)
@@ -252,7 +253,7 @@ module _ (n : NetworkState) (network : IsNetwork n) (events : List Timed) (g : S
   ends : Settles links count starts (chosen_after n events)
   ends = settles links count starts inside
 
-  pub chosen_there : (i v : ℕ) → IsAt i v → Has (chosen_after n events) i
+  pub chosen_there : (i v : ℕ) → IsAt n i v → Has (chosen_after n events) i
   chosen_there i v at = ends.there i (itself (system_then events at.system), start_at i v at)
 
   -- a path has no more steps than there are rounds
@@ -273,12 +274,12 @@ module _ (n : NetworkState) (network : IsNetwork n) (events : List Timed) (g : S
           (In-slice_get at.system n.systems i at.there))
 
   -- the identity of a system of the snapshot is that of the system at its place
-  named : (s : System) → In s g.systems → (i : ℕ) (at : IsAt i s.clock)
+  pub named : (s : System) → In s g.systems → (i : ℕ) (at : IsAt n i s.clock)
       → s.identity ≡ (system_after events at.system).identity
   named s live i at =
       let (m, among, is) = member_there n network events g stands s live in
       let (k, there) = slice_get-In m n.systems among in
-      let here : IsAt k s.clock = record {
+      let here : IsAt n k s.clock = record {
         system = m;
         there = there;
         clock = sym (clock_after events m) ∙ ap (λ (t : System). t.clock) is;
@@ -294,10 +295,10 @@ module _ (n : NetworkState) (network : IsNetwork n) (events : List Timed) (g : S
     pub root : c.root ≡ best.identity
     pub far : IsDistance g v c.steps
 
-  module _ (i v : ℕ) (at : IsAt i v) (member : In v (clocks g)) (c : Chosen)
+  module _ (i v : ℕ) (at : IsAt n i v) (member : In v (clocks g)) (c : Chosen)
       (there : slice_get (chosen_after n events) i ≡ Some c) where
     -- it is no worse than any system that is reached
-    no_worse : (w j : ℕ) (at_w : IsAt j w) (us : List ℕ) → Route g v w us → length us ≤ count
+    no_worse : (w j : ℕ) (at_w : IsAt n j w) (us : List ℕ) → Route g v w us → length us ≤ count
         → IsWithin (length us) c (itself (system_then events at_w.system))
     no_worse w j at_w us route short =
         ends.least (length us) i j (itself (system_then events at_w.system)) c short
@@ -333,7 +334,7 @@ module _ (n : NetworkState) (network : IsNetwork n) (events : List Timed) (g : S
         let w = r.end in
         let known = Route-end g v w r.over well member r.route in
         let (best, live, same) = from_map (λ (s : System). s.clock) w g.systems known in
-        let at_best : IsAt x.place best.clock = subst (IsAt x.place) (sym same) r.at in
+        let at_best : IsAt n x.place best.clock = subst (IsAt n x.place) (sym same) r.at in
         let identity : best.identity ≡ (system_after events r.at.system).identity =
         named best live x.place (record { system = r.at.system; there = r.at.there; clock = r.at.clock ∙ sym same }) in
         let root : c.root ≡ best.identity = x.root ∙ sym identity in

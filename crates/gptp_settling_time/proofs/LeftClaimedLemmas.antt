@@ -6,7 +6,7 @@ use Rattle.gptp_graph.specs.Snapshot.{IsWellFormed, Snapshot}
 use Rattle.gptp_links.specs.Fate.{Draw}
 use Rattle.gptp_scenario.specs.Calm.{NothingLapses}
 use Rattle.gptp_scenario.specs.declared.change.Act.{Act}
-use Rattle.gptp_setup.specs.SettlingParams.{SettlingParams, largest_interval}
+use Rattle.gptp_setup.specs.SettlingParams.{SettlingParams}
 use Rattle.gptp_model.specs.Acts.{Acts, at as at_time}
 use Rattle.gptp_model.specs.Pending.{NothingBefore}
 use Rattle.gptp_model.specs.World.{WorldState}
@@ -28,11 +28,10 @@ use Rattle.gptp_invariants.specs.WorldStanding.{snapshot_of}
 use Rattle.gptp_invariants.proofs.ChoiceCalmKeptLemmas.{KeepsNetwork, acts_keep, links_quiet, same_snapshot}
 use Rattle.gptp_invariants.proofs.ChoiceSeenActLemmas.{acts_seen}
 use Rattle.gptp_invariants.proofs.ChoiceSettlesAsMachineLemmas.{kept_back}
-use Rattle.gptp_invariants.proofs.DelayCapableKeptLemmas.{no_change, stood}
+use Rattle.gptp_invariants.proofs.DelayCapableKeptLemmas.{stood}
 use Rattle.gptp_invariants.proofs.DelayChangeKeptLemmas.{acts_measured, later_measured}
-use Rattle.gptp_invariants.proofs.FailedSilentLemmas.{silence_goes_on, silence_kept}
-use Rattle.gptp_invariants.proofs.WorldBeforeLemmas.{none_anew, stood_earlier}
 use Rattle.gptp_invariants.proofs.WorldNewsCourseLemmas.{later_keeps}
+use Rattle.gptp_invariants.proofs.WorldNewsLemmas.{acts_silent, silent_later}
 use Rattle.gptp_invariants.proofs.WorldSettledLemmas.{still_acts_stay, time_stays}
 use Rattle.gptp_invariants.proofs.WorldStandsLemmas.{stands_well}
 use Rattle.gptp_settling_time.proofs.AlwaysClaimedLemmas.{AreHeard, IsStanding, early_acts, early_later, same_start, start_calm, start_network, steps_settle}
@@ -49,27 +48,18 @@ standing_later p start time w later first is = record {
   pace = is.pace;
   world = time_stays p w time later (later_sound w time w.last_change is.world.sound first) is.world;
   measured = later_measured time w later is.measured;
-  silent = λ at s.
-      let (change, one, from) = is.silent at (stood_earlier at time w s) in
-      (change, silence_goes_on at (change + largest_interval p) time w one, from);
+  silent = silent_later p start time w is.silent;
 }
 
 standing_acts : (p : SettlingParams) (start : ℕ) (act : Act) (w : WorldState) (draws : List Draw) (done : Done)
     (w' : WorldState) → IsNoChange act → SetsAnOctet act → Acts act w draws done w' → IsStanding p start w
     → IsStanding p start w'
 standing_acts p start act w draws done w' none octet k is =
-    let calm = no_change act none in
     record {
       pace = is.pace;
       world = still_acts_stay p act w draws done w' none k is.world;
       measured = acts_measured act w w' draws done is.world.sound is.measured octet k;
-      silent = λ at s.
-          let (change, one, from) = is.silent at (none_anew at act w w' draws done calm k s) in (
-            change,
-            silence_kept at (change + largest_interval p) p act w w' draws done is.world.sound is.measured
-                is.world.known calm k one,
-            from,
-          );
+      silent = acts_silent p start act w draws done w' none k is.world is.measured is.silent;
     }
 
 -- ---- a loss that moved none

@@ -76,3 +76,4 @@ pub mod BetterClockLemmas
 pub mod FitsLemmas
 pub mod LeftClaimedLemmas
 pub mod GoesDownLemmas
+pub mod WellFormedLemmas

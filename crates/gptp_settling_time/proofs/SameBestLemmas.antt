@@ -27,7 +27,7 @@ pub record HaveSameBests (g g' : Snapshot) : Type 0 where
 -- ---- paths
 
 -- a route over links that another snapshot has is one there
-route_over : (g g' : Snapshot) → ((p q : PortIdentity) → Joins g p q → Joins g' p q) → (v u : ℕ) (us : List ℕ)
+pub route_over : (g g' : Snapshot) → ((p q : PortIdentity) → Joins g p q → Joins g' p q) → (v u : ℕ) (us : List ℕ)
     → Route g v u us → Route g' v u us
 route_over g g' links v u [] here = here
 route_over g g' links v u (x ∷ xs) ((m, k, joins), rest) =
@@ -50,7 +50,7 @@ module _ (g g' : Snapshot) (well : IsWellFormed g) (well' : IsWellFormed g') (sa
 
   -- ---- distances
 
-  distance_over : (v d : ℕ) → IsDistance g v d → IsDistance g' v d
+  pub distance_over : (v d : ℕ) → IsDistance g v d → IsDistance g' v d
   distance_over v d x =
       let b = x.best in
       let (us, way, long) = x.from_best.path in
