@@ -11,7 +11,7 @@ use std::alloc::{AllocError, Global};
 
 /// What a system chooses: a root, by its identity, and how many steps it is away.
 #[derive(Clone, Copy, PartialEq, Eq)]
-pub(crate) struct Chosen {
+pub struct Chosen {
     pub root: Identity,
     pub steps: usize,
 }
