@@ -2,6 +2,7 @@
 
 ghost use Rattle.std.specs.Prelude.{◌≡◌, ◌<◌, ◌+◌, ◌++◌, ◌∷◌, [], IfOk, OnOk, length, map, take};
 ghost use Rattle.std.specs.List.{find};
+ghost use Rattle.gptp_scenario.specs.declared.network.SystemSpec.{SystemSpec};
 ghost use Rattle.gptp_how_soon.specs.Systems.{first_system, has_clock, identity_acted, identity_changed, system_done};
 
 use gptp_scenario::{Act, Change, Network};

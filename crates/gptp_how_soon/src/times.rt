@@ -1,6 +1,6 @@
 //! The times of a document, with how soon the choice and the roles stand at each.
 
-ghost use Rattle.std.specs.Prelude.{◌≡◌, ◌≤◌, IfOk, OnOk, length};
+ghost use Rattle.std.specs.Prelude.{◌≡◌, ◌≤◌, IfOk, OnOk, IfSome, length};
 ghost use Rattle.std.specs.List.{AllByRecursion, find};
 ghost use Rattle.gptp_topology.specs.Tables.{cables_of, greatest_used};
 ghost use Rattle.gptp_how_soon.specs.Times.{AreRising, IsWatchedShortly, is_time_at, settling_times};

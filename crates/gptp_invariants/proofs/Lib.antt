@@ -135,4 +135,6 @@ pub mod SyncFollowOffsetLemmas
 pub mod SyncFollowWorldLemmas
 pub mod SyncFollowMeasureLemmas
 pub mod SyncFollowClaimLemmas
+pub mod WorldActsByLemmas
+pub mod SyncOwnClockLemmas
 pub mod SyncExactLemmas

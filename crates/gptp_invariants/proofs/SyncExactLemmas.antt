@@ -50,6 +50,7 @@ use Rattle.gptp_invariants.specs.SyncTimedLaws.{IsRootOf}
 use Rattle.gptp_invariants.proofs.ChoiceCalmKeptLemmas.{acts_keep}
 use Rattle.gptp_invariants.proofs.WorldClaimLemmas.{claim_begins, claim_kept, claim_later}
 use Rattle.gptp_invariants.proofs.SyncFollowClaimLemmas.{calm_offsets_are_exact, carries_begins, carries_kept, carries_later, settled_from}
+use Rattle.gptp_invariants.proofs.SyncOwnClockLemmas.{own_begins, own_kept}
 use Rattle.gptp_invariants.proofs.SyncFollowWayLemmas.{Follows, follows_parent}
 use Rattle.gptp_invariants.proofs.ChoiceFoundLemmas.{place_is}
 
@@ -62,6 +63,7 @@ all_begins answers n fate fate_after w network sound k = record {
   pace = pace_of n;
   is = claim_begins answers n fate fate_after w network sound k;
   carries = carries_begins answers n fate fate_after w network sound k;
+  own = own_begins answers n fate fate_after w k;
 }
 
 pub all_later : (w : WorldState) (time : ℕ) → w.time ≤ time → NothingBefore time w.net.pending → WorldInvariant w
@@ -70,6 +72,7 @@ all_later w time later first all = record {
   pace = all.pace;
   is = claim_later all.pace w time later first all.is;
   carries = carries_later all.pace w time later first all.is all.carries;
+  own = all.own;
 }
 
 pub all_kept : {F : Type 0} (answers : Bounds → ℕ → F → Option ℕ → F → Type 0) (timed : Timed)
@@ -79,6 +82,7 @@ all_kept answers timed fate fate_after w w' done fit prompt octet k all = record
   pace = all.pace;
   is = claim_kept answers all.pace timed fate fate_after w w' done fit prompt octet k all.is;
   carries = carries_kept answers all.pace timed fate fate_after w w' done fit prompt octet k all.is all.carries;
+  own = own_kept answers timed fate fate_after w w' done k all.own;
 }
 
 -- it holds what every world keeps

@@ -55,6 +55,7 @@ pub mod SyncFollowView
 pub mod SyncFollowers
 pub mod SyncTimed
 pub mod SyncTimedLaws
+pub mod SyncOwnClock
 pub mod SyncTimedClaim
 pub mod SyncExact
 pub mod SyncTimedClaimLaws

@@ -7,6 +7,7 @@ use Rattle.gptp_model.specs.World.{WorldState}
 use Rattle.gptp_invariants.specs.ChoiceCalm.{IsQuietWorld, sync_paths_of}
 use Rattle.gptp_invariants.specs.WorldSettlingInvariant.{KeepsAll}
 use Rattle.gptp_invariants.specs.WorldStanding.{snapshot_of}
+use Rattle.gptp_invariants.specs.SyncOwnClock.{TellAsSetUp}
 use Rattle.gptp_invariants.specs.SyncTimed.{CarriesTime}
 
 -- the world is quiet, no path of it has more than m systems, and by this time it has settled since its last change
@@ -20,8 +21,9 @@ abbrev pub CarriesWhereCalm : SettlingParams → WorldState → Type 0
 CarriesWhereCalm p w = (m settled : ℕ) → IsCalmBy p m settled w → settled ≤ w.time → w.time ≤ 10 ^ 18
     → CarriesTime p.params settled p.params.threshold w
 
--- what every world of a network keeps, this claim with it
+-- what every world of a network keeps, this claim with it, and that systems tell as they are set up
 pub record WorldInvariant (w : WorldState) : Type 0 where
   pub pace : SettlingParams
   pub is : KeepsAll pace w
   pub carries : CarriesWhereCalm pace w
+  pub own : TellAsSetUp w

@@ -5,6 +5,7 @@ use Rattle.toml.specs.Parse.{parse_document}
 use Rattle.gptp_scenario.specs.Network.{NetworkState}
 use Rattle.gptp_scenario.specs.declared.change.Timed.{Timed}
 use Rattle.gptp_network.specs.Events.{events_of}
+use Rattle.gptp_network.specs.Faults.{◌>>=◌}
 use Rattle.gptp_network.specs.Links.{with_links}
 use Rattle.gptp_network.specs.Params.{network_of}
 use Rattle.gptp_network.specs.Systems.{with_systems}

@@ -12,7 +12,7 @@ use Rattle.gptp_scenario.specs.declared.change.Change.TheVariants as changes
 use Rattle.gptp_scenario.specs.declared.change.Timed.{Timed}
 use Rattle.gptp_scenario.specs.declared.fault.NetworkFault.{NetworkFault}
 use Rattle.gptp_scenario.specs.declared.fault.NetworkFault.TheVariants as networks
-use Rattle.gptp_network.specs.Faults.{tested}
+use Rattle.gptp_network.specs.Faults.{◌>>=◌, tested}
 use Rattle.gptp_network.specs.Links.{port_numbered}
 use Rattle.gptp_network.specs.Members.{limited, each_of}
 use Rattle.gptp_network.specs.Values.{clock, natural, octets, text, kind_of, array_at}

@@ -3,6 +3,7 @@ use Rattle.std.specs.Prelude.{ℕ, ℤ, codes, ◌&&◌, ◌==◌, if◌then◌e
 use Rattle.std.specs.List.{list_all}
 use Rattle.toml.specs.Data.{Items, no_items, item, Members, get_member, as_integer, as_array}
 use Rattle.gptp_scenario.specs.Params.{is_log}
+use Rattle.gptp_network.specs.Faults.{◌>>=◌}
 use Rattle.gptp_network.specs.Values.{key_in, kind_of}
 use Rattle.gptp_network.specs.declared.fault.DocumentFault.{DocumentFault}
 use Rattle.gptp_network.specs.declared.fault.DocumentFault.TheVariants.{OutOfRange}

@@ -4,7 +4,7 @@ use Rattle.toml.specs.Data.{Data, Members, as_table}
 use Rattle.gptp_vector.specs.declared.port.PortId.{PortId}
 use Rattle.gptp_scenario.specs.Network.{NetworkState, wire, with_link, link_fault}
 use Rattle.gptp_scenario.specs.declared.network.LinkSpec.{LinkSpec}
-use Rattle.gptp_network.specs.Faults.{tested}
+use Rattle.gptp_network.specs.Faults.{◌>>=◌, tested}
 use Rattle.gptp_network.specs.Members.{limited, each_of}
 use Rattle.gptp_network.specs.Values.{clock, natural, flag, kind_of, array_at}
 use Rattle.gptp_network.specs.declared.fault.DocumentFault.{DocumentFault}

@@ -1,6 +1,7 @@
 -- The members of a section that is an array (profile).
 use Rattle.std.specs.Prelude.{ℕ, suc, ◌==◌, nat_lt, if◌then◌else◌, Result, Ok, Err}
 use Rattle.toml.specs.Data.{Data, Items, no_items, item}
+use Rattle.gptp_network.specs.Faults.{◌>>=◌}
 use Rattle.gptp_network.specs.declared.fault.DocumentFault.{DocumentFault}
 use Rattle.gptp_network.specs.declared.fault.DocumentFault.TheVariants.{MissingKey, TooMany}
 

@@ -4,7 +4,7 @@ use Rattle.toml.specs.Data.{Members}
 use Rattle.gptp_setup.specs.declared.setup.Params.{Params}
 use Rattle.gptp_scenario.specs.Network.{NetworkState, without_members}
 use Rattle.gptp_scenario.specs.Params.{params_fault}
-use Rattle.gptp_network.specs.Faults.{tested}
+use Rattle.gptp_network.specs.Faults.{◌>>=◌, tested}
 use Rattle.gptp_network.specs.Values.{natural, whole, table_at}
 use Rattle.gptp_network.specs.declared.fault.DocumentFault.{DocumentFault}
 

@@ -3,6 +3,7 @@ use Rattle.std.specs.Prelude.{ℕ, Result, Ok}
 use Rattle.toml.specs.Data.{Members}
 use Rattle.gptp_scenario.specs.Network.{NetworkState}
 use Rattle.gptp_network.specs.Document.{DocumentState}
+use Rattle.gptp_network.specs.Faults.{◌>>=◌}
 use Rattle.gptp_network.specs.ReadEvents.{read_events}
 use Rattle.gptp_network.specs.ReadLinks.{read_with_links}
 use Rattle.gptp_network.specs.ReadParams.{read_network}

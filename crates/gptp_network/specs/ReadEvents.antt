@@ -11,6 +11,7 @@ use Rattle.gptp_scenario.specs.declared.change.Timed.{Timed}
 use Rattle.gptp_scenario.specs.declared.fault.NetworkFault.{NetworkFault}
 use Rattle.gptp_scenario.specs.declared.fault.NetworkFault.TheVariants as networks
 use Rattle.gptp_network.specs.Events.{change_fault, timed}
+use Rattle.gptp_network.specs.Faults.{◌>>=◌}
 use Rattle.gptp_network.specs.Found.{system_from}
 use Rattle.gptp_network.specs.Links.{port_numbered}
 use Rattle.gptp_network.specs.ReadLinks.{is_there, no_port}

@@ -8,6 +8,7 @@ use Rattle.gptp_scenario.specs.declared.fault.NetworkFault.{NetworkFault}
 use Rattle.gptp_scenario.specs.declared.fault.NetworkFault.TheVariants as networks
 use Rattle.gptp_scenario.specs.declared.network.SystemSpec.{SystemSpec}
 use Rattle.gptp_scenario.specs.declared.network.LinkSpec.{LinkSpec}
+use Rattle.gptp_network.specs.Faults.{◌>>=◌}
 use Rattle.gptp_network.specs.Found.{link_from, system_from}
 use Rattle.gptp_network.specs.Links.{port_numbered, wire_of}
 use Rattle.gptp_network.specs.ReadMembers.{limited_in, read_each, section_in}

@@ -1,6 +1,7 @@
 -- The members of a section that is an array, or which of them is refused (profile).
 use Rattle.std.specs.Prelude.{ℕ, suc, ◌==◌, nat_lt, if◌then◌else◌, Result, Ok, Err}
 use Rattle.toml.specs.Data.{Data, Items, Members, no_items, item}
+use Rattle.gptp_network.specs.Faults.{◌>>=◌}
 use Rattle.gptp_network.specs.Members.{count}
 use Rattle.gptp_network.specs.Place.{section_limit, section_name}
 use Rattle.gptp_network.specs.Reading.{array_in}

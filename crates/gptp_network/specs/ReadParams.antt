@@ -6,6 +6,7 @@ use Rattle.gptp_scenario.specs.Network.{NetworkState, without_members}
 use Rattle.gptp_scenario.specs.Params.{params_fault}
 use Rattle.gptp_scenario.specs.declared.fault.NetworkFault.{NetworkFault}
 use Rattle.gptp_scenario.specs.declared.fault.NetworkFault.TheVariants as networks
+use Rattle.gptp_network.specs.Faults.{◌>>=◌}
 use Rattle.gptp_network.specs.Reading.{natural_at, table_in, whole_at}
 use Rattle.gptp_network.specs.Why.{at_place, told}
 use Rattle.gptp_network.specs.declared.keys.Name.TheVariants as names

@@ -5,6 +5,7 @@ use Rattle.gptp_roles.specs.Selection.{clock_of}
 use Rattle.gptp_scenario.specs.Network.{NetworkState, system_fault, with_system}
 use Rattle.gptp_scenario.specs.declared.fault.NetworkFault.{NetworkFault}
 use Rattle.gptp_scenario.specs.declared.fault.NetworkFault.TheVariants as networks
+use Rattle.gptp_network.specs.Faults.{◌>>=◌}
 use Rattle.gptp_network.specs.Found.{system_from}
 use Rattle.gptp_network.specs.ReadIntervals.{read_intervals}
 use Rattle.gptp_network.specs.ReadMembers.{limited_in, needed_in, read_each, section_in}

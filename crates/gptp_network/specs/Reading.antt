@@ -5,6 +5,7 @@ use Rattle.hex.specs.Hex.{decode_of, decode_sized}
 use Rattle.hex.specs.declared.error.FromHexError.{FromHexError}
 use Rattle.toml.specs.Data.{Data, Items, no_items, Members, no_members, get_member, as_integer, as_str, as_bool, as_array, as_table}
 use Rattle.gptp_scenario.specs.Params.{is_between}
+use Rattle.gptp_network.specs.Faults.{◌>>=◌}
 use Rattle.gptp_network.specs.Keys.{name_text}
 use Rattle.gptp_network.specs.Why.{front_of, shape_of}
 use Rattle.gptp_network.specs.declared.keys.Name.{Name}

@@ -4,7 +4,7 @@ use Rattle.byteorder.specs.Endian.{big_bytes, big_number}
 use Rattle.toml.specs.Data.{Data, Members, as_table}
 use Rattle.gptp_scenario.specs.Network.{NetworkState, member, with_system, system_fault}
 use Rattle.gptp_scenario.specs.declared.network.SystemSpec.{SystemSpec}
-use Rattle.gptp_network.specs.Faults.{tested}
+use Rattle.gptp_network.specs.Faults.{◌>>=◌, tested}
 use Rattle.gptp_network.specs.Intervals.{intervals}
 use Rattle.gptp_network.specs.Members.{needed, limited, each_of}
 use Rattle.gptp_network.specs.Values.{clock, flag, natural, whole, kind_of, array_at}

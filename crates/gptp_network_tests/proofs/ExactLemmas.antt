@@ -1,6 +1,6 @@
 -- The offset that the second of two systems is left by a Follow_Up is exact, as each act of their world
 -- promises.
-use Rattle.std.proofs.Common.{◌≡◌, ◌≤◌, ◌+◌, ◌+ℤ◌, ◌-ℤ◌, ℕ, zero, suc, ℤ, pos, true, [], ◌∷◌, Option, Some, length, slice_get, refl, sym, ap, subst, ◌∙◌, inl, inr, arith}
+use Rattle.std.proofs.Common.{◌≡◌, ◌≤◌, ◌+◌, ◌-ℤ◌, ℕ, zero, suc, ℤ, pos, true, [], ◌∷◌, Option, Some, length, slice_get, refl, sym, ap, subst, ◌∙◌, inl, inr, arith}
 use Rattle.std.proofs.lemmas.Int.{ints}
 use Rattle.std.proofs.lemmas.Option.{none-some, same_Some}
 use Rattle.gptp_error_laws.specs.TimeError.{Way, time_error}
@@ -45,6 +45,7 @@ use Rattle.gptp_theorem.specs.HeadlineLaws.{RunsAreExact, WorldsAreExact}
 use Rattle.gptp_theorem.specs.PlayedLaws.{IsPlayable}
 use Rattle.gptp_theorem.specs.Reached.{Shape, shape, shape_after, channel_wire}
 use Rattle.gptp_theorem.proofs.CalmKeptLemmas.{no_change}
+use Rattle.gptp_theorem.proofs.OwnClockLemmas.{own_told}
 use Rattle.gptp_theorem.proofs.CalmLemmas.{quiet_stands, set_stands}
 use Rattle.gptp_theorem.proofs.KeptLemmas.{acts_stand, time_stands}
 use Rattle.gptp_theorem.proofs.SyncPathLemmas.{paths_stand}
@@ -53,7 +54,7 @@ use Rattle.gptp_scaled.specs.Counts.{AreWithin}
 use Rattle.gptp_system.specs.State.{clock, local_time}
 use Rattle.gptp_system.specs.Takeover.{told_time}
 use Rattle.gptp_sync_machine.specs.Tree.{IsWayTo, Parts, last_link, tree_root_way}
-use Rattle.gptp_network_tests.specs.Pair.{FirstHasNoBase, IsPairSince, RunsOfTwoAreExact, WorldsOfTwoAreExact, end_station, first_member, pair_document, pair_network, pair_pace, pair_snapshot, params, second_member}
+use Rattle.gptp_network_tests.specs.Pair.{IsPairSince, RunsOfTwoAreExact, WorldsOfTwoAreExact, end_station, first_member, pair_document, pair_network, pair_pace, pair_snapshot, params, second_member}
 use Rattle.gptp_network_tests.proofs.PairLemmas.{bounded, calm as is_calm, follows, led, near, pace_is, paths_are, snapshot_is}
 
 -- ---- what holds of numbers
@@ -61,10 +62,6 @@ use Rattle.gptp_network_tests.proofs.PairLemmas.{bounded, calm as is_calm, follo
 -- clocks that show the same are not ahead of each other
 none_ahead : (x y z : ℤ) → x ≡ z → y ≡ z → pos 0 ≡ x -ℤ y
 none_ahead x y z own other = omega (arith, ints, own, other)
-
--- without a base a system tells what its clock shows
-without_base : (x y base : ℤ) → base ≡ pos 0 → x ≡ y → (x +ℤ base) ≡ y
-without_base x y base none same = omega (arith, ints, none, same)
 
 -- the link of the pair
 abbrev pair_wire : LinkSpec
@@ -243,15 +240,15 @@ module _ (w : WorldState) (time : ℕ) (k : IsPairSince 27000000000 w) (sound : 
   first_is best (inr (inr none)) is = absurd none
 
   -- what the first tells
-  pub first_tells : FirstHasNoBase w → (t : ℕ)
+  pub first_tells : WorldInvariant w → (t : ℕ)
       → told_time (found 0 1 first_member refl refl).0.system t ≡ local_clock 0 (pos 0) t
-  first_tells none t =
+  first_tells all t =
       let root = found 0 1 first_member refl refl in
-      without_base (local_time root.0.system t) (local_clock 0 (pos 0) t) root.0.system.base
-      (none.is root.0.system (shows 0 1 first_member refl refl)) (time_is 0 1 first_member refl refl t)
+      own_told pair_network [] w 0 (end_station first_member) root.0 t k.stands all refl root.1 refl
+      ∙ time_is 0 1 first_member refl refl t
 
-  ahead : FirstHasNoBase w → IsAhead w 2 time (pos 0)
-  ahead none =
+  ahead : WorldInvariant w → IsAhead w 2 time (pos 0)
+  ahead all =
       let (best, is_best, is) : IsBestIdentity pair_snapshot 2 first_member = follows.root in
       let own = found 1 2 second_member refl refl in
       let root = found 0 1 first_member refl refl in
@@ -264,13 +261,13 @@ module _ (w : WorldState) (time : ℕ) (k : IsPairSince 27000000000 w) (sound : 
         shows_root = subst (λ c. ShowsLive c w root.0.system) (first_is best is_best.live is)
             (shows 0 1 first_member refl refl);
         is = none_ahead (local_time own.0.system time) (told_time root.0.system time) (local_clock 0 (pos 0) time)
-            (time_is 1 2 second_member refl refl time) (first_tells none time);
+            (time_is 1 2 second_member refl refl time) (first_tells all time);
       }
 
   -- ---- its offset
 
-  exact : FirstHasNoBase w → (offset : ℤ) → IsExactInTime 2 w time offset → AreWithin 19 offset (pos 0)
-  exact none offset promised = promised 2 0 19 (pos 0) calm few (of_pair (λ g. IsNear g 2) near) error (ahead none)
+  exact : WorldInvariant w → (offset : ℤ) → IsExactInTime 2 w time offset → AreWithin 19 offset (pos 0)
+  exact all offset promised = promised 2 0 19 (pos 0) calm few (of_pair (λ g. IsNear g 2) near) error (ahead all)
 
   -- what the theorem asks
   pub calm_pair : WorldIsCalm pair_pace w
@@ -283,16 +280,16 @@ module _ (w : WorldState) (time : ℕ) (k : IsPairSince 27000000000 w) (sound : 
   }
 
   -- so it is by what the theorem says of an act
-  exact_by_theorem : FirstHasNoBase w → (w' : WorldState) (done : Done) (offset : ℤ)
+  exact_by_theorem : WorldInvariant w → (w' : WorldState) (done : Done) (offset : ℤ)
       → HeadlineOnTime w time w' done → LeavesOffset 2 offset w' done → AreWithin 19 offset (pos 0)
-  exact_by_theorem none w' done offset promised left =
+  exact_by_theorem all w' done offset promised left =
       promised pair_pace 2 0 2 19 offset (pos 0) calm_pair few (omega (arith, late)) left
-      (of_pair (λ g. IsNear g 2) near) error (ahead none)
+      (of_pair (λ g. IsNear g 2) near) error (ahead all)
 
 pub worlds_exact : {F : Type 0} (answers : Bounds → ℕ → F → Option ℕ → F → Type 0) → WorldsAreExact answers
     → WorldsOfTwoAreExact answers
-worlds_exact answers theorem timed fate fate_after w w' done offset k none all was early left =
-    exact_by_theorem w timed.at k all.is.world.sound (record { pace = all.pace; is = all.is }) was.ready.timely.now none
+worlds_exact answers theorem timed fate fate_after w w' done offset k all was early left =
+    exact_by_theorem w timed.at k all.is.world.sound (record { pace = all.pace; is = all.is }) was.ready.timely.now all
     w' done offset (theorem timed fate fate_after w w' done all was (omega (arith, early))) left
 
 -- the document of the pair can be played
@@ -305,17 +302,17 @@ playable network = record {
 
 pub runs_exact : {F : Type 0} (answers : Bounds → ℕ → F → Option ℕ → F → Type 0) → RunsAreExact answers
     → RunsOfTwoAreExact answers
-runs_exact answers theorem until fate start w ts t offset early unfolds member k none all passed left =
-    exact_by_theorem t.before t.told.timed.at k all.is.world.sound (record { pace = all.pace; is = all.is }) passed none
+runs_exact answers theorem until fate start w ts t offset early unfolds member k all passed left =
+    exact_by_theorem t.before t.told.timed.at k all.is.world.sound (record { pace = all.pace; is = all.is }) passed all
     t.after t.told.done offset
     (theorem pair_document until fate start w ts t (playable k.network) (omega (arith, early)) unfolds member) left
 
 pub second_is_exact : (w : WorldState) (time : ℕ) (w' : WorldState) (done : Done) (offset : ℤ)
-    → IsPairSince 27000000000 w → FirstHasNoBase w → IsSound w → SettlingInvariant w → w.time ≤ time
+    → IsPairSince 27000000000 w → WorldInvariant w → w.time ≤ time
     → IsHeardExact w time w' done → LeavesOffset 2 offset w' done → AreWithin 19 offset (pos 0)
-second_is_exact w time w' Quiet offset k none sound claimed passed promised left = absurd left.uses
-second_is_exact w time w' (Heard number port answer frame) offset k none sound claimed passed promised left =
+second_is_exact w time w' Quiet offset k all passed promised left = absurd left.uses
+second_is_exact w time w' (Heard number port answer frame) offset k all passed promised left =
     let (named, used, (message, reads)) = left.uses in
     let shows = subst (λ n. ShowsLive n w' left.system) (sym named) left.shows in
-    exact w time k sound claimed passed none offset
+    exact w time k all.is.world.sound (record { pace = all.pace; is = all.is }) passed all offset
     (subst (λ n. IsExactInTime n w time offset) named (promised message left.system offset reads used shows left.is))

@@ -23,7 +23,7 @@ use Rattle.gptp_system.specs.Syncing.{held_reading}
 use Rattle.gptp_theorem.specs.Headline.{UsesFollowUp}
 use Rattle.gptp_reading.specs.Readings.{HeadlineOnReadings, LeavesReading, RunsReadExactly, WorldsReadExactly}
 use Rattle.gptp_scaled.specs.Counts.{AreWithin}
-use Rattle.gptp_network_tests.specs.Pair.{FirstHasNoBase, IsPairSince, first_member, pair_document, pair_pace, pair_snapshot, params}
+use Rattle.gptp_network_tests.specs.Pair.{IsPairSince, first_member, pair_document, pair_pace, pair_snapshot, params}
 use Rattle.gptp_network_tests.specs.Readings.{RunsOfTwoReadExactly, WorldsOfTwoReadExactly}
 use Rattle.gptp_network_tests.proofs.ExactLemmas.{calm_pair, few, first_is, first_tells, found, late, leads, of_pair, phases, playable, short_way, shows, way, way_is}
 use Rattle.gptp_network_tests.proofs.PairLemmas.{follows, near}
@@ -41,8 +41,8 @@ module _ (w : WorldState) (time : ℕ) (k : IsPairSince 27000000000 w) (sound : 
     is = sym (ap (λ (v : Way). reading_error_at v 0 100000000) (way_is w time k sound claimed passed) ∙ short_reading);
   }
 
-  shown : FirstHasNoBase w → IsBestsTime w 2 (time + 100000000) (local_clock 0 (pos 0) (time + 100000000))
-  shown none =
+  shown : WorldInvariant w → IsBestsTime w 2 (time + 100000000) (local_clock 0 (pos 0) (time + 100000000))
+  shown all =
       let (best, is_best, is) : IsBestIdentity pair_snapshot 2 first_member = follows.root in
       let root = found w time k sound claimed passed 0 1 first_member refl refl in
       record {
@@ -52,28 +52,28 @@ module _ (w : WorldState) (time : ℕ) (k : IsPairSince 27000000000 w) (sound : 
         shows = subst (λ c. ShowsLive c w root.0.system)
             (first_is w time k sound claimed passed best is_best.live is)
             (shows w time k sound claimed passed 0 1 first_member refl refl);
-        is = sym (first_tells w time k sound claimed passed none (time + 100000000));
+        is = sym (first_tells w time k sound claimed passed all (time + 100000000));
       }
 
-  read_by_theorem : FirstHasNoBase w → (w' : WorldState) (done : Done) (read : ℤ) → HeadlineOnReadings w time w' done
+  read_by_theorem : WorldInvariant w → (w' : WorldState) (done : Done) (read : ℤ) → HeadlineOnReadings w time w' done
       → LeavesReading 2 w' done (time + 100000000) read
       → AreWithin 31 read (local_clock 0 (pos 0) (time + 100000000))
-  read_by_theorem none w' done read promised left =
+  read_by_theorem all w' done read promised left =
       promised pair_pace 2 0 2 100000000 31 read (local_clock 0 (pos 0) (time + 100000000))
       (calm_pair w time k sound claimed passed) (few w time k sound claimed passed)
       (let come = late w time k sound claimed passed in omega (arith, come)) left
-      (of_pair w time k sound claimed passed (λ g. IsNear g 2) near) error (shown none)
+      (of_pair w time k sound claimed passed (λ g. IsNear g 2) near) error (shown all)
 
 pub worlds_read : {F : Type 0} (answers : Bounds → ℕ → F → Option ℕ → F → Type 0) → WorldsReadExactly answers
     → WorldsOfTwoReadExactly answers
-worlds_read answers theorem timed fate fate_after w w' done read k none all was early left =
-    read_by_theorem w timed.at k all.is.world.sound (record { pace = all.pace; is = all.is }) was.ready.timely.now none
+worlds_read answers theorem timed fate fate_after w w' done read k all was early left =
+    read_by_theorem w timed.at k all.is.world.sound (record { pace = all.pace; is = all.is }) was.ready.timely.now all
     w' done read (theorem timed fate fate_after w w' done all was (omega (arith, early))) left
 
 pub runs_read : {F : Type 0} (answers : Bounds → ℕ → F → Option ℕ → F → Type 0) → RunsReadExactly answers
     → RunsOfTwoReadExactly answers
-runs_read answers theorem until fate start w ts t read early unfolds member k none all passed left =
-    read_by_theorem t.before t.told.timed.at k all.is.world.sound (record { pace = all.pace; is = all.is }) passed none
+runs_read answers theorem until fate start w ts t read early unfolds member k all passed left =
+    read_by_theorem t.before t.told.timed.at k all.is.world.sound (record { pace = all.pace; is = all.is }) passed all
     t.after t.told.done read
     (theorem pair_document until fate start w ts t (playable k.network) (omega (arith, early)) unfolds member) left
 
@@ -87,10 +87,10 @@ left w done s time r uses shows law held =
 -- what the second reads 100 ms after an act is what a clock shows that runs exactly, but for rounding and its rate
 pub second_is_read : {F : Type 0} (answers : Bounds → ℕ → F → Option ℕ → F → Type 0) (timed : Timed)
     (fate fate_after : F) (w w' : WorldState) (done : Done) (read : ℤ) (later : ℕ) → WorldsOfTwoReadExactly answers
-    → IsPairSince 27000000000 w → FirstHasNoBase w → WorldInvariant w
+    → IsPairSince 27000000000 w → WorldInvariant w
     → WasDone answers timed fate fate_after w w' done → timed.at ≤ 28000000000 → later ≡ timed.at + 100000000
     → LeavesReading 2 w' done (timed.at + 100000000) read
     → AreWithin 31 read (local_clock 0 (pos 0) later)
-second_is_read answers timed fate fate_after w w' done read later theorem k none all was early is reads =
+second_is_read answers timed fate fate_after w w' done read later theorem k all was early is reads =
     subst (λ t. AreWithin 31 read (local_clock 0 (pos 0) t)) (sym is)
-    (theorem timed fate fate_after w w' done read k none all was (omega (arith, early)) reads)
+    (theorem timed fate fate_after w w' done read k all was (omega (arith, early)) reads)

@@ -23,7 +23,6 @@ use Rattle.gptp_scenario.specs.declared.sync_wait.SyncPaths.{SyncPaths}
 use Rattle.gptp_model.specs.Course.{Begun, WasDone}
 use Rattle.gptp_model.specs.declared.done.Done.{Done}
 use Rattle.gptp_model.specs.declared.done.Done.TheVariants.{Heard, Quiet}
-use Rattle.gptp_model.specs.Views.{ShowsLive}
 use Rattle.gptp_model.specs.World.{WorldState, port_id}
 use Rattle.gptp_network.specs.Document.{DocumentState}
 use Rattle.gptp_report.specs.Transitions.{ActTrace, Unfolds}
@@ -157,14 +156,10 @@ HearsAnnounce number m (Heard clock port answer frame) =
 
 -- ---- how exact offsets are in it
 
--- the first has no base, and so tells what its clock shows
-pub record FirstHasNoBase (w : WorldState) : Type 0 where
-  pub is : (s : SystemState) → ShowsLive 1 w s → s.base ≡ pos 0
-
 -- an act in their world leaves the second an offset that is exact but for rounding
 abbrev pub WorldsOfTwoAreExact : {F : Type 0} → (Bounds → ℕ → F → Option ℕ → F → Type 0) → Type 0
 WorldsOfTwoAreExact {F} answers = (timed : Timed) (fate fate_after : F) (w w' : WorldState) (done : Done) (offset : ℤ)
-    → IsPairSince 27000000000 w → FirstHasNoBase w → WorldInvariant w → WasDone answers timed fate fate_after w w' done
+    → IsPairSince 27000000000 w → WorldInvariant w → WasDone answers timed fate fate_after w w' done
     → timed.at ≤ 1000000000000000 → LeavesOffset 2 offset w' done
     → AreWithin 19 offset (pos 0)
 
@@ -174,7 +169,7 @@ abbrev pub RunsOfTwoAreExact : {F : Type 0} → (Bounds → ℕ → F → Option
 RunsOfTwoAreExact {F} answers = (until : ℕ) (fate : F) (start w : WorldState) (ts : List ActTrace) (t : ActTrace)
     (offset : ℤ)
     → until ≤ 1000000000000000 → Unfolds answers pair_document until fate start ts w → In t ts
-    → IsPairSince 27000000000 t.before → FirstHasNoBase t.before → WorldInvariant t.before
+    → IsPairSince 27000000000 t.before → WorldInvariant t.before
     → t.before.time ≤ t.told.timed.at
     → LeavesOffset 2 offset t.after t.told.done
     → AreWithin 19 offset (pos 0)

@@ -11,13 +11,13 @@ use Rattle.gptp_model.specs.World.{WorldState}
 use Rattle.gptp_report.specs.Transitions.{ActTrace, Unfolds}
 use Rattle.gptp_invariants.specs.SyncTimedClaim.{WorldInvariant}
 use Rattle.gptp_reading.specs.Readings.{LeavesReading}
-use Rattle.gptp_network_tests.specs.Pair.{FirstHasNoBase, IsPairSince, pair_document}
+use Rattle.gptp_network_tests.specs.Pair.{IsPairSince, pair_document}
 
 -- By an act in their world: what it reads then is what a clock shows that runs exactly, but for rounding, and for the
 -- 12 units that an error of the rate of 4 units makes of 100 ms.
 abbrev pub WorldsOfTwoReadExactly : {F : Type 0} → (Bounds → ℕ → F → Option ℕ → F → Type 0) → Type 0
 WorldsOfTwoReadExactly {F} answers = (timed : Timed) (fate fate_after : F) (w w' : WorldState) (done : Done) (read : ℤ)
-    → IsPairSince 27000000000 w → FirstHasNoBase w → WorldInvariant w → WasDone answers timed fate fate_after w w' done
+    → IsPairSince 27000000000 w → WorldInvariant w → WasDone answers timed fate fate_after w w' done
     → timed.at ≤ 1000000000000000 → LeavesReading 2 w' done (timed.at + 100000000) read
     → AreWithin 31 read (local_clock 0 (pos 0) (timed.at + 100000000))
 
@@ -27,7 +27,7 @@ abbrev pub RunsOfTwoReadExactly : {F : Type 0} → (Bounds → ℕ → F → Opt
 RunsOfTwoReadExactly {F} answers = (until : ℕ) (fate : F) (start w : WorldState) (ts : List ActTrace) (t : ActTrace)
     (read : ℤ)
     → until ≤ 1000000000000000 → Unfolds answers pair_document until fate start ts w → In t ts
-    → IsPairSince 27000000000 t.before → FirstHasNoBase t.before → WorldInvariant t.before
+    → IsPairSince 27000000000 t.before → WorldInvariant t.before
     → t.before.time ≤ t.told.timed.at
     → LeavesReading 2 t.after t.told.done (t.told.timed.at + 100000000) read
     → AreWithin 31 read (local_clock 0 (pos 0) (t.told.timed.at + 100000000))

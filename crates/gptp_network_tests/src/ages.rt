@@ -2,7 +2,7 @@
 //! whose contract follows from a law. Times are in ns.
 
 ghost use Rattle.std.specs.Prelude.{◌≡◌, ◌≤◌, IfOk, IfSome, OnOk};
-ghost use Rattle.gptp_network_tests.specs.Ages.{HasLapsingBegun, IsLapsingPair, lapsing_params};
+ghost use Rattle.gptp_network_tests.specs.Ages.{HasLapsingBegun, IsLapsingPair, lapsing_network, lapsing_params};
 
 use crate::drawn::{PARAMS, pair_with};
 use gptp_links::Fate;

@@ -12,7 +12,7 @@ ghost use Rattle.gptp_messages.specs.declared.message.Message.TheVariants as mes
 ghost use Rattle.gptp_theorem.specs.Headline.{LeavesOffset, UsesFollowUp};
 ghost use Rattle.gptp_roles.specs.declared.role.Role.TheVariants.{Disabled, Master, Slave};
 ghost use Rattle.gptp_scaled.specs.Counts.{AreWithin};
-ghost use Rattle.gptp_network_tests.specs.Pair.{FirstHasNoBase, HasBegun, HearsAnnounce, HoldsFirstAlone, HoldsFromFirst, IsPairAt, IsPairSince};
+ghost use Rattle.gptp_network_tests.specs.Pair.{HasBegun, HearsAnnounce, HoldsFirstAlone, HoldsFromFirst, IsPairAt, IsPairSince};
 ghost use Rattle.gptp_network_tests.specs.Pair.{RunsOfTwoAreExact, WorldsOfTwoAreExact};
 ghost use Rattle.gptp_network_tests.specs.Pair.{each_second, first_member, following_pair, leading, pair_network, second_member};
 
@@ -383,19 +383,8 @@ fn second_offset<F: Fate + Drop>(world: &World<F>, done: &Done) -> Option<Scaled
     }
 }
 
-/// Whether the first has no base, and so tells what its clock shows.
-pub(crate) fn first_has_no_base<F: Fate + Drop>(world: &World<F>) -> bool
-    ensures { result ≡ true → FirstHasNoBase world.now.world_core }
-{
-    world.well_formed();
-    match world.base(ClockId::from(1)) {
-        Some(base) => base == ScaledNs::default(),
-        None => false,
-    }
-}
-
-/// The next act is done. The offset that it leaves the second, where that used a Follow_Up and the first has no base: in
-/// units of 2^-16 ns, and no more than rounding, as both clocks show the same.
+/// The next act is done. The offset that it leaves the second, where that used a Follow_Up: in units of 2^-16 ns, and no
+/// more than rounding, as both clocks show the same.
 #[tactic(auto, using(crate::proofs::ExactLemmas::second_is_exact))]
 fn receive<F: Fate + Drop>(world: &mut World<F>) -> Result<Option<ScaledNs>, NetworkFault>
     requires { IsPairSince 27000000000 world.old.world_core }
@@ -407,7 +396,7 @@ fn receive<F: Fate + Drop>(world: &mut World<F>) -> Result<Option<ScaledNs>, Net
         Some(timed) => timed,
         None => return Ok(None),
     };
-    if LAST < timed.at || !first_has_no_base(world) {
+    if LAST < timed.at {
         return Ok(None);
     }
     match world.act(timed) {

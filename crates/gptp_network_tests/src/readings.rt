@@ -8,7 +8,7 @@ ghost use Rattle.gptp_reading.specs.Readings.{LeavesReading};
 ghost use Rattle.gptp_network_tests.specs.Pair.{IsPairSince};
 ghost use Rattle.gptp_network_tests.specs.Readings.{RunsOfTwoReadExactly, WorldsOfTwoReadExactly};
 
-use crate::drawn::{AWAITS, LAST, first_has_no_base, pair_at, second_uses};
+use crate::drawn::{AWAITS, LAST, pair_at, second_uses};
 use gptp_links::Fate;
 use gptp_reading::{held_is_read, runs_read_exactly, worlds_read_exactly};
 use gptp_vector::ClockId;
@@ -49,8 +49,8 @@ fn second_reads<F: Fate + Drop>(world: &World<F>, at: u64, done: &Done) -> Optio
     Some((reading.at(system.local(later)), later))
 }
 
-/// The next act is done. What the second reads 100 ms later, where it used a Follow_Up by it and the first has no base,
-/// and when that is: what a clock shows then that runs exactly, but for rounding and the error of the rate.
+/// The next act is done. What the second reads 100 ms later, where it used a Follow_Up by it, and when that is: what a
+/// clock shows then that runs exactly, but for rounding and the error of the rate.
 #[tactic(auto, using(crate::proofs::ReadingLemmas::second_is_read))]
 fn read_next<F: Fate + Drop>(world: &mut World<F>) -> Result<Option<(i128, u64)>, NetworkFault>
     requires { IsPairSince 27000000000 world.old.world_core }
@@ -64,7 +64,7 @@ fn read_next<F: Fate + Drop>(world: &mut World<F>) -> Result<Option<(i128, u64)>
         None => return Ok(None),
     };
     let at = timed.at;
-    if LAST < at || !first_has_no_base(world) {
+    if LAST < at {
         return Ok(None);
     }
     match world.act(timed) {

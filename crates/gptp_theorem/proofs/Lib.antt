@@ -7,6 +7,7 @@ pub mod PlayedLemmas
 pub mod SnapshotLemmas
 pub mod SyncPathLemmas
 pub mod CalmLemmas
+pub mod OwnClockLemmas
 pub mod AlikeLemmas
 pub mod SettleLemmas
 pub mod SettlingInvariantLemmas

@@ -5,7 +5,7 @@ ghost use Rattle.gptp_theorem.specs.CalmKept.{CalmIsKept};
 ghost use Rattle.gptp_theorem.specs.PlayedLaws.{CalmRests, DocumentIsCalm, DocumentsArePlayable, EventsAreMade, PlayedClaimed, PlayedStands};
 ghost use Rattle.gptp_theorem.specs.ReachedLaws.{ActsStand, BegunStands, ChangesStand, TimeStands};
 ghost use Rattle.gptp_theorem.specs.SettleLaws.{DocumentsSettle, PlayedSettle};
-ghost use Rattle.gptp_theorem.specs.StandingLaws.{StandsCount, StandsPaths, StandsQuiet, StandsSet, StandsSnapshot};
+ghost use Rattle.gptp_theorem.specs.StandingLaws.{StandsCount, StandsPaths, StandsQuiet, StandsSet, StandsSnapshot, StandsTelling};
 
 use gptp_links::Fate;
 
@@ -38,6 +38,11 @@ pub fn calm_stands()
     ensures paths { StandsPaths }
     ensures quiet { StandsQuiet }
     ensures set { StandsSet }
+{}
+
+/// Each system of it that isn't set to go on with the time that it read tells what its clock shows, whatever happened.
+pub fn own_clocks_are_told()
+    ensures { StandsTelling }
 {}
 
 /// A world that goes on by itself, as by `advance`, stays calm: it has been calm then for each span that it had been

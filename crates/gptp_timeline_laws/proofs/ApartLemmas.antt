@@ -43,7 +43,7 @@ use Rattle.gptp_timeline_laws.specs.Apart.{ReadFromBoth, TimelinesReadApart}
 use Rattle.gptp_timeline_laws.specs.Moments.{BeginsWith, greatest_error, last_time, next_time, ReadsAt, world_after}
 use Rattle.gptp_timeline_laws.proofs.CourseLemmas.{last_on, world_on}
 use Rattle.gptp_timeline_laws.proofs.DifferenceLemmas.{among_own, in_listed, IsToldAt, over_told, ReadsFromTold, two_told, widest_in}
-use Rattle.gptp_timeline_laws.proofs.GapLemmas.{last_from}
+use Rattle.gptp_timeline_laws.proofs.GapStretchLemmas.{last_from}
 use Rattle.gptp_timeline_laws.proofs.MomentLemmas.{Found, timeline_found, times_bound_moments}
 use Rattle.gptp_timeline_laws.proofs.PartLemmas.{begins_on_time, courses_world, MomentSo, point_so}
 use Rattle.gptp_timeline_laws.proofs.RootLemmas.{names_first, names_of, names_over, readings_are}

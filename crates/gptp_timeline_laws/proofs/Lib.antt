@@ -27,6 +27,8 @@ pub mod SoonLemmas
 pub mod ExactSoonLemmas
 pub mod ReadSoonLemmas
 pub mod TurnLemmas
+pub mod GapActsLemmas
+pub mod GapStretchLemmas
 pub mod GapLemmas
 pub mod DifferenceLemmas
 pub mod ApartLemmas

@@ -1,6 +1,6 @@
 //! Frames that arrive.
 
-ghost use Rattle.std.specs.Prelude.{◌≡◌};
+ghost use Rattle.std.specs.Prelude.{◌≡◌, ◌≤◌};
 ghost use Rattle.gptp_links.specs.Queue.{FrameIsDue, IsTaken};
 ghost use Rattle.gptp_links.specs.State.{queue, ChangesOnly, KeepsRoom};
 
@@ -21,7 +21,7 @@ fn deliver_on(joined_link: &mut JoinedLink, direction: Direction, now: u64) -> V
 }
 
 impl Net {
-    ghost use Rattle.std.specs.Prelude.{◌≡◌, Some, slice_get};
+    ghost use Rattle.std.specs.Prelude.{◌≡◌, ◌≤◌, ℕ, Some, slice_get};
     ghost use Rattle.gptp_world.specs.declared.joined_link.JoinedLink.{JoinedLink};
     ghost use Rattle.gptp_world.specs.declared.joined_link.Lane.{Lane};
     ghost use Rattle.gptp_model.specs.Act.{TakesFrame};

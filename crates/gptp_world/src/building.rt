@@ -1,6 +1,6 @@
 //! A world made of a network.
 
-ghost use Rattle.std.specs.Prelude.{◌≡◌, ◌<◌, [], length, map, IfOk, Some, slice_get};
+ghost use Rattle.std.specs.Prelude.{◌≡◌, ◌≤◌, ◌<◌, [], length, map, IfOk, Some, slice_get};
 ghost use Rattle.gptp_links.specs.Bounds.{Fit};
 ghost use Rattle.gptp_world.specs.JoinedLink.{channel_of};
 ghost use Rattle.gptp_model.specs.Initial.{channels_of, stations_of};

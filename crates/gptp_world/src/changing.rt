@@ -4,7 +4,7 @@ use crate::net::Net;
 use gptp_links::Bounds;
 
 impl Net {
-    ghost use Rattle.std.specs.Prelude.{◌≡◌, ◌<◌, length, Some, slice_get};
+    ghost use Rattle.std.specs.Prelude.{◌≡◌, ◌≤◌, ◌<◌, ℕ, length, Some, slice_get};
     ghost use Rattle.gptp_links.specs.Bounds.{Fit};
     ghost use Rattle.gptp_world.specs.declared.joined_link.JoinedLink.{JoinedLink};
     ghost use Rattle.gptp_world.specs.JoinedLink.{channel_of};

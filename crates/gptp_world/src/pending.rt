@@ -1,10 +1,12 @@
 //! What is pending in a world.
 
-ghost use Rattle.std.specs.Prelude.{◌≡◌, ℕ, ◌+◌, ◌<◌, ◌≤◌, [], ◌∷◌, ◌++◌, length, true, false, Option, IsOk, IfOk, OnOk, IfSome, IfNone};
+ghost use Rattle.std.specs.Prelude.{◌≡◌, ℕ, ◌+◌, ◌<◌, ◌≤◌, [], ◌∷◌, ◌++◌, length, not, true, false, Option, IsOk, IfOk, OnOk, IfSome, IfNone, IsTrue};
 ghost use Rattle.std.specs.List.{AllByRecursion};
+ghost use Rattle.gptp_model.specs.Item.{timer_port};
 ghost use Rattle.gptp_model.specs.Pending.{timer_time, put, set_due, times_of_item, without, without_first_entry, IsKnownItem, IsNext};
 ghost use Rattle.gptp_model.specs.declared.item.Item.TheVariants.{Expiry, Arrival};
 ghost use Rattle.gptp_links.specs.declared.link.Direction.TheVariants.{FromA, FromB};
+ghost use Rattle.gptp_queue.specs.Waiting.{RiseFrom};
 ghost use Rattle.gptp_world.specs.PendingIndex.{placed, placed_items, without_placed, MakesFree, PutsBack};
 
 use crate::pending_index::{PendingIndex, arrival_place, timer_kind, timer_place};

@@ -1,6 +1,6 @@
 //! The places of arrivals, by link and direction.
 
-ghost use Rattle.std.specs.Prelude.{◌≡◌, ℕ, ◌+◌, ◌-◌, ◌*◌, ◌<◌, ◌≤◌, [], ◌∷◌, ◌++◌, length, IsOk, IfOk, OnOk};
+ghost use Rattle.std.specs.Prelude.{◌≡◌, ℕ, ◌+◌, ◌-◌, ◌*◌, ◌<◌, ◌≤◌, [], ◌∷◌, ◌++◌, length, IsOk, IfOk, OnOk, slice_index_or, slice_set};
 ghost use Rattle.gptp_model.specs.Item.{timer_kind, timer_port};
 ghost use Rattle.gptp_model.specs.Pending.{arrival_place};
 ghost use Rattle.gptp_world.specs.Chain.{chain_head, rest_of};

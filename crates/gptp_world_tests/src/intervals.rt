@@ -1,5 +1,6 @@
 //! Networks whose ports announce at intervals of their own.
 
+ghost use Rattle.std.specs.Prelude.{◌≤◌, length};
 
 use crate::far::{identity, port};
 use crate::same::{same, same_at};
