@@ -26,7 +26,6 @@ use Rattle.gptp_network.proofs.InUseLemmas.{live_there, runs}
 use Rattle.gptp_network.proofs.PassLemmas.{given, kept}
 use Rattle.gptp_network.proofs.SnapshotLemmas.{clock_after, from_filter, member_there}
 use Rattle.gptp_how_soon.specs.Chosen.{chosen_after, ends_among, ends_of, is_used_then, itself, place_of, used_ends}
-use Rattle.gptp_how_soon.specs.Systems as known
 use Rattle.gptp_how_soon.specs.Systems.{first_system, system_then, systems_after}
 use Rattle.gptp_how_soon.specs.declared.chosen.Chosen.{Chosen}
 use Rattle.gptp_how_soon.specs.declared.chosen.Ends.{Ends}
@@ -107,12 +106,14 @@ module _ (n : NetworkState) (network : IsNetwork n) (events : List Timed) (g : S
   at_clock v member =
       let (s, live, same) = from_map (λ (s : System). s.clock) v g.systems member in
       let (m, among, is) = member_there n network events g stands s live in
-      let (i, there) = slice_get-In m n.systems among in
-      (i, record {
-        system = m;
-        there = there;
-        clock = sym (clock_after events m) ∙ ap (λ (t : System). t.clock) is ∙ same;
-      })
+      let (i, there) = slice_get-In m n.systems among in (
+        i,
+        record {
+          system = m;
+          there = there;
+          clock = sym (clock_after events m) ∙ ap (λ (t : System). t.clock) is ∙ same;
+        },
+      )
 
   -- ---- links
 
@@ -334,14 +335,13 @@ module _ (n : NetworkState) (network : IsNetwork n) (events : List Timed) (g : S
         let w = r.end in
         let known = Route-end g v w r.over well member r.route in
         let (best, live, same) = from_map (λ (s : System). s.clock) w g.systems known in
-        let at_best : IsAt n x.place best.clock = subst (IsAt n x.place) (sym same) r.at in
         let identity : best.identity ≡ (system_after events r.at.system).identity =
         named best live x.place (record { system = r.at.system; there = r.at.there; clock = r.at.clock ∙ sym same }) in
         let root : c.root ≡ best.identity = x.root ∙ sym identity in
         let is_best : IsBest g v best = record {
           live = live;
           reached = Reaches-route g v best.clock r.over member (subst (λ u. Route g v u r.over) (sym same) r.route);
-          least = λ s live_s reached. lower s live_s reached root;
+          least = λ s live_s reached. lower best s live_s reached root;
         } in
         record {
           best = best;
@@ -355,9 +355,8 @@ module _ (n : NetworkState) (network : IsNetwork n) (events : List Timed) (g : S
         }
       where
         -- no system that is reached is lower
-        lower : (s : System) → In s g.systems → Reaches g v s.clock → {b : System} → c.root ≡ b.identity
-            → b.identity ≤ s.identity
-        lower s live_s (us, path) {b} root =
+        lower : (b s : System) → In s g.systems → Reaches g v s.clock → c.root ≡ b.identity → b.identity ≤ s.identity
+        lower b s live_s (us, path) root =
             let (j, at_s) = at_clock s.clock (In-map (λ (t : System). t.clock) s g.systems live_s) in
             let is = named s live_s j at_s in
             elim (no_worse s.clock j at_s us path.route (few v s.clock us path)) [

@@ -1,14 +1,16 @@
 -- After so many rounds each system has the best that so few links lead to.
-use Rattle.std.proofs.Common.{◌≡◌, ◌⊎◌, ◌<◌, ◌≤◌, ◌+◌, ◌==◌, ◌&&◌, ◌||◌, ℕ, zero, suc, Bool, true, false, List, [], ◌∷◌, nat_lt, Option, Some, None, slice_get, slice_set, refl, sym, ap, subst, ◌∙◌, inl, inr, arith}
+use Rattle.std.proofs.Common.{◌≡◌, ◌⊎◌, ◌<◌, ◌≤◌, ◌+◌, ◌-◌, ◌++◌, ◌==◌, ◌&&◌, ◌||◌, ℕ, zero, suc, Bool, true, false, List, [], ◌∷◌, map, nat_lt, Option, Some, None, slice_get, slice_set, refl, sym, ap, subst, ◌∙◌, inl, inr, arith}
 use native.Mathlib.Decide.{dec_lt}
+use Rattle.std.specs.List.{AllByRecursion}
 use Rattle.std.proofs.lemmas.Bool.{and_parts, eq-eqb, eqb-true, or_cases, or_parts}
 use Rattle.std.proofs.lemmas.Bool.Decides.{nat_tests}
 use Rattle.gptp_lists.specs.Members.{In}
 use Rattle.gptp_lists.proofs.MappedLemmas.{same_there, some_same}
 use Rattle.gptp_lists.proofs.PlaceLemmas.{get-set_other, get-set_same, same_place}
-use Rattle.gptp_how_soon.specs.Chosen.{better, farther, hearing, is_better, passing, passing_all, round, rounds, taking}
+use Rattle.gptp_how_soon.specs.Chosen.{better, ends_in_use, farther, hearing, is_better, itself, passing, passing_all, round, rounds, taking}
 use Rattle.gptp_how_soon.specs.declared.chosen.Chosen.{Chosen}
 use Rattle.gptp_how_soon.specs.declared.chosen.Ends.{Ends}
+use Rattle.gptp_how_soon.specs.declared.systems.System.{System}
 
 -- ---- the better of two
 
@@ -39,14 +41,15 @@ better_of : (one other : Chosen) → IsBetterOf one other (better one other)
 better_of one other = by (is_better one other) refl
   where
     lower : (is_better one other ≡ true) → IsWithin 0 one other
-    lower is = elim (or_cases (nat_lt one.root other.root) ((one.root == other.root) && nat_lt one.steps other.steps)
-    is) [
-      | inl less ↦ inl (grind (arith, nat_tests))
-      | inr both ↦
-          let (same, nearer) = and_parts (one.root == other.root) (nat_lt one.steps other.steps) both in
-          let steps : one.steps < other.steps = grind (arith, nat_tests) in
-          inr (eqb-true one.root other.root same, omega (arith, steps))
-    ]
+    lower is =
+        let nearer = (one.root == other.root) && nat_lt one.steps other.steps in
+        elim (or_cases (nat_lt one.root other.root) nearer is) [
+          | inl less ↦ inl (grind (arith, nat_tests))
+          | inr both ↦
+              let (same, fewer) = and_parts (one.root == other.root) (nat_lt one.steps other.steps) both in
+              let steps : one.steps < other.steps = grind (arith, nat_tests) in
+              inr (eqb-true one.root other.root same, omega (arith, steps))
+        ]
 
     no_better : (is_better one other ≡ false) → IsWithin 0 other one
     no_better is =
@@ -161,6 +164,77 @@ touches_more : (e : Ends) (links : List Ends) (i j : ℕ) → Touches links i j 
 touches_more e links i j (inl along) = inl (inr along)
 touches_more e links i j (inr along) = inr (inr along)
 
+-- over one link, and then over the others
+module _ (before cs : List Chosen) (e : Ends) (links : List Ends) where
+  abbrev one : List Chosen
+  one = hearing (slice_get before e.a) e.b cs
+
+  abbrev two : List Chosen
+  two = passing before cs e
+
+  abbrev last : List Chosen
+  last = passing_all before two links
+
+  first : Hears (slice_get before e.a) e.b cs one
+  first = hears (slice_get before e.a) e.b cs
+
+  second : Hears (slice_get before e.b) e.a one two
+  second = hears (slice_get before e.b) e.a one
+
+  module _ (rest : Passes before two links last) where
+    -- at the ends of the link
+    at_a : (h d : Chosen) → slice_get before e.b ≡ Some h → slice_get last e.a ≡ Some d → IsWithin 0 d (farther h)
+    at_a h d is at =
+        let (c, at_c, within) = rest.back e.a d at in
+        within_both 0 0 d c (farther h) within (second.met h c is at_c)
+
+    at_b : (h d : Chosen) → slice_get before e.a ≡ Some h → slice_get last e.b ≡ Some d → IsWithin 0 d (farther h)
+    at_b h d is at =
+        let (c, at_c, within) = rest.back e.b d at in
+        let (b, here, b_within) = second.back e.b c at_c in
+        within_both 0 0 d b (farther h) (within_both 0 0 d c b within b_within) (first.met h b is here)
+
+    reached : (i j : ℕ) (h d : Chosen) → Touches (e ∷ links) i j → slice_get before j ≡ Some h
+        → slice_get last i ≡ Some d → IsWithin 0 d (farther h)
+    reached i j h d (inl (inl same)) is at =
+        at_a h d (ap (λ (x : Ends). slice_get before x.b) (sym same) ∙ is)
+        (ap (λ (x : Ends). slice_get last x.a) (sym same) ∙ at)
+    reached i j h d (inr (inl same)) is at =
+        at_b h d (ap (λ (x : Ends). slice_get before x.a) (sym same) ∙ is)
+        (ap (λ (x : Ends). slice_get last x.b) (sym same) ∙ at)
+    reached i j h d (inl (inr along)) is at = rest.met i j h d (inl along) is at
+    reached i j h d (inr (inr along)) is at = rest.met i j h d (inr along) is at
+
+    back_so : (i : ℕ) (d : Chosen) → slice_get last i ≡ Some d
+        → (c : Chosen) × (slice_get cs i ≡ Some c) × IsWithin 0 d c
+    back_so i d at =
+        let (c, at_c, c_within) = rest.back i d at in
+        let (b, here, b_within) = second.back i c at_c in
+        let (a, there, a_within) = first.back i b here in
+        (a, there, within_both 0 0 d b a (within_both 0 0 d c b c_within b_within) a_within)
+
+    from_so : (i : ℕ) (d : Chosen) → slice_get last i ≡ Some d
+        → (slice_get cs i ≡ Some d)
+        ⊎ ((j : ℕ) × Touches (e ∷ links) i j × ((h : Chosen) × (slice_get before j ≡ Some h) × (d ≡ farther h)))
+    from_so i d at = elim (rest.from i d at) [
+      | inl kept ↦ elim (second.from i d kept) [
+        | inl still ↦ elim (first.from i d still) [
+          | inl was ↦ inl was
+          | inr (same, heard) ↦ inr (e.a, inr (inl (ap (λ k. record { a = e.a; b = k }) same)), heard)
+        ]
+        | inr (same, heard) ↦ inr (e.b, inl (inl (ap (λ k. record { a = k; b = e.b }) same)), heard)
+      ]
+      | inr (j, touches, heard) ↦ inr (j, touches_more e links i j touches, heard)
+    ]
+
+    passes_more : Passes before cs (e ∷ links) last
+    passes_more = record {
+      there = λ i has. rest.there i (second.there i (first.there i has));
+      back = back_so;
+      from = from_so;
+      met = reached;
+    }
+
 passes : (before cs : List Chosen) (links : List Ends) → Passes before cs links (passing_all before cs links)
 passes before cs [] = record {
   there = λ i has. has;
@@ -168,65 +242,7 @@ passes before cs [] = record {
   from = λ i d at. inl at;
   met = λ i j h d touches is at. elim touches [ inl none ↦ absurd none | inr none ↦ absurd none ];
 }
-passes before cs (e ∷ links) = record {
-  there = λ i has. rest.there i (second.there i (first.there i has));
-  back = λ i d at.
-      let (c, at_c, c_within) = rest.back i d at in
-      let (b, at_b, b_within) = second.back i c at_c in
-      let (a, at_a, a_within) = first.back i b at_b in
-      (a, at_a, within_both 0 0 d b a (within_both 0 0 d c b c_within b_within) a_within);
-  from = λ i d at. elim (rest.from i d at) [
-    | inl kept ↦ elim (second.from i d kept) [
-      | inl still ↦ elim (first.from i d still) [
-        | inl was ↦ inl was
-        | inr (same, heard) ↦ inr (e.a, inr (inl (ap (λ k. record { a = e.a; b = k }) same)), heard)
-      ]
-      | inr (same, heard) ↦ inr (e.b, inl (inl (ap (λ k. record { a = k; b = e.b }) same)), heard)
-    ]
-    | inr (j, touches, heard) ↦ inr (j, touches_more e links i j touches, heard)
-  ];
-  met = λ i j h d touches is at. reached i j h d touches is at;
-}
-  where
-    abbrev one : List Chosen
-    one = hearing (slice_get before e.a) e.b cs
-
-    abbrev two : List Chosen
-    two = passing before cs e
-
-    first : Hears (slice_get before e.a) e.b cs one
-    first = hears (slice_get before e.a) e.b cs
-
-    second : Hears (slice_get before e.b) e.a one two
-    second = hears (slice_get before e.b) e.a one
-
-    rest : Passes before two links (passing_all before two links)
-    rest = passes before two links
-
-    -- at the ends of the first link
-    at_a : (h d : Chosen) → slice_get before e.b ≡ Some h → slice_get (passing_all before two links) e.a ≡ Some d
-        → IsWithin 0 d (farther h)
-    at_a h d is at =
-        let (c, at_c, within) = rest.back e.a d at in
-        within_both 0 0 d c (farther h) within (second.met h c is at_c)
-
-    at_b : (h d : Chosen) → slice_get before e.a ≡ Some h → slice_get (passing_all before two links) e.b ≡ Some d
-        → IsWithin 0 d (farther h)
-    at_b h d is at =
-        let (c, at_c, within) = rest.back e.b d at in
-        let (b, at_b, b_within) = second.back e.b c at_c in
-        within_both 0 0 d b (farther h) (within_both 0 0 d c b within b_within) (first.met h b is at_b)
-
-    reached : (i j : ℕ) (h d : Chosen) → Touches (e ∷ links) i j → slice_get before j ≡ Some h
-        → slice_get (passing_all before two links) i ≡ Some d → IsWithin 0 d (farther h)
-    reached i j h d (inl (inl same)) is at =
-        at_a h d (ap (λ (x : Ends). slice_get before x.b) (sym same) ∙ is)
-        (ap (λ (x : Ends). slice_get (passing_all before two links) x.a) (sym same) ∙ at)
-    reached i j h d (inr (inl same)) is at =
-        at_b h d (ap (λ (x : Ends). slice_get before x.a) (sym same) ∙ is)
-        (ap (λ (x : Ends). slice_get (passing_all before two links) x.b) (sym same) ∙ at)
-    reached i j h d (inl (inr along)) is at = rest.met i j h d (inl along) is at
-    reached i j h d (inr (inr along)) is at = rest.met i j h d (inr along) is at
+passes before cs (e ∷ links) = passes_more before cs e links (passes before (passing before cs e) links)
 
 -- ---- rounds
 
@@ -247,11 +263,10 @@ pub record Settles (links : List Ends) (count : ℕ) (cs ds : List Chosen) : Typ
 abbrev pub AreInside : List Ends → List Chosen → Type 0
 AreInside links cs = (i j : ℕ) → Touches links i j → Has cs i
 
-pub settles : (links : List Ends) (count : ℕ) (cs : List Chosen) → AreInside links cs
-    → Settles links count cs (rounds links count cs)
-settles links zero cs inside = record {
+settles_none : (links : List Ends) (cs : List Chosen) → Settles links 0 cs cs
+settles_none links cs = record {
   there = λ i has. has;
-  came = λ i d at. (i, 0, (d, refl, at, refl, refl));
+  came = λ i d at. (i, 0, (d, refl, at, refl, omega arith));
   least = none;
 }
   where
@@ -260,40 +275,126 @@ settles links zero cs inside = record {
     none zero i j c d few same at_c at_d =
         subst (λ x. IsWithin 0 x c) (same_there cs i c d (ap (slice_get cs) same ∙ at_c) at_d) (within_itself c)
     none (suc far) i j c d few leads at_c at_d = absurd (omega (arith, few))
-settles links (suc count) cs inside = record {
-  there = λ i has. rest.there i (one.there i has);
-  came = λ i d at.
+
+-- one round more comes first
+module _ (links : List Ends) (count : ℕ) (cs : List Chosen) (inside : AreInside links cs) (ds : List Chosen)
+    (rest : Settles links count (round links cs) ds) where
+  abbrev next : List Chosen
+  next = round links cs
+
+  round_passes : Passes cs cs links next
+  round_passes = passes cs cs links
+
+  came_so : (i : ℕ) (d : Chosen) → slice_get ds i ≡ Some d
+      → (j far : ℕ) × ((c : Chosen) × Leads links i j far × (slice_get cs j ≡ Some c) × (d.root ≡ c.root)
+      × (d.steps ≡ far + c.steps))
+  came_so i d at =
       let (m, far, (b, leads, at_b, root, steps)) = rest.came i d at in
-      elim (one.from m b at_b) [
+      elim (round_passes.from m b at_b) [
         | inl was ↦ (m, far, (b, leads, was, root, steps))
         | inr (j, touches, (h, at_h, is)) ↦
-            let more : b.steps ≡ suc h.steps = ap (λ (x : Chosen). x.steps) is in
-            (j, suc far, (h, (m, leads, touches), at_h, root ∙ ap (λ (x : Chosen). x.root) is,
-            omega (arith, steps, more)))
-      ];
-  least = all;
-}
-  where
-    abbrev next : List Chosen
-    next = round links cs
+            let more : b.steps ≡ suc h.steps = ap (λ (x : Chosen). x.steps) is in (
+              j,
+              suc far,
+              (
+                h,
+                (m, leads, touches),
+                at_h,
+                root ∙ ap (λ (x : Chosen). x.root) is,
+                omega (arith, steps, more),
+              ),
+            )
+      ]
 
-    one : Passes cs cs links next
-    one = passes cs cs links
+  least_so : (far i j : ℕ) (c d : Chosen) → far ≤ suc count → Leads links i j far → slice_get cs j ≡ Some c
+      → slice_get ds i ≡ Some d → IsWithin far d c
+  least_so zero i j c d few same at_c at_d =
+      let (b, at_b) = round_passes.there j (c, at_c) in
+      let (a, at_a, within) = round_passes.back j b at_b in
+      let is : a ≡ c = same_there cs j a c at_a at_c in
+      within_both 0 0 d b c (rest.least 0 i j b d (omega arith) same at_b at_d) (subst (IsWithin 0 b) is within)
+  least_so (suc far) i j c d few (m, leads, touches) at_c at_d =
+      let (b, at_b) = round_passes.there m (inside m j touches) in
+      let far_b : IsWithin far d b = rest.least far i m b d (omega (arith, few)) leads at_b at_d in
+      let near : IsWithin 0 b (farther c) = round_passes.met m j c b touches at_c at_b in
+      let as_far : far + 0 ≡ far = omega arith in
+      within_farther far d c
+      (subst (λ k. IsWithin k d (farther c)) as_far (within_both far 0 d b (farther c) far_b near))
 
-    rest : Settles links count next (rounds links count next)
-    rest = settles links count next (λ i j touches. one.there i (inside i j touches))
+  settles_more : Settles links (suc count) cs ds
+  settles_more = record {
+    there = λ i has. rest.there i (round_passes.there i has);
+    came = came_so;
+    least = least_so;
+  }
 
-    all : (far i j : ℕ) (c d : Chosen) → far ≤ suc count → Leads links i j far → slice_get cs j ≡ Some c
-        → slice_get (rounds links count next) i ≡ Some d → IsWithin far d c
-    all zero i j c d few same at_c at_d =
-        let (b, at_b) = one.there j (c, at_c) in
-        let (a, at_a, within) = one.back j b at_b in
-        let is : a ≡ c = same_there cs j a c at_a at_c in
-        within_both 0 0 d b c (rest.least 0 i j b d (omega arith) same at_b at_d)
-        (subst (IsWithin 0 b) is within)
-    all (suc far) i j c d few (m, leads, touches) at_c at_d =
-        let (b, at_b) = one.there m (inside m j touches) in
-        let far_b : IsWithin far d b = rest.least far i m b d (omega (arith, few)) leads at_b at_d in
-        let near : IsWithin 0 b (farther c) = one.met m j c b touches at_c at_b in
-        within_farther far d c
-        (subst (λ k. IsWithin k d (farther c)) (omega arith) (within_both far 0 d b (farther c) far_b near))
+pub settles : (links : List Ends) (count : ℕ) (cs : List Chosen) → AreInside links cs
+    → Settles links count cs (rounds links count cs)
+settles links zero cs inside = settles_none links cs
+settles links (suc count) cs inside =
+    settles_more links count cs inside (rounds links count (round links cs))
+    (settles links count (round links cs) (λ i j touches. (passes cs cs links).there i (inside i j touches)))
+
+-- ---- one round after another
+
+-- where a round changes nothing, no more of them do
+pub stays_still : (links : List Ends) (count : ℕ) (cs : List Chosen) → round links cs ≡ cs → rounds links count cs ≡ cs
+stays_still links zero cs same = refl
+stays_still links (suc count) cs same = ap (rounds links count) same ∙ stays_still links count cs same
+
+-- the first of those that are left is made
+pub one_round : (links : List Ends) (all made : ℕ) (cs : List Chosen) → made < all
+    → rounds links (all - made) cs ≡ rounds links (all - (made + 1)) (round links cs)
+one_round links all made cs less =
+    let more : all - made ≡ suc (all - (made + 1)) = omega (arith, less) in ap (λ k. rounds links k cs) more
+
+-- what holds at each place holds of all, and back
+all_there : (P : Chosen → Type 0) (cs : List Chosen) → ((i : ℕ) (c : Chosen) → slice_get cs i ≡ Some c → P c)
+    → AllByRecursion P cs
+all_there P [] each = tt
+all_there P (c ∷ cs) each = (each 0 c refl, all_there P cs (λ i d at. each (suc i) d at))
+
+there_all : (P : Chosen → Type 0) (cs : List Chosen) → AllByRecursion P cs → (i : ℕ) (c : Chosen)
+    → slice_get cs i ≡ Some c → P c
+there_all P [] all i c at = absurd cc
+there_all P (d ∷ cs) all zero c at = subst P (some_same d c at) all.0
+there_all P (d ∷ cs) all (suc i) c at = there_all P cs all.1 i c at
+
+-- so many steps at most are one more after a round
+abbrev pub AreWithin : ℕ → List Chosen → Type 0
+AreWithin most = AllByRecursion (λ (c : Chosen). c.steps ≤ most)
+
+pub steps_more : (links : List Ends) (most : ℕ) (cs : List Chosen) → AreWithin most cs
+    → AreWithin (most + 1) (round links cs)
+steps_more links most cs within =
+    all_there (λ c. c.steps ≤ most + 1) (round links cs) (λ i d at.
+    elim ((passes cs cs links).from i d at) [
+      | inl was ↦ let few = there_all (λ c. c.steps ≤ most) cs within i d was in omega (arith, few)
+      | inr (j, touches, (h, at_h, is)) ↦
+          let few = there_all (λ c. c.steps ≤ most) cs within j h at_h in
+          let more : d.steps ≡ suc h.steps = ap (λ (x : Chosen). x.steps) is in
+          omega (arith, few, more)
+    ])
+
+pub steps_fit : (most limit : ℕ) (cs : List Chosen) → most < limit → AreWithin most cs
+    → AllByRecursion (λ (c : Chosen). c.steps < limit) cs
+steps_fit most limit cs less within =
+    all_there (λ c. c.steps < limit) cs (λ i c at.
+    let few = there_all (λ x. x.steps ≤ most) cs within i c at in omega (arith, few, less))
+
+-- at first nobody is away
+pub none_away : (systems : List System) → AreWithin 0 (map itself systems)
+none_away [] = tt
+none_away (o ∷ systems) = (omega arith, none_away systems)
+
+-- ---- links in use
+
+-- one link more is looked at
+pub used_more : (e : Ends) (u : Bool) (es : List Ends) (us : List Bool)
+    → ends_in_use (e ∷ []) (u ∷ []) ++ ends_in_use es us ≡ ends_in_use (e ∷ es) (u ∷ us)
+used_more e true es us = refl
+used_more e false es us = refl
+
+pub none_in_use : (es : List Ends) → ends_in_use es [] ≡ []
+none_in_use [] = refl
+none_in_use (e ∷ es) = refl

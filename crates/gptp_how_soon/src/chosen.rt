@@ -159,7 +159,7 @@ pub(crate) fn choose(
     ensures { IfOk result (λ chosen. chosen.items ≡ chosen_over systems.now links.now) }
 {
     let mut chosen = choose_themselves(alloc, systems)?;
-    for _round in 0..systems.len() {
+    for turn in 0..systems.len() {
         let next = round(alloc, links, &chosen)?;
         if next.as_slice() == chosen.as_slice() {
             return Ok(chosen);

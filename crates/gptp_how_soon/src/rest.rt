@@ -1,6 +1,6 @@
 //! Whether a time is from rest, so that what its events do says how soon the choice stands.
 
-ghost use Rattle.std.specs.Prelude.{◌≡◌, ◌≤◌, ◌+◌, ◌*◌, nat_lt};
+ghost use Rattle.std.specs.Prelude.{◌≡◌, ◌≤◌, ◌&&◌, ◌+◌, ◌*◌, nat_lt};
 ghost use Rattle.gptp_how_soon.specs.Bounds.{way_span};
 ghost use Rattle.gptp_how_soon.specs.Rest.{are_events_followed, are_losses_followed, are_recoveries_followed, are_turns_followed, heard_at_once, is_from_rest, is_wider_followed, rested, row_of, settles_wider_by};
 
@@ -129,10 +129,17 @@ pub(crate) fn is_from_rest(
 }
 
 /// Whether losses are followed.
-pub(crate) fn are_losses_followed(paths_before: SyncPaths, told: &[Told]) -> bool
+fn are_losses_followed(paths_before: SyncPaths, told: &[Told]) -> bool
     ensures { result ≡ are_losses_followed paths_before told.now }
 {
     paths_before.systems <= 255 && all_leave_links(told)
+}
+
+/// Whether it counts if its events move a system.
+pub(crate) fn asks_who_is_moved(from_rest: bool, paths_before: SyncPaths, told: &[Told]) -> bool
+    ensures { result ≡ (from_rest && are_losses_followed paths_before told.now) }
+{
+    from_rest && are_losses_followed(paths_before, told)
 }
 
 /// What is known of a time, where it is from rest or isn't, and its events move a system or don't.

@@ -9,7 +9,7 @@ use crate::bounds::{SettlingTime, heard, ready, times_by, way_span};
 use crate::chosen::{Chosen, Ends, any_moved, choose, ends_in_use, ends_of};
 use crate::kinds::{Told, sets_bounds, sets_link, tell};
 use crate::links::{delay_set, longest_among, new_links, used_links};
-use crate::rest::{are_losses_followed, heard_at_once, is_from_rest, row_of};
+use crate::rest::{asks_who_is_moved, heard_at_once, is_from_rest, row_of};
 use crate::systems::{System, act_on_systems, first_systems, system_at};
 use gptp_scenario::{Act, Network, SyncPaths};
 use gptp_topology::{Cable, Tables, named};
@@ -153,7 +153,7 @@ impl Walk {
         let gained = ready + heard(network, followed, told, new) + way_span(paths);
         let paths_before = self.paths_before;
         let from_rest = is_from_rest(self.longest, at, paths_before, paths, told, self.before);
-        let asked = from_rest && are_losses_followed(paths_before, told);
+        let asked = asks_who_is_moved(from_rest, paths_before, told);
         let moved = self.moves_if(alloc, asked)?;
         Ok(times_by(
             network,

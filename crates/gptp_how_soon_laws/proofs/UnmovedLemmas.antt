@@ -2,30 +2,26 @@
 -- none is moved by any of them: identities only rise, and links stay.
 use Rattle.std.proofs.Common.{◌≡◌, ◌<◌, ◌≤◌, ◌⊎◌, inl, inr, ◌+◌, ◌*◌, ◌^◌, ◌%◌, ℕ, Bool, true, false, cond, suc, List, [], ◌∷◌, ◌++◌, zero, Some, length, slice_get, refl, sym, ap, ap₂, subst, ◌∙◌, append-nil, append_assoc, arith}
 use Rattle.std.specs.Prelude.{◌==◌, ◌&&◌, ◌||◌, not}
-use Rattle.std.specs.List.{list_all, list_any, range_with_len}
-use Rattle.std.proofs.lemmas.Bool.{and_from, and_parts, eq-eqb, eqb-true, false_from_ne_true, not-false, not-true, or_cases}
+use Rattle.std.specs.List.{list_all, range_with_len}
+use Rattle.std.proofs.lemmas.Bool.{and_parts, eq-eqb, eqb-true, not-false, or_cases}
 use Rattle.gptp_lists.specs.Members.{In}
 use Rattle.gptp_lists.proofs.MappedLemmas.{mapped_there, same_there}
 use Rattle.gptp_lists.proofs.PlaceLemmas.{same_place}
 use Rattle.gptp_lists.proofs.SystemSpecLemmas.{from_map, slice_get-In}
 use Rattle.gptp_graph.specs.Best.{IsBest}
-use Rattle.gptp_graph.specs.Distance.{IsDistance}
 use Rattle.gptp_graph.specs.Path.{Reaches}
 use Rattle.gptp_graph.specs.Snapshot.{IsWellFormed, Joins, Link, PortIdentity, Snapshot, System, clocks}
 use Rattle.gptp_graph.proofs.BestLemmas.{IsBest-unique}
-use Rattle.gptp_graph.proofs.DistanceLemmas.{IsDistance-unique}
 use Rattle.gptp_graph.proofs.SystemLemmas.{In-clocks}
 use Rattle.gptp_roles.specs.Selection.{clock_of}
-use Rattle.gptp_scenario.specs.Calm.{IsLive}
-use Rattle.gptp_scenario.specs.Change.{link_after, standing, system_acted, system_after, with_priority1}
-use Rattle.gptp_scenario.specs.InUse.{is_used, lives}
+use Rattle.gptp_scenario.specs.Change.{standing, system_acted, system_after, with_live, with_priority1}
+use Rattle.gptp_scenario.specs.InUse.{lives}
 use Rattle.gptp_scenario.specs.Network.{IsNetwork, NetworkState}
 use Rattle.gptp_scenario.specs.SyncWait.{sync_paths}
 use Rattle.gptp_scenario.specs.declared.change.Act.{Act}
 use Rattle.gptp_scenario.specs.declared.change.Act.TheVariants as acts
 use Rattle.gptp_scenario.specs.declared.change.Change.TheVariants as changes
 use Rattle.gptp_scenario.specs.declared.change.Timed.{Timed}
-use Rattle.gptp_scenario.specs.declared.network.LinkSpec.{LinkSpec}
 use Rattle.gptp_scenario.specs.declared.network.SystemSpec.{SystemSpec}
 use Rattle.gptp_scenario.specs.declared.sync_wait.SyncPaths.{SyncPaths}
 use Rattle.gptp_network.specs.Snapshot.{StandsAfter, has_clock}
@@ -41,10 +37,10 @@ use Rattle.gptp_how_soon.specs.Systems.{system_then, systems_after}
 use Rattle.gptp_how_soon.specs.Times.{told_at, told_of}
 use Rattle.gptp_how_soon.specs.declared.chosen.Chosen.{Chosen}
 use Rattle.gptp_how_soon.specs.declared.systems.System as ours
-use Rattle.gptp_how_soon.proofs.ChosenLemmas.{IsAt, IsSettledChoice, at_clock, chosen_there, link_stands, named, settled_choice, used_then}
+use Rattle.gptp_how_soon.proofs.ChosenLemmas.{IsAt, at_clock, chosen_there, link_stands, settled_choice, used_then}
 use Rattle.gptp_settling_time.specs.Gains.{ChangesNothing}
 use Rattle.gptp_settling_time.specs.HowSoon.{EachEvent, IsStillEvent, TurnsUnused}
-use Rattle.gptp_settling_time.specs.Losses.{IsUnmoved, LeavesChoice, MovesNone}
+use Rattle.gptp_settling_time.specs.Losses.{MovesNone}
 use Rattle.gptp_settling_time.proofs.SameBestLemmas.{HaveSameBests, distance_over, route_over}
 use Rattle.gptp_settling_time.proofs.SamePathsLemmas.{StandAlike, idle_alike, lives_same, paths_same, priority_alike, turned_alike}
 use Rattle.gptp_how_soon_laws.proofs.GainedLemmas.{none_any}
@@ -89,25 +85,12 @@ alike_back n events more a = record {
   bounds = λ v member. sym (a.bounds v member);
 }
 
--- an act that sets no priority1 leaves identities
-sets_other : (test live : Bool) (s : _)
-    → (cond test (record { identity = s.identity; live = live }) s).identity ≡ s.identity
+-- a system that fails or recovers keeps its identity
+sets_other : (test live : Bool) (s : _) → (cond test (with_live live s) s).identity ≡ s.identity
 sets_other true live s = refl
 sets_other false live s = refl
 
-keeps_identity : (act : Act) → ((number value : ℕ) → act ≡ acts.Change (changes.Priority1 number value) → ⊥) → (own : ℕ)
-    (s : _) → (system_acted act own s).identity ≡ s.identity
-keeps_identity (acts.Deliver link direction) none own s = refl
-keeps_identity (acts.Expire clock timer) none own s = refl
-keeps_identity (acts.Change (changes.LinkDown clock port)) none own s = refl
-keeps_identity (acts.Change (changes.LinkUp clock port)) none own s = refl
-keeps_identity (acts.Change (changes.LinkSet clock port least greatest loss)) none own s = refl
-keeps_identity (acts.Change (changes.Fail clock)) none own s = sets_other (clock == own) false s
-keeps_identity (acts.Change (changes.Recover clock)) none own s = sets_other (clock == own) true s
-keeps_identity (acts.Change (changes.Priority1 clock value)) none own s = absurd (none clock value refl)
-keeps_identity (acts.Change (changes.Inject clock port octets)) none own s = refl
-
--- one that sets one to no lower identity makes no system better
+-- a priority1 that makes no identity lower makes no system better
 sets_higher : (number value own : ℕ) (s : _)
     → (number ≡ own → s.identity ≤ value * 2 ^ 104 + s.identity % 2 ^ 104)
     → s.identity ≤ (system_acted (acts.Change (changes.Priority1 number value)) own s).identity
@@ -133,26 +116,26 @@ module _ (n : NetworkState) (network : IsNetwork n) (made : List Timed) (event :
       subst (λ i. (system_after made m).identity ≤ i) (sym (identity_behind m)) (higher m member live)
 
   -- by what changes nothing
-  idle_rises : (act : Act) → event.act ≡ act → ChangesNothing n made act → (m : SystemSpec) → In m n.systems
+  idle_rises : (act : Act) → ChangesNothing n made act → (m : SystemSpec) → In m n.systems
       → (system_after made m).live ≡ true
       → (system_after made m).identity ≤ (system_acted act (clock_of m.identity) (system_after made m)).identity
-  idle_rises (acts.Change (changes.Priority1 number value)) is idle m member live =
+  idle_rises (acts.Change (changes.Priority1 number value)) idle m member live =
       let (place, there) = slice_get-In m n.systems member in
       sets_higher number value (clock_of m.identity) (system_after made m) (λ clock.
       elim (idle place m there (sym clock)) [
         | inl failed ↦ let no : true ≡ false = sym live ∙ failed in absurd cc
         | inr same ↦ omega (arith, same)
       ])
-  idle_rises (acts.Deliver link direction) is idle m member live = absurd idle
-  idle_rises (acts.Expire clock timer) is idle m member live = absurd idle
-  idle_rises (acts.Change (changes.LinkDown clock port)) is idle m member live = omega arith
-  idle_rises (acts.Change (changes.LinkUp clock port)) is idle m member live = omega arith
-  idle_rises (acts.Change (changes.LinkSet clock port least greatest loss)) is idle m member live = absurd idle
-  idle_rises (acts.Change (changes.Fail clock)) is idle m member live =
+  idle_rises (acts.Deliver link direction) idle m member live = absurd idle
+  idle_rises (acts.Expire clock timer) idle m member live = absurd idle
+  idle_rises (acts.Change (changes.LinkDown clock port)) idle m member live = omega arith
+  idle_rises (acts.Change (changes.LinkUp clock port)) idle m member live = omega arith
+  idle_rises (acts.Change (changes.LinkSet clock port least greatest loss)) idle m member live = absurd idle
+  idle_rises (acts.Change (changes.Fail clock)) idle m member live =
       let same = sets_other (clock == clock_of m.identity) false (system_after made m) in omega (arith, same)
-  idle_rises (acts.Change (changes.Recover clock)) is idle m member live =
+  idle_rises (acts.Change (changes.Recover clock)) idle m member live =
       let same = sets_other (clock == clock_of m.identity) true (system_after made m) in omega (arith, same)
-  idle_rises (acts.Change (changes.Inject clock port octets)) is idle m member live = omega arith
+  idle_rises (acts.Change (changes.Inject clock port octets)) idle m member live = omega arith
 
   -- by a link that isn't used
   turn_rises : (act : Act) → TurnsUnused n made act → (m : SystemSpec)
@@ -237,7 +220,7 @@ module _ (n : NetworkState) (network : IsNetwork n) (made : List Timed) (event :
   pub worsen_one : IsKind → OnlyWorsen n made more
   worsen_one (inl idle) = record {
     alike = idle_alike n network made event idle;
-    rises = rises_by (idle_rises event.act refl idle);
+    rises = rises_by (idle_rises event.act idle);
   }
   worsen_one (inr (inl turns)) = record {
     alike = turned_alike n made event turns;
@@ -313,11 +296,14 @@ rises_over n network events more g h stands stands' worsens s t live there clock
 -- what reaches over links that another snapshot has reaches there
 reach_over : (g h : Snapshot) → ((v : ℕ) → In v (clocks g) → In v (clocks h))
     → ((p q : PortIdentity) → Joins g p q → Joins h p q) → (v w : ℕ) → Reaches g v w → Reaches h v w
-reach_over g h systems links v w (us, path) = (us, record {
-  begins = systems v path.begins;
-  route = route_over g h links v w us path.route;
-  different = path.different;
-})
+reach_over g h systems links v w (us, path) = (
+  us,
+  record {
+    begins = systems v path.begins;
+    route = route_over g h links v w us path.route;
+    different = path.different;
+  },
+)
 
 -- a system of two snapshots with one identity is one
 same_system : (n : NetworkState) (network : IsNetwork n) (events more : List Timed) (g h : Snapshot)
@@ -384,8 +370,8 @@ module _ (n : NetworkState) (network : IsNetwork n) (first all : List Timed) (wo
       let o : ours.System = system_then all at.system in
       let there : slice_get (systems_after n all) i ≡ Some o =
       mapped_there (system_then all) n.systems i at.system at.there in
-      let within : In i (range_with_len 0 (length (systems_after n all))) =
       let less = bound (systems_after n all) i o there in
+      let within : In i (range_with_len 0 (length (systems_after n all))) =
       in_range 0 (length (systems_after n all)) i (omega arith) (omega (arith, less)) in
       let none = none_any (is_moved_at (systems_after n all) (chosen_after n first) (chosen_after n all))
       (range_with_len 0 (length (systems_after n all))) i unmoved within in
@@ -462,35 +448,35 @@ module _ (n : NetworkState) (network : IsNetwork n) (first all : List Timed) (wo
       (one : OnlyWorsen n made (made ++ event ∷ [])) (after : OnlyWorsen n (made ++ event ∷ []) all)
       (well : (g : Snapshot) → StandsAfter n made g → IsWellFormed g)
       (well' : (g : Snapshot) → StandsAfter n (made ++ event ∷ []) g → IsWellFormed g) where
-    abbrev more : List Timed
-    more = made ++ event ∷ []
+    abbrev later : List Timed
+    later = made ++ event ∷ []
 
     pub moves_none : MovesNone n made event
     moves_none g h v stands stands' known =
         record { best = same.best v; far = distance_over g h (well g stands) (well' h stands') same v }
       where
-        back : StandAlike n more made
-        back = alike_back n made more one.alike
+        back : StandAlike n later made
+        back = alike_back n made later one.alike
 
         best : (u : ℕ) (b : System) → IsBest g u b → IsBest h u b
         best u b is =
             let here = is.reached.1.begins in
-            let there = clock_over n network made more one.alike g h stands stands' (well' h stands') u here in
-            let x = has_best made before (worsen_both n made more all one after) g stands (well g stands) u here in
-            let y = has_best more (worsen_both n first made more before one) after h stands' (well' h stands') u there in
+            let there = clock_over n network made later one.alike g h stands stands' (well' h stands') u here in
+            let x = has_best made before (worsen_both n made later all one after) g stands (well g stands) u here in
+            let y = has_best later (worsen_both n first made later before one) after h stands' (well' h stands') u there in
             let first_same : x.first_best ≡ y.first_best =
             IsBest-unique g0 u x.first_best y.first_best well0 x.was_best y.was_best in
             let same : x.best ≡ y.best =
-            same_system n network made more g h stands stands' x.best y.best x.is_best.live y.is_best.live
+            same_system n network made later g h stands stands' x.best y.best x.is_best.live y.is_best.live
             (x.same ∙ ap (λ (s : System). s.identity) first_same ∙ sym y.same) in
             let is_x : x.best ≡ b = IsBest-unique g u x.best b (well g stands) x.is_best is in
             subst (IsBest h u) (sym same ∙ is_x) y.is_best
 
         same : HaveSameBests g h
         same = record {
-          clocks = clock_over n network made more one.alike g h stands stands' (well' h stands');
-          links = joins_over n network made more one.alike g h stands stands' (well' h stands');
-          links_back = joins_over n network more made back h g stands' stands (well g stands);
+          clocks = clock_over n network made later one.alike g h stands stands' (well' h stands');
+          links = joins_over n network made later one.alike g h stands stands' (well' h stands');
+          links_back = joins_over n network later made back h g stands' stands (well g stands);
           best = best;
         }
 
@@ -529,8 +515,8 @@ module _ (n : NetworkState) (network : IsNetwork n) (first now : List Timed) (we
       let kind = kind_is n network made event one in
       let worsens = worsen_one n network made event kind in
       let are_more : (made ++ event ∷ []) ++ left ≡ all = append_assoc made (event ∷ []) left ∙ are in
-      (still kind worsens others are_more,
-      still_each (made ++ event ∷ []) left are_more (worsen_both n first made (made ++ event ∷ []) before worsens) others)
+      let worse = worsen_both n first made (made ++ event ∷ []) before worsens in
+      (still kind worsens others are_more, still_each (made ++ event ∷ []) left are_more worse others)
     where
       still : IsKind n network made event → OnlyWorsen n made (made ++ event ∷ [])
           → list_all leaves_links (told_of n (made ++ event ∷ []) left) ≡ true → (made ++ event ∷ []) ++ left ≡ all

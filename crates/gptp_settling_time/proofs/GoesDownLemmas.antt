@@ -37,7 +37,8 @@ module _ (v : Vector) where
   among_here : (o : Option Reception) (others : List Vector) (r : Reception) → o ≡ Some r → v ≡ path_of r.vector
       → IsIn v (with_path o others)
   among_here None others r got is = absurd cc
-  among_here (Some q) others r got is = inl (let same : q ≡ r = cc in is ∙ ap (λ (x : Reception). path_of x.vector) (sym same))
+  among_here (Some q) others r got is =
+      let same : q ≡ r = cc in inl (is ∙ ap (λ (x : Reception). path_of x.vector) (sym same))
 
   among_still : (i port : ℕ) (hs : List Held) → ArePlaced port hs → v.receiver ≢ port + i → IsIn v (path_vectors hs)
       → IsIn v (path_vectors (without i hs))
