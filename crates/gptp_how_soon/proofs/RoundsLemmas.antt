@@ -1,5 +1,5 @@
 -- After so many rounds each system has the best that so few links lead to.
-use Rattle.std.proofs.Common.{◌≡◌, ◌⊎◌, ◌<◌, ◌≤◌, ◌+◌, ◌-◌, ◌++◌, ◌==◌, ◌&&◌, ◌||◌, ℕ, zero, suc, Bool, true, false, List, [], ◌∷◌, map, nat_lt, Option, Some, None, slice_get, slice_set, refl, sym, ap, subst, ◌∙◌, inl, inr, arith}
+use Rattle.std.proofs.Common.{◌≡◌, ◌⊎◌, ◌<◌, ◌≤◌, ◌+◌, ◌-◌, ◌++◌, ◌==◌, ◌&&◌, ◌||◌, ℕ, zero, suc, Bool, true, false, List, [], ◌∷◌, drop, map, nat_lt, Option, Some, None, slice_get, slice_set, refl, sym, ap, ap₂, subst, ◌∙◌, inl, inr, arith}
 use native.Mathlib.Decide.{dec_lt}
 use Rattle.std.specs.List.{AllByRecursion}
 use Rattle.std.proofs.lemmas.Bool.{and_parts, eq-eqb, eqb-true, or_cases, or_parts}
@@ -7,7 +7,8 @@ use Rattle.std.proofs.lemmas.Bool.Decides.{nat_tests}
 use Rattle.gptp_lists.specs.Members.{In}
 use Rattle.gptp_lists.proofs.MappedLemmas.{same_there, some_same}
 use Rattle.gptp_lists.proofs.PlaceLemmas.{get-set_other, get-set_same, same_place}
-use Rattle.gptp_how_soon.specs.Chosen.{better, ends_in_use, farther, hearing, is_better, itself, passing, passing_all, round, rounds, taking}
+use Rattle.gptp_how_soon.specs.Chosen.{better, ends_in_use, farther, hearing, is_better, itself, passing, passing_all, round, rounds, taking, used_one}
+use Rattle.gptp_how_soon.specs.Links.{is_used_at, is_used_by}
 use Rattle.gptp_how_soon.specs.declared.chosen.Chosen.{Chosen}
 use Rattle.gptp_how_soon.specs.declared.chosen.Ends.{Ends}
 use Rattle.gptp_how_soon.specs.declared.systems.System.{System}
@@ -389,12 +390,36 @@ none_away (o ∷ systems) = (omega arith, none_away systems)
 
 -- ---- links in use
 
--- one link more is looked at
-pub used_more : (e : Ends) (u : Bool) (es : List Ends) (us : List Bool)
-    → ends_in_use (e ∷ []) (u ∷ []) ++ ends_in_use es us ≡ ends_in_use (e ∷ es) (u ∷ us)
-used_more e true es us = refl
-used_more e false es us = refl
+drop_at : {X : Type 0} (xs : List X) (i : ℕ) (x : X) → slice_get xs i ≡ Some x → drop i xs ≡ x ∷ drop (i + 1) xs
+drop_at [] i x is = absurd cc
+drop_at (y ∷ ys) zero x is = ap (λ z. z ∷ ys) (some_same y x is)
+drop_at (y ∷ ys) (suc i) x is =
+    let step : suc i + 1 ≡ suc (i + 1) = omega arith in
+    drop_at ys i x is ∙ ap (λ k. x ∷ drop k (y ∷ ys)) (sym step)
 
-pub none_in_use : (es : List Ends) → ends_in_use es [] ≡ []
-none_in_use [] = refl
-none_in_use (e ∷ es) = refl
+drop_none : (i : ℕ) → drop {A = Bool} i [] ≡ []
+drop_none zero = refl
+drop_none (suc i) = refl
+
+gone_at : (us : List Bool) (i : ℕ) → slice_get us i ≡ None → (drop i us ≡ []) × (drop (i + 1) us ≡ [])
+gone_at [] i is = (drop_none i, drop_none (i + 1))
+gone_at (u ∷ us) zero is = absurd cc
+gone_at (u ∷ us) (suc i) is =
+    let step : suc i + 1 ≡ suc (i + 1) = omega arith in
+    let (here, behind) = gone_at us i is in
+    (here, ap (λ k. drop k (u ∷ us)) step ∙ behind)
+
+-- one link more is looked at
+pub used_more : (es : List Ends) (us : List Bool) (place : ℕ) (e : Ends) → slice_get es place ≡ Some e
+    → used_one e (is_used_at us place) ++ ends_in_use (drop (place + 1) es) (drop (place + 1) us)
+    ≡ ends_in_use (drop place es) (drop place us)
+used_more es us place e there = by (slice_get us place) refl
+  where
+    by : (o : Option Bool) → slice_get us place ≡ o
+        → used_one e (is_used_by o) ++ ends_in_use (drop (place + 1) es) (drop (place + 1) us)
+        ≡ ends_in_use (drop place es) (drop place us)
+    by (Some u) is = sym (ap₂ ends_in_use (drop_at es place e there) (drop_at us place u is))
+    by None is =
+        let (here, behind) = gone_at us place is in
+        ap (ends_in_use (drop (place + 1) es)) behind
+        ∙ sym (ap₂ ends_in_use (drop_at es place e there) here)

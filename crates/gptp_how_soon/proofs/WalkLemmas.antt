@@ -77,8 +77,7 @@ used_by f stood (w ∷ ws) = by (cable_is_used (stood w)) (used_by f stood ws)
   where
     by : (test : Bool) → ends_in_use (map f ws) (map cable_is_used (map stood ws))
         ≡ map f (filter (λ v. cable_is_used (stood v)) ws)
-        → cond test (f w ∷ ends_in_use (map f ws) (map cable_is_used (map stood ws)))
-        (ends_in_use (map f ws) (map cable_is_used (map stood ws)))
+        → (cond test (f w ∷ []) []) ++ ends_in_use (map f ws) (map cable_is_used (map stood ws))
         ≡ map f (cond test (w ∷ filter (λ v. cable_is_used (stood v)) ws) (filter (λ v. cable_is_used (stood v)) ws))
     by true rest = ap (λ es. f w ∷ es) rest
     by false rest = rest

@@ -3,7 +3,7 @@
 -- At first a system chooses itself. In each round it hears what its neighbours over links in use chose in the round
 -- before, a step farther, and takes the best: the lower root, and of one root the fewer steps (IEEE 802.1AS-2020,
 -- 10.3.5). After as many rounds as there are systems each has the best of its component, and its distance from it.
-use Rattle.std.specs.Prelude.{ℕ, zero, suc, ◌==◌, ◌&&◌, ◌||◌, nat_lt, not, Bool, false, if◌then◌else◌, List, [], ◌∷◌, length, map, filter, Option, Some, None, slice_get, slice_set}
+use Rattle.std.specs.Prelude.{ℕ, zero, suc, ◌==◌, ◌&&◌, ◌||◌, nat_lt, not, Bool, false, if◌then◌else◌, List, [], ◌∷◌, ◌++◌, length, map, filter, Option, Some, None, slice_get, slice_set}
 use Rattle.std.specs.List.{list_any, position_or_len, range_with_len}
 use Rattle.gptp_scenario.specs.Network.{NetworkState}
 use Rattle.gptp_scenario.specs.declared.change.Timed.{Timed}
@@ -85,10 +85,13 @@ abbrev pub chosen_after : NetworkState → List Timed → List Chosen
 chosen_after n events = chosen_over (systems_after n events) (used_ends n events)
 
 -- the same links, by which of all are in use
+abbrev pub used_one : Ends → Bool → List Ends
+used_one e used = if used then e ∷ [] else []
+
 abbrev pub ends_in_use : List Ends → List Bool → List Ends
 ends_in_use [] used = []
-ends_in_use (e ∷ es) [] = []
-ends_in_use (e ∷ es) (u ∷ us) = if u then e ∷ ends_in_use es us else ends_in_use es us
+ends_in_use (e ∷ es) [] = used_one e false ++ ends_in_use es []
+ends_in_use (e ∷ es) (u ∷ us) = used_one e u ++ ends_in_use es us
 
 -- ---- who is moved
 

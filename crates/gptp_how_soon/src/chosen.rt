@@ -1,9 +1,10 @@
 //! Which root each system settles at, and how many steps it is away; whom events move.
 
-ghost use Rattle.std.specs.Prelude.{◌≡◌, ◌<◌, ◌≤◌, ◌+◌, ◌++◌, ◌∷◌, [], IfOk, IfSome, OnOk, length, map, slice_get};
+ghost use Rattle.std.specs.Prelude.{◌≡◌, ◌<◌, ◌++◌, IfOk, IfSome, OnOk, map, slice_get};
 ghost use Rattle.std.specs.List.{AllByRecursion};
-ghost use Rattle.gptp_how_soon.specs.Chosen.{any_moved, better, chosen_over, ends_among, ends_in_use, hearing, is_better, is_moved_at, differs, itself, passing, place_of, round};
+ghost use Rattle.gptp_how_soon.specs.Chosen.{any_moved, better, chosen_over, ends_among, ends_in_use, hearing, is_better, is_moved_at, differs, itself, passing, place_of, round, used_one};
 
+use crate::links::is_used_at;
 use crate::systems::System;
 use gptp_topology::Cable;
 use gptp_vector::{ClockId, Identity};
@@ -27,10 +28,14 @@ pub(crate) struct Ends {
 fn place_of(systems: &[System], clock: ClockId) -> usize
     ensures { result ≡ place_of systems.now clock }
 {
-    systems
-        .iter()
-        .position(|system| system.clock == clock)
-        .unwrap_or(systems.len())
+    let mut place = 0;
+    for system in systems {
+        if system.clock == clock {
+            return place;
+        }
+        place += 1;
+    }
+    place
 }
 
 /// The places of the systems at the ends of these links.
@@ -52,11 +57,11 @@ pub(crate) fn ends_of(
 }
 
 /// Puts a link after others, where it is in use.
-fn push_used(links: &mut Vec<Ends>, ends: Ends, used: bool) -> Result<(), AllocError>
-    ensures { OnOk result (links.new.items ≡ links.old.items ++ ends_in_use (ends ∷ []) (used ∷ [])) }
+fn push_used(links: &mut Vec<Ends>, ends: &Ends, used: bool) -> Result<(), AllocError>
+    ensures { OnOk result (links.new.items ≡ links.old.items ++ used_one ends.now used) }
 {
     if used {
-        links.push(ends)?;
+        links.push(*ends)?;
     }
     Ok(())
 }
@@ -71,9 +76,7 @@ pub(crate) fn ends_in_use(
 {
     let mut links = Vec::new(alloc);
     for place in 0..ends.len() {
-        if place < used.len() {
-            push_used(&mut links, ends[place], used[place])?;
-        }
+        push_used(&mut links, &ends[place], is_used_at(used, place))?;
     }
     Ok(links)
 }
