@@ -463,7 +463,8 @@ module _ (n : NetworkState) (network : IsNetwork n) (first all : List Timed) (wo
             let here = is.reached.1.begins in
             let there = clock_over n network made later one.alike g h stands stands' (well' h stands') u here in
             let x = has_best made before (worsen_both n made later all one after) g stands (well g stands) u here in
-            let y = has_best later (worsen_both n first made later before one) after h stands' (well' h stands') u there in
+            let begun = worsen_both n first made later before one in
+            let y = has_best later begun after h stands' (well' h stands') u there in
             let first_same : x.first_best ≡ y.first_best =
             IsBest-unique g0 u x.first_best y.first_best well0 x.was_best y.was_best in
             let same : x.best ≡ y.best =
@@ -500,7 +501,8 @@ abbrev pub AreWell : NetworkState → List Timed → Type 0
 AreWell n all = (events left : List Timed) → events ++ left ≡ all → (g : Snapshot) → StandsAfter n events g
     → IsWellFormed g
 
-module _ (n : NetworkState) (network : IsNetwork n) (first now : List Timed) (well : AreWell n (first ++ now)) (few : (sync_paths n first).systems ≤ 255) (unmoved : moves_some n first (first ++ now) ≡ false)
+module _ (n : NetworkState) (network : IsNetwork n) (first now : List Timed) (well : AreWell n (first ++ now))
+    (few : (sync_paths n first).systems ≤ 255) (unmoved : moves_some n first (first ++ now) ≡ false)
     (leaves : list_all leaves_links (told_of n first now) ≡ true) where
   abbrev all : List Timed
   all = first ++ now
