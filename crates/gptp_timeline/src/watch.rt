@@ -209,15 +209,18 @@ fn see_times<F: Fate + Drop>(
 }
 
 impl Watch {
-    ghost use Rattle.std.specs.Prelude.{◌≡◌, ◌≤◌, ◌<◌, ◌++◌, ◌∷◌, [], None, false, true, not, if◌then◌else◌, IfOk, IfSome, OnOk, length, map, slice_get, Some, string_bytes};
+    ghost use Rattle.std.specs.Prelude.{◌≡◌, ◌≢◌, ◌≤◌, ◌<◌, ◌++◌, ◌∷◌, [], None, Err, false, true, not, if◌then◌else◌, IfOk, IfSome, OnOk, length, map, slice_get, Some, string_bytes};
+    ghost use Rattle.std.specs.Io.KnownBytes.{Appends};
     ghost use Rattle.gptp_model.specs.Views.{rising_clocks};
+    ghost use Rattle.gptp_sink.specs.Sink.{AppendsSome};
+    ghost use Rattle.gptp_world.specs.Observing.{told_of, TellsAct};
     ghost use Rattle.gptp_words.specs.Lines.{text_of};
     ghost use Rattle.gptp_timeline.specs.Changes.{change_lines};
     ghost use Rattle.gptp_timeline.specs.EventLine.{event_line};
     ghost use Rattle.gptp_timeline.specs.Receipts.{offset_line};
     ghost use Rattle.gptp_timeline.specs.Compared.{left_by};
     ghost use Rattle.gptp_timeline.specs.Shown.{shown_of};
-    ghost use Rattle.gptp_timeline.specs.Watch.{WatchedRise, watch_begun, delivery_lines, event_look, lines_all, lines_at, nothing, PassesOver, place_of, placed_lines, receipt_lines_of, see_act, see_all, see_at, see_delivery, see_placed, see_receipt_of, see_system, see_times, seen_lines, times_lines_if, watched_lines, take_error, taken, unless, unseen};
+    ghost use Rattle.gptp_timeline.specs.Watch.{TellsSeen, WatchState, WatchedRise, watch_begun, delivery_lines, event_look, lines_all, lines_at, nothing, PassesOver, place_of, placed_lines, receipt_lines_of, see_act, see_all, see_at, see_delivery, see_placed, see_receipt_of, see_system, see_times, seen_lines, times_lines_if, watched_lines, take_error, taken, unless, unseen};
     ghost use Rattle.gptp_timeline.specs.declared.watched.Watched.{Watched};
 
     /// An observer of a world whose systems start, before it has seen that.
@@ -455,6 +458,27 @@ impl Watch {
         Ok(())
     }
 
+    /// The system at a place is live after an act, by which what is shown of it can have become another.
+    #[cold]
+    #[inline(never)]
+    fn see_other(
+        &mut self,
+        text: &mut String,
+        look: ActView,
+        place: usize,
+        system: &System,
+    ) -> Result<(), AllocError>
+        requires place { place < length self.old.systems }
+        requires few { length system.now.ports ≤ 16 }
+        ensures sees { OnOk result ((x : Watched) → slice_get self.old.systems place ≡ Some x
+            → self.new ≡ taken look place x (Some (shown_of system.now)) self.old) }
+        ensures tells { OnOk result ((x : Watched) → slice_get self.old.systems place ≡ Some x → string_bytes text.new
+            ≡ string_bytes text.old ++ text_of (unless self.old.summary
+            (change_lines look.at x.clock x.shown (Some (shown_of system.now))))) }
+    {
+        self.see_left(text, look, place, Some(shown_of(system)))
+    }
+
     /// The system at a place is live after an act.
     fn see_live(
         &mut self,
@@ -475,7 +499,7 @@ impl Watch {
             self.take_same(look, place);
             return Ok(());
         }
-        self.see_left(text, look, place, Some(shown_of(system)))
+        self.see_other(text, look, place, system)
     }
 
     /// Looks at the system at a place after an act.
@@ -751,6 +775,31 @@ impl Watch {
             Act::Deliver { .. } => self.see_delivery(text, world, timed.at, done),
         }
     }
+
+    /// It looks at what an act left that isn't passed over, and writes its lines.
+    #[inline(never)]
+    fn look_and_tell<F: Fate + Drop, K: Sink>(
+        &mut self,
+        alloc: Global,
+        world: &World<F>,
+        timed: &Timed,
+        done: &Done,
+        sink: &mut K,
+    ) -> Result<(), Cut>
+        requires { timed.now.at ≤ 1000000000000000 }
+        ensures some { (o_after : WatchState) × TellsAct TellsSeen (told_of timed.now done.now) world.now.world_core self.old o_after
+            (AppendsSome (K.written sink.old) (K.written sink.new)) }
+        ensures whole { OnOk result (TellsAct TellsSeen (told_of timed.now done.now) world.now.world_core self.old self.new
+            (Appends (K.written sink.old) (K.written sink.new))) }
+        ensures works { result ≢ Err Cut.Write → K.failures sink.new ≡ K.failures sink.old }
+        ensures fails { result ≡ Err Cut.Write → K.failures sink.new ≢ K.failures sink.old }
+    {
+        let mut text = String::new(alloc);
+        self.see(&mut text, world, timed, done)?;
+        self.see_times(&mut text, world, timed, done)?;
+        write_whole(sink, text.as_bytes())?;
+        Ok(())
+    }
 }
 
 impl Observer for Watch {
@@ -769,10 +818,6 @@ impl Observer for Watch {
         if self.passes_over(world, &timed.act, done) {
             return Ok(());
         }
-        let mut text = String::new(alloc);
-        self.see(&mut text, world, timed, done)?;
-        self.see_times(&mut text, world, timed, done)?;
-        write_whole(sink, text.as_bytes())?;
-        Ok(())
+        self.look_and_tell(alloc, world, timed, done, sink)
     }
 }
