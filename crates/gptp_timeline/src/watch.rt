@@ -383,15 +383,8 @@ impl Watch {
         let system = &self.systems[place];
         let measures = measures_after(look, system, &after, self.measures);
         let since = since_behind(look, system, &after);
-        let clock = system.clock;
-        let error = system.error;
         self.measures = measures;
-        self.systems[place] = Watched {
-            clock,
-            shown: after,
-            since,
-            error,
-        };
+        self.systems[place].leave(after, since);
     }
 
     /// Whether no wait of the system at a place begins or ends by an act that left what is shown of it as it was.

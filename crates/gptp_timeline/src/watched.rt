@@ -36,6 +36,18 @@ pub(crate) struct Watched {
     pub error: Option<u128>,
 }
 
+impl Watched {
+    ghost use Rattle.std.specs.Prelude.{◌≡◌};
+
+    /// An act left it as `after`, where its wait under way began then.
+    pub(crate) fn leave(&mut self, after: Option<Shown>, since: Option<u64>)
+        ensures { self.new ≡ record self.old { shown = after; since = since } }
+    {
+        self.shown = after;
+        self.since = since;
+    }
+}
+
 /// When the wait under way of a system began, after an act that left it as `after`.
 pub(crate) fn since_behind(look: ActView, system: &Watched, after: &Option<Shown>) -> Option<u64>
     ensures { result ≡ since_behind look system.now after.now }
