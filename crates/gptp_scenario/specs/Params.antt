@@ -26,8 +26,13 @@ abbrev pub are_times_in_range : Params → Bool
 are_times_in_range p =
     is_between 1 1000000000 p.threshold && is_between 1 1000000000 p.turnaround && is_between 1 1000000000 p.residence
 
+-- No system takes time stamps yet, and none measures a rate over more than one exchange: each key has its default.
+abbrev pub are_stamps_in_range : Params → Bool
+are_stamps_in_range p = is_between 0 0 p.granularity && is_between 0 0 p.noise && is_between 1 1 p.window
+
 abbrev pub are_in_range : Params → Bool
-are_in_range p = are_intervals_in_range p && are_counts_in_range p && are_times_in_range p
+are_in_range p =
+    are_intervals_in_range p && are_counts_in_range p && are_times_in_range p && are_stamps_in_range p
 
 -- A request is answered, and its answer crosses the link, before the next request; requests are no rarer than
 -- announcements; a bridge sends time on before it gets the next.

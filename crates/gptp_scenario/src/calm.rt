@@ -11,7 +11,7 @@ use crate::change::{Act, Change, Timed};
 use crate::network::{LinkSpec, Network, SystemSpec};
 use crate::sync_wait::{comes_in_time, sync_paths};
 use gptp_links::Bounds;
-use gptp_setup::Params;
+use gptp_setup::{Params, blur_of};
 use gptp_vector::{ClockId, Identity, PortId};
 
 /// How a system stands: its identity, and whether it lives.
@@ -199,14 +199,16 @@ pub(crate) fn is_used(systems: &[SystemSpec], events: &[Timed], wire: &LinkSpec)
     wire.up && is_live(systems, events, wire.a.clock) && is_live(systems, events, wire.b.clock)
 }
 
-/// Whether a link loses nothing, and is short enough for the threshold.
+/// Whether a link loses nothing, and is short enough for the threshold, also where time stamps are off.
 fn is_quiet(params: &Params, wire: &LinkSpec) -> bool
     requires { KeepParams params.now }
-    ensures { IsTrue result ↔ IsQuiet params.now.turnaround params.now.threshold wire.now }
+    ensures { IsTrue result ↔ IsQuiet params.now wire.now }
 {
-    let max = wire.bounds.max;
+    if params.threshold < wire.bounds.max {
+        return false;
+    }
+    let max = wire.bounds.max + blur_of(params);
     wire.bounds.loss == 0
-        && max <= params.threshold
         && max + (max + 999) / 1000 + (params.turnaround + 1999) / 2000 + 2 <= params.threshold
 }
 
