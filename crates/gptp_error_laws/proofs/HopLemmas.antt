@@ -203,6 +203,11 @@ offset_low w least most turnaround root own above delay wait count passed time a
     let g = part_is (most + w) turnaround in
     omega (arith, ints, s.passed, b, d, f, g, n.low, c.high, atleast, small, soon, near)
 
+-- a whole number scaled by a rate
+pub scaled_time : (rate time : ℤ) (n after : ℕ) → time ≡ pos n → unit +ℤ rate ≡ pos after →
+    IsScaled n 0 after (scaled_by rate time)
+scaled_time rate time n after e f = scaled_is rate time n 0 after (omega (arith, ints, f)) (omega (arith, ints, e))
+
 -- what a slave adds
 pub received_within : (w least most turnaround root up own above delay wait count passed : ℕ)
     (off rate neighbour link_delay : ℤ) →
@@ -216,8 +221,7 @@ received_within w least most turnaround root up own above delay wait count passe
     high soon n near c =
     let t = timed w least most turnaround root up above rate neighbour link_delay o in
     let time = link_time link_delay neighbour in
-    let s = scaled_is (rate +ℤ neighbour) time t.time 0 t.after (omega (arith, ints, t.after_is))
-    (omega (arith, ints, t.time_is)) in
+    let s = scaled_time (rate +ℤ neighbour) time t.time t.after t.time_is t.after_is in
     let added = scaled_by (rate +ℤ neighbour) time in
     record {
       low = offset_low w least most turnaround root own above delay wait count passed t.time t.after added off

@@ -1,7 +1,8 @@
 -- The limits of what is the same for all systems of a network (profile).
-use Rattle.std.specs.Prelude.{◌<◌, ◌≤◌, ℕ, ◌+◌, ◌*◌, ℤ, pos, neg_ℤ, Bool, not, ◌&&◌, nat_lt, nat_le, int_le, [], ◌∷◌, Option}
+use Rattle.std.specs.Prelude.{◌≡◌, ◌<◌, ◌≤◌, ℕ, ◌+◌, ◌*◌, ℤ, pos, neg_ℤ, Bool, not, ◌&&◌, nat_lt, nat_le, int_le, [], ◌∷◌, Option}
 use Rattle.gptp_setup.specs.Intervals.{AreParams, interval_of, IsLog}
 use Rattle.gptp_setup.specs.SettlingParams.{largest_interval, SettlingParams}
+use Rattle.gptp_setup.specs.Stamping.{blur_of}
 use Rattle.gptp_setup.specs.declared.setup.Params.{Params}
 use Rattle.gptp_scenario.specs.Faults.{first_fault}
 use Rattle.gptp_scenario.specs.declared.fault.NetworkFault.{NetworkFault}
@@ -53,6 +54,8 @@ pub record AreInRange (p : Params) : Type 0 where
   pub lost-least : 1 ≤ p.lost
   pub threshold-least : 1 ≤ p.threshold
   pub threshold : p.threshold ≤ 1000000000
+  pub exact : blur_of p ≡ 0
+  pub one_exchange : p.window ≡ 1
 
 pub record KeepParams (p : Params) : Type 0 where
   pub ranges : AreInRange p
