@@ -2,7 +2,7 @@ use Rattle.std.proofs.Common.{◌≡◌, ℕ, ◌*◌, ◌+◌, ◌-◌, ◌≤�
 use Rattle.std.proofs.lemmas.Int.{ints, clamps}
 use Rattle.gptp_scaled.specs.Rate.{unit, limit, scaled_by}
 use Rattle.gptp_scaled.proofs.FloorLemmas.{floor_is, floor_below}
-use Rattle.gptp_scaled.proofs.ProductLemmas.{distribute, swap, times_grows}
+use Rattle.gptp_scaled.proofs.ProductLemmas.{distribute, times_grows}
 use Rattle.gptp_pdelay.specs.Clock.{IsElapsed}
 use Rattle.gptp_pdelay.specs.GoodLink.{GoodLinkByElapsed, GoodLink, GoodLinkShowsNeighbor, IsGoodLink}
 use Rattle.gptp_pdelay.specs.Exchange.{IsWithinThreshold, mean_delay, neighbor_rate}
@@ -22,12 +22,9 @@ good_link_by_elapsed w most turnaround threshold span rate requester responder g
     let gained = times_grows (requester +ℤ k) rate limit some near.high in
     let back = times_grows k (neg_ℤ limit) rate (omega (arith, ints)) near.low in
     let sum = distribute rate requester k in
-    let s0 = swap (requester +ℤ k) rate in
-    let s1 = swap requester rate in
-    let s2 = swap k rate in
     let twice = scaled_by rate requester -ℤ responder in
     let small : twice ≤ℤ (pos 2 *ℤ pos (65536 * threshold)) =
-    omega (arith, ints, floor.reached, gained, back, sum, s0, s1, s2, own.high, other.low, good, soon) in
+    omega (arith, ints, floor.reached, gained, back, sum, own.high, other.low, good, soon) in
     let half = floor_below twice (pos 2) (pos (65536 * threshold)) (omega (arith, ints)) small in
     omega (arith, ints, clamps, half)
 

@@ -205,11 +205,14 @@ measurement_is_within w behind least most turnaround interval m phase phase' dri
     let within = delay_is_within w least most turnaround whole arrivals sendings (clock_rate drift') (clock_rate drift)
     n3 n4 own_time their_time theirs own_rate little some s room x in
     let same : delay ≡ mean_delay (rate_of (pos n3) (pos n4)) own_time their_time =
-    a.delay_is ∙ ap (λ q. mean_delay q own_time their_time) measured in
+    a.delay_is ∙ same_delay own_time their_time measured in
     record { rate_within = rw measured near; delay_within = rw same within }
   where
     same_rate : {a b c d : ℤ} → a ≡ b → c ≡ d → rate_of a c ≡ rate_of b d
     same_rate {b = b} {c = c} e f = ap (λ v. rate_of v c) e ∙ ap (rate_of b) f
+
+    same_delay : {q r : ℤ} (y z : ℤ) → q ≡ r → mean_delay q y z ≡ mean_delay r y z
+    same_delay y z e = ap (λ v. mean_delay v y z) e
 
 pub rest_is_long : RestIsLong
 rest_is_long w most turnaround threshold period good timed long little = omega (arith, good, timed, long, little)
