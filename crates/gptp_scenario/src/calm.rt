@@ -216,9 +216,7 @@ fn is_quiet(params: &Params, wire: &LinkSpec) -> bool
     requires { KeepParams params.now }
     ensures { IsTrue result ↔ IsQuiet params.now wire.now }
 {
-    wire.bounds.loss == 0
-        && wire.bounds.max <= params.threshold
-        && is_good(params, wire.bounds.max)
+    wire.bounds.loss == 0 && wire.bounds.max <= params.threshold && is_good(params, wire.bounds.max)
 }
 
 /// Whether a link that is up between two live systems after these events is quiet.

@@ -142,13 +142,12 @@ clock_is x g steps clock t parent w phase follows (other, above, follows', way, 
 
 common : (x : Parts) (g : Snapshot) (steps clock : ℕ) (w : Way) (phase : ℕ → ℕ) → IsWayTo x g steps clock w phase
     → (w.interval ≡ x.interval) × (w.turnaround ≡ x.turnaround) × (w.residence ≡ x.residence) × (w.blur ≡ 0)
-common x g zero clock w phase (distance, is, first) =
-    (
-      ap (λ (v : Way). v.interval) is,
-      ap (λ (v : Way). v.turnaround) is,
-      ap (λ (v : Way). v.residence) is,
-      ap (λ (v : Way). v.blur) is,
-    )
+common x g zero clock w phase (distance, is, first) = (
+  ap (λ (v : Way). v.interval) is,
+  ap (λ (v : Way). v.turnaround) is,
+  ap (λ (v : Way). v.residence) is,
+  ap (λ (v : Way). v.blur) is,
+)
 common x g (suc steps) clock w phase (parent, above, follows, way, is, last) =
     let up = common x g steps parent.clock above phase way in (
       ap (λ (v : Way). v.interval) is ∙ up.0,
