@@ -148,5 +148,6 @@ module _ (p : Params) (s : Sums) (l : WayLink) (interval rate_error hop rates wa
       → wait ≤ 3000000000000 → SumsAreWithin (suc links) given
   given_within links so_far most few long =
       stay_within links s given so_far rate_error hop wait steady (drift_back s.root_drift within.root_drift)
-      (subst IsDrift (sym (drift_back l.drift link.drift)) link.drift) (omega (arith, link.short, blur_little p ranges)) refl most rate_back
+      (subst IsDrift (sym (drift_back l.drift link.drift)) link.drift)
+      (omega (arith, link.short, blur_little p ranges)) refl most rate_back
       made.near refl few long

@@ -34,7 +34,8 @@ terms_are p w s links summed =
 -- and these the error of a reading
 after_is : (w : Way) (h later : ℕ) → length w.links ≡ h → error_after (reading_terms w) later ≡ reading_error w later
 after_is w h later e =
-    let terms : ℕ → ℕ = λ h. time_error_at w h + ceil_div ((later + jitter_after w h) * rates_error_after w h) 33550000 in
+    let terms : ℕ → ℕ = λ h. time_error_at w h
+    + ceil_div ((later + jitter_after w h) * rates_error_after w h) 33550000 in
     ap terms e ∙ there h ∙ sym (ap (λ h. reading_error_after w h later) e)
   where
     there : (h : ℕ) → time_error_at w h + ceil_div ((later + jitter_after w h) * rates_error_after w h) 33550000

@@ -3,8 +3,8 @@ use Rattle.std.specs.Prelude.{ℕ, zero, suc, ◌+◌, ◌*◌, ◌≤◌, ◌^�
 use Rattle.gptp_pdelay.specs.GoodLink.{ceil_div}
 use Rattle.gptp_error_laws.specs.TimeError.{Way, measured_jitter_at, rates_error_at, time_error}
 
--- What it follows from: the time error, in 2^-16 ns; the jitter of the last link of the way as it is measured, in ns; and
--- the error of the rate after that link, in units of 2^-41.
+-- What it follows from: the time error, in 2^-16 ns; the jitter of the last link of the way as it is measured, in ns;
+-- and the error of the rate after that link, in units of 2^-41.
 pub record ReadingTerms : Type 0 where
   pub error : ℕ
   pub jitter : ℕ

@@ -49,8 +49,8 @@ rates_error_of s =
 abbrev pub terms_of : Sums → ReadingTerms
 terms_of s = record { error = s.error; jitter = s.jitter; rates_error = rates_error_of s }
 
--- Sums over so many links within the limits: each has a jitter of 16 s and two blurs at most, a rate error of 879609306 at
--- most, a neighbour rate within 200 parts in a million and a time error of 3 * 10^15 at most.
+-- Sums over so many links within the limits: each has a jitter of 16 s and two blurs at most, a rate error of 879609306
+-- at most, a neighbour rate within 200 parts in a million and a time error of 3 * 10^15 at most.
 pub record SumsAreWithin (links : ℕ) (s : Sums) : Type 0 where
   pub root_drift : IsDrift s.root_drift
   pub drift : IsDrift s.drift

@@ -21,8 +21,8 @@ pub record ReadsClocks (w : ℕ) (k : Setting) : Type 0 where
   pub asking : IsStampClock w behind asking_phase asking_drift k.asking_clock
   pub answering : IsStampClock w behind answering_phase answering_drift k.answering_clock
 
--- The four times of one exchange over a link that is good with w more give a delay of at most the threshold, by whatever
--- neighbour rate within its limit. So it may be said of an exchange that it is good.
+-- The four times of one exchange over a link that is good with w more give a delay of at most the threshold, by
+-- whatever neighbour rate within its limit. So it may be said of an exchange that it is good.
 abbrev pub ExchangesAreGood : Type 0
 ExchangesAreGood = (w : ℕ) (k : Setting) (threshold : ℕ) (rate t1 t2 t3 t4 : ℤ)
     → IsGoodLink (k.most + w) k.turnaround threshold → ReadsClocks w k → IsNeighborRate rate → IsExchange k t1 t2 t3 t4

@@ -67,7 +67,8 @@ read_within w phase base i told sent came now rate delay on measured fits later 
     let added = read_after info delay rate (pos (count.count + 32768 * 0) +ℤ pos 0)
     -ℤ (scaled_of told.origin +ℤ told.correction) in
     let within = reading_is_within w.blur 0 l.least l.most w.turnaround (clock_at w 0) (clock_at w i)
-    (clock_at w (suc i)) (error_before w i) (rates_error_at w i) passing span count.count passed.count (pos 0) info delay rate
+    (clock_at w (suc i)) (error_before w i) (rates_error_at w i)
+    passing span count.count passed.count (pos 0) info delay rate
     (over_link w phase base i told sent came rate delay on measured)
     (rate_behind w phase base i told sent came rate delay on measured fits)
     (clock_counts.rate (drift_at w (suc i)) drifts) (omega arith) (omega (arith, on.long))

@@ -21,11 +21,11 @@ use Rattle.gptp_system.specs.declared.reading.Reading.{Reading}
 use Rattle.gptp_system.specs.Syncing.{held_reading}
 use Rattle.gptp_reading.specs.Reading.{read_after, reading}
 
--- What is read so long after a Sync came over a link is the root's time then. What was read of the own clock at the ingress
--- is of one that is 32768 g units behind the one by which is read, and half of w off: so the root's time is that of such
--- a clock, too. It is within half of w less than the link's part of the time error, within the error of the rate from
--- above times the greatest delay and w, and within that of the rate after the link times the span and w, the last two in
--- parts of 33550000 ns to a unit. The span may be of any length.
+-- What is read so long after a Sync came over a link is the root's time then. What was read of the own clock at the
+-- ingress is of one that is 32768 g units behind the one by which is read, and half of w off: so the root's time is
+-- that of such a clock, too. It is within half of w less than the link's part of the time error, within the error of
+-- the rate from above times the greatest delay and w, and within that of the rate after the link times the span and w,
+-- the last two in parts of 33550000 ns to a unit. The span may be of any length.
 abbrev pub ReadingIsWithin : Type 0
 ReadingIsWithin = (w g least most turnaround root up own above behind delay span count passed : ℕ) (off : ℤ)
     (s : SyncInfo) (link_delay neighbour : ℤ)

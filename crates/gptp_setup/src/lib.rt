@@ -1,6 +1,6 @@
 //! What systems are set up with: the parameters that are the same for all systems of a network, what one system has of
-//! its own, the names of its timers, how long intervals of messages are (IEEE 802.1AS-2020, 10.7 and 11.5.2), and how exactly
-//! time is stamped.
+//! its own, the names of its timers, how long intervals of messages are (IEEE 802.1AS-2020, 10.7 and 11.5.2), and how
+//! exactly time is stamped.
 #![tactic(auto)]
 
 mod interval;

@@ -25,8 +25,8 @@ pub record IsMeasuredAt (w : Way) (i : ℕ) (rate delay : ℤ) : Type 0 where
   pub delay_within : IsDelayWithin w.blur (link_at w i).least (link_at w i).most w.turnaround (clock_at w i) delay
 
 -- The error of the time that is sent over the link at a place, in parts of 33550000 to a unit of 2^-16 ns: half of the
--- blur, which is that of its time stamp; at a bridge its time error too, and the error of the rate so far while it keeps
--- the time.
+-- blur, which is that of its time stamp; at a bridge its time error too, and the error of the rate so far while it
+-- keeps the time.
 abbrev pub sent_error_at : Way → ℕ → ℕ
 sent_error_at w zero = 33550000 * (32768 * w.blur)
 sent_error_at w (suc i) =

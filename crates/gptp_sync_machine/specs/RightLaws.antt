@@ -95,8 +95,8 @@ RightStays = (w : Way) (l : WayLink) (phase phase' : ℕ → ℕ) (base : Option
     → i ≤ length w.links → phase' 0 ≡ phase 0 → FollowUpIsRight w phase base i told sent
     → FollowUpIsRight (longer w l) phase' base i told sent
 
--- A port measures the link at a place: delays, parameters and clocks are those of the way. An exchange leaves 12 times the
--- blur to the next, where there is a blur.
+-- A port measures the link at a place: delays, parameters and clocks are those of the way. An exchange leaves 12 times
+-- the blur to the next, where there is a blur.
 pub record MeasuresOnWay (k : Setting) (w : Way) (phase : ℕ → ℕ) (i : ℕ) : Type 0 where
   pub documented : IsDocumented w
   pub on_way : i < length w.links
