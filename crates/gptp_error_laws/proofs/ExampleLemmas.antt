@@ -1,4 +1,4 @@
-use Rattle.std.proofs.Common.{◌≡◌, ℕ, zero, suc, ◌+◌, ◌<◌, ◌≤◌, refl, rules, arith}
+use Rattle.std.proofs.Common.{◌≡◌, ℕ, zero, suc, ◌*◌, ◌+◌, ◌<◌, ◌≤◌, refl, rules, arith}
 use Rattle.std.proofs.lemmas.Int.{ints}
 use Rattle.gptp_pdelay.specs.Clock.{IsDrift}
 use Rattle.gptp_pdelay.proofs.ClockLemmas.{clock_is_read}
@@ -90,6 +90,7 @@ measured (suc zero) h = record {
 measured (suc (suc i)) h = absurd (omega (arith, h))
 
 rested : (i : ℕ) (h : i < 2) → (measured i h).earlier.came + 12 * 0 ≤ (measured i h).later.asked
+unfolding measured
 rested zero h = omega arith
 rested (suc zero) h = omega arith
 rested (suc (suc i)) h = absurd (omega (arith, h))

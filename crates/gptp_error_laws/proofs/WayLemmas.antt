@@ -351,7 +351,7 @@ arrives c last now off e later soon near_off =
       high = omega (arith, ints, sum.high, whole, count.is);
     }
 
-carriage : (behind : ℕ) (w : Way) (hops : List Hop) (phase : ℕ → ℕ) (says : ℕ → ℕ → ℤ) (sent came : ℕ → ℕ) →
+abbrev carriage : (behind : ℕ) (w : Way) (hops : List Hop) (phase : ℕ → ℕ) (says : ℕ → ℕ → ℤ) (sent came : ℕ → ℕ) →
     IsDocumented w → AreRead behind w phase says → GoesOver w hops says sent came → CarryFits (says 0 (sent 0)) hops →
     Carriage
 carriage behind w hops phase says sent came k read g f = record {

@@ -64,8 +64,8 @@ jittery_way = way (pos 0) (example_way_link 1000 1001000 (pos 0) ∷ example_way
 abbrev pub stamped_way : Way
 stamped_way = record plain_way { blur = stamp_blur 8 4 }
 
--- The ring of examples/ring.toml whole, by such time stamps: three links of 390 to 410 ns. Each link costs 65556 * 52 + 6
--- + 12 = 3408930, and its rate is right within 114504 + 4. The first bridge costs 1478 * 114508 / 33550000, rounded up,
--- which is 6, and the second 1478 * 229016 / 33550000, which is 11.
+-- The ring of examples/ring.toml whole, by such time stamps: three links of 390 to 410 ns. Each link costs 65556 * 52 +
+-- 6 + 12 = 3408930, and its rate is right within 114504 + 4. The first bridge costs 1478 * 114508 / 33550000, rounded
+-- up, which is 6, and the second 1478 * 229016 / 33550000, which is 11.
 abbrev pub stamped_ring_way : Way
 stamped_ring_way = record ring_way { blur = stamp_blur 8 4 }

@@ -93,8 +93,8 @@ HopKeeps = (w least most turnaround root up own above behind delay stay count pa
 
 -- What a system computes from a Sync and its Follow_Up is the root's time when the Sync came. With what its own clock
 -- counts from there to the Follow_Up, at most the jitter later, and with what it read of its clock at the ingress too
--- late, half of w at most, it is the root's time then: within half of w less than a link's part of the time error, since
--- that half is the egress', and within the error of the rate from above times the greatest delay and w.
+-- late, half of w at most, it is the root's time then: within half of w less than a link's part of the time error,
+-- since that half is the egress', and within the error of the rate from above times the greatest delay and w.
 abbrev pub OffsetIsWithin : Type 0
 OffsetIsWithin = (w least most turnaround root up own above delay wait count passed : ℕ) (off : ℤ) (s : SyncInfo)
     (link_delay neighbour : ℤ) → IsOverLink w least most turnaround root up above s.rate neighbour link_delay →

@@ -45,8 +45,8 @@ total_below (suc n) f = total_below n f + f n
 abbrev pub jitter_at : Way → ℕ → ℕ
 jitter_at w i = (link_at w i).most - (link_at w i).least
 
--- By time stamps a link costs what one costs by exact clocks that takes the blur less at least and the blur more at most:
--- its jitter and its greatest delay as they are measured.
+-- By time stamps a link costs what one costs by exact clocks that takes the blur less at least and the blur more at
+-- most: its jitter and its greatest delay as they are measured.
 abbrev pub measured_jitter_at : Way → ℕ → ℕ
 measured_jitter_at w i = jitter_at w i + 2 * w.blur
 
@@ -96,8 +96,8 @@ abbrev pub time_error : Way → ℕ
 time_error w = time_error_at w (length w.links)
 
 -- The error of what is read after the link at a place, so long after the Follow_Up: the time error there; and what the
--- error of the rate makes of that span, and of the link's jitter, by which the Follow_Up may come after its Sync, and of
--- what the time stamp of its ingress is off.
+-- error of the rate makes of that span, and of the link's jitter, by which the Follow_Up may come after its Sync, and
+-- of what the time stamp of its ingress is off.
 abbrev pub reading_error_at : Way → ℕ → ℕ → ℕ
 reading_error_at w i later =
     time_error_at w (suc i) + ceil_div ((later + measured_jitter_at w i) * rates_error_at w i) 33550000

@@ -44,14 +44,14 @@ ParentsErrorStays = (w : Way) (l : WayLink) (h : ℕ) → h ≤ length w.links
 abbrev pub shown_at : Way → (ℕ → ℕ) → ℕ → ℕ → ℤ
 shown_at w phase i t = local_clock (phase i) (drift_at w i) t
 
--- what is read of it then: each clock is read as one whose readings are off by the blur together, and `behind` units less
--- than it shows
+-- what is read of it then: each clock is read as one whose readings are off by the blur together, and `behind` units
+-- less than it shows
 abbrev pub AreRead : ℕ → Way → (ℕ → ℕ) → (ℕ → ℕ → ℤ) → Type 0
 AreRead behind w phase says =
     (i : ℕ) → i ≤ length w.links → IsStampClock w.blur behind (phase i) (drift_at w i) (says i)
 
--- the numbers of a way are those of a document: time stamps are off by 3000 ns at most, an interval has 2^-4 s at least,
--- an answer waits, and each clock keeps within 100 parts in a million (profile)
+-- the numbers of a way are those of a document: time stamps are off by 3000 ns at most, an interval has 2^-4 s at
+-- least, an answer waits, and each clock keeps within 100 parts in a million (profile)
 pub record IsDocumented (w : Way) : Type 0 where
   pub little : w.blur ≤ 3000
   pub long : 62500000 ≤ w.interval
@@ -60,8 +60,9 @@ pub record IsDocumented (w : Way) : Type 0 where
 
 -- A Sync goes over the way: it is sent over the link at each place at one time, `sent`, and comes at another, `came`,
 -- in ns. It is on each link between the least and the greatest delay. A bridge sends it on one residence after its
--- Follow_Up, which comes at most the jitter later than it. The hops say when, by what is read of each own clock, and what
--- each port has measured of its link by two exchanges; of these the later begins 12 times the blur behind the earlier.
+-- Follow_Up, which comes at most the jitter later than it. The hops say when, by what is read of each own clock, and
+-- what each port has measured of its link by two exchanges; of these the later begins 12 times the blur behind the
+-- earlier.
 pub record GoesOver (w : Way) (hops : List Hop) (says : ℕ → ℕ → ℤ) (sent came : ℕ → ℕ) : Type 0 where
   pub as_long : length hops ≡ length w.links
   pub carried_long : (i : ℕ) → i < length hops → sent i + (link_at w i).least ≤ came i
