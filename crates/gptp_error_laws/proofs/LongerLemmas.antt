@@ -76,7 +76,8 @@ rates_same w l i h =
 wait_same : (w : Way) (l : WayLink) (i : ℕ) → suc i < length w.links → wait_error_at (longer w l) i ≡ wait_error_at w i
 wait_same w l i h =
     ap (λ (k : WayLink). ceil_div ((w.residence + (k.most - k.least + 2 * w.blur)
-    + measured_most_at (longer w l) (suc i)) * rates_error_at (longer w l) i) 33550000) (link_same w l i (omega (arith, h)))
+    + measured_most_at (longer w l) (suc i)) * rates_error_at (longer w l) i) 33550000)
+    (link_same w l i (omega (arith, h)))
     ∙ ap (λ (k : WayLink). ceil_div ((w.residence + measured_jitter_at w i + (k.most + w.blur))
     * rates_error_at (longer w l) i) 33550000) (link_same w l (suc i) h)
     ∙ ap (λ n. ceil_div ((w.residence + measured_jitter_at w i + measured_most_at w (suc i)) * n) 33550000)

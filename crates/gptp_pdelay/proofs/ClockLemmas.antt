@@ -27,7 +27,8 @@ clock_is_read w behind phase drift h = record {
   near = λ t. record { low = omega (arith, ints, h); high = omega (arith, ints, h) };
 }
 
--- what passes on a clock is what passes, and what its drift adds to it, within the rounding and what two readings are off
+-- what passes on a clock is what passes, and what its drift adds to it, within the rounding and what two readings are
+-- off
 pub clock_elapses : ClockElapses
 clock_elapses w behind phase drift says t span d clock =
     let before = floor_is (pos (65536 * t) *ℤ drift) unit (omega (arith, ints)) in

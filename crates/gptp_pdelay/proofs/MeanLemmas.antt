@@ -94,7 +94,8 @@ mean_is_below parts arrivals sendings up own e3 e4 k l y r far near high mean or
     let c : up * (sendings * k) ≤ up * (arrivals * l) = mul-le-mul_left up mean in
     let d : r * k ≤ r * (parts * arrivals) = mul-le-mul_left r order in
     let e : arrivals * (r * 65536 * own * k)
-    ≤ arrivals * (2199023255552 * 65536 * l * up + parts * (2199023255552 * 2199023255552) + parts * 2199023255552 * r) =
+    ≤ arrivals * (2199023255552 * 65536 * l * up + parts * (2199023255552 * 2199023255552)
+    + parts * 2199023255552 * r) =
     omega (arith, b, c, d, order) in
     let f = cancel_left arrivals _ _ some e in
     let g : r * (parts * 2199023255552 * y) ≤ r * (65536 * own * k + parts * 2199023255552) = mul-le-mul_left r high in

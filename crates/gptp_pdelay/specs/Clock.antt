@@ -20,8 +20,8 @@ abbrev pub local_clock : ℕ → ℤ → ℕ → ℤ
 local_clock phase drift t =
     pos (65536 * phase) +ℤ pos (65536 * t) +ℤ floor_div (pos (65536 * t) *ℤ drift) unit
 
--- A clock as it is read: what it says is within 32768 w units of what the local clock shows, less a number that is always
--- the same. So two readings differ by what passed between them, within w ns.
+-- A clock as it is read: what it says is within 32768 w units of what the local clock shows, less a number that is
+-- always the same. So two readings differ by what passed between them, within w ns.
 pub record IsStampClock (w behind phase : ℕ) (drift : ℤ) (says : ℕ → ℤ) : Type 0 where
   pub near : (t : ℕ) → AreWithin (32768 * w) (says t) (local_clock phase drift t -ℤ pos behind)
 
@@ -37,8 +37,8 @@ StampsMakeClock = (granularity most_noise phase : ℕ) (drift : ℤ) (noise : �
     IsStampClock (stamp_blur granularity most_noise) (32768 * granularity) phase drift
     (λ t. stamp_of granularity (noise t) (local_clock phase drift t))
 
--- While a span of time passes, in ns, a clock within the limit is read to count this much, in units of 2^-16 ns: between
--- what the slowest and the fastest count, within w ns and less than one unit of rounding either way.
+-- While a span of time passes, in ns, a clock within the limit is read to count this much, in units of 2^-16 ns:
+-- between what the slowest and the fastest count, within w ns and less than one unit of rounding either way.
 pub record IsElapsed (w span : ℕ) (elapsed : ℤ) : Type 0 where
   pub low : (pos (65536 * span) *ℤ (unit -ℤ drift_limit)) <ℤ (unit *ℤ (elapsed +ℤ pos (65536 * w + 1)))
   pub high : (unit *ℤ (elapsed -ℤ pos (65536 * w + 1))) <ℤ (pos (65536 * span) *ℤ (unit +ℤ drift_limit))

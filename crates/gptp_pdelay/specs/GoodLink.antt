@@ -19,8 +19,8 @@ ceil_div x d = (x + (d - 1)) / d
 abbrev pub IsGoodLink : ℕ → ℕ → ℕ → Type 0
 IsGoodLink most turnaround threshold = most + ceil_div most 1000 + ceil_div turnaround 2000 + 2 ≤ threshold
 
--- The core of the law: two clocks within their limits are read to count the two spans of an exchange over a link that is
--- good with w more, the requester's from the request to the response, and the responder's the turnaround. No time of
+-- The core of the law: two clocks within their limits are read to count the two spans of an exchange over a link that
+-- is good with w more, the requester's from the request to the response, and the responder's the turnaround. No time of
 -- either clock is used, so the responder may have heard another request than the one that it answers. What is read may
 -- go backward.
 abbrev pub GoodLinkByElapsed : Type 0

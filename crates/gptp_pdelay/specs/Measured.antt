@@ -69,9 +69,9 @@ MeanIsAbove = (parts arrivals sendings up own e3 e4 k l y r : ℕ) → IsCounted
     arrivals * l ≤ sendings * k → k ≤ parts * arrivals → 0 < arrivals → 2 ^ 41 * e3 ≤ r * e4 →
     65536 * l * up ≤ parts * (r * (y + 2)) + parts * 2 ^ 41
 
--- A delay in 2^-16 ns isn't above what a clock of the rate `up` counts in the greatest delay, and w ns by a clock that is
--- fast by 1.54 parts in 10,000, but for four units and the 1525th part of the nanoseconds that an exchange and w take at
--- most.
+-- A delay in 2^-16 ns isn't above what a clock of the rate `up` counts in the greatest delay, and w ns by a clock that
+-- is fast by 1.54 parts in 10,000, but for four units and the 1525th part of the nanoseconds that an exchange and w
+-- take at most.
 abbrev pub IsDelayBelow : ℕ → ℕ → ℕ → ℕ → ℕ → Type 0
 IsDelayBelow w most turnaround up delay =
     1525 * 2 ^ 41 * delay ≤
@@ -90,8 +90,8 @@ pub record IsDelayWithin (w least most turnaround up : ℕ) (delay : ℤ) : Type
   pub low : IsDelayAbove w least most turnaround up value
   pub high : IsDelayBelow w most turnaround up value
 
--- What the two clocks count in the spans of two exchanges, and what is read of them, off by up to w ns: e4 and e3 of what
--- passed since the exchange before, y from request to response, and z from hearing to answering. These two may be
+-- What the two clocks count in the spans of two exchanges, and what is read of them, off by up to w ns: e4 and e3 of
+-- what passed since the exchange before, y from request to response, and z from hearing to answering. These two may be
 -- negative.
 pub record IsReadExchange (w turnaround whole arrivals sendings up own e3 e4 : ℕ) (y z : ℤ) : Type 0 where
   pub own_all : ℕ
@@ -157,8 +157,8 @@ pub record IsMeasuredWithin (w least most turnaround m up own : ℕ) (rate delay
   pub delay_within : IsDelayWithin w least most turnaround up delay
 
 -- Two exchanges measure the link within its jitter and twice w, whatever the phases and the drifts of the clocks within
--- their limits, where the later begins 12 w ns after the end of the earlier: m is 2202000000000 (jitter + 2 w) / interval
--- at least, and an interval has 2^-4 s at least (profile).
+-- their limits, where the later begins 12 w ns after the end of the earlier: m is 2202000000000 (jitter + 2 w) /
+-- interval at least, and an interval has 2^-4 s at least (profile).
 abbrev pub MeasurementIsWithin : Type 0
 MeasurementIsWithin = (w behind least most turnaround interval m phase phase' : ℕ) (drift drift' rate delay : ℤ)
     (mine yours : ℕ → ℤ) → IsDrift drift → IsDrift drift' → IsStampClock w behind phase drift mine →

@@ -77,8 +77,8 @@ pub fn clock_counts()
 
 /// Two exchanges, one after the other, make a weighted mean of two sums of two delays: what passes on the requester's
 /// clock from request to response, brought to the responder's rate, is the turnaround and a time between twice the
-/// least and twice the greatest delay, whatever the turnaround and however far the exchanges lie apart. What the exchange
-/// seems longer or shorter goes into it once.
+/// least and twice the greatest delay, whatever the turnaround and however far the exchanges lie apart. What the
+/// exchange seems longer or shorter goes into it once.
 pub fn weighted_mean()
     ensures { WeightedMean }
 {}
@@ -106,8 +106,8 @@ pub fn late_is_above()
 
 /// The meanLinkDelay that is measured over a link lies between its least and its greatest delay, by the neighbour's
 /// clock, whatever the turnaround. What two readings are off goes into it once. Rounding adds four units of 2^-16 ns at
-/// most, and the limit of 200 parts in a million on a neighbour rate the 1525th part of the nanoseconds that an exchange
-/// takes.
+/// most, and the limit of 200 parts in a million on a neighbour rate the 1525th part of the nanoseconds that an
+/// exchange takes.
 pub fn delay_is_within()
     ensures { DelayIsWithin }
 {}
