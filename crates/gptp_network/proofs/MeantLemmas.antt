@@ -15,6 +15,7 @@ use Rattle.gptp_lists.specs.Members.{In}
 use Rattle.gptp_lists.proofs.SystemSpecLemmas.{slice_get-In}
 use Rattle.gptp_graph.specs.Snapshot.{IsWellFormed, Snapshot, System as LiveSystem}
 use Rattle.gptp_roles.specs.Selection.{clock_of}
+use Rattle.gptp_setup.specs.declared.limits.TheConstants.{MOST_PORTS}
 use Rattle.gptp_scenario.specs.Calm.{last_change}
 use Rattle.gptp_scenario.specs.Change.{standing, system_acted, system_stands, with_live, with_priority1}
 use Rattle.gptp_scenario.specs.Network.{link_fault, logs_of, system_fault, with_link, with_system, without_members, IsKeptNetwork, IsNetwork, NetworkState}
@@ -141,7 +142,7 @@ system_read version announce t =
     next HasIdentity (natural (codes "phase") 0 1000000000000000000 (Some 0) t) _ (λ phase of_phase.
     next HasIdentity (whole (codes "drift") _ _ _ t) _ (λ drift of_drift.
     next HasIdentity (flag (codes "continues") false t) _ (λ continues of_continues.
-    next HasIdentity (natural (codes "ports") 0 16 (Some 1) t) _ (λ ports of_ports.
+    next HasIdentity (natural (codes "ports") 0 MOST_PORTS (Some 1) t) _ (λ ports of_ports.
     next HasIdentity (intervals version ports announce t) _ (λ logs of_logs.
     given HasIdentity _ (identity_below priority1 class accuracy variance priority2 name
     (octet_read (codes "priority1") 246 t (omega arith) priority1 of_priority1)
@@ -224,21 +225,21 @@ link_down_read : (t : Members) → Gives IsReadChange (link_down_of t)
 unfolding link_down_of
 link_down_read t =
     next IsReadChange (clock (codes "clock") t) _ (λ name of_name.
-    next IsReadChange (natural (codes "port") 1 16 None t) _ (λ port of_port.
+    next IsReadChange (natural (codes "port") 1 MOST_PORTS None t) _ (λ port of_port.
     given IsReadChange (changes.LinkDown name port) (record { range = tt; octets = tt })))
 
 link_up_read : (t : Members) → Gives IsReadChange (link_up_of t)
 unfolding link_up_of
 link_up_read t =
     next IsReadChange (clock (codes "clock") t) _ (λ name of_name.
-    next IsReadChange (natural (codes "port") 1 16 None t) _ (λ port of_port.
+    next IsReadChange (natural (codes "port") 1 MOST_PORTS None t) _ (λ port of_port.
     given IsReadChange (changes.LinkUp name port) (record { range = tt; octets = tt })))
 
 link_set_read : (t : Members) → Gives IsReadChange (link_set_of t)
 unfolding link_set_of
 link_set_read t =
     next IsReadChange (clock (codes "clock") t) _ (λ name of_name.
-    next IsReadChange (natural (codes "port") 1 16 None t) _ (λ port of_port.
+    next IsReadChange (natural (codes "port") 1 MOST_PORTS None t) _ (λ port of_port.
     next IsReadChange (natural (codes "min") 1 16000000000 None t) _ (λ least of_least.
     next IsReadChange (natural (codes "max") 1 16000000000 None t) _ (λ greatest of_greatest.
     next IsReadChange (natural (codes "loss") 0 1000 None t) _ (λ loss of_loss.
@@ -274,7 +275,7 @@ inject_read : (t : Members) → Gives IsReadChange (inject_of t)
 unfolding inject_of
 inject_read t =
     next IsReadChange (clock (codes "clock") t) _ (λ name of_name.
-    next IsReadChange (natural (codes "port") 1 16 None t) _ (λ port of_port.
+    next IsReadChange (natural (codes "port") 1 MOST_PORTS None t) _ (λ port of_port.
     next IsReadChange (octets (codes "octets") t) _ (λ frame of_frame.
     given IsReadChange (changes.Inject name port frame)
     (record { range = tt; octets = octets_read (codes "octets") t frame of_frame }))))

@@ -2,6 +2,7 @@
 use Rattle.std.specs.Prelude.{◌≡◌, ◌≤◌, ⊤, true, ℕ, codes, not, nat_lt, if◌then◌else◌, bytes_eq, List, [], ◌∷◌, ◌++◌, Option, None, Result, Ok, Err}
 use Rattle.std.specs.List.{AllByRecursion}
 use Rattle.toml.specs.Data.{Data, Members, as_table}
+use Rattle.gptp_setup.specs.declared.limits.TheConstants.{MOST_PORTS}
 use Rattle.gptp_setup.specs.Intervals.{interval_of}
 use Rattle.gptp_scenario.specs.Calm.{last_change}
 use Rattle.gptp_scenario.specs.Faults.{first_fault}
@@ -24,19 +25,19 @@ use Rattle.gptp_network.specs.declared.fault.DocumentFault.TheVariants.{OutOfRan
 unfoldable pub link_down_of : Members → Result Change DocumentFault
 link_down_of t = do
   name ← clock (codes "clock") t
-  port ← natural (codes "port") 1 16 None t
+  port ← natural (codes "port") 1 MOST_PORTS None t
   Ok (changes.LinkDown name port)
 
 unfoldable pub link_up_of : Members → Result Change DocumentFault
 link_up_of t = do
   name ← clock (codes "clock") t
-  port ← natural (codes "port") 1 16 None t
+  port ← natural (codes "port") 1 MOST_PORTS None t
   Ok (changes.LinkUp name port)
 
 unfoldable pub link_set_of : Members → Result Change DocumentFault
 link_set_of t = do
   name ← clock (codes "clock") t
-  port ← natural (codes "port") 1 16 None t
+  port ← natural (codes "port") 1 MOST_PORTS None t
   least ← natural (codes "min") 1 16000000000 None t
   greatest ← natural (codes "max") 1 16000000000 None t
   loss ← natural (codes "loss") 0 1000 None t
@@ -61,7 +62,7 @@ priority1_of t = do
 unfoldable pub inject_of : Members → Result Change DocumentFault
 inject_of t = do
   name ← clock (codes "clock") t
-  port ← natural (codes "port") 1 16 None t
+  port ← natural (codes "port") 1 MOST_PORTS None t
   frame ← octets (codes "octets") t
   Ok (changes.Inject name port frame)
 

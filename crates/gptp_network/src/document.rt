@@ -4,7 +4,7 @@ ghost use Rattle.std.specs.Prelude.{◌≡◌, ◌≤◌, ◌⊎◌, ◌↔◌, 
 ghost use Rattle.toml.specs.View.{table_view};
 ghost use Rattle.gptp_scenario.specs.Calm.{last_change, IsCalm};
 ghost use Rattle.gptp_scenario.specs.Network.{smallest_of};
-ghost use Rattle.gptp_setup.specs.Intervals.{interval_of};
+ghost use Rattle.gptp_setup.specs.Intervals.{interval_of, IsMoment};
 ghost use Rattle.gptp_scenario.specs.Allowed.{AreAllowed};
 ghost use Rattle.gptp_scenario.specs.Prompt.{ArePromptActs};
 ghost use Rattle.gptp_scenario.specs.SettlingTime.{settles};
@@ -118,11 +118,11 @@ impl Document {
         self.network.is_calm(&self.events)
     }
 
-    /// The time by which the network has settled, in ns, if it is calm: at most 10^15.
+    /// The time by which the network has settled, in ns, if it is calm: at most [`LAST_MOMENT`](gptp_setup::LAST_MOMENT).
     #[tactic(auto, using(crate::proofs::EventLemmas::early_from))]
     pub fn settles(&self) -> u64
         ensures time { result ≡ settles self.now.network self.now.events }
-        ensures bound { result ≤ 1000000000000000 }
+        ensures bound { IsMoment result }
     {
         self.well_formed();
         last_change(&self.events) + self.network.settling_span(&self.events)
