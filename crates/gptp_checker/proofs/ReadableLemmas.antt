@@ -5,6 +5,7 @@ use Rattle.std.specs.List.{AllByRecursion, range_with_len}
 use Rattle.std.proofs.lemmas.List.{length-map}
 use Rattle.std.proofs.lemmas.List.FromFn.{length-range_with_len}
 use Rattle.std.proofs.lemmas.Nat.{mod_below}
+use Rattle.gptp_setup.specs.declared.limits.TheConstants.{MOST_PORTS}
 use Rattle.gptp_lists.specs.Members.{In}
 use Rattle.gptp_lists.proofs.SystemSpecLemmas.{In-map, from_map, pigeonhole}
 use Rattle.gptp_graph.specs.Labelling.{PortLine, SystemLine, line_clocks}
@@ -93,9 +94,9 @@ module _ (version : ℕ) (g : Snapshot) (lines : List SystemLine) (is_version : 
   choice_fits line member true e = ((is.choice.systems.bare line member e).parent, second line member e is_version)
   choice_fits line member false e = parent_fits line member e line.parent refl
 
-  -- the ports are those of the system, of which there are sixteen at most, or none
+  -- the ports are those of the system, or none
   ports_fit : (line : SystemLine) → In line lines → (far : Bool) → line.far ≡ far
-      → ((port : PortLine) → In port line.ports → IsPortNumber port.number) × (length line.ports ≤ 16)
+      → ((port : PortLine) → In port line.ports → IsPortNumber port.number) × (length line.ports ≤ MOST_PORTS)
   ports_fit line member true e =
       let none = (is.choice.systems.bare line member e).ports in (
         (λ port k. absurd (subst (In port) none k)),

@@ -3,6 +3,7 @@ use Rattle.std.proofs.Common.{◌≡◌, ◌≤◌, ◌+◌, ◌||◌, ◌&&◌,
 use Rattle.std.specs.List.{AllByRecursion, list_any, range_with_len}
 use Rattle.std.proofs.lemmas.Bool.Decides.{nat_tests}
 use Rattle.std.proofs.lemmas.Option.{same_Some}
+use Rattle.gptp_setup.specs.declared.limits.TheConstants.{MOST_PORTS}
 use Rattle.gptp_graph.specs.Snapshot.{Snapshot}
 use Rattle.gptp_invariants.specs.WorldEncodableLaws.{SetsAnOctet}
 use Rattle.gptp_links.specs.declared.bounds.Bounds.{Bounds}
@@ -149,7 +150,7 @@ module _ (d : DocumentState) (playable : IsPlayable d) (detect : Option ℕ) whe
 
   up_taken : (clock : ℕ) (p : PortId) → In p (up_ports cables clock) → is_taken d.network.links p ≡ true
   up_taken clock p member =
-      let kept = from_filter (is_up_at cables) p (map (port_after clock) (range_with_len 0 16)) member in
+      let kept = from_filter (is_up_at cables) p (map (port_after clock) (range_with_len 0 MOST_PORTS)) member in
       taken_by p kept.1
 
   -- a system that lives is one of the network

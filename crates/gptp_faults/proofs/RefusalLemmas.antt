@@ -2,11 +2,12 @@
 use Rattle.std.proofs.Common.{◌≡◌, ◌≤◌, ◌<◌, ◌+◌, ◌-◌, ◌||◌, ℕ, zero, suc, Bool, true, false, nat_lt, List, [], ◌∷◌, length, map, Option, Some, None, slice_get, refl, sym, ap, ◌∙◌, arith}
 use Rattle.std.specs.List.{list_any, range_with_len}
 use Rattle.std.proofs.lemmas.Bool.Decides.{nat_tests}
+use Rattle.gptp_setup.specs.Intervals.{IsMoment}
 use Rattle.gptp_network.specs.Document.{DocumentState}
 use Rattle.gptp_network.specs.declared.fault.DocumentFault.{DocumentFault}
 use Rattle.gptp_scenario.specs.Calm.{last_change}
 use Rattle.gptp_faults.specs.CaseEvents.{count_events, EventsState}
-use Rattle.gptp_faults.specs.Refusals.{any_late, case_events, fault_before, first_some, is_late, is_late_at, latest_end, latest_event, refusal_at, refusal_of}
+use Rattle.gptp_faults.specs.Refusals.{any_late, case_events, fault_before, first_some, is_late, is_late_at, latest_event, refusal_at, refusal_of}
 use Rattle.gptp_faults.specs.Stays.{end_at, return_at}
 use Rattle.gptp_faults.specs.Times.{moment}
 use Rattle.gptp_faults.specs.declared.cases.Case.{Case}
@@ -165,7 +166,7 @@ module _ (d : DocumentState) (asked : Option ℕ) where
           (none_at (λ n. refusal_at d asked e (moment t n)) t.moments 0 number rest (omega arith)
           (omega (arith, below)))
 
-  pub ends_early : (e : EventsState) (at : ℕ) → is_late_at d asked e at ≡ false → end_at d asked e at ≤ latest_end
+  pub ends_early : (e : EventsState) (at : ℕ) → is_late_at d asked e at ≡ false → IsMoment (end_at d asked e at)
   ends_early e at none = grind (arith, nat_tests)
 
   -- a case that is late at no moment isn't at this one

@@ -1,6 +1,6 @@
 //! Documents.
 
-ghost use Rattle.std.specs.Prelude.{◌≡◌, ◌≤◌, ◌⊎◌, ◌↔◌, IsTrue, None, Ok, Some, IfOk, IfErr, OnErr, OnOk};
+ghost use Rattle.std.specs.Prelude.{◌≡◌, ◌⊎◌, ◌↔◌, IsTrue, None, Ok, Some, IfOk, IfErr, OnErr, OnOk};
 ghost use Rattle.toml.specs.View.{table_view};
 ghost use Rattle.gptp_scenario.specs.Calm.{last_change, IsCalm};
 ghost use Rattle.gptp_scenario.specs.Network.{smallest_of};
@@ -118,7 +118,8 @@ impl Document {
         self.network.is_calm(&self.events)
     }
 
-    /// The time by which the network has settled, in ns, if it is calm: at most [`LAST_MOMENT`](gptp_setup::LAST_MOMENT).
+    /// The time by which the network has settled, in ns, if it is calm: at most
+    /// `LAST_MOMENT`.
     #[tactic(auto, using(crate::proofs::EventLemmas::early_from))]
     pub fn settles(&self) -> u64
         ensures time { result ≡ settles self.now.network self.now.events }
