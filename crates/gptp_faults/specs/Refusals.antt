@@ -1,6 +1,7 @@
 -- Why no case is run (profile).
 use Rattle.std.specs.Prelude.{◌≡◌, ◌⊎◌, ℕ, ◌+◌, nat_lt, if◌then◌else◌, Bool, true, List, [], ◌∷◌, length, map, Option, Some, None}
 use Rattle.std.specs.List.{list_any, range_with_len}
+use Rattle.gptp_network.specs.declared.keys.TheConstants.{LATEST_EVENT}
 use Rattle.gptp_setup.specs.declared.limits.TheConstants.{LAST_MOMENT}
 use Rattle.gptp_network.specs.Document.{DocumentState}
 use Rattle.gptp_network.specs.declared.fault.DocumentFault.{DocumentFault}
@@ -15,10 +16,6 @@ use Rattle.gptp_faults.specs.declared.cases.Case.{Case}
 use Rattle.gptp_faults.specs.declared.options.FaultsOptions.{FaultsOptions}
 use Rattle.gptp_faults.specs.declared.times.Times.{Times}
 
--- the latest time that an event may have
-abbrev pub latest_event : ℕ
-latest_event = 800000000000000
-
 -- the events of a case of a document
 abbrev pub case_events : DocumentState → FaultsOptions → Case → EventsState
 case_events d options c = events_of (cables_after d) options.detect c
@@ -27,9 +24,9 @@ case_events d options c = events_of (cables_after d) options.detect c
 -- the last, or the return is later than one may be.
 abbrev pub refusal_at : DocumentState → Option ℕ → EventsState → ℕ → Option DocumentFault
 refusal_at d asked e at =
-    if nat_lt latest_event at then Some OutOfRange
+    if nat_lt LATEST_EVENT at then Some OutOfRange
     else if nat_lt at (last_change d.events) then Some EventOrder
-    else if nat_lt latest_event (return_at d asked e at) then Some OutOfRange
+    else if nat_lt LATEST_EVENT (return_at d asked e at) then Some OutOfRange
     else None
 
 -- the first of these

@@ -11,14 +11,11 @@ use crate::cases::Case;
 use crate::options::FaultsOptions;
 use crate::stays::{behind_of, hold_of};
 use crate::times::{Times, moment};
-use gptp_network::{Document, DocumentFault};
+use gptp_network::{Document, DocumentFault, LATEST_EVENT};
 use gptp_report::Cut;
 use gptp_setup::LAST_MOMENT;
 use gptp_topology::Cable;
 use std::alloc::Global;
-
-/// The latest time that an event may have, in ns.
-const LATEST_EVENT: u64 = 800_000_000_000_000;
 
 /// How many events a document may have.
 const MOST_EVENTS: u128 = 4096;

@@ -35,7 +35,7 @@ use Rattle.gptp_network.specs.declared.fault.DocumentFault.{DocumentFault}
 use Rattle.gptp_network.specs.declared.fault.DocumentFault.TheVariants as faults
 use Rattle.gptp_network.specs.declared.keys.Name.{Name}
 use Rattle.gptp_network.specs.declared.keys.Name.TheVariants as names
-use Rattle.gptp_network.specs.declared.keys.TheConstants.{ACCURACY, ANNOUNCE, AT, A_PORT, B_PORT, CLASS, DRIFT, LOSS, LOST, MAX, MIN, PDELAY, PHASE, PORT, PORTS, PRIORITY1, PRIORITY2, RESIDENCE, SET_LOSS, SYNC, SYNC_TIMEOUT, THRESHOLD, TIMEOUT, TURNAROUND, VALUE, VARIANCE, VERSION}
+use Rattle.gptp_network.specs.declared.keys.TheConstants.{ACCURACY, ANNOUNCE, AT, A_PORT, B_PORT, CLASS, DRIFT, LOSS, LOST, MAX, MIN, PDELAY, PHASE, PORT, PORTS, PRIORITY1, PRIORITY2, RESIDENCE, SET_LOSS, SYNC, SYNC_TIMEOUT, THRESHOLD, TIMEOUT, TURNAROUND, VALUE, VARIANCE, VERSION, LATEST_EVENT}
 use Rattle.gptp_network.specs.declared.place.Place.{Place}
 use Rattle.gptp_network.specs.declared.place.Place.TheVariants as places
 use Rattle.gptp_network.specs.declared.place.Section.{Section}
@@ -375,7 +375,7 @@ change_is kind t =
 event_is : (t : Members) → forget (read_event t) ≡ event_of t
 unfolding read_event event_of
 event_is t =
-    step (natural_at AT t) (natural (codes "at") 0 800000000000000 None t) _ _ (natural_is AT t) (λ at.
+    step (natural_at AT t) (natural (codes "at") 0 LATEST_EVENT None t) _ _ (natural_is AT t) (λ at.
     step (text_at names.Kind t) (text (codes "kind") t) _ _ (text_is names.Kind t) (λ kind.
     step (read_change kind t) (change_of kind t) _ _ (change_is kind t) (λ change. refl)))
 

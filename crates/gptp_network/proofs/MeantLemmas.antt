@@ -27,6 +27,7 @@ use Rattle.gptp_scenario.specs.declared.change.Change.TheVariants as changes
 use Rattle.gptp_scenario.specs.declared.change.Timed.{Timed}
 use Rattle.gptp_scenario.proofs.NetworkLemmas.{link_added, none_yet, system_added}
 use Rattle.gptp_scenario.proofs.OctetLemmas.{each_below}
+use Rattle.gptp_network.specs.declared.keys.TheConstants.{LATEST_EVENT}
 use Rattle.gptp_network.specs.Document.{document_of, whole_network_of, DocumentState, Means}
 use Rattle.gptp_network.specs.Events.{change_fault, change_of, event_of, events_of, fail_of, inject_of, link_down_of, link_set_of, link_up_of, not_before, priority1_of, recover_of, timed, with_event_of, AreEvents, IsInRange}
 use Rattle.gptp_network.specs.Intervals.{intervals}
@@ -293,17 +294,17 @@ change_read kind t =
 
 -- what is read of an event
 record IsRead (e : Event) : Type 0 where
-  early : e.at ≤ 800000000000000
+  early : e.at ≤ LATEST_EVENT
   change : IsReadChange e.change
 
 event_read : (t : Members) → Gives IsRead (event_of t)
 unfolding event_of
 event_read t =
-    next IsRead (natural (codes "at") 0 800000000000000 None t) _ (λ at of_at.
+    next IsRead (natural (codes "at") 0 LATEST_EVENT None t) _ (λ at of_at.
     next IsRead (text (codes "kind") t) _ (λ kind of_kind.
     next IsRead (change_of kind t) _ (λ change of_change.
     given IsRead (record { at = at; change = change }) (record {
-      early = (value_within (codes "at") 0 800000000000000 None t tt at of_at).1;
+      early = (value_within (codes "at") 0 LATEST_EVENT None t tt at of_at).1;
       change = change_read kind t change of_change;
     }))))
 

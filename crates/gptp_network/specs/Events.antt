@@ -13,6 +13,7 @@ use Rattle.gptp_scenario.specs.declared.change.Change.TheVariants as changes
 use Rattle.gptp_scenario.specs.declared.change.Timed.{Timed}
 use Rattle.gptp_scenario.specs.declared.fault.NetworkFault.{NetworkFault}
 use Rattle.gptp_scenario.specs.declared.fault.NetworkFault.TheVariants as networks
+use Rattle.gptp_network.specs.declared.keys.TheConstants.{LATEST_EVENT}
 use Rattle.gptp_network.specs.Faults.{tested}
 use Rattle.gptp_network.specs.Links.{port_numbered}
 use Rattle.gptp_network.specs.Members.{limited, each_of}
@@ -81,7 +82,7 @@ change_of kind t =
 -- the keys of an event: its time, its kind, and those of its kind
 unfoldable pub event_of : Members → Result Event DocumentFault
 event_of t = do
-  at ← natural (codes "at") 0 800000000000000 None t
+  at ← natural (codes "at") 0 LATEST_EVENT None t
   kind ← text (codes "kind") t
   change ← change_of kind t
   Ok (record { at = at; change = change })
@@ -153,7 +154,7 @@ IsPossibleChange n (changes.Inject name port frame) = is_taken n.links (port_num
 
 -- an event of the network
 pub record IsEvent (n : NetworkState) (t : Timed) : Type 0 where
-  pub early : t.at ≤ 800000000000000
+  pub early : t.at ≤ LATEST_EVENT
   pub change : Change
   pub act : t.act ≡ acts.Change change
   pub fits : IsPossibleChange n change

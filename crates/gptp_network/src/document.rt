@@ -118,8 +118,7 @@ impl Document {
         self.network.is_calm(&self.events)
     }
 
-    /// The time by which the network has settled, in ns, if it is calm: at most
-    /// `LAST_MOMENT`.
+    /// The time by which the network has settled, in ns, if it is calm: at most `LAST_MOMENT`.
     #[tactic(auto, using(crate::proofs::EventLemmas::early_from))]
     pub fn settles(&self) -> u64
         ensures time { result ≡ settles self.now.network self.now.events }
@@ -129,8 +128,8 @@ impl Document {
         last_change(&self.events) + self.network.settling_span(&self.events)
     }
 
-    /// The events are in order, at most at 8 * 10^14, and each can be made in the network: what it names is there, and
-    /// the bounds that it sets can be those of a link: its greatest delay is at most the announce interval of each
+    /// The events are in order, at most at `LATEST_EVENT`, and each can be made in the network: what it names is there,
+    /// and the bounds that it sets can be those of a link: its greatest delay is at most the announce interval of each
     /// port. So a world can be asked for each of them.
     pub fn well_formed(&self)
         ensures events { AreEvents self.now.network self.now.events }
@@ -141,7 +140,7 @@ impl Document {
     }
 
     /// Puts an event after the others. Refused by the first test that it fails, as if it were the last of the text:
-    /// 4,096 events are there, it is later than 8 * 10^14, earlier than the last, or what its kind asks isn't so.
+    /// 4,096 events are there, it is later than `LATEST_EVENT`, earlier than the last, or what its kind asks isn't so.
     /// `OutOfMemory` can come after them. A refusal changes nothing.
     pub fn add(&mut self, at: u64, change: Change) -> Result<(), DocumentFault>
         requires { IsInRange change }

@@ -6,6 +6,9 @@ ghost use Rattle.gptp_network.specs.Keys.{name_text};
 
 use gptp_setup::MOST_PORTS;
 
+/// The latest time that an event of a document may have, in ns.
+pub const LATEST_EVENT: u64 = 800_000_000_000_000;
+
 /// The name of a key.
 #[derive(Clone, Copy, Debug)]
 pub enum Name {
@@ -155,7 +158,7 @@ pub(crate) const LOSS: Natural = (Name::Loss, 0, 1000, Some(0));
 
 // ---- `[[event]]`, whose `min` and `max` are those of a link
 
-pub(crate) const AT: Natural = (Name::At, 0, 800_000_000_000_000, None);
+pub(crate) const AT: Natural = (Name::At, 0, LATEST_EVENT, None);
 
 pub(crate) const PORT: Natural = (Name::Port, 1, MOST_PORTS as u64, None);
 

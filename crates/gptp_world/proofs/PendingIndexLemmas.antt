@@ -9,8 +9,6 @@ use Rattle.gptp_links.specs.declared.link.Direction.{Direction}
 use Rattle.gptp_links.specs.declared.link.Direction.TheVariants.{FromA, FromB}
 use Rattle.gptp_queue.specs.Entry.{Entry as QueueEntry}
 use Rattle.gptp_queue.specs.Waiting.{time_at, PlacesDiffer, WaitingState}
-use Rattle.gptp_world.specs.declared.directory.TheConstants.{PORT_SPAN}
-use Rattle.gptp_world.specs.declared.pending_index.TheConstants.{TIMER_KINDS, TIMER_SPAN}
 use Rattle.gptp_setup.specs.declared.limits.TheConstants.{MOST_PORTS}
 use Rattle.gptp_setup.specs.declared.timer.Timer.{Timer}
 use Rattle.gptp_model.specs.declared.item.Item.{Item}
@@ -18,6 +16,8 @@ use Rattle.gptp_model.specs.declared.item.Item.TheVariants.{Expiry, Arrival}
 use Rattle.gptp_model.specs.Item.{same_item, timer_kind, timer_port}
 use Rattle.gptp_model.specs.Pending.{Entry, pending_entry, put, timer_time, times_of_item, without, without_first_entry, IsKnownItem, arrival_place}
 use Rattle.gptp_model.proofs.TimerLemmas.{kind_below}
+use Rattle.gptp_world.specs.declared.directory.TheConstants.{PORT_SPAN}
+use Rattle.gptp_world.specs.declared.pending_index.TheConstants.{TIMER_KINDS, TIMER_SPAN}
 use Rattle.gptp_world.specs.Chain.{rest_of}
 use Rattle.gptp_world.specs.PendingIndex.{PendingIndexState, queue_at, filed_with_queue, PlacedItem, placed, item_at, placed_items, plain_items, without_placed, items_like, place_of, IsVacant, timer_place, IsPlaced, AreFree, HasSpare, MakesFree, PendingIsIndexed, PutsBack}
 use Rattle.gptp_world.proofs.PlacedLemmas.{map-push, all-placed, placed-more, ArePlacedApart}
@@ -55,7 +55,8 @@ same_place p k q p' k' q' h h' i i' =
     let e : (p' * TIMER_KINDS + k') * PORT_SPAN + q' ≡ (p * TIMER_KINDS + k) * PORT_SPAN + q = omega arith in
     grind (arith, nat_tests))
     (λ t.
-    let e : (p' * TIMER_KINDS + k') * PORT_SPAN + q' ≡ (p * TIMER_KINDS + k) * PORT_SPAN + q = grind (arith, nat_tests) in
+    let e : (p' * TIMER_KINDS + k') * PORT_SPAN + q' ≡ (p * TIMER_KINDS + k) * PORT_SPAN + q =
+    grind (arith, nat_tests) in
     let s = parts p k q p' k' q' h h' i i' e in
     let a : p ≡ p' = s.0 in let b : k ≡ k' = s.1.0 in let d : q ≡ q' = s.1.1 in grind (arith, nat_tests))
 

@@ -1,12 +1,12 @@
 -- What the code keeps of who is where in a world: contracts of private functions alone cite this.
 use Rattle.std.specs.Prelude.{◌≡◌, ◌≢◌, ℕ, ◌+◌, ◌*◌, ◌<◌, ◌≤◌, List, map, length, Contains, Option, Some, None, slice_get, slice_index_or, slice_set}
 use Rattle.std.specs.List.Sorted.{IsPermutation, IsNonDecreasing}
-use Rattle.gptp_world.specs.declared.directory.TheConstants.{PORT_SPAN}
 use Rattle.gptp_setup.specs.declared.limits.TheConstants.{MOST_PORTS}
 use Rattle.gptp_vector.specs.declared.port.PortId.{PortId}
 use Rattle.gptp_links.specs.declared.link.Direction.{Direction}
 use Rattle.gptp_links.specs.declared.link.Direction.TheVariants.{FromA, FromB}
 use Rattle.gptp_roles.specs.Selection.{clock_of}
+use Rattle.gptp_world.specs.declared.directory.TheConstants.{PORT_SPAN}
 use Rattle.gptp_world.specs.declared.joined_link.Lane.{Lane}
 use Rattle.gptp_world.specs.declared.directory.Ends.{Ends}
 pub use Rattle.gptp_world.specs.declared.directory.Join.{Join}

@@ -10,9 +10,9 @@ use Rattle.gptp_model.specs.Item.{same_item, timer_kind, timer_port}
 use Rattle.gptp_model.specs.Pending.{Entry, pending_entry, IsKnownItem, arrival_place}
 use Rattle.gptp_queue.specs.Entry.{Entry as QueueEntry}
 use Rattle.gptp_queue.specs.Waiting.{WaitingState}
+use Rattle.gptp_setup.specs.declared.timer.Timer.{Timer}
 use Rattle.gptp_world.specs.declared.directory.TheConstants.{PORT_SPAN}
 use Rattle.gptp_world.specs.declared.pending_index.TheConstants.{TIMER_KINDS, TIMER_SPAN}
-use Rattle.gptp_setup.specs.declared.timer.Timer.{Timer}
 
 -- the numbers that are listed for each direction of a link, and how many more can be put
 pub record PendingIndexState : Type 0 where
