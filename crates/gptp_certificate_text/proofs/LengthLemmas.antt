@@ -15,6 +15,7 @@ use Rattle.gptp_graph.specs.Parent.{ParentLink}
 use Rattle.gptp_graph.specs.SettledRole.{Role, Disabled, Master, Slave, Passive}
 use Rattle.gptp_lists.specs.Members.{In}
 use Rattle.gptp_words.specs.Digits.{clock_text, identity_text}
+use Rattle.gptp_certificate_text.specs.declared.certificate.TheConstants.{CERTIFICATE_LIMIT}
 use Rattle.gptp_certificate_text.specs.CertificateText.{certificate_text, end_text, entry_text, far_words, head_text, parent_words, port_words, system_words}
 use Rattle.gptp_certificate_text.specs.Entries.{LineKey, SystemEntry, PortEntry, IsReadable, IsReadableEntry, IsReadableParent, entries_of}
 use Rattle.gptp_certificate_text.specs.Forms.{far_text, parent_text, port_text, role_word, system_text}
@@ -132,7 +133,7 @@ entries_count (line ∷ rest) few =
 -- a certificate of 512 systems with the most ports is within the size that is read
 pub certificate_length : (version : ℕ) (lines : List SystemLine) → version ≤ 65535 → IsReadable version lines
     → length lines ≤ 512 → ((line : SystemLine) → In line lines → length line.ports ≤ MOST_PORTS)
-    → length (certificate_text version lines) ≤ 1048576
+    → length (certificate_text version lines) ≤ CERTIFICATE_LIMIT
 certificate_length version lines small readable systems ports =
     let count = entries_count lines ports in
     let body = entries_length version (entries_of lines) readable in

@@ -16,6 +16,7 @@ use Rattle.gptp_graph.proofs.DistanceLemmas.{IsDistance-bounded}
 use Rattle.gptp_graph.proofs.LinkLemmas.{Joins-sym}
 use Rattle.gptp_graph.proofs.StatementLemmas.{line_clock}
 use Rattle.gptp_network.specs.Snapshot.{IsWithinLimits}
+use Rattle.gptp_certificate_text.specs.declared.certificate.TheConstants.{CERTIFICATE_LIMIT}
 use Rattle.gptp_certificate_text.specs.Certificate.{IsVersion}
 use Rattle.gptp_certificate_text.specs.CertificateText.{certificate_text}
 use Rattle.gptp_certificate_text.specs.Entries.{LineKey, PortEntry, IsPortNumber, IsReadable, IsReadableChoice, IsReadableEntry, IsReadableParent, entries_of}
@@ -133,7 +134,7 @@ module _ (version : ℕ) (g : Snapshot) (lines : List SystemLine) (is_version : 
   small_version (inr e) = omega (arith, e)
 
   -- and its text is within the size that is read
-  pub accepted_length : length (certificate_text version lines) ≤ 1048576
+  pub accepted_length : length (certificate_text version lines) ≤ CERTIFICATE_LIMIT
   accepted_length =
       let fits = pigeonhole (line_clocks lines) (clocks g) is.choice.systems.different
       (λ v k. let (line, member, same) = from_map (λ (l : SystemLine). l.clock) v lines k in
