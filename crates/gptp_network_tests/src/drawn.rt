@@ -22,6 +22,7 @@ use gptp_links::Fate;
 use gptp_messages::{Message, decode};
 use gptp_roles::Role;
 use gptp_scaled::ScaledNs;
+use gptp_setup::MOST_PORTS;
 use gptp_system::{Answer, System};
 use gptp_theorem::{runs_are_exact, worlds_are_exact};
 use gptp_vector::{ClockId, Identity, PortId, Trace};
@@ -72,7 +73,7 @@ fn identity(clock: u8) -> Identity
 }
 
 /// The interval of the one port of a system.
-fn intervals() -> ArrayVec<i8, 16>
+fn intervals() -> ArrayVec<i8, MOST_PORTS>
     ensures { result ≡ each_second }
 {
     let mut intervals = ArrayVec::new();

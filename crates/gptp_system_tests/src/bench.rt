@@ -9,6 +9,7 @@ use crate::same::same_at;
 use arrayvec::ArrayVec;
 use gptp_messages::{FollowUp, Message, PdelayResp, PdelayRespFollowUp, encode, encode_announce};
 use gptp_samples::identity;
+use gptp_setup::MOST_PORTS;
 use gptp_system::{Answer, Body, Outbox, Params, Sending, Setup, System, Timer};
 use std::alloc::{AllocError, Global};
 use std::process::Abort;
@@ -71,8 +72,8 @@ impl Kind {
 }
 
 /// The default announce interval for each of so many ports.
-fn alike(ports: u8) -> ArrayVec<i8, 16>
-    requires { ports ≤ 16 }
+fn alike(ports: u8) -> ArrayVec<i8, MOST_PORTS>
+    requires { ports ≤ MOST_PORTS }
     ensures many { length result.items ≡ ports }
     ensures each { AllByRecursion (IsLogUpTo (pos 0)) result.items }
 {
@@ -85,7 +86,7 @@ fn alike(ports: u8) -> ArrayVec<i8, 16>
 
 /// A system that starts at 0, of a clock with all defaults but these.
 pub fn started(clock: u64, ports: u8, phase: u64, lost: u8) -> Result<System, Fail> {
-    if ports > 16 || phase > 1_000_000_000 || lost == 0 {
+    if usize::from(ports) > MOST_PORTS || phase > 1_000_000_000 || lost == 0 {
         return Err(Fail::from("no such system"));
     }
     let setup = Setup {
