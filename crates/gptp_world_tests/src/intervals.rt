@@ -1,6 +1,5 @@
 //! Networks whose ports announce at intervals of their own.
 
-
 use crate::far::{identity, port};
 use crate::same::{same, same_at};
 use arrayvec::ArrayVec;
