@@ -1,7 +1,8 @@
 //! What two systems show once they have settled, as functions whose contracts follow from those of their world's calls:
 //! from what these say of every world that has been calm for long enough. Times are in ns.
 
-ghost use Rattle.std.specs.Prelude.{◌≡◌, ◌≢◌, ◌≤◌, ◌∷◌, [], true, IfOk, IfSome, None, OnOk, Some, pos};
+ghost use Rattle.std.specs.Prelude.{◌≡◌, ◌≢◌, ◌∷◌, [], true, IfOk, IfSome, None, OnOk, Some, pos};
+ghost use Rattle.gptp_setup.specs.Intervals.{IsMoment};
 ghost use Rattle.gptp_model.specs.Views.{ShowsLive};
 ghost use Rattle.gptp_model.specs.World.{port_id};
 ghost use Rattle.gptp_invariants.specs.WorldShown.{IsCapableInTime};
@@ -118,7 +119,7 @@ pub(crate) fn begun<F: Fate + Drop>(alloc: Global, fate: F) -> Result<World<F>, 
 #[tactic(auto, using(crate::proofs::PairLemmas::comes_to))]
 fn go_on<F: Fate + Drop>(world: &mut World<F>, time: u64) -> Result<(), NetworkFault>
     requires begun { HasBegun F.answers world.old.fate world.old.world_core }
-    requires moment { time ≤ 1000000000000000 }
+    requires moment { IsMoment time }
     ensures { OnOk result (IsPairAt time world.new.world_core) }
 {
     match world.advance(time) {
@@ -136,7 +137,7 @@ pub(crate) fn pair_at<F: Fate + Drop>(
     fate: F,
     time: u64,
 ) -> Result<World<F>, NetworkFault>
-    requires moment { time ≤ 1000000000000000 }
+    requires moment { IsMoment time }
     ensures { IfOk result (λ world. IsPairAt time world.world_core) }
 {
     let mut world = begun(alloc, fate)?;
