@@ -58,7 +58,7 @@ pub(crate) fn line(alloc: Global, systems: u16) -> Result<Network, NetworkFault>
 
 /// What a line states of a system: whether it is far, whether it has a parent, and how many ports.
 #[derive(Clone, Copy, Debug, PartialEq, Eq)]
-pub(crate) struct Stated {
+struct Stated {
     clock: ClockId,
     root: Identity,
     steps: u16,
@@ -67,7 +67,7 @@ pub(crate) struct Stated {
     ports: usize,
 }
 
-pub(crate) fn told(line: Option<&SystemLine>) -> Option<Stated> {
+fn told(line: Option<&SystemLine>) -> Option<Stated> {
     let line = line?;
     Some(Stated {
         clock: line.clock,
@@ -80,7 +80,7 @@ pub(crate) fn told(line: Option<&SystemLine>) -> Option<Stated> {
 }
 
 /// What is stated of a system that follows the first over so many steps.
-pub(crate) fn near(number: u16, steps: u16) -> Option<Stated> {
+fn near(number: u16, steps: u16) -> Option<Stated> {
     Some(Stated {
         clock: clock(number),
         root: identity(1),
@@ -92,7 +92,7 @@ pub(crate) fn near(number: u16, steps: u16) -> Option<Stated> {
 }
 
 /// What is stated of a system that is too far to follow the first.
-pub(crate) fn too_far(number: u16, steps: u16) -> Option<Stated> {
+fn too_far(number: u16, steps: u16) -> Option<Stated> {
     Some(Stated {
         clock: clock(number),
         root: identity(1),

@@ -1,4 +1,4 @@
-//! Worked rows of worlds, as an outside caller sees them, and that a refused allocation leaves things as they were.
+//! Worked rows of worlds, as an outside caller sees them.
 //!
 //! What they expect was written down before the code.
 #![tactic(auto)]
@@ -9,8 +9,6 @@ mod far;
 mod injections;
 #[cfg(test)]
 mod intervals;
-#[cfg(test)]
-mod refused;
 #[cfg(test)]
 mod same;
 #[cfg(test)]

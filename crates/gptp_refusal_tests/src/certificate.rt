@@ -1,7 +1,6 @@
 //! What becomes of a snapshot, a certificate and its text where memory is refused.
 
-use crate::far::{near, told, too_far};
-use crate::same::{same, same_at};
+use crate::same::same;
 use gptp_certificate::{Certificate, parse, print, print_line, write_certificate};
 use gptp_links::PcgFate;
 use gptp_network::{Document, Snapshot};
@@ -55,6 +54,16 @@ const AT_FIRST: &str = "gptp-certificate 2
 system 0000000000000001 root f6f8fe436af80000000000000001 steps 0 parent none
 port 0000000000000001 1 disabled
 system 0000000000000002 far 255 root f6f8fe436af80000000000000001
+end
+";
+
+/// What is stated of the three at first: the second and the third are far beside a better root.
+const LINE_AT_FIRST: &str = "gptp-certificate 2
+system 0000000000000001 root f6f8fe436af80000000000000001 steps 0 parent none
+port 0000000000000001 1 disabled
+port 0000000000000001 2 disabled
+system 0000000000000002 far 255 root f6f8fe436af80000000000000001
+system 0000000000000003 far 256 root f6f8fe436af80000000000000001
 end
 ";
 
@@ -180,10 +189,9 @@ fn a_refused_allocation_leaves_the_marks_of_far_systems(rt: HostRuntime) -> Resu
     let document = read(&rt, LINE)?;
     let world = begin(&rt, &document)?;
     let certificate = certify(&rt, &world)?;
-    same(&rt, (certificate.version(), certificate.len()), (2, 3));
-    for (place, wanted) in [(0, near(1, 0)), (1, too_far(2, 255)), (2, too_far(3, 256))] {
-        same_at(&rt, &place, told(certificate.line(place)), wanted);
-    }
+    let (text, stood) = spell(&rt, &certificate)?;
+    same(&rt, stood, 0);
+    same(&rt, text.as_slice(), LINE_AT_FIRST.as_bytes());
     Ok(())
 }
 

@@ -4,8 +4,8 @@ ghost use Rattle.std.specs.Prelude.{◌≤◌};
 ghost use Rattle.gptp_model.specs.Prompt.{DelaysFitIntervals};
 ghost use Rattle.gptp_scenario.specs.Allowed.{IsFitAct};
 
-use crate::intervals::intervals;
 use crate::same::same;
+use arrayvec::ArrayVec;
 use gptp_links::{Direction, PcgFate};
 use gptp_samples::{identity, port};
 use gptp_vector::{ClockId, Identity};
@@ -27,14 +27,21 @@ const PARAMS: Params = Params {
     sync_timeout: 0,
 };
 
+/// The interval of a system's only port.
+fn interval() -> ArrayVec<i8, 16> {
+    let mut intervals = ArrayVec::new();
+    let _ = intervals.try_push(PARAMS.announce);
+    intervals
+}
+
 /// When the second system follows the first.
 const SETTLED: u64 = 10_000_000_000;
 
 /// Two systems, whose first ports a link joins; each frame takes 500 ns.
 fn two(alloc: Global) -> Result<Network, NetworkFault> {
     let mut network = Network::new(alloc, PARAMS)?;
-    network.add_system(identity(246, 1), 1, 0, 0, false, intervals(&[0]))?;
-    network.add_system(identity(246, 2), 1, 0, 0, false, intervals(&[0]))?;
+    network.add_system(identity(246, 1), 1, 0, 0, false, interval())?;
+    network.add_system(identity(246, 2), 1, 0, 0, false, interval())?;
     network.add_link(port(1, 1), port(2, 1), 500, 500, 0, true)?;
     Ok(network)
 }
