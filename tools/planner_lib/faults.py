@@ -11,13 +11,15 @@ from . import jobs
 from .refusal import Refused
 from .texts import Line, read_line
 
-_WORDS = ("choice", "holdover", "error", "without", "roots", "alone", "cut", "astray")
+_WORDS = ("choice", "holdover", "error", "without", "roots", "alone")
+_CUT = ("cut", "astray")
 _TIMES = ("time", "apart", "step", "first")
 _BOUNDS = ("bound", "roles_bound")
 # what a verdict may name, in the order in which it looks
-VERDICTS = (*_WORDS, "bound", *_TIMES)
-# what cases are sorted by
+VERDICTS = (*_WORDS, *_CUT, "bound", *_TIMES)
+# what cases are sorted by, and what they are where nothing is said of who is cut off
 _ORDER = ("astray", "holdover", "choice", "cut")
+_ORDER_WITHOUT_CUT = ("without", "roots", "holdover", "choice", "alone")
 _KINDS = ("case link", "case system", "case power")
 _MILLISECOND = 10**6  # ns
 
@@ -52,8 +54,11 @@ class Case:
 
     def rank(self) -> tuple[Any, ...]:
         """What cases are sorted by: the worst first, of equals by number. Waits count in whole ms."""
-        greatest = {word: max(size(self.down, word), size(self.back, word)) for word in _ORDER}
-        greatest["holdover"] //= _MILLISECOND
+        has_cut = "cut" in self.down.fields
+        greatest = {word: max(size(self.down, word), size(self.back, word))
+                    for word in (_ORDER if has_cut else _ORDER_WITHOUT_CUT)}
+        if has_cut:
+            greatest["holdover"] //= _MILLISECOND
         return (*(-value for value in greatest.values()), self.number)
 
 
@@ -134,10 +139,14 @@ def merge(parts: Sequence[tuple[str, Faults]], counts: range) -> Faults:
         raise Refused("case 0 is missing")
     if len(heads) != 1:
         raise Refused("the parts differ in moments, seeds or where they begin: " + "; ".join(sorted(heads)))
+    with_cut = {"cut" in part.worst.fields for _, part in parts}
+    if len(with_cut) != 1:
+        raise Refused("some of the parts say who is cut off, some don't: they are of several programs")
     cases = tuple(sorted((case for _, part in parts for case in part.cases), key=Case.rank))
     _whole(sorted(case.number for case in cases), parts, counts)
     head = _line("cases", f"cases {len(cases)} {heads.pop()}")
-    worst = _worst("worst", [part.worst for _, part in parts], _WORDS, _BOUNDS)
+    words = (*_WORDS, *_CUT) if with_cut.pop() else _WORDS
+    worst = _worst("worst", [part.worst for _, part in parts], words, _BOUNDS)
     times = [part.worst_times for _, part in parts if part.worst_times]
     return Faults(head, cases, worst, _verdict([part for _, part in parts]),
                   _worst("worst_times", times, _TIMES) if len(times) == len(parts) else None)

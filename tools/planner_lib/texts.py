@@ -14,7 +14,7 @@ Value = str | int | Decimal | bool | None | list[str]
 
 _COUNTS = "without WITHOUT roots ROOTS alone ALONE"
 _BOUNDS = "bound BOUND ROLES_BOUND"
-_CUT = "cut CUT astray ASTRAY"
+_CUT = "[ cut CUT astray ASTRAY]"
 _MEASURES = f"holdover HOLDOVER HOLDOVER_CLOCK error ERROR ERROR_CLOCK {_COUNTS}"
 _LINK = "A_CLOCK A_PORT B_CLOCK B_PORT"
 _SHOWN = "root ROOT_ID steps STEPS gm GM slave SLAVE offset OFFSET"
@@ -62,12 +62,12 @@ _TEMPLATES = (
     ("case link", f"case CASE link {_LINK}"),
     ("case system", "case CASE system CLOCK"),
     ("case power", "case CASE power CLOCK"),
-    ("down", f"down choice CHOICE {_MEASURES} {_CUT} {_BOUNDS}"),
-    ("back", f"back choice CHOICE {_MEASURES} {_CUT} {_BOUNDS}"),
+    ("down", f"down choice CHOICE {_MEASURES}{_CUT} {_BOUNDS}"),
+    ("back", f"back choice CHOICE {_MEASURES}{_CUT} {_BOUNDS}"),
     ("down_times", f"down_times {_TIMES}"),
     ("back_times", f"back_times {_TIMES}"),
     ("follow", "follow ROOT_ID SYSTEMS"),
-    ("worst", f"worst choice CHOICE holdover HOLDOVER error ERROR {_COUNTS} {_CUT} {_BOUNDS}"),
+    ("worst", f"worst choice CHOICE holdover HOLDOVER error ERROR {_COUNTS}{_CUT} {_BOUNDS}"),
     ("worst_times", "worst_times time TIME apart APART step STEP first FIRST"),
     # lint
     ("unknown", "unknown PLACE key KEY[ near NEAR]"),
