@@ -202,8 +202,8 @@ def _document(arguments: Arguments, plan: Plan, has_default: bool = False) -> No
     if has_default:
         plan, settings = plans.with_default_delay(plan, settings)
     _write(arguments, plans.document(plan, settings, f"Made by {CALL} network {arguments.name}").text())
-    if plan.told:
-        print(f"{NAME}: {plan.told}", file=sys.stderr)
+    for line in plan.told.splitlines():
+        print(f"{NAME}: {line}", file=sys.stderr)
 
 
 def _names(arguments: Arguments) -> None:

@@ -109,7 +109,7 @@ def with_default_delay(plan: Plan, settings: Settings) -> tuple[Plan, Settings]:
     if settings.delay or not count:
         return plan, settings
     told = f"{links_in_words(count)} without a delay: {DEFAULT_DELAY[0]}-{DEFAULT_DELAY[1]} ns taken (--delay)"
-    return replace(plan, told="; ".join(filter(None, [plan.told, told]))), replace(settings, delay=DEFAULT_DELAY)
+    return replace(plan, told="\n".join(filter(None, [plan.told, told]))), replace(settings, delay=DEFAULT_DELAY)
 
 
 def document(plan: Plan, settings: Settings, comment: str) -> Document:
