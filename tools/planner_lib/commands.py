@@ -173,34 +173,37 @@ def _capture(arguments: Arguments) -> None:
 def _shape(arguments: Arguments) -> None:
     """Makes a document of a plain shape."""
     nodes, cables = arguments.shape(*(getattr(arguments, name) for name in arguments.sizes))
-    _document(arguments, Plan(nodes, cables), plans.DEFAULT_DELAY)
+    arguments.delay = arguments.delay or plans.DEFAULT_DELAY
+    _document(arguments, Plan(nodes, cables))
 
 
 def _csv(arguments: Arguments) -> None:
     """Makes a document of tables."""
-    _document(arguments, tables.read(arguments.links, arguments.systems, arguments.events, arguments.jitter), None)
+    _document(arguments, tables.read(arguments.links, arguments.systems, arguments.events, arguments.jitter))
 
 
 def _graphml(arguments: Arguments) -> None:
     """Makes a document of a graph."""
-    _document(arguments, graphml.read(arguments.file, arguments.jitter), plans.DEFAULT_DELAY)
+    _document(arguments, graphml.read(arguments.file, arguments.jitter), has_default=True)
 
 
 def _lldp(arguments: Arguments) -> None:
     """Makes a document of what devices say of their neighbours."""
-    _document(arguments, lldp.read(arguments.files), plans.DEFAULT_DELAY)
+    _document(arguments, lldp.read(arguments.files), has_default=True)
 
 
-def _document(arguments: Arguments, plan: Plan, delay: tuple[int, int] | None) -> None:
-    """Writes the document of a network; the delay is that of links where none is given."""
+def _document(arguments: Arguments, plan: Plan, has_default: bool = False) -> None:
+    """Writes the document of a network; links without a delay get the default one where there is one, which is told."""
     given: dict[str, dict[str, int]] = {section: {} for section in RANGES}
     for section, key, value in arguments.set:
         given[section][key] = value
-    settings = plans.Settings(arguments.delay or delay, given["network"], given["system"], given["link"],
-                              arguments.boot, arguments.draw)
+    settings = plans.Settings(arguments.delay, given["network"], given["system"], given["link"], arguments.boot,
+                              arguments.draw)
+    if has_default:
+        plan, settings = plans.with_default_delay(plan, settings)
     _write(arguments, plans.document(plan, settings, f"Made by {CALL} network {arguments.name}").text())
-    if plan.told:
-        print(f"{NAME}: {plan.told}", file=sys.stderr)
+    for line in plan.told.splitlines():
+        print(f"{NAME}: {line}", file=sys.stderr)
 
 
 def _names(arguments: Arguments) -> None:
@@ -358,7 +361,8 @@ def _add_networks(commands: _Command) -> None:
         made.append(parser)
     made += [_add_csv(commands), _add_file(commands), _add_lldp(commands)]
     for parser in made:
-        parser.add_argument("--delay", type=delay, metavar="MIN-MAX", help="of links without a delay of their own")
+        parser.add_argument("--delay", type=delay, metavar="MIN-MAX",
+                            help="of links without a delay of their own; by default, but for csv, 100-110 ns")
         parser.add_argument("--boot", type=time(1, 10**12), metavar="TIME",
                             help="let systems without a start boot within it, each at a time of its own")
         parser.add_argument("--draw", type=whole(0, 2**32 - 1), default=0, metavar="N", help="with --boot: the pattern")

@@ -192,7 +192,7 @@ class _Judge:
 
     def _cut(self) -> Verdict:
         """How many systems a fault cuts off at most."""
-        cuts = ((case.down["cut"], self._fault(case)) for case in self._cases())
+        cuts = ((int(case.down["cut"]), self._fault(case)) for case in self._cases())
         count, where = max([(0, "always"), *cuts], key=lambda it: it[0])
         return Verdict("cut", count <= self._asked["cut"], str(count), str(self._asked["cut"]), where)
 
@@ -229,7 +229,7 @@ class _Judge:
         within = self._exact[-1].kind == "within"
         systems = [line for line in self._exact if line.kind in ("system bound", "system bound far")]
         unknown = next((line for line in systems if line["always"] is None), None)
-        worst = unknown or (max(systems, key=lambda line: line["always"]) if systems else None)
+        worst = unknown or (max(systems, key=lambda line: Decimal(line["always"])) if systems else None)
         got = "none" if worst is None or worst["always"] is None else in_units(worst["always"])
         return Verdict("accuracy", within, got, in_units(self._asked["accuracy"]), "always",
                        self._name(worst["clock"]) if worst else "")

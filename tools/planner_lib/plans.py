@@ -98,6 +98,20 @@ def in_range(section: str, key: str, value: int, name: str = "") -> int:
     return value
 
 
+def links_in_words(count: int) -> str:
+    """So many links, in words."""
+    return "1 link" if count == 1 else f"{count} links"
+
+
+def with_default_delay(plan: Plan, settings: Settings) -> tuple[Plan, Settings]:
+    """The same, in which links that have no delay, nor get one by the settings, have the default one; this is told."""
+    count = sum(not {"min", "max"} <= (settings.link | cable.keys).keys() for cable in plan.cables)
+    if settings.delay or not count:
+        return plan, settings
+    told = f"{links_in_words(count)} without a delay: {DEFAULT_DELAY[0]}-{DEFAULT_DELAY[1]} ns taken (--delay)"
+    return replace(plan, told="\n".join(filter(None, [plan.told, told]))), replace(settings, delay=DEFAULT_DELAY)
+
+
 def document(plan: Plan, settings: Settings, comment: str) -> Document:
     """The document of a network. Systems that only cables name come after the others, in order of first appearance."""
     _distinct(plan.nodes)

@@ -10,7 +10,7 @@ from typing import Callable, Iterator, Mapping, TypeVar
 
 from .documents import LAST_EVENT, RANGES, TIMES, read_text
 from .happenings import CELLS, KINDS, Happening
-from .plans import DEFAULT_JITTER, Cable, Node, Plan, clock_of, in_range
+from .plans import DEFAULT_JITTER, Cable, Node, Plan, clock_of, in_range, links_in_words
 from .quantities import in_units, nanoseconds
 from .refusal import Refused, told_at
 
@@ -40,8 +40,7 @@ def read(links: str, systems: str | None, events: str | None, jitter: int | None
 def told_of_jitter(cables: list[Cable]) -> str:
     """What is said of links whose jitter isn't given; empty where there is none."""
     count = sum(cable.assumed for cable in cables)
-    links = "1 link" if count == 1 else f"{count} links"
-    return f"{links} without jitter: {DEFAULT_JITTER} ns taken (--jitter)" if count else ""
+    return f"{links_in_words(count)} without jitter: {DEFAULT_JITTER} ns taken (--jitter)" if count else ""
 
 
 def cable(row: Row, where: str = "", jitter: int | None = None) -> Cable:
