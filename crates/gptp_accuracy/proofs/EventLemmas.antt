@@ -1,5 +1,6 @@
 -- The events up to a time: each is one of all, and the last change is no later than events may be.
-use Rattle.std.proofs.Common.{◌≤◌, ℕ, zero, suc, List, [], ◌∷◌, nat_le, refl, arith}
+use Rattle.std.proofs.Common.{ℕ, zero, suc, List, [], ◌∷◌, nat_le, refl, arith}
+use Rattle.gptp_setup.specs.Intervals.{IsMoment}
 use Rattle.gptp_lists.proofs.SystemSpecLemmas.{In-slice_get, slice_get-In}
 use Rattle.gptp_scenario.specs.Allowed.{AreAllowed}
 use Rattle.gptp_scenario.specs.Calm.{last_change}
@@ -15,7 +16,7 @@ allowed_by until events allowed place t there =
     let (other, stands) = slice_get-In t events early.0 in
     allowed other t stands
 
-pub last_change_early : (events : List Timed) → AreAllowed events → last_change events ≤ 1000000000000000
+pub last_change_early : (events : List Timed) → AreAllowed events → IsMoment (last_change events)
 last_change_early [] allowed = omega arith
 last_change_early (t ∷ []) allowed = omega (arith, (allowed zero t refl).moment)
 last_change_early (t ∷ (u ∷ us)) allowed =

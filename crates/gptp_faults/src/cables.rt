@@ -7,6 +7,7 @@ ghost use Rattle.gptp_faults.specs.Cables.{HasBounds, acted_cable, bounds_at, ca
 use gptp_links::Bounds;
 use gptp_network::Document;
 use gptp_scenario::{Act, Change, Timed};
+use gptp_setup::MOST_PORTS;
 use gptp_topology::Cable;
 use gptp_vector::{ClockId, PortId};
 use std::alloc::{AllocError, Global};
@@ -140,7 +141,7 @@ pub(crate) fn up_ports(
     ensures { IfOk result (λ ports. ports.items ≡ up_ports cables.now clock) }
 {
     let mut ports = Vec::new(alloc);
-    for number in 0..16u16 {
+    for number in 0..MOST_PORTS as u16 {
         let port = PortId {
             clock,
             port: number + 1,

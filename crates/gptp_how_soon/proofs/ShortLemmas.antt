@@ -26,6 +26,7 @@ use Rattle.gptp_scenario.proofs.InUseLemmas.{short_delay}
 use Rattle.gptp_scenario.proofs.LogLemmas.{largest_log, smallest_log}
 use Rattle.gptp_scenario.proofs.SpanLemmas.{few_spans, few_steps}
 use Rattle.gptp_scenario.proofs.SyncWaitLemmas.{short_time}
+use Rattle.gptp_network.specs.declared.keys.TheConstants.{LATEST_EVENT}
 use Rattle.gptp_setup.specs.Intervals.{interval_of}
 use Rattle.gptp_setup.specs.SettlingParams.{largest_interval, longest_span}
 use Rattle.gptp_setup.proofs.IntervalLemmas.{interval_most}
@@ -209,7 +210,7 @@ module _ (d : DocumentState) (network : IsNetwork d.network) (events : AreEvents
       (there_then before at t is (In-slice_get t (all_then before at) place there)).0 in
       allowed other t stands
 
-  shortly_at : (before : Option SettlingTime) (at : ℕ) → IsBefore at before → at ≤ 800000000000000
+  shortly_at : (before : Option SettlingTime) (at : ℕ) → IsBefore at before → at ≤ LATEST_EVENT
       → IsWatchedShortly (time_at d before at)
   shortly_at before at is early =
       let n = d.network in
@@ -232,7 +233,7 @@ module _ (d : DocumentState) (network : IsNetwork d.network) (events : AreEvents
       record { span = most; until = omega (arith, most, early) }
 
   all_shortly : (before : Option SettlingTime) (last : ℕ) (ats : List ℕ) → IsBefore last before → InTurn last ats
-      → AllByRecursion (λ at. at ≤ 800000000000000) ats
+      → AllByRecursion (λ at. at ≤ LATEST_EVENT) ats
       → AllByRecursion IsWatchedShortly (settling_times_from d before ats)
   all_shortly before last [] is turn early = tt
   all_shortly before last (at ∷ ats) is turn early = (
@@ -240,14 +241,14 @@ module _ (d : DocumentState) (network : IsNetwork d.network) (events : AreEvents
     all_shortly (Some (time_at d before at)) at ats (omega arith) turn.1 early.1,
   )
 
-either_early : (test : Bool) (xs ys : List ℕ) → AllByRecursion (λ time. time ≤ 800000000000000) xs
-    → AllByRecursion (λ time. time ≤ 800000000000000) ys
-    → AllByRecursion (λ time. time ≤ 800000000000000) (if test then xs else ys)
+either_early : (test : Bool) (xs ys : List ℕ) → AllByRecursion (λ time. time ≤ LATEST_EVENT) xs
+    → AllByRecursion (λ time. time ≤ LATEST_EVENT) ys
+    → AllByRecursion (λ time. time ≤ LATEST_EVENT) (if test then xs else ys)
 either_early true xs ys a b = a
 either_early false xs ys a b = b
 
-early_from : (n : NetworkState) (at : ℕ) (ts : List Timed) → at ≤ 800000000000000 → AllByRecursion (IsEvent n) ts
-    → AllByRecursion (λ time. time ≤ 800000000000000) (times_from at ts)
+early_from : (n : NetworkState) (at : ℕ) (ts : List Timed) → at ≤ LATEST_EVENT → AllByRecursion (IsEvent n) ts
+    → AllByRecursion (λ time. time ≤ LATEST_EVENT) (times_from at ts)
 early_from n at [] early each = (early, tt)
 early_from n at (t ∷ ts) early each =
     either_early (t.at == at) (times_from at ts) (at ∷ times_from t.at ts) (early_from n at ts early each.1)

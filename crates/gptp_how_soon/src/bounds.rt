@@ -2,6 +2,7 @@
 
 ghost use Rattle.std.specs.Prelude.{◌≡◌, ◌≤◌, ◌+◌, IfSome};
 ghost use Rattle.std.specs.List.{list_any};
+ghost use Rattle.gptp_network.specs.declared.keys.TheConstants.{LATEST_EVENT};
 ghost use Rattle.gptp_scenario.specs.Network.{pace_of};
 ghost use Rattle.gptp_scenario.specs.SettlingAtOnce.{settling_span_at_once};
 ghost use Rattle.gptp_how_soon.specs.Bounds.{asked_again, choice_by, exact_from, exact_span, heard_by, is_again, is_hard_to_hear, ready, rest_by, set_span, settled, settling_by, times_by, two_exchanges, watch, way_span};
@@ -201,7 +202,7 @@ fn settled(
 ) -> Settling
     requires few { paths.systems ≤ 512 }
     requires short { paths.delay ≤ 16000000000 }
-    requires early { at ≤ 800000000000000 }
+    requires early { at ≤ LATEST_EVENT }
     requires set { last_set ≤ at }
     requires choice { choice ≤ 195000000000000 }
     ensures is { result ≡ settled network.now at last_set paths sets choice }
@@ -249,7 +250,7 @@ pub(crate) fn times_by(
 ) -> SettlingTime
     requires few { paths.systems ≤ 512 }
     requires short { paths.delay ≤ 16000000000 }
-    requires early { at ≤ 800000000000000 }
+    requires early { at ≤ LATEST_EVENT }
     requires set { last_set ≤ at }
     requires gained { gained ≤ 195000000000000 }
     ensures is { result ≡ times_by network.now at last_set paths calm sets row gained }

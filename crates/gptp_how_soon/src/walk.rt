@@ -1,6 +1,7 @@
 //! How a document stands at each time, as its events come.
 
 ghost use Rattle.std.specs.Prelude.{◌≡◌, ◌≤◌, IfOk, OnOk, length, map};
+ghost use Rattle.gptp_network.specs.declared.keys.TheConstants.{LATEST_EVENT};
 ghost use Rattle.gptp_scenario.specs.Network.{NetworkState};
 ghost use Rattle.gptp_topology.specs.Tables.{AreMarked, cables_of, greatest_used};
 ghost use Rattle.gptp_how_soon.specs.Times.{settling_time};
@@ -98,7 +99,7 @@ impl Walk {
     ) -> Result<SettlingTime, AllocError>
         requires few { length self.now.tables.nodes.items ≤ 512 }
         requires short { greatest_used self.now.tables.marks.items ≤ 16000000000 }
-        requires early { at ≤ 800000000000000 }
+        requires early { at ≤ LATEST_EVENT }
         requires set { self.now.last_set ≤ at }
         ensures is { IfOk result (λ time. time ≡ settling_time network.now (view_seen network.now self.now at)) }
         ensures bound { IfOk result (λ time. time.watch ≤ 200000000000000) }

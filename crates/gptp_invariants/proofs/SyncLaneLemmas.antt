@@ -3,6 +3,7 @@ use Rattle.std.proofs.Common.{◌≡◌, ◌≤◌, ◌^◌, ℕ, suc, Bool, tru
 use Rattle.std.proofs.lemmas.List.{map-append}
 use Rattle.std.proofs.lemmas.Nat.{mod_below}
 use Rattle.std.proofs.lemmas.Option.{slice_get_within}
+use Rattle.gptp_setup.specs.declared.limits.TheConstants.{MOST_PORTS}
 use Rattle.gptp_graph.specs.Snapshot.{PortIdentity, port_of}
 use Rattle.gptp_lists.proofs.MappedLemmas.{same_there}
 use Rattle.gptp_lists.proofs.PlaceLemmas.{member_there}
@@ -84,7 +85,7 @@ alone_seen net apart link channel here = record {
 -- ---- what enters
 
 -- the port of this number of a system with few ports fits its octets
-pub own_fits : (s : SystemState) (n : ℕ) → n ≤ 16 → PortFits (own s n)
+pub own_fits : (s : SystemState) (n : ℕ) → n ≤ MOST_PORTS → PortFits (own s n)
 own_fits s n few = record { clock = mod_below s.identity (2 ^ 64) (omega arith); port = omega arith }
 
 -- where each Master port tells time, pairs enter the lanes that begin there

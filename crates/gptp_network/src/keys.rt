@@ -4,6 +4,11 @@
 ghost use Rattle.std.specs.Prelude.{◌≡◌};
 ghost use Rattle.gptp_network.specs.Keys.{name_text};
 
+use gptp_setup::MOST_PORTS;
+
+/// The latest time that an event of a document may have, in ns.
+pub const LATEST_EVENT: u64 = 800_000_000_000_000;
+
 /// The name of a key.
 #[derive(Clone, Copy, Debug)]
 pub enum Name {
@@ -137,13 +142,13 @@ pub(crate) const PHASE: Natural = (Name::Phase, 0, 1_000_000_000_000_000_000, So
 
 pub(crate) const DRIFT: Whole = (Name::Drift, -219_902_325, 219_902_325, 0);
 
-pub(crate) const PORTS: Natural = (Name::Ports, 0, 16, Some(1));
+pub(crate) const PORTS: Natural = (Name::Ports, 0, MOST_PORTS as u64, Some(1));
 
 // ---- `[[link]]`
 
-pub(crate) const A_PORT: Natural = (Name::APort, 1, 16, None);
+pub(crate) const A_PORT: Natural = (Name::APort, 1, MOST_PORTS as u64, None);
 
-pub(crate) const B_PORT: Natural = (Name::BPort, 1, 16, None);
+pub(crate) const B_PORT: Natural = (Name::BPort, 1, MOST_PORTS as u64, None);
 
 pub(crate) const MIN: Natural = (Name::Min, 1, 16_000_000_000, None);
 
@@ -153,9 +158,9 @@ pub(crate) const LOSS: Natural = (Name::Loss, 0, 1000, Some(0));
 
 // ---- `[[event]]`, whose `min` and `max` are those of a link
 
-pub(crate) const AT: Natural = (Name::At, 0, 800_000_000_000_000, None);
+pub(crate) const AT: Natural = (Name::At, 0, LATEST_EVENT, None);
 
-pub(crate) const PORT: Natural = (Name::Port, 1, 16, None);
+pub(crate) const PORT: Natural = (Name::Port, 1, MOST_PORTS as u64, None);
 
 pub(crate) const SET_LOSS: Natural = (Name::Loss, 0, 1000, None);
 

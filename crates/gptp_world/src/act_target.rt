@@ -7,6 +7,7 @@ use crate::joined_link::Lane;
 use crate::world_parts::WorldParts;
 use gptp_links::{Bounds, Direction};
 use gptp_model::{Act, Change};
+use gptp_setup::MOST_PORTS;
 use gptp_system::Timer;
 use gptp_vector::ClockId;
 
@@ -35,6 +36,7 @@ pub(crate) enum ActTarget {
 
 impl WorldParts {
     ghost use Rattle.std.specs.Prelude.{◌≡◌, ◌↔◌, ◌<◌, IfSome, IfNone, IsTrue, length, Some, slice_get};
+    ghost use Rattle.gptp_setup.specs.declared.limits.TheConstants.{MOST_PORTS};
     ghost use Rattle.gptp_system.specs.Steps.{IsTimerOf};
     ghost use Rattle.gptp_scenario.specs.declared.change.Act.TheVariants.{Deliver, Expire};
     ghost use Rattle.gptp_model.specs.declared.station.Station.{Station};
@@ -51,7 +53,8 @@ impl WorldParts {
         ensures none { IfNone result (AtLink (port_id clock port) (world_of self.entry.now).net AnyLink → ⊥) }
     {
         self.net.directory.well_formed();
-        if 16 < port {
+        let number = usize::from(port);
+        if MOST_PORTS < number {
             return None;
         }
         match self.net.directory.place_of(clock) {
