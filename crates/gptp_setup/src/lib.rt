@@ -1,11 +1,14 @@
 //! What systems are set up with: the parameters that are the same for all systems of a network, what one system has of
-//! its own, the names of its timers, and how long intervals of messages are (IEEE 802.1AS-2020, 10.7 and 11.5.2).
+//! its own, the names of its timers, how long intervals of messages are (IEEE 802.1AS-2020, 10.7 and 11.5.2), and how
+//! exactly time is stamped.
 #![tactic(auto)]
 
 mod interval;
 mod setup;
+mod stamping;
 mod timer;
 
 pub use interval::{interval_of, lapse_span};
 pub use setup::{Params, Setup};
+pub use stamping::{blur_of, rate_interval};
 pub use timer::Timer;

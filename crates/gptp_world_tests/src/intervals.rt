@@ -1,6 +1,5 @@
 //! Networks whose ports announce at intervals of their own.
 
-
 use crate::far::{identity, port};
 use crate::same::{same, same_at};
 use arrayvec::ArrayVec;
@@ -25,6 +24,9 @@ const PARAMS: Params = Params {
     turnaround: 1_000,
     residence: 1_000,
     sync_timeout: 0,
+    granularity: 0,
+    noise: 0,
+    window: 1,
 };
 
 #[test]
