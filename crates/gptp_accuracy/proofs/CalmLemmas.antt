@@ -55,16 +55,16 @@ module _ (systems : List SystemSpec) (events : List Timed) where
       dec_iff (λ h. record { up = h.0; a = h.1.0; b = h.1.1 }) (λ h. (h.up, (h.a, h.b)))
       (dec_both (true_dec w.up) (dec_both (live_dec w.a.clock) (live_dec w.b.clock)))
 
-quiet_dec : (turnaround threshold : ℕ) (w : LinkSpec) → Dec (IsQuiet turnaround threshold w)
-quiet_dec turnaround threshold w =
+quiet_dec : (p : Params) (w : LinkSpec) → Dec (IsQuiet p w)
+quiet_dec p w =
     dec_iff (λ h. record { lossless = h.0; good = h.1 }) (λ h. (h.lossless, h.good))
-    (dec_both (ℕ_discrete w.bounds.loss 0) (dec_le _ threshold))
+    (dec_both (ℕ_discrete w.bounds.loss 0) (dec_le _ p.threshold))
 
 rests_dec : (p : Params) (systems : List SystemSpec) (events : List Timed) (w : LinkSpec)
     → Dec (Rests p systems events w)
 rests_dec p systems events w =
     implied_dec (used_dec systems events (link_after events w))
-    (quiet_dec p.turnaround p.threshold (link_after events w))
+    (quiet_dec p (link_after events w))
 
 all_rest_dec : (p : Params) (systems : List SystemSpec) (links : List LinkSpec) (events : List Timed)
     → Dec (AllRest p systems links events)

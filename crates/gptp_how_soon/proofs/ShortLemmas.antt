@@ -105,11 +105,15 @@ module _ (n : NetworkState) (network : IsNetwork n) (paths : SyncPaths) (few : p
   set_most : (sets : Bool) → set_span n.params paths sets ≤ 65000000000
   set_most sets = either_most sets (asked_again n.params paths) 0 65000000000 again (omega arith)
 
-  exact_most : exact_span n.params paths ≤ 1024000000000
+  exact_most : exact_span n.params paths ≤ 1264000000000
   exact_most =
       let ranges = network.params.ranges.params in
-      let t = ranges.threshold in let r = ranges.residence in
-      mul-le paths.systems (n.params.threshold + n.params.residence) 512 2000000000 few (omega (arith, t, r))
+      let t = ranges.threshold in let r = ranges.residence in let v = ranges.window in
+      let tree : paths.systems * (n.params.threshold + n.params.residence) ≤ 1024000000000 =
+      mul-le paths.systems (n.params.threshold + n.params.residence) 512 2000000000 few (omega (arith, t, r)) in
+      let window : (n.params.window - 1) * interval_of n.params.pdelay ≤ 240000000000 =
+      mul-le (n.params.window - 1) (interval_of n.params.pdelay) 15 16000000000 (omega (arith, v)) pdelay in
+      omega (arith, tree, window)
 
   needed_most : (at set : ℕ) (calm sets : Bool) (row : Row) (gained : ℕ) → set ≤ at → gained ≤ 195000000000000
       → needed_watch n at paths (settling_by n at set paths calm sets row gained) ≤ 197000000000000

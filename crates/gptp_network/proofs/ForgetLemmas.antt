@@ -35,7 +35,7 @@ use Rattle.gptp_network.specs.declared.fault.DocumentFault.{DocumentFault}
 use Rattle.gptp_network.specs.declared.fault.DocumentFault.TheVariants as faults
 use Rattle.gptp_network.specs.declared.keys.Name.{Name}
 use Rattle.gptp_network.specs.declared.keys.Name.TheVariants as names
-use Rattle.gptp_network.specs.declared.keys.TheConstants.{ACCURACY, ANNOUNCE, AT, A_PORT, B_PORT, CLASS, DRIFT, LOSS, LOST, MAX, MIN, PDELAY, PHASE, PORT, PORTS, PRIORITY1, PRIORITY2, RESIDENCE, SET_LOSS, SYNC, SYNC_TIMEOUT, THRESHOLD, TIMEOUT, TURNAROUND, VALUE, VARIANCE, VERSION, LATEST_EVENT}
+use Rattle.gptp_network.specs.declared.keys.TheConstants.{ACCURACY, ANNOUNCE, AT, A_PORT, B_PORT, CLASS, DRIFT, GRANULARITY, LOSS, LOST, MAX, MIN, NOISE, PDELAY, PHASE, PORT, PORTS, PRIORITY1, PRIORITY2, RESIDENCE, SET_LOSS, SYNC, SYNC_TIMEOUT, THRESHOLD, TIMEOUT, TURNAROUND, VALUE, VARIANCE, VERSION, WINDOW, LATEST_EVENT}
 use Rattle.gptp_network.specs.declared.place.Place.{Place}
 use Rattle.gptp_network.specs.declared.place.Place.TheVariants as places
 use Rattle.gptp_network.specs.declared.place.Section.{Section}
@@ -212,7 +212,12 @@ params_is t =
     step (natural_at RESIDENCE t) (natural (codes "residence") 1 1000000000 (Some 1000) t) _ _
     (natural_is RESIDENCE t) (λ residence.
     step (natural_at SYNC_TIMEOUT t) (natural (codes "sync_timeout") 0 10 (Some 0) t) _ _
-    (natural_is SYNC_TIMEOUT t) (λ sync_timeout. refl)))))))))
+    (natural_is SYNC_TIMEOUT t) (λ sync_timeout.
+    step (natural_at GRANULARITY t) (natural (codes "granularity") 0 0 (Some 0) t) _ _ (natural_is GRANULARITY t)
+    (λ granularity.
+    step (natural_at NOISE t) (natural (codes "noise") 0 0 (Some 0) t) _ _ (natural_is NOISE t) (λ noise.
+    step (natural_at WINDOW t) (natural (codes "window") 1 1 (Some 1) t) _ _ (natural_is WINDOW t) (λ window.
+    refl))))))))))))
 
 network_in_is : (t : Members) → forget (read_section t) ≡ network_of_section t
 unfolding read_section network_of_section

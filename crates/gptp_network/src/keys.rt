@@ -26,6 +26,9 @@ pub enum Name {
     Turnaround,
     Residence,
     SyncTimeout,
+    Granularity,
+    Noise,
+    Window,
     Clock,
     Priority1,
     Class,
@@ -71,6 +74,9 @@ impl Name {
             Name::Turnaround => "turnaround",
             Name::Residence => "residence",
             Name::SyncTimeout => "sync_timeout",
+            Name::Granularity => "granularity",
+            Name::Noise => "noise",
+            Name::Window => "window",
             Name::Clock => "clock",
             Name::Priority1 => "priority1",
             Name::Class => "class",
@@ -125,6 +131,14 @@ pub(crate) const TURNAROUND: Natural = (Name::Turnaround, 1, 1_000_000_000, Some
 pub(crate) const RESIDENCE: Natural = (Name::Residence, 1, 1_000_000_000, Some(1000));
 
 pub(crate) const SYNC_TIMEOUT: Natural = (Name::SyncTimeout, 0, 10, Some(0));
+
+// Systems take no time stamps yet, nor measure a rate over more than one exchange: the three have their defaults alone.
+
+pub(crate) const GRANULARITY: Natural = (Name::Granularity, 0, 0, Some(0));
+
+pub(crate) const NOISE: Natural = (Name::Noise, 0, 0, Some(0));
+
+pub(crate) const WINDOW: Natural = (Name::Window, 1, 1, Some(1));
 
 // ---- `[[system]]`, whose `announce` is an array of the numbers that are the network's
 

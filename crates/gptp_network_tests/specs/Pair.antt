@@ -47,6 +47,9 @@ params = record {
   turnaround = 1000;
   residence = 1000;
   sync_timeout = 0;
+  granularity = 0;
+  noise = 0;
+  window = 1;
 }
 
 -- priority1 246, clockClass 248, clockAccuracy 254, offsetScaledLogVariance 436a, priority2 248, and clock 1

@@ -41,6 +41,9 @@ pub(crate) const PARAMS: Params = Params {
     turnaround: 1_000,
     residence: 1_000,
     sync_timeout: 0,
+    granularity: 0,
+    noise: 0,
+    window: 1,
 };
 
 /// When their ports are capable: after L + 5 announce intervals, L being 9.

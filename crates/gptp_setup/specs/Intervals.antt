@@ -42,6 +42,10 @@ pub record AreParams (p : Params) : Type 0 where
   pub residence-least : 1 ≤ p.residence
   pub residence : p.residence ≤ 1000000000
   pub sync-timeout : p.sync_timeout ≤ 10
+  pub granularity : p.granularity ≤ 1000
+  pub noise : p.noise ≤ 1000
+  pub window-least : 1 ≤ p.window
+  pub window : p.window ≤ 16
 
 -- the times of a simulation, in ns
 abbrev pub IsMoment : ℕ → Type 0

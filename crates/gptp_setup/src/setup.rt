@@ -29,6 +29,12 @@ pub struct Params {
     /// syncReceiptTimeout (IEEE 802.1AS-2020, 10.7.3.1): after how many sync intervals without time what the Slave port
     /// holds ages, 0 to 10; 0: never.
     pub sync_timeout: u8,
+    /// Of what a time stamp is a multiple, in ns, 0 to 1000; 0: of one unit of 2^-16 ns.
+    pub granularity: u16,
+    /// By how much a time stamp may be off besides, in ns, 0 to 1000.
+    pub noise: u16,
+    /// Over how many exchanges a neighborRateRatio is measured, 1 to 16.
+    pub window: u8,
 }
 
 /// What one system is set up with.

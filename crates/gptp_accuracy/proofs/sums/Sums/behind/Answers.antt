@@ -1,23 +1,21 @@
 use Rattle.gptp_accuracy.specs.Sums.{way_link}
-use Rattle.gptp_accuracy.proofs.MachineLemmas.{IsMade, given_within, is_behind, log_back}
-use Rattle.gptp_accuracy.proofs.SumLemmas.{interval_long, sums_behind}
+use Rattle.gptp_accuracy.proofs.MachineLemmas.{IsMade, given_within, is_behind}
+use Rattle.gptp_accuracy.proofs.SumLemmas.{sums_behind, window_long}
 use Rattle.gptp_accuracy.proofs.sums.Sums.behind.Goals as goal
 
 pub rate_error-requires-clause-interval : goal.rate_error-requires-clause-interval
 rate_error-requires-clause-interval c =
-    let log = c.requires.params.pdelay in
-    rw (c.interval_of.ensures.interval, log_back c.args.params.now.pdelay log)
-    (interval_long c.args.params.now.pdelay log)
+    rw c.rate_interval.ensures.interval (window_long c.args.params.now c.requires.params)
 
 pub returns : goal.returns
 returns c = λ w links summed.
     let p = c.args.params.now in
     let s = c.args.self.now in
     let l = way_link c.args.link.now in
-    let made : IsMade p s l c.interval_of.result c.rate_error.result c.link_error.result c.rates_error.result
+    let made : IsMade p s l c.rate_interval.result c.rate_error.result c.link_error.result c.rates_error.result
     c.wait_error.result c.steady_rate.result c.from.result =
     record {
-      interval_is = c.interval_of.ensures.interval;
+      interval_is = c.rate_interval.ensures.interval;
       rate_error_is = c.rate_error.ensures.error;
       steady_is = c.steady_rate.ensures.rate;
       near = c.steady_rate.ensures.within;
@@ -26,15 +24,16 @@ returns c = λ w links summed.
       rates_is = c.rates_error.ensures.error;
       wait_is = c.wait_error.ensures.error;
     } in
-    let behind = is_behind p s l _ _ _ _ _ _ _ c.requires.params.pdelay c.requires.sums c.requires.link made in
+    let behind = is_behind p s l _ _ _ _ _ _ _ c.requires.params c.requires.sums c.requires.link made in
     record {
       timed = record {
+        blur = summed.timed.blur;
         interval = summed.timed.interval;
         turnaround = summed.timed.turnaround;
         residence = summed.timed.residence;
       };
       sums = sums_behind p w l s summed.timed summed.sums _ behind;
       within =
-          given_within p s l _ _ _ _ _ _ _ c.requires.params.pdelay c.requires.sums c.requires.link made links
+          given_within p s l _ _ _ _ _ _ _ c.requires.params c.requires.sums c.requires.link made links
           summed.within c.rate_error.ensures.bound c.link_error.ensures.bound c.wait_error.ensures.bound;
     }
