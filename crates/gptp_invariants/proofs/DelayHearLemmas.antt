@@ -1,5 +1,5 @@
 -- What a port makes of octets that it hears, as one that asks and as one that answers.
-use Rattle.std.proofs.Common.{◌≡◌, ◌≢◌, ◌⊎◌, ◌*◌, ℕ, ℤ, ◌-ℤ◌, pos, int_le, Bool, true, List, Some, None, refl, sym, ap, subst, ◌∙◌, inl, inr, eq-eqb, rules}
+use Rattle.std.proofs.Common.{◌≡◌, ◌≢◌, ◌⊎◌, ◌*◌, ℕ, ℤ, ◌-ℤ◌, pos, int_le, Bool, true, List, Some, None, refl, sym, ap, subst, ◌∙◌, inl, inr, arith, eq-eqb, rules}
 use Rattle.std.specs.Prelude.{if◌then◌else◌, ◌==◌}
 use Rattle.std.specs.Option.{option_map_or}
 use Rattle.gptp_graph.specs.Snapshot.{PortIdentity}
