@@ -36,7 +36,6 @@ pub(crate) enum ActTarget {
 
 impl WorldParts {
     ghost use Rattle.std.specs.Prelude.{◌≡◌, ◌↔◌, ◌<◌, IfSome, IfNone, IsTrue, length, Some, slice_get};
-    ghost use Rattle.gptp_setup.specs.declared.limits.TheConstants.{MOST_PORTS};
     ghost use Rattle.gptp_system.specs.Steps.{IsTimerOf};
     ghost use Rattle.gptp_scenario.specs.declared.change.Act.TheVariants.{Deliver, Expire};
     ghost use Rattle.gptp_model.specs.declared.station.Station.{Station};
