@@ -92,7 +92,7 @@ own_fits s n few = record { clock = mod_below s.identity (2 ^ 64) (omega arith);
 module _ (now : ℕ) (s after : SystemState) (sends : List Sending) (draws : List Draw) (net net' : Net)
     (sent : SendsAll now after sends draws net net') (apart : BeginApart (lanes_view net.channels))
     (tells : TellsTime s after sends) (same_clock : clock after ≡ clock s) (held : after.held ≡ s.held)
-    (places : length after.held ≡ length s.ports) (few : length s.ports ≤ 16) where
+    (places : length after.held ≡ length s.ports) (few : length s.ports ≤ MOST_PORTS) where
   pub pairs_enter : (live : Bool) (i j : ℕ) (q : SeenPort) (l l' : Lane) (root steps : ℕ)
       → slice_get (system_view live after).ports i ≡ Some q → q.held ≡ Mine root steps
       → slice_get (lanes_view net.channels) j ≡ Some l → slice_get (lanes_view net'.channels) j ≡ Some l'
