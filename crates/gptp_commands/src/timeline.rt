@@ -71,16 +71,20 @@ impl DocumentCommand for TimelineOrder {
 /// Reads a document, a network and its events as TOML, lets them run up to a time, and writes act by act which event is
 /// made and what each act leaves another at which system, and where each stretch between times of events ends what
 /// became of it.
-//  The acts are those of [`run`](crate::run::run) to the same end, and the last line of each system and port tells what
-// it shows there. Where the network is calm where a stretch begins, it settles within the span; where it lasts as long,
-// each near system follows the best of its component where it ends. Once what systems use has come down the settled
-// tree after that, no error of a receipt is above the bound of its `accuracy` line.  A document that is refused is the
-// one line `refused` with the number and name of [`gptp_network::DocumentFault`]. Of an input of more than 33,554,432
-// octets no more than one further octet is read, and it is `refused 11 TooMany`. The document is read whole first; then
-// the lines of each act are written as it is done.  The answer is [`Status::Refused`] where the document was refused,
-// or where a limit is given that some stretch exceeds. Errors: [`SimError::Read`] exactly where a read failed, with
-// nothing written; [`SimError::Memory`]; [`SimError::Write`] exactly where a write failed, after which nothing more is
-// done. After these two a front of the text stands written, as far as that had got.
+///
+/// The acts are those of [`run`](crate::run::run) to the same end, and the last line of each system and port tells what
+/// it shows there. Where the network is calm where a stretch begins, it settles within the span; where it lasts as long,
+/// each near system follows the best of its component where it ends. Once what systems use has come down the settled
+/// tree after that, no error of a receipt is above the bound of its `accuracy` line.
+///
+/// A document that is refused is the one line `refused` with the number and name of [`gptp_network::DocumentFault`]. Of
+/// an input of more than 33,554,432 octets no more than one further octet is read, and it is `refused 11 TooMany`. The
+/// document is read whole first; then the lines of each act are written as it is done.
+///
+/// The answer is [`Status::Refused`] where the document was refused, or where a limit is given that some stretch
+/// exceeds. Errors: [`SimError::Read`] exactly where a read failed, with nothing written; [`SimError::Memory`];
+/// [`SimError::Write`] exactly where a write failed, after which nothing more is done. After these two a front of the
+/// text stands written, as far as that had got.
 pub fn timeline<S: Source, K: Sink>(
     alloc: Global,
     source: &mut S,
