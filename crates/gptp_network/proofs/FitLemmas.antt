@@ -200,7 +200,9 @@ in_range p is =
     let stamps : are_stamps_in_range p ≡ true = whole.1 in
     let granularity : p.granularity ≤ 0 = grind (arith, nat_tests) in
     let noise : p.noise ≤ 0 = grind (arith, nat_tests) in
-    let window : p.window ≡ 1 = grind (arith, nat_tests) in
+    let most : p.window ≤ 1 = grind (arith, nat_tests) in
+    let least : 1 ≤ p.window = grind (arith, nat_tests) in
+    let window : p.window ≡ 1 = omega (arith, most, least) in
     record {
       params = record {
         announce = is_log_so p.announce first.0;
