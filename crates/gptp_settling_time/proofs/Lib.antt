@@ -69,4 +69,11 @@ pub mod ReactionStageLemmas
 pub mod ReactsLemmas
 pub mod SettledSeenLemmas
 pub mod PriorityNewsLemmas
+pub mod SameBestLemmas
+pub mod ReselectsLemmas
+pub mod UnmovedLemmas
 pub mod BetterClockLemmas
+pub mod FitsLemmas
+pub mod LeftClaimedLemmas
+pub mod GoesDownLemmas
+pub mod WellFormedLemmas
