@@ -1,7 +1,7 @@
 -- What systems choose after events is the settled choice: the best of each component, and how far that is.
-use Rattle.std.proofs.Common.{◌≡◌, ◌≢◌, ◌<◌, ◌≤◌, ◌+◌, ◌==◌, ◌&&◌, ◌++◌, ℕ, zero, suc, Bool, true, false, cond, List, [], ◌∷◌, length, map, filter, Option, Some, None, slice_get, refl, sym, ap, subst, ◌∙◌, inl, inr, arith, length-append}
-use Rattle.std.specs.List.{filter_map, position_or_len}
-use Rattle.std.proofs.lemmas.Bool.{and_from, and_parts, eq-eqb, eqb-true, ne_eqb}
+use Rattle.std.proofs.Common.{◌≡◌, ◌≤◌, ◌+◌, ◌&&◌, ◌++◌, ℕ, zero, suc, Bool, true, false, cond, List, [], ◌∷◌, length, map, filter, Some, None, slice_get, refl, sym, ap, subst, ◌∙◌, inl, inr, arith, length-append}
+use Rattle.std.specs.List.{filter_map}
+use Rattle.std.proofs.lemmas.Bool.{and_from, and_parts, eq-eqb, ne_eqb}
 use Rattle.std.proofs.lemmas.List.{length-map}
 use Rattle.gptp_lists.specs.Members.{In}
 use Rattle.gptp_lists.proofs.MappedLemmas.{mapped, mapped_there, same_there, some_same}
@@ -21,11 +21,11 @@ use Rattle.gptp_scenario.specs.declared.change.Timed.{Timed}
 use Rattle.gptp_scenario.specs.declared.network.LinkSpec.{LinkSpec}
 use Rattle.gptp_scenario.specs.declared.network.SystemSpec.{SystemSpec}
 use Rattle.gptp_scenario.proofs.AfterLemmas.{after_keeps}
-use Rattle.gptp_network.specs.Snapshot.{StandsAfter, has_clock, joins_two, link_of, system_of}
+use Rattle.gptp_network.specs.Snapshot.{StandsAfter, has_clock, joins_two, link_of}
 use Rattle.gptp_network.proofs.InUseLemmas.{live_there, runs}
 use Rattle.gptp_network.proofs.PassLemmas.{given, kept}
 use Rattle.gptp_network.proofs.SnapshotLemmas.{clock_after, from_filter, member_there}
-use Rattle.gptp_how_soon.specs.Chosen.{chosen_after, ends_among, ends_of, is_used_then, itself, place_of, used_ends}
+use Rattle.gptp_how_soon.specs.Chosen.{chosen_after, ends_of, is_used_then, itself, place_of, used_ends}
 use Rattle.gptp_how_soon.specs.Systems.{first_system, system_then, systems_after}
 use Rattle.gptp_how_soon.specs.declared.chosen.Chosen.{Chosen}
 use Rattle.gptp_how_soon.specs.declared.chosen.Ends.{Ends}
@@ -261,7 +261,8 @@ module _ (n : NetworkState) (network : IsNetwork n) (events : List Timed) (g : S
   few : (v w : ℕ) (us : List ℕ) → IsPath g v w us → length us ≤ count
   few v w us path =
       let less = path_bounded g v w us well path in
-      let fits = pigeonhole (clocks g) (map (λ (m : SystemSpec). clock_of m.identity) n.systems) well.different known_to in
+      let fits =
+      pigeonhole (clocks g) (map (λ (m : SystemSpec). clock_of m.identity) n.systems) well.different known_to in
       let some = length-map g.systems (λ (s : System). s.clock) in
       let all = length-map n.systems (λ (m : SystemSpec). clock_of m.identity) in
       let rounds = length-map n.systems (system_then events) in

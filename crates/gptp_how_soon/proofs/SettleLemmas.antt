@@ -41,9 +41,9 @@ same_row from_rest first paths told moved =
     by true idle true = refl
     by true idle false = refl
 
-pub settled_so : (n : NetworkState) (w : Walk) (at : ℕ) (first followed from_rest calm sets moved : Bool) (paths : SyncPaths)
-    (told : List Told) (standings : List Standing) (used : List Bool) (new : List Cable) (soon heard way : ℕ)
-    (row : Row) (time : SettlingTime)
+pub settled_so : (n : NetworkState) (w : Walk) (at : ℕ) (first followed from_rest calm sets moved : Bool)
+    (paths : SyncPaths) (told : List Told) (standings : List Standing) (used : List Bool) (new : List Cable)
+    (soon heard way : ℕ) (row : Row) (time : SettlingTime)
     → time ≡ times_by n at w.last_set paths calm sets row (soon + heard + way)
     → row ≡ row_of from_rest first w.paths_before told moved
     → moved ≡ ((from_rest && are_losses_followed w.paths_before told) && moves_seen w)

@@ -329,7 +329,7 @@ fn makes_nothing(told: &Told) -> bool
     is_idle(told) || is_unused(told)
 }
 
-/// Whether it does, or makes a live system worse.
+/// Whether it makes nothing of what stands, or a live system worse.
 fn leaves_links(told: &Told) -> bool
     ensures { result ≡ leaves_links told.now }
 {
@@ -425,7 +425,7 @@ pub(crate) fn all_make_nothing(told: &[Told]) -> bool
     told.iter().all(|one| makes_nothing(one))
 }
 
-/// Whether each of these events does, or makes a live system worse.
+/// Whether each of these events makes nothing of what stands, or a live system worse.
 pub(crate) fn all_leave_links(told: &[Told]) -> bool
     ensures { result ≡ list_all leaves_links told.now }
 {

@@ -122,7 +122,7 @@ impl Walk {
         Ok(any_moved(&self.systems, &before, &now))
     }
 
-    /// Whether they do, where that is asked.
+    /// Whether the events of this time move a system, where that is asked.
     fn moves_if(&self, alloc: Global, asked: bool) -> Result<bool, AllocError>
         ensures { IfOk result (λ moved. moved ≡ (asked && moves_seen self.now)) }
     {

@@ -422,10 +422,7 @@ module _ (n : NetworkState) (network : IsNetwork n) (events : List Timed) (b : S
       let (followed, none) = and_parts (are_losses_followed v.paths_before v.told) (not v.moved) left in
       let (few, leaves) =
       and_parts (nat_le v.paths_before.systems 255) (list_all leaves_links v.told) followed in
-      all_still_unmoved n network made now well (at_most v.paths_before.systems few) (not-true v.moved none) leaves
-    where
-      at_most : (systems : ℕ) → nat_le systems 255 ≡ true → systems ≤ 255
-      at_most systems few = grind (arith, nat_tests)
+      all_still_unmoved n network made now well (at_most v.paths_before.systems 255 few) (not-true v.moved none) leaves
 
   pub unchanged : AreWell n (made ++ now) → row_at v ≡ Unchanged
       → (rest : HasComeToRest b at)

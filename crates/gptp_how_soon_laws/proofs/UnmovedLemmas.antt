@@ -1,7 +1,7 @@
 -- Where no system is moved by the events of a time, of which no other than a priority1 makes something of what stands,
 -- none is moved by any of them: identities only rise, and links stay.
 use Rattle.std.proofs.Common.{◌≡◌, ◌<◌, ◌≤◌, ◌⊎◌, inl, inr, ◌+◌, ◌*◌, ◌^◌, ◌%◌, ℕ, Bool, true, false, cond, suc, List, [], ◌∷◌, ◌++◌, zero, Some, length, slice_get, refl, sym, ap, ap₂, subst, ◌∙◌, append-nil, append_assoc, arith}
-use Rattle.std.specs.Prelude.{◌==◌, ◌&&◌, ◌||◌, not}
+use Rattle.std.specs.Prelude.{◌==◌, ◌&&◌}
 use Rattle.std.specs.List.{list_all, range_with_len}
 use Rattle.std.proofs.lemmas.Bool.{and_parts, eq-eqb, eqb-true, not-false, or_cases}
 use Rattle.gptp_lists.specs.Members.{In}
@@ -162,8 +162,8 @@ module _ (n : NetworkState) (network : IsNetwork n) (made : List Timed) (event :
   worse_rises x m member =
       let w = x.worsens in
       let (place, there) = slice_get-In m n.systems member in
-      subst (λ act. (system_after made m).identity ≤ (system_acted act (clock_of m.identity) (system_after made m)).identity)
-      (sym x.act)
+      subst (λ act. (system_after made m).identity
+      ≤ (system_acted act (clock_of m.identity) (system_after made m)).identity) (sym x.act)
       (sets_higher x.number x.value (clock_of m.identity) (system_after made m) (λ clock.
       let same = w.only place m there (sym clock) in
       let worse = subst (λ (o : SystemSpec). (system_after made o).identity
@@ -404,7 +404,8 @@ module _ (n : NetworkState) (network : IsNetwork n) (first all : List Timed) (wo
     keeps : (v : ℕ) (x : Stays v) (s : System) → In s g.systems → s.clock ≡ x.best.clock
         → s.identity ≡ x.best.identity
     keeps v x s live clock =
-        let up = rises_over n network first events g0 g stands0 stands before x.best s x.is_best.live live (sym clock) in
+        let up =
+        rises_over n network first events g0 g stands0 stands before x.best s x.is_best.live live (sym clock) in
         let last_clock : s.clock ≡ x.last.clock =
         clock ∙ sym (well0.identified x.best x.is_best.live).clock ∙ ap (λ i. i % 2 ^ 64) x.same
         ∙ (wellk.identified x.last x.last_lives).clock in
