@@ -9,7 +9,8 @@ use Rattle.gptp_model.specs.declared.station.Station.{Station}
 use Rattle.gptp_scenario.specs.Network.{NetworkState, pace_of}
 use Rattle.gptp_model.specs.World.{Channel, Net, WorldState}
 
--- what a system of a network starts with: its ports announce at their own intervals, none above the largest
+-- what a system of a network starts with: its ports announce at their own intervals, none above the largest, and the
+-- seed of its noise is 1
 abbrev pub setup_of : SettlingParams → SystemSpec → Setup
 setup_of pace member = record {
   identity = member.identity;
@@ -19,6 +20,7 @@ setup_of pace member = record {
   continues = member.continues;
   intervals = member.intervals;
   largest = pace.largest;
+  seed = 1;
   params = pace.params;
 }
 

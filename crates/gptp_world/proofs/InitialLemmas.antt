@@ -99,6 +99,7 @@ pub set_up : (n : NetworkState) (m : SystemSpec) (made : Setup) (largest : ℤ) 
       continues = m.continues;
       intervals = m.intervals;
       largest = to_z w8 (of_z w8 largest);
+      seed = 1;
       params = params;
     }
     → made ≡ setup_of (pace_of n) m

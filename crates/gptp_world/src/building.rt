@@ -94,6 +94,7 @@ fn station_in(network: &Network, place: usize) -> Station
         continues,
         intervals,
         largest,
+        seed: 1,
         params: network.params(),
     };
     let system = System::new(setup.copy(), 0);
