@@ -235,7 +235,7 @@ adds m n total origin sum added before after passed h e a b =
     record { low = omega (arith, ints, h, e, a.low, b.low); high = omega (arith, ints, h, e, a.high, b.high) }
 
 -- what two readings of a clock are off together, in between it counts so much
-off_within : (w behind phase : ℕ) (drift : ℤ) (says : ℕ → ℤ) → IsStampClock w behind phase drift says →
+pub off_within : (w behind phase : ℕ) (drift : ℤ) (says : ℕ → ℤ) → IsStampClock w behind phase drift says →
     (from to count : ℕ) → local_clock phase drift to -ℤ local_clock phase drift from ≡ pos count →
     AreWithin (65536 * w) (says to -ℤ says from -ℤ pos count) (pos 0)
 off_within w behind phase drift says clock from to count is =
