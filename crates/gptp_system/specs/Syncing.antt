@@ -1,5 +1,5 @@
 -- Time: what a Sync, a Follow_Up and the timers of both make of a system (IEEE 802.1AS-2020, 10.2.9, 11.2.14, 11.2.15).
-use Rattle.std.specs.Prelude.{◌≡◌, ◌⊎◌, ℕ, ◌+◌, ◌==◌, ◌&&◌, ℤ, pos, ◌-ℤ◌, Bool, true, false}
+use Rattle.std.specs.Prelude.{◌≡◌, ◌⊎◌, ℕ, ◌+◌, ◌==◌, ◌&&◌, ℤ, pos, ◌-ℤ◌, ◌≤ℤ◌, Bool, true, false}
 use Rattle.std.specs.Prelude.{if◌then◌else◌, List, [], ◌∷◌, Option, Some, None}
 use Rattle.std.specs.Option.{option_and_then, option_map, option_map_or, unwrap_or}
 use Rattle.gptp_vector.specs.declared.port.PortId.{PortId}
@@ -32,7 +32,7 @@ use Rattle.gptp_system.specs.State.{can_lead, lapse_of}
 use Rattle.gptp_system.specs.Sends.{head_from, next_sequence}
 use Rattle.gptp_system.specs.Selection.{Becomes}
 use Rattle.gptp_system.specs.Reading.{reading_of}
-use Rattle.gptp_system.specs.Takeover.{leading, told_stamp}
+use Rattle.gptp_system.specs.Takeover.{leading, told_stamp, told_time}
 
 -- ---- sending
 
@@ -98,10 +98,12 @@ is_leading s = s.root == s.identity && can_lead s.identity
 abbrev pub restarted : ℕ → SystemState → SystemState
 restarted now s = record s { sync = now + interval_of s.params.sync }
 
--- It takes over where it didn't yet, and tells its time: the time stamp of that of its clock with its base.
+-- It takes over where it didn't yet, and tells its time, that of its clock with its base, which is from 0 on: it sends
+-- the time stamp of that.
 pub record LeadsTime (now : ℕ) (s s' : SystemState) (sends : List Sending) : Type 0 where
   pub stamp : Timestamp
   pub rest : ℕ
+  pub from : pos 0 ≤ℤ told_time (leading now s) now
   pub split : IsSplit (told_stamp (leading now s) now) stamp rest
   pub state : s' ≡ telling (restarted now (leading now s))
   pub sends_are : sends ≡ told_by (own_time stamp rest) s

@@ -144,6 +144,7 @@ impl State {
         requires moment { IsMoment now }
         requires due { (state_of self.old).sync ≤ now }
         ensures state { state_of self.new ≡ restarted now (leading now (state_of self.old)) }
+        ensures from { pos 0 ≤ℤ told_time (leading now (state_of self.old)) now }
         ensures told { result ≡ told_stamp (leading now (state_of self.old)) now }
         ensures fits { FitsStamp result }
         ensures ready { IsReady (state_of self.new) }

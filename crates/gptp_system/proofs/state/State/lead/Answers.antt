@@ -36,6 +36,10 @@ returns-clause-state c =
     leads s c.args.now c.reads_after-self.ensures c.base_after-base.ensures
     (c.interval_of.ensures.interval ∙ ap interval_of (log_back s.params.sync c.requires.ready.params.sync))
 
+pub returns-clause-from : goal.returns-clause-from
+returns-clause-from c =
+    led_low (state_of c.args.self.now) c.args.now c.args.now c.requires.ready c.requires.due (omega arith)
+
 pub returns-clause-told : goal.returns-clause-told
 returns-clause-told c =
     c.told_stamp.ensures.is ∙ ap (λ t. told_stamp t c.args.now) (returns-clause-state c)
