@@ -38,6 +38,8 @@ use Rattle.gptp_invariants.proofs.DelayLinkExpiryLemmas.{expires_timely}
 use Rattle.gptp_invariants.proofs.DelayLinkKeptLemmas.{calls_if_live_kept, is_down, is_up, started_measured, starts_all_kept, starts_kept, tells_kept}
 use Rattle.gptp_invariants.proofs.DelayMeasuredLemmas.{IsKept, calls_kept, entered_fits, queue_fits, sound_kept}
 use Rattle.gptp_invariants.proofs.ChoiceSeenOctetLemmas.{octets_fit}
+use Rattle.gptp_system.proofs.TimersChangedLemmas.{priority_clock}
+use Rattle.gptp_system.specs.Start.{started}
 
 -- ---- what is between the systems
 
@@ -176,7 +178,13 @@ fails_kept true place station w draws w' here is (none, same) =
     subst IsKept (sym same)
     (station_kept place station off w (all_timers place off w.net) here refl refl
     (record {
-      set_up = record { params = old.set_up.params; phase = old.set_up.phase; drift = old.set_up.drift };
+      set_up = record {
+        params = old.set_up.params;
+        phase = old.set_up.phase;
+        drift = old.set_up.drift;
+        seed = old.set_up.seed;
+        named = old.set_up.named;
+      };
       in_time = old.in_time;
       ports = old.ports;
     })
@@ -196,7 +204,13 @@ prioritized_kept value place station w draws w' here is k =
     calls_if_live_kept place (Priority value) set draws w' (λ x there. tt) (λ n. tt)
     (station_kept place station (with_setup value station) w w.net here refl refl
     (record {
-      set_up = record { params = old.set_up.params; phase = old.set_up.phase; drift = old.set_up.drift };
+      set_up = record {
+        params = old.set_up.params;
+        phase = old.set_up.phase;
+        drift = old.set_up.drift;
+        seed = old.set_up.seed;
+        named = old.set_up.named ∙ sym (priority_clock value (started station.setup 0));
+      };
       in_time = old.in_time;
       ports = old.ports;
     })

@@ -516,7 +516,13 @@ module _ {F : Type 0} (answers : Bounds → ℕ → F → Option ℕ → F → T
             let is = old.stations place was here in
             subst (IsStationMeasured 0) made
             (record {
-              set_up = record { params = is.set_up.params; phase = is.set_up.phase; drift = is.set_up.drift };
+              set_up = record {
+                params = is.set_up.params;
+                phase = is.set_up.phase;
+                drift = is.set_up.drift;
+                seed = is.set_up.seed;
+                named = is.set_up.named;
+              };
               in_time = is.in_time;
               ports = is.ports;
             });
@@ -609,7 +615,7 @@ module _ {F : Type 0} (answers : Bounds → ℕ → F → Option ℕ → F → T
         let pace = keeps_pace n network in
         let asking = params at.asking stood.asking.station stood.asking.here in
         let answering = params at.answering stood.answering.station stood.answering.here in
-        let good = stood.good in
+        let good = stood.good.short in
         let answered = pace.params.answered in
         record {
           link = link;
