@@ -106,7 +106,8 @@ module _ (t u : SystemState) (xs ys : List Sending) where
 
   leads_once : (now : ℕ) (s : SystemState) → LeadsTime now s t xs → LeadsTime now s u ys → Same t u xs ys
   leads_once now s k l =
-      let split = split_is_exact.only (told_stamp (leading now s) now) k.stamp l.stamp k.rest l.rest k.split l.split in (
+      let told = told_stamp (leading now s) now in
+      let split = split_is_exact.only told k.stamp l.stamp k.rest l.rest k.split l.split in (
         k.state ∙ sym l.state,
         k.sends_are ∙ rw (split.0, split.1) refl ∙ sym l.sends_are,
       )

@@ -1,6 +1,6 @@
 //! Time stamps of a clock, of a granularity and with a noise.
 
-ghost use Rattle.std.specs.Prelude.{◌≡◌, ◌<◌, ◌^◌, ◌*ℤ◌, ◌+ℤ◌, pos, unsigned_abs, OkIff};
+ghost use Rattle.std.specs.Prelude.{◌≡◌, ◌<◌, ◌^◌, ◌*ℤ◌, pos, unsigned_abs, OkIff};
 ghost use Rattle.gptp_scaled.specs.Floor.{floor_div};
 ghost use Rattle.gptp_scaled.specs.ScaledNs.{FitsScaled};
 ghost use Rattle.gptp_scaled.specs.TimeStamp.{IsNoise, grain, mixed, noise_at, stamp_of, time_stamp};

@@ -8,9 +8,9 @@ use Rattle.gptp_error_laws.specs.WayLaws.{IsDocumented, IsReadAt, shown_at}
 use Rattle.gptp_sync_machine.specs.Right.{told_at}
 
 -- The way to the system from its root, the phases of the clocks on it, in ns, the base by which the root tells time, if
--- it does yet, and the place of its last link on it, counted from 0; the time stamps that the system takes of its clock,
--- by the time, and the port of the parent on that link. The time from which the network is settled, and a delay that no
--- link on which time is carried exceeds, in ns (of a world, the threshold).
+-- it does yet, and the place of its last link on it, counted from 0; the time stamps that the system takes of its
+-- clock, by the time, and the port of the parent on that link. The time from which the network is settled, and a delay
+-- that no link on which time is carried exceeds, in ns (of a world, the threshold).
 --
 -- The `way` goes from the root along parents, by the snapshot, the setups and the bounds of links (`Parts`; way_exists,
 -- way_is_one). Its ends are the clocks of the system and of its root (way_leads_to, way_ends_at_parent).
