@@ -89,7 +89,7 @@ module _ (p : SettlingParams) (settled longest : ℕ) (w : WorldState) (is : IsS
   pub long : length h.way.links ≡ suc steps
   long = way_leads_to.long x g (suc steps) (follower_clock at w f) h.way h.phase h.is
 
-  common : (h.way.interval ≡ x.interval) × (h.way.turnaround ≡ x.turnaround) × (h.way.residence ≡ x.residence)
+  pub common : (h.way.interval ≡ x.interval) × (h.way.turnaround ≡ x.turnaround) × (h.way.residence ≡ x.residence)
       × (h.way.blur ≡ x.blur) × (h.way.behind ≡ x.behind)
   common = way_ends_at_parent.common x g (suc steps) (follower_clock at w f) h.way h.phase h.is
 
