@@ -30,7 +30,7 @@ use Rattle.gptp_theorem.specs.AlikeLaws.{AreAlike}
 use Rattle.gptp_theorem.specs.Reached.{Shape, shape, shape_after, StandsAsPlanned, channel_wire}
 use Rattle.gptp_theorem.proofs.AlikeLemmas.{distance, parent, turned}
 use Rattle.gptp_setup.specs.Intervals.{interval_of}
-use Rattle.gptp_setup.specs.Stamping.{rate_interval}
+use Rattle.gptp_setup.specs.Stamping.{behind_of, blur_of, rate_interval}
 use Rattle.gptp_roles.specs.Selection.{clock_of}
 use Rattle.gptp_accuracy.specs.Ways.{HasDrift, IsLinkTo, IsWay, root_way}
 use Rattle.gptp_sync_machine.specs.Tree.{IsWayTo, last_link, Parts, tree_root_way}
@@ -103,7 +103,7 @@ module _ (n : NetworkState) (network : IsNetwork n) (events : List Timed) (w : W
 
   -- ---- ways
 
-  -- time stamps are exact, and a rate is measured over one exchange
+  -- a rate is measured over one exchange
   exact_way : (clock : ℕ) → tree_root_way x clock ≡ root_way n.params (x.drift clock)
   exact_way clock =
       let ranges = network.params.ranges in
@@ -112,7 +112,8 @@ module _ (n : NetworkState) (network : IsNetwork n) (events : List Timed) (w : W
       λ i. record {
         drift = x.drift clock;
         links = [];
-        blur = sym ranges.exact i;
+        blur = blur_of n.params;
+        behind = behind_of n.params;
         interval = sym window i;
         turnaround = n.params.turnaround;
         residence = n.params.residence;
