@@ -16,7 +16,6 @@ use Rattle.gptp_scenario.specs.declared.change.Act.TheVariants.{Deliver, Expire,
 use Rattle.gptp_scenario.specs.declared.change.Change.{Change}
 use Rattle.gptp_scenario.specs.declared.change.Change.TheVariants.{LinkDown, LinkUp, LinkSet, Fail, Recover, Priority1, Inject}
 use Rattle.gptp_scenario.specs.declared.network.LinkSpec.{LinkSpec}
-use Rattle.gptp_scenario.specs.Network.{pace_of}
 use Rattle.gptp_model.specs.declared.station.Station.{Station}
 use Rattle.gptp_model.specs.Act.{Delivers, TimerRunsOut, Hears, all_timers}
 use Rattle.gptp_model.specs.Acts.{Changes, set_to}
@@ -287,8 +286,8 @@ starts_measured places w w' draws sound is k = (starts_all_kept places w draws w
 pub initially_measured : InitiallyMeasured
 initially_measured n = record {
   stations = λ place station here.
-      let (member, at, made) = mapped (station_of (pace_of n)) n.systems place station here in
-      subst (IsStationMeasured 0) made (started_measured (setup_of (pace_of n) member) 0 false);
+      let (member, at, made) = mapped (station_of n) n.systems place station here in
+      subst (IsStationMeasured 0) made (started_measured (setup_of n member) 0 false);
   frames = λ link channel here.
       let (wire, at, made) = mapped channel_from n.links link channel here in
       subst (λ (c : Channel). (direction : Direction) (f : Frame) → In f (world_queue direction c)

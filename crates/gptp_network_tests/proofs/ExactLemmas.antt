@@ -155,8 +155,8 @@ module _ (w : WorldState) (time : ℕ) (k : IsPairSince 27000000000 w) (sound : 
   module _ (place number identity : ℕ) (stands : slice_get pair_network.systems place ≡ Some (end_station identity))
       (is : clock_of identity ≡ number) where
     pub found : (station : Station) × (slice_get w.stations place ≡ Some station)
-        × (shape station ≡ shape_after (pace_of pair_network) [] (end_station identity))
-    found = alike shape (shape_after (pace_of pair_network) []) w.stations pair_network.systems k.stands.systems place
+        × (shape station ≡ shape_after pair_network [] (end_station identity))
+    found = alike shape (shape_after pair_network []) w.stations pair_network.systems k.stands.systems place
         (end_station identity) stands
 
     named : clock found.0.system ≡ number

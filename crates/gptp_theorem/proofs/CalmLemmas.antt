@@ -67,12 +67,12 @@ count_stands n events w so sound = ap length (systems_stand n events w so sound)
 record IsMemberAt (n : NetworkState) (events : List Timed) (place : ℕ) (station : Station) : Type 0 where
   pub member : SystemSpec
   pub there : slice_get n.systems place ≡ Some member
-  pub is : shape_after (pace_of n) events member ≡ shape station
+  pub is : shape_after n events member ≡ shape station
 
 member_at : (n : NetworkState) (events : List Timed) (w : WorldState) → StandsAsPlanned n events w → (place : ℕ)
     (station : Station) → slice_get w.stations place ≡ Some station → IsMemberAt n events place station
 member_at n events w so place station here =
-    let (m, there, is) = alike (shape_after (pace_of n) events) shape n.systems w.stations (sym so.systems) place
+    let (m, there, is) = alike (shape_after n events) shape n.systems w.stations (sym so.systems) place
     station here in
     record { member = m; there = there; is = is }
 

@@ -13,7 +13,7 @@ use Rattle.gptp_links.specs.Fate.{Draw}
 use Rattle.gptp_lists.proofs.MappedLemmas.{mapped}
 use Rattle.gptp_lists.proofs.PlaceLemmas.{get-set_all}
 use Rattle.gptp_pdelay.specs.Peer.{reset_peer}
-use Rattle.gptp_scenario.specs.Network.{NetworkState, pace_of}
+use Rattle.gptp_scenario.specs.Network.{NetworkState}
 use Rattle.gptp_setup.specs.Intervals.{interval_of}
 use Rattle.gptp_setup.specs.declared.setup.Setup.{Setup}
 use Rattle.gptp_system.specs.declared.answer.Answer.{Answer}
@@ -117,8 +117,8 @@ starts_all (place ∷ places) w draws w' (first, rest, between, are, one, more) 
 
 initially : (n : NetworkState) → NoneMeasured (initial n).stations
 initially n place station there =
-    let (member, here, is) = mapped (station_of (pace_of n)) n.systems place station there in
-    subst (λ (x : Station). HasMeasuredNothing x.system) is (starts_so (setup_of (pace_of n) member) 0)
+    let (member, here, is) = mapped (station_of n) n.systems place station there in
+    subst (λ (x : Station). HasMeasuredNothing x.system) is (starts_so (setup_of n member) 0)
 
 -- ---- none expects time
 

@@ -22,7 +22,7 @@ use Rattle.gptp_lists.proofs.MappedLemmas.{alike}
 use Rattle.gptp_lists.proofs.SystemSpecLemmas.{slice_get-In}
 use Rattle.gptp_network.proofs.SnapshotLemmas.{clock_after}
 use Rattle.gptp_scenario.specs.Change.{link_after}
-use Rattle.gptp_scenario.specs.Network.{IsEnd, IsNetwork, NetworkState, pace_of}
+use Rattle.gptp_scenario.specs.Network.{IsEnd, IsNetwork, NetworkState}
 use Rattle.gptp_scenario.specs.declared.change.Timed.{Timed}
 use Rattle.gptp_scenario.specs.declared.network.LinkSpec.{LinkSpec}
 use Rattle.gptp_scenario.proofs.AfterLemmas.{after_keeps}
@@ -50,7 +50,7 @@ module _ (n : NetworkState) (network : IsNetwork n) (events : List Timed) (w : W
   drift_there clock drift has =
       let m = has.system in
       let (place, at) = slice_get-In m n.systems has.there in
-      let (station, here, same) = alike shape (shape_after (pace_of n) events) w.stations n.systems so.systems place m
+      let (station, here, same) = alike shape (shape_after n events) w.stations n.systems so.systems place m
       at in
       let named : clock_of station.setup.identity ≡ clock =
       ap (λ (s : Shape). clock_of s.setup.identity) same ∙ clock_after events m ∙ has.is in

@@ -94,7 +94,7 @@ fn station_in(network: &Network, place: usize) -> Station
         continues,
         intervals,
         largest,
-        seed: 1,
+        seed: network.seed(),
         params: network.params(),
     };
     let system = System::new(setup.copy(), 0);

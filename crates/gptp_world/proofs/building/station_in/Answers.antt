@@ -3,7 +3,7 @@ use Rattle.std.proofs.Common.{false, Some, ap, sym, ◌∙◌}
 use Rattle.gptp_setup.specs.declared.setup.Setup.{Setup}
 use Rattle.gptp_system.specs.Start.{started}
 use Rattle.gptp_system.specs.State.{SystemState}
-use Rattle.gptp_scenario.specs.Network.{member, pace_of}
+use Rattle.gptp_scenario.specs.Network.{member}
 use Rattle.gptp_scenario.specs.declared.network.SystemSpec.{SystemSpec}
 use Rattle.gptp_model.specs.declared.station.Station.{Station}
 use Rattle.gptp_model.specs.Initial.{setup_of, station_of}
@@ -18,7 +18,8 @@ new-system-requires-clause-ports c =
     c.continues_at.ensures c.unwrap-continues.ensures in
     let limits = c.well_formed-2.ensures.systems c.args.place _ here in
     let most = c.largest-largest.ensures in
-    let made = set_up n _ c.copy.result _ _ limits.drift most.range most.is c.params.ensures c.copy.ensures in
+    let made = set_up n _ c.copy.result _ _ _ limits.drift most.range most.is c.seed.ensures
+    c.params.ensures c.copy.ensures in
     rw made limits.ports
 
 pub new-system-requires-clause-phase : goal.new-system-requires-clause-phase
@@ -28,7 +29,8 @@ new-system-requires-clause-phase c =
     c.continues_at.ensures c.unwrap-continues.ensures in
     let limits = c.well_formed-2.ensures.systems c.args.place _ here in
     let most = c.largest-largest.ensures in
-    let made = set_up n _ c.copy.result _ _ limits.drift most.range most.is c.params.ensures c.copy.ensures in
+    let made = set_up n _ c.copy.result _ _ _ limits.drift most.range most.is c.seed.ensures
+    c.params.ensures c.copy.ensures in
     rw made limits.phase
 
 pub new-system-requires-clause-drift : goal.new-system-requires-clause-drift
@@ -38,7 +40,8 @@ new-system-requires-clause-drift c =
     c.continues_at.ensures c.unwrap-continues.ensures in
     let limits = c.well_formed-2.ensures.systems c.args.place _ here in
     let most = c.largest-largest.ensures in
-    let made = set_up n _ c.copy.result _ _ limits.drift most.range most.is c.params.ensures c.copy.ensures in
+    let made = set_up n _ c.copy.result _ _ _ limits.drift most.range most.is c.seed.ensures
+    c.params.ensures c.copy.ensures in
     rw made limits.drift
 
 pub new-system-requires-clause-intervals : goal.new-system-requires-clause-intervals
@@ -48,7 +51,8 @@ new-system-requires-clause-intervals c =
     c.continues_at.ensures c.unwrap-continues.ensures in
     let limits = c.well_formed-2.ensures.systems c.args.place _ here in
     let most = c.largest-largest.ensures in
-    let made = set_up n _ c.copy.result _ _ limits.drift most.range most.is c.params.ensures c.copy.ensures in
+    let made = set_up n _ c.copy.result _ _ _ limits.drift most.range most.is c.seed.ensures
+    c.params.ensures c.copy.ensures in
     rw made (intervals_within n c.well_formed-2.ensures c.args.place _ here)
 
 pub returns : goal.returns
@@ -60,9 +64,10 @@ returns c =
     let most = c.largest-largest.ensures in
     let told = c.unwrap-identity.result in
     let member : SystemSpec = member told.0 told.1 told.2 told.3 c.unwrap-continues.result told.4 in
-    let made = set_up n member c.copy.result _ _ limits.drift most.range most.is c.params.ensures c.copy.ensures in
+    let made = set_up n member c.copy.result _ _ _ limits.drift most.range most.is c.seed.ensures
+    c.params.ensures c.copy.ensures in
     let station : Setup → SystemState → Station =
     λ setup system. record { setup = setup; system = system; live = false } in
-    mapped_there (station_of (pace_of n)) n.systems c.args.place _ here
+    mapped_there (station_of n) n.systems c.args.place _ here
     ∙ sym (ap (λ s. Some (station s c.new-system.result)) (sym c.copy.ensures ∙ made)
-    ∙ ap (λ s. Some (station (setup_of (pace_of n) member) s)) (c.new-system.ensures ∙ ap (λ s. started s 0) made))
+    ∙ ap (λ s. Some (station (setup_of n member) s)) (c.new-system.ensures ∙ ap (λ s. started s 0) made))
