@@ -8,7 +8,7 @@ use Rattle.gptp_vector.specs.declared.port.PortId.{PortId}
 use Rattle.gptp_roles.specs.Selection.{clock_of}
 use Rattle.gptp_setup.specs.declared.setup.Params.{Params}
 use Rattle.gptp_setup.specs.Intervals.{interval_of}
-use Rattle.gptp_scenario.specs.Network.{NetworkState, without_members, with_system, with_link, logs_of, ArePrompt, IsKeptNetwork, IsMember, IsMemberTimed, IsPort, IsWire, IsEnd, IsNetwork, CanAddSystem, CanAddLink, seeded}
+use Rattle.gptp_scenario.specs.Network.{NetworkState, without_members, with_system, with_link, logs_of, ArePrompt, IsKeptNetwork, IsMember, IsMemberTimed, IsPort, IsWire, IsEnd, IsNetwork, CanAddSystem, CanAddLink, seeded, largest_of}
 use Rattle.gptp_scenario.specs.Params.{KeepParams}
 use Rattle.gptp_scenario.specs.declared.network.SystemSpec.{SystemSpec}
 use Rattle.gptp_scenario.specs.declared.network.LinkSpec.{LinkSpec}
@@ -16,9 +16,6 @@ use Rattle.gptp_lists.specs.Members.{In}
 use Rattle.gptp_lists.proofs.SystemSpecLemmas.{In-parts}
 use Rattle.gptp_lists.proofs.PlaceLemmas.{behind, before}
 use Rattle.gptp_scenario.proofs.LogLemmas.{logs_added, of_member, reduce_added}
-use Rattle.gptp_scenario.specs.Calm.{IsCalm}
-use Rattle.gptp_scenario.specs.declared.change.Timed.{Timed}
-use Rattle.std.specs.Prelude.{◌↔◌}
 
 pub none_yet : (p : Params) → KeepParams p → IsKeptNetwork (without_members p) None None
 none_yet p h = record {
@@ -172,29 +169,19 @@ seeded_wire n seed i w k = record {
   apart = k.apart;
 }
 
-pub seeded_kept : (n : NetworkState) (seed : ℕ) (smallest largest : Option ℤ) → IsKeptNetwork n smallest largest
-    → IsKeptNetwork (seeded seed n) smallest largest
-seeded_kept n seed smallest largest h = record {
-  network = record {
-    params = h.network.params;
-    few_systems = h.network.few_systems;
-    few_links = h.network.few_links;
-    systems = h.network.systems;
-    identities = h.network.identities;
-    clocks = h.network.clocks;
-    timed = h.network.timed;
-    links = λ i w there. seeded_wire n seed i w (h.network.links i w there);
-    one_link = h.network.one_link;
-  };
-  smallest = h.smallest;
-  largest = h.largest;
+pub seeded_network : (n : NetworkState) (seed : ℕ) → IsNetwork n → IsNetwork (seeded seed n)
+seeded_network n seed h = record {
+  params = h.params;
+  few_systems = h.few_systems;
+  few_links = h.few_links;
+  systems = h.systems;
+  identities = h.identities;
+  clocks = h.clocks;
+  timed = h.timed;
+  links = λ i w there. seeded_wire n seed i w (h.links i w there);
+  one_link = h.one_link;
 }
 
--- it is as calm
-seeded_calm : (n : NetworkState) (seed : ℕ) (events : List Timed) → IsCalm n events → IsCalm (seeded seed n) events
-seeded_calm n seed events calm = record { links = calm.links; lapses = calm.lapses }
-
-pub calm_anyhow : {X : Type 0} (n : NetworkState) (seed : ℕ) (events : List Timed) → X ↔ IsCalm n events
-    → X ↔ IsCalm (seeded seed n) events
-calm_anyhow n seed events is =
-    (λ x. seeded_calm n seed events (is.0 x), λ calm. is.1 (seeded_calm (seeded seed n) n.seed events calm))
+pub seeded_largest : (n : NetworkState) (seed : ℕ) → largest_of (seeded seed n) ≡ largest_of n
+unfolding largest_of
+seeded_largest n seed = refl
