@@ -4,7 +4,7 @@ use Rattle.std.proofs.lemmas.Int.{ints, clamps}
 use Rattle.std.proofs.lemmas.Nat.{mod_below}
 use Rattle.gptp_scaled.specs.Floor.{floor_div}
 use Rattle.gptp_scaled.specs.TimeStamp.{IsNearShown, IsNoise, NoiseIsWithin, StampIsCentred, StampIsNear}
-use Rattle.gptp_scaled.specs.TimeStamp.{TimeStampIsCentred, TimeStampIsNear, TimeStampIsShown, noise_at, time_stamp}
+use Rattle.gptp_scaled.specs.TimeStamp.{TimeStampIsCentred, TimeStampIsNear, TimeStampIsShown, drawn_noise, noise_at, time_stamp}
 use Rattle.gptp_scaled.proofs.FloorLemmas.{floor_is}
 use Rattle.gptp_scaled.proofs.ProductLemmas.{distribute, swap}
 
@@ -33,7 +33,7 @@ stamp_is_centred g e z x shown n =
 
 -- ---- drawn noise
 
-pub drawn_within : (most word : ℕ) → IsNoise most (pos (word % (2 * most + 1)) -ℤ pos most)
+pub drawn_within : (most word : ℕ) → IsNoise most (drawn_noise most word)
 drawn_within most word =
     let m : word % (2 * most + 1) < 2 * most + 1 = mod_below word (2 * most + 1) (omega arith) in
     record { low = omega (arith, ints); high = omega (arith, ints, m) }

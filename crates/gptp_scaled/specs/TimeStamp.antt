@@ -48,11 +48,13 @@ StampIsCentred = (granularity most_noise : ℕ) (noise shown : ℤ) → pos 0 �
 abbrev pub mixed : ℕ → ℕ
 mixed n = (mix_u64 n).0
 
--- The noise of what is stamped at a time, t ns: a number that the seed, the clock and the time are mixed to, brought to
--- the range (profile).
+-- a word brought to the range of a noise
+abbrev pub drawn_noise : ℕ → ℕ → ℤ
+drawn_noise most_noise word = pos (word % (2 * most_noise + 1)) -ℤ pos most_noise
+
+-- The noise of what is stamped at a time, t ns: of the word that the seed, the clock and the time are mixed to (profile).
 unfoldable pub noise_at : Stamping → ℕ → ℤ
-noise_at k t =
-    pos (mixed (bit_xor (mixed (bit_xor (mixed k.seed) k.clock)) t) % (2 * k.most_noise + 1)) -ℤ pos k.most_noise
+noise_at k t = drawn_noise k.most_noise (mixed (bit_xor (mixed (bit_xor (mixed k.seed) k.clock)) t))
 
 -- the time stamp that is taken then of what is shown, in units of 2^-16 ns
 unfoldable pub time_stamp : Stamping → ℕ → ℤ → ℤ

@@ -3,7 +3,7 @@
 ghost use Rattle.std.specs.Prelude.{◌≡◌, ◌<◌, ◌^◌, ◌*ℤ◌, pos, unsigned_abs, OkIff};
 ghost use Rattle.gptp_scaled.specs.Floor.{floor_div};
 ghost use Rattle.gptp_scaled.specs.ScaledNs.{FitsScaled};
-ghost use Rattle.gptp_scaled.specs.TimeStamp.{IsNoise, grain, mixed, noise_at, stamp_of, time_stamp};
+ghost use Rattle.gptp_scaled.specs.TimeStamp.{drawn_noise, grain, mixed, noise_at, stamp_of, time_stamp};
 
 use crate::{OutOfRange, ScaledNs};
 use rand_core::SeedableRng;
@@ -57,18 +57,23 @@ fn stamp_of(granularity: u16, noise: i32, shown: ScaledNs) -> i128
     .max(0)
 }
 
+/// The noise that a word is brought to, in ns.
+fn drawn_noise(most_noise: u16, word: u64) -> i32
+    ensures { result ≡ drawn_noise most_noise word }
+{
+    (word % (2 * u64::from(most_noise) + 1)) as i32 - i32::from(most_noise)
+}
+
 impl Stamping {
     /// The noise of what is stamped at a time, in ns: one number for each seed, clock and time.
     fn noise_at(&self, t: u64) -> i32
-        ensures noise { result ≡ noise_at self.now t }
-        ensures within { IsNoise self.now.most_noise result }
+        ensures { result ≡ noise_at self.now t }
     {
         if self.most_noise == 0 {
             return 0;
         }
         let word = mixed(mixed(mixed(self.seed) ^ self.clock) ^ t);
-        let parts = 2 * u64::from(self.most_noise) + 1;
-        (word % parts) as i32 - i32::from(self.most_noise)
+        drawn_noise(self.most_noise, word)
     }
 
     /// The time stamp that is taken at `t`, in ns, of what is shown then; refused where it does not fit.
