@@ -1,4 +1,4 @@
-use Rattle.std.proofs.Common.{◌≡◌, ℕ, ◌^◌, ◌+◌, ◌%◌, ◌≤◌, ℤ, pos, negsuc, neg_ℤ, ◌+ℤ◌, ◌-ℤ◌, ◌*ℤ◌, ◌<ℤ◌, ◌*◌, ◌-◌, ◌<◌, unsigned_abs, FitsSigned, to_z, of_z, ap, ◌∙◌, refl, arith}
+use Rattle.std.proofs.Common.{◌≡◌, ℕ, ◌^◌, ◌+◌, ◌%◌, ℤ, pos, negsuc, neg_ℤ, ◌+ℤ◌, ◌-ℤ◌, ◌*ℤ◌, ◌<ℤ◌, ◌*◌, ◌-◌, ◌<◌, unsigned_abs, FitsSigned, to_z, of_z, ap, ◌∙◌, refl, arith}
 use Rattle.std.specs.Int.{Width, w32, w128, int_div_euclid, int_max}
 use Rattle.std.proofs.lemmas.Int.{ints, clamps, to_z-of_z, to_z_pos}
 use Rattle.std.proofs.lemmas.Nat.{mod_below}
