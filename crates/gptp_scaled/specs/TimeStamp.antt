@@ -52,7 +52,8 @@ mixed n = (mix_u64 n).0
 abbrev pub drawn_noise : ℕ → ℕ → ℤ
 drawn_noise most_noise word = pos (word % (2 * most_noise + 1)) -ℤ pos most_noise
 
--- The noise of what is stamped at a time, t ns: of the word that the seed, the clock and the time are mixed to (profile).
+-- The noise of what is stamped at a time, t ns: of the word that the seed, the clock and the time are mixed to
+-- (profile).
 unfoldable pub noise_at : Stamping → ℕ → ℤ
 noise_at k t = drawn_noise k.most_noise (mixed (bit_xor (mixed (bit_xor (mixed k.seed) k.clock)) t))
 
