@@ -1,9 +1,12 @@
 -- After so many rounds each system has the best that so few links lead to.
 use Rattle.std.proofs.Common.{◌≡◌, ◌⊎◌, ◌<◌, ◌≤◌, ◌+◌, ◌-◌, ◌++◌, ◌==◌, ◌&&◌, ℕ, zero, suc, Bool, true, false, List, [], ◌∷◌, drop, map, nat_lt, Option, Some, None, slice_get, slice_set, refl, sym, ap, ap₂, subst, ◌∙◌, inl, inr, arith}
 use native.Mathlib.Decide.{dec_lt}
+use Rattle.std.specs.Bool.{Decides}
+use Rattle.std.specs.Cmp.Lexicographic.{pointwise}
 use Rattle.std.specs.List.{AllByRecursion}
 use Rattle.std.proofs.lemmas.Bool.{and_parts, eq-eqb, eqb-true, or_cases, or_parts}
 use Rattle.std.proofs.lemmas.Bool.Decides.{nat_tests}
+use Rattle.std.proofs.lemmas.Slice.Eq.{slice_eq-Decides}
 use Rattle.gptp_lists.specs.Members.{In}
 use Rattle.gptp_lists.proofs.MappedLemmas.{same_there, some_same}
 use Rattle.gptp_lists.proofs.PlaceLemmas.{get-set_other, get-set_same, same_place}
@@ -337,6 +340,20 @@ settles links (suc count) cs inside =
     (settles links count (round links cs) (λ i j touches. (passes cs cs links).there i (inside i j touches)))
 
 -- ---- one round after another
+
+-- choices that are equal one by one are the same
+one_choice : (a b : Chosen) → Decides ((a.root == b.root) && (a.steps == b.steps)) (a ≡ b)
+one_choice a b = (
+  λ is.
+      let (root, steps) = and_parts (a.root == b.root) (a.steps == b.steps) is in
+      λ i. record { root = eqb-true a.root b.root root i; steps = eqb-true a.steps b.steps steps i },
+  λ same. ap₂ (λ x y. x && y) (eq-eqb a.root b.root (ap (λ (c : Chosen). c.root) same))
+      (eq-eqb a.steps b.steps (ap (λ (c : Chosen). c.steps) same)),
+)
+
+pub same_choices : (cs ds : List Chosen) (equal : Bool)
+    → equal ≡ pointwise (λ (a b : Chosen). (a.root == b.root) && (a.steps == b.steps)) cs ds → equal ≡ true → cs ≡ ds
+same_choices cs ds equal is = (slice_eq-Decides one_choice cs ds equal is).0
 
 -- where a round changes nothing, no more of them do
 pub stays_still : (links : List Ends) (count : ℕ) (cs : List Chosen) → round links cs ≡ cs → rounds links count cs ≡ cs
