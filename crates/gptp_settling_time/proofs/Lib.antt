@@ -73,4 +73,7 @@ pub mod SameBestLemmas
 pub mod ReselectsLemmas
 pub mod UnmovedLemmas
 pub mod BetterClockLemmas
+pub mod FitsLemmas
+pub mod LeftClaimedLemmas
+pub mod GoesDownLemmas
 pub mod WellFormedLemmas
