@@ -72,18 +72,18 @@ pub record IsLeftUnmoved (g g' : Snapshot) : Type 0 where
   pub unmoved : (v : ℕ) → In v (clocks g') → IsUnmoved g g' v
 
 module _ (g g' : Snapshot) (well : IsWellFormed g) (well' : IsWellFormed g') (left : IsLeftUnmoved g g') where
-  lived : (v : ℕ) → In v (clocks g') → In v (clocks g)
+  pub lived : (v : ℕ) → In v (clocks g') → In v (clocks g)
   lived v known =
       let (s, here, clock) = system_of g' v known in
       subst (λ c. In c (clocks g)) clock (In-clocks g s (left.systems s here))
 
-  best_before : (v : ℕ) (b : System) → IsBest g' v b → IsBest g v b
+  pub best_before : (v : ℕ) (b : System) → IsBest g' v b → IsBest g v b
   best_before v b is =
       let known = is.reached.1.begins in
       let (c, was) = best_exists g v well (lived v known) in
       subst (IsBest g v) (IsBest-unique g' v c b well' ((left.unmoved v known).best c was) is) was
 
-  distance_before : (v d : ℕ) → IsDistance g' v d → IsDistance g v d
+  pub distance_before : (v d : ℕ) → IsDistance g' v d → IsDistance g v d
   distance_before v d is =
       let known = is.is_best.reached.1.begins in
       let (e, was) = distance_exists g v well (lived v known) in

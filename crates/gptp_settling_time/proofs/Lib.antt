@@ -76,4 +76,5 @@ pub mod BetterClockLemmas
 pub mod FitsLemmas
 pub mod LeftClaimedLemmas
 pub mod GoesDownLemmas
+pub mod ReducedLemmas
 pub mod WellFormedLemmas
