@@ -48,6 +48,7 @@ pub mod BesideUpLemmas
 pub mod LinkStoodLemmas
 pub mod LinkUpLemmas
 pub mod FailedUpLemmas
+pub mod TakenDownLemmas
 pub mod FailedDownLemmas
 pub mod RestClaimedLemmas
 pub mod WiderLinkLemmas

@@ -1,8 +1,7 @@
--- A state of which links are gone, and nothing else, where no system is moved: what is held and in flight fits as it did,
--- each link that is left stays at its stage, and each system holds as much at its other ports.
-use Rattle.std.proofs.Common.{◌≡◌, ◌≢◌, ◌⊎◌, ◌<◌, ◌≤◌, ℕ, zero, suc, Bool, true, false, List, [], Some, slice_get, refl, sym, ap, subst, ◌∙◌, inl, inr, arith}
+-- A state of which links are gone, and nothing else, where no system is moved: what is held and in flight fits as it
+-- did, each link that is left stays at its stage, and each system holds as much at its other ports.
+use Rattle.std.proofs.Common.{◌≡◌, ◌≢◌, ◌⊎◌, ◌<◌, ◌≤◌, ℕ, zero, suc, true, false, List, [], Some, slice_get, refl, sym, ap, subst, ◌∙◌, inl, inr, arith}
 use Rattle.gptp_lists.specs.Members.{In}
-use Rattle.gptp_graph.specs.Best.{IsBest}
 use Rattle.gptp_graph.specs.Distance.{IsDistance}
 use Rattle.gptp_graph.specs.Snapshot.{Adjacent, IsLinked, IsWellFormed, Joins, PortIdentity, Snapshot, System, clocks, port_of}
 use Rattle.gptp_graph.proofs.BestLemmas.{IsBest-neighbour}
