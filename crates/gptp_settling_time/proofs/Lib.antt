@@ -78,4 +78,5 @@ pub mod FitsLemmas
 pub mod LeftClaimedLemmas
 pub mod GoesDownLemmas
 pub mod ReducedLemmas
+pub mod LoweredLemmas
 pub mod WellFormedLemmas
