@@ -1,15 +1,14 @@
 -- A link between live systems goes down, and no system is moved: each keeps its root and its steps, and sends nothing.
 -- So what is left stands as it did, and all that is held and in flight fits the snapshot of before.
-use Rattle.std.proofs.Common.{◌≡◌, ◌≢◌, ◌⊎◌, ◌≤◌, ◌+◌, ℕ, ℤ, zero, suc, Bool, true, false, List, [], ◌∷◌, map, Some, slice_get, slice_set, refl, sym, ap, subst, ◌∙◌, inl, inr, arith}
+use Rattle.std.proofs.Common.{◌≡◌, ◌≢◌, ◌⊎◌, ◌≤◌, ℕ, ℤ, zero, suc, Bool, true, false, List, [], ◌∷◌, map, Some, slice_get, slice_set, refl, sym, ap, subst, ◌∙◌, inl, inr, arith}
 use Rattle.std.proofs.lemmas.Option.{same_Some}
 use Rattle.gptp_lists.specs.Members.{In}
 use Rattle.gptp_lists.proofs.MappedLemmas.{same_there}
 use Rattle.gptp_lists.proofs.PlaceLemmas.{get-set_other, get-set_same, same_place}
 use Rattle.gptp_graph.specs.PathBound.{BoundsPaths}
-use Rattle.gptp_graph.specs.Snapshot.{IsLinked, IsWellFormed, Joins, Snapshot, System, clocks, port_of}
+use Rattle.gptp_graph.specs.Snapshot.{IsLinked, IsWellFormed, Joins, Snapshot, port_of}
 use Rattle.gptp_graph.proofs.SystemLemmas.{In-clocks}
 use Rattle.gptp_vector.specs.Vector.{path_of, system_vector}
-use Rattle.gptp_vector.specs.declared.port.PortId.{PortId}
 use Rattle.gptp_vector.specs.declared.vector.Vector.{Vector}
 use Rattle.gptp_links.specs.declared.link.Direction.{Direction}
 use Rattle.gptp_links.specs.declared.link.Direction.TheVariants.{FromA, FromB}
@@ -19,7 +18,6 @@ use Rattle.gptp_receipt.specs.declared.held.Held.TheVariants as helds
 use Rattle.gptp_receipt.specs.declared.held.Reception.{Reception}
 use Rattle.gptp_roles.specs.Choice.{IsIn, path_vectors}
 use Rattle.gptp_roles.specs.Selection.{clock_of}
-use Rattle.gptp_scenario.specs.Calm.{NothingLapses}
 use Rattle.gptp_scenario.specs.Params.{KeepPace}
 use Rattle.gptp_scenario.specs.declared.change.Act.TheVariants.{Change as Changing}
 use Rattle.gptp_scenario.specs.declared.change.Change.TheVariants.{LinkDown}
@@ -101,7 +99,8 @@ reduced live i a b sends quiet = record {
     spans : span_at b ≡ span_at a
     spans = λ k. (λ log. span_by (quiet.params k).timeout (quiet.largest k) log)
 
-    same : ports_view (span_at b) b.held b.ports ≡ ports_view (span_at a) (without i a.held) (change_at silenced i a.ports)
+    same : ports_view (span_at b) b.held b.ports
+        ≡ ports_view (span_at a) (without i a.held) (change_at silenced i a.ports)
     same = λ k. ports_view (spans k) (quiet.held k) (quiet.ports k)
 
 reduced_itself : (s : SeenStation) → IsReducedStation s s
@@ -149,7 +148,8 @@ set_reduced stations place old new here less i s there =
       | inl same ↦
           let one : x.station ≡ new =
           same_Some x.station new
-          (sym x.here ∙ ap (slice_get (slice_set stations place new)) same ∙ get-set_same stations place old new here) in (
+          (sym x.here ∙ ap (slice_get (slice_set stations place new)) same
+          ∙ get-set_same stations place old new here) in (
             station_view old,
             ap (slice_get (map station_view stations)) same ∙ station_there stations place old here,
             subst (IsReducedStation (station_view old)) (sym (x.is ∙ ap station_view one)) less,
@@ -240,13 +240,12 @@ module _ (p : SettlingParams) (w : WorldState) (is : IsWorld p w) (place : ℕ) 
       let from = port_identity_number (sender way channel) in
       let x = way_of taken from q (subst (λ h. Joins h from q) (same_snapshot taken w' keeps) joins) in
       let apart : x.link ≢ place =
-      λ same.
-          let one : x.channel ≡ lost channel =
-          same_Some x.channel (lost channel)
-          (sym x.here ∙ ap (slice_get (slice_set w.net.channels place (lost channel))) same
-          ∙ get-set_same w.net.channels place channel (lost channel) here) in
-          let both : true ≡ false = sym x.used ∙ ap (channel_is_used (live_stations w.stations)) one in
-          cc in
+      λ same. (let one : x.channel ≡ lost channel =
+      same_Some x.channel (lost channel)
+      (sym x.here ∙ ap (slice_get (slice_set w.net.channels place (lost channel))) same
+      ∙ get-set_same w.net.channels place channel (lost channel) here) in
+      let both : true ≡ false = sym x.used ∙ ap (channel_is_used (live_stations w.stations)) one in
+      cc) in
       let was : slice_get w.net.channels x.link ≡ Some x.channel =
       sym (get-set_other w.net.channels place x.link (lost channel) apart) ∙ x.here in
       apart (one_way w is.sound is.encodable x.link place x.direction way x.channel channel was here x.from).same_link
@@ -450,8 +449,8 @@ module _ (p : SettlingParams) (next owner port : ℕ) (w : WorldState) (draws : 
         let one : place ≡ at_link.place =
         is.sound.wired.apart place at_link.place way direction channel at_link.channel at_port.here at_link.is.here
         (begins ∙ sym starts) in
-        up_apart p w is at_link.place at_link.channel at_link.is.here draws w' is' ends stands.channels at.link s.channel
-        s.here s.up (sym same ∙ one)
+        up_apart p w is at_link.place at_link.channel at_link.is.here draws w' is' ends stands.channels at.link
+        s.channel s.here s.up (sym same ∙ one)
 
     pub act_left : next ≤ w.time → delay_in w' ≡ delay_in w → IsSoundWorld w → AreReadyBy p next w
         → AreSilentBy p next w → IsLeftAlways p (snapshot_of w) next w'
@@ -459,7 +458,7 @@ module _ (p : SettlingParams) (next owner port : ℕ) (w : WorldState) (draws : 
         lowered_left p w is at_link.place at_link.channel at_link.is.here draws w' is' ends seen near left next pace
         measured' past delay sound
         (λ at s.
-        ready_goes_through p next at (Changing (LinkDown owner port)) w w' draws done is.sound measured (other at s) acts
-        (ready at
+        ready_goes_through p next at (Changing (LinkDown owner port)) w w' draws done is.sound measured (other at s)
+        acts (ready at
         (stood_down p w is at_link.place at_link.channel at_link.is.here draws w' is' ends stands.channels at s)))
         silent
