@@ -1,8 +1,9 @@
 -- A world since a loss that moved no system: what it holds fits the snapshot of before. It goes on as one since news
 -- does, and settles.
-use Rattle.std.proofs.Common.{◌≤◌, ◌+◌, ℕ, List, refl, sym, subst, inl, inr, ◌*◌, pred}
+use Rattle.std.proofs.Common.{◌≤◌, ◌+◌, ◌*◌, ℕ, pred, List, refl, sym, subst, inl, inr, arith}
+use Rattle.gptp_lists.specs.Members.{In}
 use Rattle.gptp_graph.specs.PathBound.{BoundsPaths}
-use Rattle.gptp_graph.specs.Snapshot.{IsWellFormed, Snapshot}
+use Rattle.gptp_graph.specs.Snapshot.{IsWellFormed, Snapshot, clocks}
 use Rattle.gptp_links.specs.Fate.{Draw}
 use Rattle.gptp_scenario.specs.Calm.{NothingLapses}
 use Rattle.gptp_scenario.specs.declared.change.Act.{Act}
@@ -20,10 +21,15 @@ use Rattle.gptp_bmca_machine.specs.LossLaws.{EverythingFits, IsWhatIsLeft}
 use Rattle.gptp_bmca_machine.proofs.LossLemmas.{fits_kept}
 use Rattle.gptp_invariants.specs.ChoiceCalm.{HaveQuietLinks, delay_in}
 use Rattle.gptp_invariants.specs.ChoiceSettled.{Settled}
-use Rattle.gptp_invariants.specs.WorldBounded.{IsBoundedWorld}
 use Rattle.gptp_invariants.specs.ChoiceSeenLaws.{IsNoChange}
+use Rattle.gptp_invariants.specs.ChoiceSettlesAsMachine.{IsWorld}
 use Rattle.gptp_invariants.specs.ChoiceView.{says_announce, view}
+use Rattle.gptp_invariants.specs.DelayLinkView.{LinkPlace}
+use Rattle.gptp_invariants.specs.DelayMeasured.{LinkIsMeasured, LinkStandsAt}
+use Rattle.gptp_invariants.specs.DelayMeasuredLinks.{HaveMeasuredLinks}
+use Rattle.gptp_invariants.specs.WorldBounded.{IsBoundedWorld}
 use Rattle.gptp_invariants.specs.WorldEncodableLaws.{SetsAnOctet}
+use Rattle.gptp_invariants.specs.WorldNews.{AreReadyBy}
 use Rattle.gptp_invariants.specs.WorldStanding.{snapshot_of}
 use Rattle.gptp_invariants.proofs.ChoiceCalmKeptLemmas.{KeepsNetwork, acts_keep, links_quiet, same_snapshot}
 use Rattle.gptp_invariants.proofs.ChoiceSeenActLemmas.{acts_seen}
@@ -36,8 +42,12 @@ use Rattle.gptp_invariants.proofs.WorldSettledLemmas.{still_acts_stay, time_stay
 use Rattle.gptp_invariants.proofs.WorldStandsLemmas.{stands_well}
 use Rattle.gptp_settling_time.proofs.AlwaysClaimedLemmas.{AreHeard, IsStanding, early_acts, early_later, same_start, start_calm, start_network, steps_settle}
 use Rattle.gptp_settling_time.proofs.FitsLemmas.{IsLeftUnmoved, received_still}
-use Rattle.gptp_settling_time.proofs.HeardLemmas.{heard_acts, heard_later}
+use Rattle.gptp_settling_time.proofs.HeardLemmas.{IsFirstLong, first_acted, first_later}
 use Rattle.gptp_settling_time.proofs.LinkStoodLemmas.{stood_in}
+use Rattle.gptp_settling_time.proofs.NewsMeasuredLemmas.{ready_measures}
+use Rattle.gptp_settling_time.proofs.SameLinkLemmas.{first_same}
+use Rattle.gptp_settling_time.proofs.StandsLikeLemmas.{StandsLike, over, start_like_network}
+use Rattle.gptp_settling_time.proofs.StandsStillLemmas.{StandsStill, silent_then, stands_like, view_still}
 use Rattle.gptp_settling_time.proofs.StartLemmas.{standing_settles}
 
 -- ---- what holds of a world whose ports are capable from a start on
@@ -62,11 +72,26 @@ standing_acts p start act w draws done w' none octet k is =
       silent = acts_silent p start act w draws done w' none k is.world is.measured is.silent;
     }
 
+-- each port at a link first asked long enough ago
+abbrev pub HaveAskedLong : WorldState → Type 0
+HaveAskedLong w = (at : LinkPlace) → LinkStandsAt at w → (first : ℕ) × (by : ℕ) × IsFirstLong first by at w
+
+-- so what is told to it is heard, and it has measured the link
+pub asked_heard : (p : SettlingParams) (start : ℕ) (w : WorldState) → HaveAskedLong w → AreHeard p start w
+asked_heard p start w asked at stands = inr (inr (inr (asked at stands)))
+
+asked_ready : (p : SettlingParams) (w : WorldState) → HaveAskedLong w → AreReadyBy p w.time w
+asked_ready p w asked at stands =
+    let (first, by, x) = asked at stands in
+    let late = x.late in
+    let soon = x.is.1 in
+    inl (first, (x.is.0, omega (arith, late, soon)))
+
 -- ---- a loss that moved none
 
 pub record IsLeftAlways (p : SettlingParams) (g : Snapshot) (start : ℕ) (w : WorldState) : Type 0 where
   pub standing : IsStanding p start w
-  pub heard : AreHeard p start w
+  pub asked : HaveAskedLong w
   pub well : IsWellFormed g
   pub left : IsLeftUnmoved g (snapshot_of w)
   pub fits : HaveQuietLinks p.params w → EverythingFits says_announce g (start_network p 0 start w) (view w)
@@ -74,10 +99,16 @@ pub record IsLeftAlways (p : SettlingParams) (g : Snapshot) (start : ℕ) (w : W
       → Invariant says_announce (start_network p m start w) (view w)
 
 module _ (p : SettlingParams) (g : Snapshot) (start : ℕ) (w w' : WorldState) (is : IsLeftAlways p g start w)
-    (standing' : IsStanding p start w') (heard' : AreHeard p start w') (keeps : KeepsNetwork w w')
+    (standing' : IsStanding p start w') (asked' : HaveAskedLong w') (keeps : KeepsNetwork w w')
     (step : MachineSteps says_announce (view w) (view w'))
     (early : (m : ℕ) → HaveQuietLinks p.params w
     → EarlyPortsHear says_announce (start_network p m start w) (view w) (view w')) where
+  heard : AreHeard p start w
+  heard = asked_heard p start w is.asked
+
+  heard' : AreHeard p start w'
+  heard' = asked_heard p start w' asked'
+
   left_then : IsLeftUnmoved g (snapshot_of w')
   left_then = subst (IsLeftUnmoved g) (sym (same_snapshot w w' keeps)) is.left
 
@@ -89,7 +120,7 @@ module _ (p : SettlingParams) (g : Snapshot) (start : ℕ) (w w' : WorldState) (
       let quiet = links_quiet w' w (kept_back w w' keeps) p.params quiet' in
       let same = same_start p 0 start w w' keeps in
       let n = start_network p 0 start w in
-      let before : Calm n (view w) = start_calm p start w is.standing is.heard quiet 0 in
+      let before : Calm n (view w) = start_calm p start w is.standing heard quiet 0 in
       let after : Calm n (view w') =
       subst (λ x. Calm x (view w')) same (start_calm p start w' standing' heard' quiet' 0) in
       subst (λ x. EverythingFits says_announce g x (view w')) (sym same)
@@ -98,13 +129,13 @@ module _ (p : SettlingParams) (g : Snapshot) (start : ℕ) (w w' : WorldState) (
   left_step : IsLeftAlways p g start w'
   left_step = record {
     standing = standing';
-    heard = heard';
+    asked = asked';
     well = is.well;
     left = left_then;
     fits = fits_then;
     settling = λ m bounded quiet off.
         let world = standing'.world in
-        steps_settle p start m w w' is.standing standing' is.heard heard' keeps step (early m)
+        steps_settle p start m w w' is.standing standing' heard heard' keeps step (early m)
         (received_still g (snapshot_of w') is.well (stands_well w' world.sound world.between world.encodable) left_then
         (view w') (fits_then quiet).stations)
         (λ bounded_then quiet_then. is.settling m bounded_then quiet_then off) bounded quiet off;
@@ -114,10 +145,10 @@ pub left_later : (p : SettlingParams) (g : Snapshot) (start time : ℕ) (w : Wor
     → NothingBefore time w.net.pending → IsLeftAlways p g start w → IsLeftAlways p g start (at_time time w)
 left_later p g start time w later first is =
     left_step p g start w (at_time time w) is (standing_later p start time w later first is.standing)
-    (λ at stands. heard_later p start at time w is.standing.world later first
-    (is.heard at (stood_in at (at_time time w) w stands refl stands.here))) (later_keeps time w)
+    (λ at stands. let (one, by, x) = is.asked at (stood_in at (at_time time w) w stands refl stands.here) in
+    (one, by, first_later p one by at time w is.standing.world later first x)) (later_keeps time w)
     (inl (record { time = time; later = later; is = refl }))
-    (λ m quiet. early_later p start m time w is.standing is.heard quiet)
+    (λ m quiet. early_later p start m time w is.standing (asked_heard p start w is.asked) quiet)
 
 pub left_acts : (p : SettlingParams) (g : Snapshot) (start : ℕ) (act : Act) (w : WorldState) (draws : List Draw)
     (done : Done) (w' : WorldState) → IsNoChange act → SetsAnOctet act → Acts act w draws done w'
@@ -127,15 +158,62 @@ left_acts p g start act w draws done w' none octet acts is =
     let standing' = standing_acts p start act w draws done w' none octet acts is.standing in
     let keeps = acts_keep act w draws done w' none acts in
     left_step p g start w w' is standing'
-    (λ at stands.
-    (heard_acts p start act w draws done w' none acts world standing'.world is.standing.measured at
-    (is.heard at (stood p w w' world standing'.world keeps at stands))).after) keeps
+    (λ at stands. let (one, by, x) = is.asked at (stood p w w' world standing'.world keeps at stands) in
+    (
+      one,
+      by,
+      first_acted p start act w draws done w' none acts world standing'.world is.standing.measured at one by x,
+    )) keeps
     (inr (acts_seen act w draws done w' none world.sound world.encodable acts))
-    (λ m quiet. early_acts p start m act w draws done w' none acts is.standing standing' is.heard quiet)
+    (λ m quiet. early_acts p start m act w draws done w' none acts is.standing standing'
+    (asked_heard p start w is.asked) quiet)
 
 -- it has settled
 pub left_settles : (p : SettlingParams) (g : Snapshot) (start m : ℕ) (w : WorldState) → IsLeftAlways p g start w
     → HaveQuietLinks p.params w → BoundsPaths (snapshot_of w) m → NothingLapses p.params
     → start + pred m * delay_in w ≤ w.time → Settled w × IsBoundedWorld w
 left_settles p g start m w is quiet bounded off late =
-    standing_settles p start m w is.standing is.heard (is.settling m bounded quiet off) quiet bounded late
+    standing_settles p start m w is.standing (asked_heard p start w is.asked) (is.settling m bounded quiet off) quiet
+    bounded late
+
+-- its ports have measured their links
+pub left_measured : (p : SettlingParams) (g : Snapshot) (start : ℕ) (w : WorldState) → IsLeftAlways p g start w
+    → HaveQuietLinks p.params w → HaveMeasuredLinks w
+left_measured p g start w is quiet =
+    ready_measures p w.time w is.standing.world (asked_ready p w is.asked) quiet (omega arith)
+
+-- what makes nothing of what stands leaves it so
+pub left_stands : (p : SettlingParams) (g : Snapshot) (start : ℕ) (w w' : WorldState) → StandsStill w w'
+    → IsWorld p w' → LinkIsMeasured w' → IsLeftAlways p g start w → IsLeftAlways p g start w'
+left_stands p g start w w' still world' measured' is = record {
+  standing = record {
+    pace = is.standing.pace;
+    world = world';
+    measured = measured';
+    silent = silent_then p start w w' still world' measured' is.standing.silent;
+  };
+  asked = λ at s.
+      let (first, by, x) = is.asked at (like.stood p is.standing.world world' at s) in
+      let late = x.late in
+      let time = like.time in (
+        first,
+        by,
+        record { is = first_same first by at w w' x.is (like.links at x.is.0.link); late = omega (arith, late, time) },
+      );
+  well = is.well;
+  left = subst (IsLeftUnmoved g) (sym like.snapshot) is.left;
+  fits = λ quiet'.
+      let all = is.fits (like.quiet p.params quiet') in
+      subst (EverythingFits says_announce g (start_network p 0 start w')) (sym (view_still w w' still)) (record {
+        lanes = λ j l f a at flies said known.
+            all.lanes j l f a at flies said (subst (λ h. In l.to.clock (clocks h)) like.snapshot known);
+        stations = all.stations;
+      });
+  settling = λ m bounded quiet' off.
+      over w w' like p m start (start_network p m start w) (start_network p m start w') refl (λ port. refl)
+      (start_like_network w w' like p m start)
+      (is.settling m (subst (λ h. BoundsPaths h m) like.snapshot bounded) (like.quiet p.params quiet') off);
+}
+  where
+    like : StandsLike w w'
+    like = stands_like w w' still

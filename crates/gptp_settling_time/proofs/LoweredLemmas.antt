@@ -60,16 +60,16 @@ use Rattle.gptp_invariants.proofs.WorldNewsLemmas.{ready_goes_through}
 use Rattle.gptp_invariants.proofs.WorldStandsLemmas.{stands_well}
 use Rattle.gptp_invariants.proofs.WorldSystemLemmas.{live_there}
 use Rattle.gptp_invariants.proofs.WorldWayLemmas.{one_way, way_of}
-use Rattle.gptp_settling_time.proofs.AlwaysClaimedLemmas.{AreHeard, IsStanding, same_start, start_calm, start_net, start_network}
+use Rattle.gptp_settling_time.proofs.AlwaysClaimedLemmas.{IsStanding, same_start, start_calm, start_net, start_network}
 use Rattle.gptp_settling_time.proofs.FitsLemmas.{IsLeftUnmoved, everything_fits, received_still}
 use Rattle.gptp_settling_time.proofs.GoesDownLemmas.{GoesDownQuietly, goes_down_quietly, held_among, without}
-use Rattle.gptp_settling_time.proofs.LeftClaimedLemmas.{IsLeftAlways}
+use Rattle.gptp_settling_time.proofs.LeftClaimedLemmas.{HaveAskedLong, IsLeftAlways, asked_heard}
 use Rattle.gptp_settling_time.proofs.LinkStoodLemmas.{second_still}
 use Rattle.gptp_settling_time.proofs.LinkUpLemmas.{lane_set}
 use Rattle.gptp_settling_time.proofs.ReducedLemmas.{HoldsAsMuch, IsReduced, IsReducedStation, fits_reduced, holds_as_much, levels_reduced}
 use Rattle.gptp_settling_time.proofs.SettledSeenLemmas.{IsSettledSeen, wired_as}
 use Rattle.gptp_settling_time.proofs.TakenDownLemmas.{silent_down, stood_down, told_keeps, up_apart}
-use Rattle.gptp_settling_time.proofs.WidenedLemmas.{ready_heard}
+use Rattle.gptp_settling_time.proofs.WidenedLemmas.{ready_first}
 
 -- ---- a system whose port goes down
 
@@ -382,8 +382,10 @@ module _ (p : SettlingParams) (w : WorldState) (is : IsWorld p w) (place : ℕ) 
       silent = silent_down p w is place channel here draws w' is' k told.channels next silent;
     }
 
-    heard_then : AreHeard p next w'
-    heard_then = ready_heard p next w' is' by_now ready'
+    asked_then : HaveAskedLong w'
+    asked_then at stands =
+        let (first, by) = ready_first p next w' is' by_now at (ready' at stands) in
+        (first, next, record { is = by; late = by_now })
 
     fits_then : EverythingFits says_announce g (start_network p 0 next w') (view w')
     fits_then =
@@ -402,14 +404,14 @@ module _ (p : SettlingParams) (w : WorldState) (is : IsWorld p w) (place : ℕ) 
           sound = sound';
           levels = levels_reduced says_announce seen.n n seen.net (start_net p m next w' is' bounded)
               (wires n delay refl) left_seen (view w) (view w') less seen.calm
-              (start_calm p next w' standing_then heard_then quiet' m) seen.invariant seen.late sound' (λ q linked.
-              by_now);
+              (start_calm p next w' standing_then (asked_heard p next w' asked_then) quiet' m) seen.invariant seen.late
+              sound' (λ q linked. by_now);
         }
 
     pub lowered_left : IsLeftAlways p g next w'
     lowered_left = record {
       standing = standing_then;
-      heard = heard_then;
+      asked = asked_then;
       well = well;
       left = left;
       fits = λ quiet'. fits_then;
