@@ -1,9 +1,8 @@
 -- A world since a loss that moved no system: what it holds fits the snapshot of before. It goes on as one since news
 -- does, and settles.
 use Rattle.std.proofs.Common.{◌≤◌, ◌+◌, ◌*◌, ℕ, pred, List, refl, sym, subst, inl, inr, arith}
-use Rattle.gptp_lists.specs.Members.{In}
 use Rattle.gptp_graph.specs.PathBound.{BoundsPaths}
-use Rattle.gptp_graph.specs.Snapshot.{IsWellFormed, Snapshot, clocks}
+use Rattle.gptp_graph.specs.Snapshot.{IsWellFormed, Snapshot}
 use Rattle.gptp_links.specs.Fate.{Draw}
 use Rattle.gptp_scenario.specs.Calm.{NothingLapses}
 use Rattle.gptp_scenario.specs.declared.change.Act.{Act}
@@ -22,10 +21,9 @@ use Rattle.gptp_bmca_machine.proofs.LossLemmas.{fits_kept}
 use Rattle.gptp_invariants.specs.ChoiceCalm.{HaveQuietLinks, delay_in}
 use Rattle.gptp_invariants.specs.ChoiceSettled.{Settled}
 use Rattle.gptp_invariants.specs.ChoiceSeenLaws.{IsNoChange}
-use Rattle.gptp_invariants.specs.ChoiceSettlesAsMachine.{IsWorld}
 use Rattle.gptp_invariants.specs.ChoiceView.{says_announce, view}
 use Rattle.gptp_invariants.specs.DelayLinkView.{LinkPlace}
-use Rattle.gptp_invariants.specs.DelayMeasured.{LinkIsMeasured, LinkStandsAt}
+use Rattle.gptp_invariants.specs.DelayMeasured.{LinkStandsAt}
 use Rattle.gptp_invariants.specs.DelayMeasuredLinks.{HaveMeasuredLinks}
 use Rattle.gptp_invariants.specs.WorldBounded.{IsBoundedWorld}
 use Rattle.gptp_invariants.specs.WorldEncodableLaws.{SetsAnOctet}
@@ -45,9 +43,6 @@ use Rattle.gptp_settling_time.proofs.FitsLemmas.{IsLeftUnmoved, received_still}
 use Rattle.gptp_settling_time.proofs.HeardLemmas.{IsFirstLong, first_acted, first_later}
 use Rattle.gptp_settling_time.proofs.LinkStoodLemmas.{stood_in}
 use Rattle.gptp_settling_time.proofs.NewsMeasuredLemmas.{ready_measures}
-use Rattle.gptp_settling_time.proofs.SameLinkLemmas.{first_same}
-use Rattle.gptp_settling_time.proofs.StandsLikeLemmas.{StandsLike, over, start_like_network}
-use Rattle.gptp_settling_time.proofs.StandsStillLemmas.{StandsStill, silent_then, stands_like, view_still}
 use Rattle.gptp_settling_time.proofs.StartLemmas.{standing_settles}
 
 -- ---- what holds of a world whose ports are capable from a start on
@@ -181,39 +176,3 @@ pub left_measured : (p : SettlingParams) (g : Snapshot) (start : ℕ) (w : World
     → HaveQuietLinks p.params w → HaveMeasuredLinks w
 left_measured p g start w is quiet =
     ready_measures p w.time w is.standing.world (asked_ready p w is.asked) quiet (omega arith)
-
--- what makes nothing of what stands leaves it so
-pub left_stands : (p : SettlingParams) (g : Snapshot) (start : ℕ) (w w' : WorldState) → StandsStill w w'
-    → IsWorld p w' → LinkIsMeasured w' → IsLeftAlways p g start w → IsLeftAlways p g start w'
-left_stands p g start w w' still world' measured' is = record {
-  standing = record {
-    pace = is.standing.pace;
-    world = world';
-    measured = measured';
-    silent = silent_then p start w w' still world' measured' is.standing.silent;
-  };
-  asked = λ at s.
-      let (first, by, x) = is.asked at (like.stood p is.standing.world world' at s) in
-      let late = x.late in
-      let time = like.time in (
-        first,
-        by,
-        record { is = first_same first by at w w' x.is (like.links at x.is.0.link); late = omega (arith, late, time) },
-      );
-  well = is.well;
-  left = subst (IsLeftUnmoved g) (sym like.snapshot) is.left;
-  fits = λ quiet'.
-      let all = is.fits (like.quiet p.params quiet') in
-      subst (EverythingFits says_announce g (start_network p 0 start w')) (sym (view_still w w' still)) (record {
-        lanes = λ j l f a at flies said known.
-            all.lanes j l f a at flies said (subst (λ h. In l.to.clock (clocks h)) like.snapshot known);
-        stations = all.stations;
-      });
-  settling = λ m bounded quiet' off.
-      over w w' like p m start (start_network p m start w) (start_network p m start w') refl (λ port. refl)
-      (start_like_network w w' like p m start)
-      (is.settling m (subst (λ h. BoundsPaths h m) like.snapshot bounded) (like.quiet p.params quiet') off);
-}
-  where
-    like : StandsLike w w'
-    like = stands_like w w' still

@@ -79,4 +79,5 @@ pub mod LeftClaimedLemmas
 pub mod GoesDownLemmas
 pub mod ReducedLemmas
 pub mod LoweredLemmas
+pub mod LeftToLemmas
 pub mod WellFormedLemmas

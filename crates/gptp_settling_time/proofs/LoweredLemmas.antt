@@ -6,7 +6,7 @@ use Rattle.gptp_lists.specs.Members.{In}
 use Rattle.gptp_lists.proofs.MappedLemmas.{same_there}
 use Rattle.gptp_lists.proofs.PlaceLemmas.{get-set_other, get-set_same, same_place}
 use Rattle.gptp_graph.specs.PathBound.{BoundsPaths}
-use Rattle.gptp_graph.specs.Snapshot.{IsLinked, IsWellFormed, Joins, Snapshot, port_of}
+use Rattle.gptp_graph.specs.Snapshot.{IsLinked, IsWellFormed, Joins, Snapshot, clocks, port_of}
 use Rattle.gptp_graph.proofs.SystemLemmas.{In-clocks}
 use Rattle.gptp_vector.specs.Vector.{path_of, system_vector}
 use Rattle.gptp_vector.specs.declared.vector.Vector.{Vector}
@@ -41,6 +41,7 @@ use Rattle.gptp_bmca_machine.specs.Levels.{Invariant}
 use Rattle.gptp_bmca_machine.specs.LossLaws.{EverythingFits}
 use Rattle.gptp_bmca_machine.specs.Network.{Network}
 use Rattle.gptp_bmca_machine.specs.RestLaws.{SameWiring}
+use Rattle.gptp_bmca_machine.specs.Sound.{RunIsSound}
 use Rattle.gptp_bmca_machine.specs.SoundEverywhere.{IsSoundEverywhere}
 use Rattle.gptp_bmca_machine.specs.SoundLaws.{AllAreNear}
 use Rattle.gptp_bmca_machine.specs.Station.{Disabled, Port as SeenPort, Received, Reception as SeenReception, Station as SeenStation}
@@ -57,9 +58,11 @@ use Rattle.gptp_invariants.proofs.ChoiceCalmKeptLemmas.{KeepsNetwork, same_snaps
 use Rattle.gptp_invariants.proofs.ChoicePlaceLemmas.{port_from, station_from, station_there}
 use Rattle.gptp_invariants.proofs.ChoiceSeenLaneLemmas.{lane_from, lane_there}
 use Rattle.gptp_invariants.proofs.WorldNewsLemmas.{ready_goes_through}
+use Rattle.gptp_invariants.proofs.WorldSoundCallLemmas.{IsThereToo, links_more, same_systems}
 use Rattle.gptp_invariants.proofs.WorldStandsLemmas.{stands_well}
 use Rattle.gptp_invariants.proofs.WorldSystemLemmas.{live_there}
 use Rattle.gptp_invariants.proofs.WorldWayLemmas.{one_way, way_of}
+use Rattle.gptp_settling_time.specs.Losses.{IsUnmoved}
 use Rattle.gptp_settling_time.proofs.AlwaysClaimedLemmas.{IsStanding, same_start, start_calm, start_net, start_network}
 use Rattle.gptp_settling_time.proofs.FitsLemmas.{IsLeftUnmoved, everything_fits, received_still}
 use Rattle.gptp_settling_time.proofs.GoesDownLemmas.{GoesDownQuietly, goes_down_quietly, held_among, without}
@@ -212,7 +215,7 @@ module _ (p : SettlingParams) (w : WorldState) (is : IsWorld p w) (place : ℕ) 
     (here : slice_get w.net.channels place ≡ Some channel) (draws : List Draw) (w' : WorldState) (is' : IsWorld p w')
     (k : TellsEnds PortDown channel (record w { net = taken_down place channel w.net; last_change = w.time }) draws w')
     (seen : IsSettledSeen p w) (near : AllAreNear (snapshot_of w))
-    (left : IsLeftUnmoved (snapshot_of w) (snapshot_of w')) where
+    (unmoved : (v : ℕ) → In v (clocks (snapshot_of w')) → IsUnmoved (snapshot_of w) (snapshot_of w') v) where
   abbrev taken : WorldState
   taken = record w { net = taken_down place channel w.net; last_change = w.time }
 
@@ -230,6 +233,40 @@ module _ (p : SettlingParams) (w : WorldState) (is : IsWorld p w) (place : ℕ) 
 
   keeps : KeepsNetwork taken w'
   keeps = told_keeps channel taken draws w' k
+
+  -- no link is there that wasn't
+  were_there : (link : ℕ) (other : Channel) → slice_get taken.net.channels link ≡ Some other
+      → IsThereToo w.net.channels link other
+  were_there link other there = elim (same_place link place) [
+    | inl same ↦
+        let one : other ≡ lost channel =
+        same_Some other (lost channel)
+        (sym there ∙ ap (slice_get (slice_set w.net.channels place (lost channel))) same
+        ∙ get-set_same w.net.channels place channel (lost channel) here) in
+        record {
+          new = channel;
+          here = ap (slice_get w.net.channels) same ∙ here;
+          a = ap (λ (c : Channel). c.a) (sym one);
+          b = ap (λ (c : Channel). c.b) (sym one);
+          up = λ on. absurd (let both : true ≡ false = sym on ∙ ap (λ (c : Channel). c.up) one in cc);
+        }
+    | inr apart ↦ record {
+        new = other;
+        here = sym (get-set_other w.net.channels place link (lost channel) apart) ∙ there;
+        a = refl;
+        b = refl;
+        up = λ on. on;
+      }
+  ]
+
+  left : IsLeftUnmoved g g'
+  left = record {
+    systems = λ s member. subst (In s) keeps.systems member;
+    links = λ a b joins.
+        links_more taken w (same_systems (live_stations w.stations)) were_there a b
+        (subst (λ h. Joins h a b) (same_snapshot taken w' keeps) joins);
+    unmoved = unmoved;
+  }
 
   left_seen : IsLeftUnmoved seen.n.graph g'
   left_seen = subst (λ h. IsLeftUnmoved h g') (sym seen.graph) left
@@ -264,7 +301,7 @@ module _ (p : SettlingParams) (w : WorldState) (is : IsWorld p w) (place : ℕ) 
         In-clocks g' (standing_system station) (subst (In (standing_system station)) (sym keeps.systems) among) in
         holds_as_much says_announce seen.n seen.net (view w) seen.calm seen.invariant seen.late g' well' left_seen at
         (station_view station) (station_there w.stations at station stands) live d close
-        ((left.unmoved x known).far d far)
+        ((unmoved x known).far d far)
 
     can_lose : CanLose station (sender way channel).port
     can_lose = by (sender way channel).port refl (is.sound.wired.ports place at way channel station here stands named)
@@ -399,7 +436,8 @@ module _ (p : SettlingParams) (w : WorldState) (is : IsWorld p w) (place : ℕ) 
         → Invariant says_announce (start_network p m next w') (view w')
     settling_then m bounded quiet' =
         let n = start_network p m next w' in
-        let sound' = λ late. received_still g g' well well' left (view w') fits_then.stations in
+        let sound' : RunIsSound n (view w') =
+        λ late. received_still g g' well well' left (view w') fits_then.stations in
         record {
           sound = sound';
           levels = levels_reduced says_announce seen.n n seen.net (start_net p m next w' is' bounded)
@@ -433,7 +471,7 @@ module _ (p : SettlingParams) (next owner port : ℕ) (w : WorldState) (draws : 
   begins_at place channel at = elim at.joined [ inl a ↦ (FromA, a) | inr b ↦ (FromB, b) ]
 
   module _ (up : at_link.channel.up ≡ true) (seen : IsSettledSeen p w) (near : AllAreNear (snapshot_of w))
-      (left : IsLeftUnmoved (snapshot_of w) (snapshot_of w')) where
+      (unmoved : (v : ℕ) → In v (clocks (snapshot_of w')) → IsUnmoved (snapshot_of w) (snapshot_of w') v) where
     ends : TellsEnds PortDown at_link.channel
         (record w { net = taken_down at_link.place at_link.channel w.net; last_change = w.time }) draws w'
     ends =
@@ -441,7 +479,7 @@ module _ (p : SettlingParams) (next owner port : ℕ) (w : WorldState) (draws : 
         at_link.so
 
     stands : StandsReduced (record w { net = taken_down at_link.place at_link.channel w.net; last_change = w.time }) w'
-    stands = told p w is at_link.place at_link.channel at_link.is.here draws w' is' ends seen near left
+    stands = told p w is at_link.place at_link.channel at_link.is.here draws w' is' ends seen near unmoved
 
     -- a link that stands then is another
     other : (at : LinkPlace) → LinkStandsAt at w' → IsOtherLink at (port_id owner port) w
@@ -457,8 +495,8 @@ module _ (p : SettlingParams) (next owner port : ℕ) (w : WorldState) (draws : 
     pub act_left : next ≤ w.time → delay_in w' ≡ delay_in w → IsSoundWorld w → AreReadyBy p next w
         → AreSilentBy p next w → IsLeftAlways p (snapshot_of w) next w'
     act_left past delay sound ready silent =
-        lowered_left p w is at_link.place at_link.channel at_link.is.here draws w' is' ends seen near left next pace
-        measured' past delay sound
+        lowered_left p w is at_link.place at_link.channel at_link.is.here draws w' is' ends seen near unmoved next
+        pace measured' past delay sound
         (λ at s.
         ready_goes_through p next at (Changing (LinkDown owner port)) w w' draws done is.sound measured (other at s)
         acts (ready at

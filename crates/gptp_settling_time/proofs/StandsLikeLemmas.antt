@@ -108,7 +108,7 @@ module _ (w w' : WorldState) (like : StandsLike w w') where
         (λ delay. wait_with p.params (record { systems = m; delay = delay }))
         (λ delay. step_with p (record { systems = m; delay = delay }))
 
-    pub start_like_network : start_network p m start w' ≡ record (start_network p m start w) { gone = gone' }
+    start_like_network : start_network p m start w' ≡ record (start_network p m start w) { gone = gone' }
     start_like_network =
         ap (λ (n : Network). record n {
           start = 0;
@@ -119,7 +119,7 @@ module _ (w w' : WorldState) (like : StandsLike w w') where
         }) news_like_network
 
     -- what is claimed of a network of the world is claimed of it whenever old frames are gone
-    pub over : (n n' : Network) → n.graph ≡ snapshot_of w
+    over : (n n' : Network) → n.graph ≡ snapshot_of w
         → ((port : PortIdentity) → n.lane port ≡ lane_of w.net.channels port)
         → n' ≡ record n { gone = gone' } → Invariant says_announce n (view w) → Invariant says_announce n' (view w')
     over n n' graph lane same is =

@@ -399,7 +399,7 @@ module _ (p : SettlingParams) (start : ℕ) (w w' : WorldState) (still : StandsS
   like : StandsLike w w'
   like = stands_like w w' still
 
-  pub silent_then : AreSilentBy p start w → AreSilentBy p start w'
+  silent_then : AreSilentBy p start w → AreSilentBy p start w'
   silent_then silent at s = elim (silent at (unanswered_before w w' still at s)) [
     | inl never ↦ inl (never_still w w' still at never)
     | inr (change, one, soon) ↦ inr (change, silent_still w w' still (change + largest_interval p) at one, soon)
