@@ -191,8 +191,8 @@ LowersOneLink n made [] = ⊥
 LowersOneLink n made (event ∷ []) = LowersLink n made event
 LowersOneLink n made (event ∷ other ∷ events) = ⊥
 
--- A loss bound at a time, by the times before it, the latest first. It is 0, where nothing lapses: a network that the
--- choice bound before has brought to rest is calm before and after, and such an event comes. No later bound builds on it.
+-- A loss bound at a time, by the times before it, the latest first. It is 0, where nothing lapses, and such an event
+-- comes to a calm network behind the choice bound before. No later bound builds on it.
 abbrev pub IsLossBoundAfter : NetworkState → List Timed → List ℕ → ℕ → ℕ → Type 0
 IsLossBoundAfter n events [] time choice = ⊥
 IsLossBoundAfter n events (last ∷ earlier) time choice =
@@ -204,6 +204,7 @@ IsLossBoundAfter n events (last ∷ earlier) time choice =
     × LowersOneLink n (events_by last events) (events_at time events)
     × (choice ≡ 0)
 
+-- a choice bound of a document at a time
 abbrev pub IsChoiceBound : DocumentState → ℕ → ℕ → Type 0
 IsChoiceBound d time choice =
     (earlier : List ℕ)

@@ -11,7 +11,8 @@
 -- of what stands leaves a network settled that had settled, whatever it came from, and so does a priority1 that moves
 -- no system, and what widens the delays of a link in use. Where all was heard before, such links may also come up, and
 -- such systems recover, one after another at any time, as several at once; and what changes nothing asks for no time at
--- all. Nor does a link that goes down by which no system is moved: it has *left* what is held as it was.
+-- all. Nor does a link that goes down by which no system is moved, in a network that had settled. That is *left* so: its
+-- choice stands, but what is held may name links that are gone.
 use Rattle.std.specs.Prelude.{◌≡◌, ◌<◌, ◌≤◌, ◌⊎◌, ◌+◌, ◌*◌, ℕ, ⊤, pred, List, [], ◌∷◌, ◌++◌, Option, Some, slice_get}
 use Rattle.gptp_lists.specs.Members.{In}
 use Rattle.gptp_vector.specs.declared.port.PortId.{PortId}
@@ -276,8 +277,8 @@ LeadOn n before past (event ∷ events) last =
 
 -- ---- a document
 
--- Ports are capable by then that ask from time 0 on; and where all is heard delays vary little. No network begins with a
--- loss.
+-- Ports are capable by then that ask from time 0 on; and where all is heard delays vary little. No network begins after
+-- a loss.
 abbrev pub BeginsBy : NetworkState → Past → Type 0
 BeginsBy n AnyPast = ⊤
 BeginsBy n Starting = ⊤
