@@ -58,6 +58,7 @@ fn a_ring_settles_after_its_start_and_after_a_loss(rt: HostRuntime) -> Result<()
             settling: Some(Settling {
                 choice: 1_000_003_050,
                 roles: 1_000_003_050,
+                sound: 1_000_003_050,
                 rest: 1_000_003_460,
                 exact_from: 1_000_010_250,
             }),
@@ -71,6 +72,7 @@ fn a_ring_settles_after_its_start_and_after_a_loss(rt: HostRuntime) -> Result<()
             settling: Some(Settling {
                 choice: 15_000_002_870,
                 roles: 15_000_002_870,
+                sound: 15_000_002_870,
                 rest: 15_000_003_280,
                 exact_from: 45_000_010_070,
             }),
@@ -88,6 +90,7 @@ fn start(choice: u64, rest: u64, exact_from: u64, watch: u64) -> Option<Settling
         settling: Some(Settling {
             choice,
             roles: choice,
+            sound: choice,
             rest,
             exact_from,
         }),
