@@ -212,6 +212,34 @@ fn a_priority1_by_which_no_system_is_moved_costs_nothing(rt: HostRuntime) -> Res
 }
 
 #[test]
+fn a_link_that_goes_down_and_moves_no_system_costs_nothing(rt: HostRuntime) -> Result<(), Fail> {
+    // It comes up again before the network rests.
+    let times = ring(
+        rt.alloc(),
+        "[[event]]\nat = 30000000000\nkind = \"link_down\"\nclock = \"000000000000000b\"\nport = 2\n[[event]]\nat = 40000000000\nkind = \"link_up\"\nclock = \"000000000000000b\"\nport = 2\n",
+    )?;
+    assert_eq!(rt;
+        settling_at(&times, 30_000_000_000),
+        Some(SettlingTime {
+            at: 30_000_000_000,
+            settling: Some(Settling {
+                choice: 0,
+                roles: 0,
+                sound: 15_000_002_870,
+                rest: 15_000_003_280,
+                exact_from: 30_000_007_200,
+            }),
+            watch: 16_000_003_281,
+        })
+    );
+    assert_eq!(rt;
+        soon(&times, 40_000_000_000),
+        Some((15_000_002_870, 55_000_010_070))
+    );
+    Ok(())
+}
+
+#[test]
 fn a_system_recovers_behind_its_links(rt: HostRuntime) -> Result<(), Fail> {
     let times = ring(
         rt.alloc(),
