@@ -13,13 +13,13 @@ ghost use Rattle.gptp_accuracy.specs.TimeErrors.{AreEntries, AreTimeErrors, IsSy
 use crate::reading::ReadingError;
 use crate::settlings::settling_of;
 use crate::sums::Sums;
-use crate::tables::tables_after;
 use crate::ways::sums_of_all;
 use gptp_certificate_text::{Certificate, SystemLine};
 use gptp_choice::settled_choice;
 use gptp_how_soon::{SettlingTime, settling_times};
 use gptp_network::Document;
 use gptp_scenario::{Network, SyncPaths, Timed};
+use gptp_topology::Tables;
 use gptp_vector::{ClockId, Identity};
 use std::alloc::{AllocError, Global};
 
@@ -212,12 +212,13 @@ pub fn time_errors_among(
     ensures { IfOk result (AreTimeErrors document.now until) }
 {
     let network = document.network();
+    network.well_formed();
     let events = events_by(document, until);
     let snapshot = document.snapshot(alloc, until)?;
     let certificate = settled_choice(alloc, &snapshot)?;
     snapshot.well_formed();
     certificate.well_formed();
-    let tables = tables_after(alloc, network, events)?;
+    let tables = Tables::after(alloc, network, events)?;
     let paths = tables.sync_paths();
     let calm = tables.is_calm(network, paths);
     let standings = tables.standings.as_slice();

@@ -29,7 +29,7 @@ use Rattle.gptp_topology.specs.Course.{cable_of, cable_wire}
 use Rattle.gptp_topology.specs.Tables.{clocks_of}
 use Rattle.gptp_topology.specs.Times.{IsCalmTime, late_at, times_of}
 use Rattle.gptp_topology.specs.declared.times.CalmTime.{CalmTime}
-use Rattle.gptp_accuracy.proofs.CalmLemmas.{calm_dec}
+use Rattle.gptp_topology.proofs.RestLemmas.{calm_dec}
 use Rattle.gptp_lint.specs.Components.{AreComponents, IsChance, IsBestsMoment, apart_from, nobody_from}
 use Rattle.gptp_lint.specs.Findings.{AreFound}
 use Rattle.gptp_lint.specs.Graph.{NodesHaveOctets}

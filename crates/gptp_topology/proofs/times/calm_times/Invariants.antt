@@ -1,8 +1,8 @@
 -- The times before this one are told of, and the tables stand after the events so far.
 use Rattle.std.proofs.Common.{drop, take}
 use Rattle.gptp_topology.proofs.PassedLemmas.{CalmPassed}
-use Rattle.gptp_topology.proofs.StandingLemmas.{Stand}
-use Rattle.gptp_topology.proofs.times.calm_times_over.Given as goal
+use Rattle.gptp_topology.specs.After.{Stand}
+use Rattle.gptp_topology.proofs.times.calm_times.Given as goal
 
 abbrev pub invariant-loop-event : goal.invariant-loop-event
 invariant-loop-event l = record {

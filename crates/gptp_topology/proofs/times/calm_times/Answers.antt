@@ -2,12 +2,13 @@
 use Rattle.std.proofs.Common.{◌≡◌, ◌++◌, ◌∷◌, ◌+◌, [], drop, take, ap, sym, subst, ◌∙◌}
 use Rattle.std.proofs.lemmas.List.{drop_all, drop_more, take_more}
 use Rattle.gptp_scenario.specs.Network.{IsNetwork, NetworkState}
+use Rattle.gptp_topology.specs.After.{Stand}
 use Rattle.gptp_topology.specs.Tables.{time_of}
 use Rattle.gptp_topology.specs.declared.times.CalmTime.{CalmTime}
 use Rattle.gptp_topology.proofs.BoundLemmas.{short_marks, time_is}
 use Rattle.gptp_topology.proofs.PassedLemmas.{CalmPassed, allowed_before, passed_all, passed_more}
-use Rattle.gptp_topology.proofs.StandingLemmas.{Stand, few_nodes, stand_more}
-use Rattle.gptp_topology.proofs.times.calm_times_over.Goals as goal
+use Rattle.gptp_topology.proofs.StandingLemmas.{few_nodes, stand_more}
+use Rattle.gptp_topology.proofs.times.calm_times.Goals as goal
 
 pub loop-event-preserved : goal.loop-event-preserved
 loop-event-preserved c =

@@ -1,8 +1,9 @@
 -- One event more is passed, and in the end all are.
-use Rattle.std.proofs.Common.{◌≡◌, ◌++◌, ◌∷◌, ◌+◌, [], List, drop, ap, sym, subst, ◌∙◌}
+use Rattle.std.proofs.Common.{◌≡◌, ◌≤◌, ◌++◌, ◌∷◌, ◌+◌, [], List, drop, ap, sym, subst, ◌∙◌}
 use Rattle.std.proofs.lemmas.List.{drop_all, drop_more}
 use Rattle.gptp_scenario.specs.Network.{IsNetwork, NetworkState}
 use Rattle.gptp_scenario.specs.declared.change.Timed.{Timed}
+use Rattle.gptp_scenario.specs.declared.sync_wait.SyncPaths.{SyncPaths}
 use Rattle.gptp_topology.proofs.BoundLemmas.{short_marks}
 use Rattle.gptp_topology.proofs.PassedLemmas.{allowed_before}
 use Rattle.gptp_topology.proofs.StandingLemmas.{few_nodes}
@@ -10,7 +11,7 @@ use Rattle.gptp_how_soon.specs.Times.{settling_time}
 use Rattle.gptp_how_soon.specs.Walk.{IsFirstWalk, WalkTells, view_seen}
 use Rattle.gptp_how_soon.specs.declared.bounds.SettlingTime.{SettlingTime}
 use Rattle.gptp_how_soon.proofs.TimesLemmas.{Walked, walked_all, walked_first, walked_more}
-use Rattle.gptp_how_soon.proofs.times.settling_times_over.Goals as goal
+use Rattle.gptp_how_soon.proofs.times.settling_times.Goals as goal
 
 pub loop-event-init : goal.loop-event-init
 loop-event-init c =
@@ -53,8 +54,8 @@ loop-event-preserved c =
     c.loop-event.times.items c.tell.new.times.items) c.network-network.ensures c.in_ok-tell.ensures)
     c.in_ok-pass.ensures
 
-pub settle-requires-clause-few : goal.settle-requires-clause-few
-settle-requires-clause-few c =
+pub sync_paths-paths-requires : goal.sync_paths-paths-requires
+sync_paths-paths-requires c =
     let so = c.loop-event.invariant in
     few_nodes c.args.document.now.network (subst IsNetwork c.network.ensures c.well_formed-2.ensures)
     (so.made ++ so.now) c.loop-event.walk.tables so.stands.tables
@@ -62,10 +63,11 @@ settle-requires-clause-few c =
 pub settle-requires-clause-short : goal.settle-requires-clause-short
 settle-requires-clause-short c =
     let so = c.loop-event.invariant in
-    short_marks c.args.document.now.network (subst IsNetwork c.network.ensures c.well_formed-2.ensures)
+    subst (λ (ps : SyncPaths). ps.delay ≤ 16000000000) (sym c.sync_paths-paths.ensures.is)
+    (short_marks c.args.document.now.network (subst IsNetwork c.network.ensures c.well_formed-2.ensures)
     (so.made ++ so.now) c.loop-event.walk.tables so.stands.tables
     (allowed_before (so.made ++ so.now) (drop c.loop-event.event-index c.events-events.result.now)
-    c.args.document.now.events so.told.split c.well_formed-3.ensures.allowed)
+    c.args.document.now.events so.told.split c.well_formed-3.ensures.allowed))
 
 pub returns-clause-times : goal.returns-clause-times
 returns-clause-times c =
