@@ -3,7 +3,6 @@
 ghost use Rattle.std.specs.Prelude.{◌≡◌, ◌+◌, ◌≤◌, ◌<◌, false, length, IfOk, OnOk};
 ghost use Rattle.gptp_scenario.specs.Allowed.{AreAllowed};
 ghost use Rattle.gptp_scenario.specs.Calm.{last_change};
-ghost use Rattle.gptp_network.specs.Snapshot.{events_by};
 ghost use Rattle.gptp_certificate_text.specs.Certificate.{line_of};
 ghost use Rattle.gptp_accuracy.specs.Passing.{AreNearWithin};
 ghost use Rattle.gptp_accuracy.specs.Settlings.{AreTimesOf};
@@ -71,17 +70,6 @@ pub struct TimeErrors {
     pub systems: Vec<SystemError>,
 }
 
-/// The events of a document with time up to a time.
-fn events_by(document: &Document, until: u64) -> &[Timed]
-    ensures events { result.now ≡ events_by until document.now.events }
-    ensures allowed { AreAllowed result.now }
-{
-    document.well_formed();
-    let events = document.events();
-    let count = events.partition_point(|event| event.at <= until);
-    &events[..count]
-}
-
 /// The time of the last of these events, or 0.
 #[tactic(auto, using(crate::proofs::EventLemmas::last_change_early, gptp_network::proofs::EventLemmas::last_from))]
 fn last_change(events: &[Timed]) -> u64
@@ -101,7 +89,7 @@ pub fn exact_from(document: &Document, times: &[SettlingTime], until: u64) -> Op
     requires { AreTimesOf document.now times.now }
     ensures { result ≡ exact_from document.now until }
 {
-    let events = events_by(document, until);
+    let events = document.events_by(until);
     match settling_of(times, last_change(events)) {
         Some(settling) => Some(settling.exact_from),
         None => None,
@@ -213,7 +201,7 @@ pub fn time_errors_among(
 {
     let network = document.network();
     network.well_formed();
-    let events = events_by(document, until);
+    let events = document.events_by(until);
     let snapshot = document.snapshot(alloc, until)?;
     let certificate = settled_choice(alloc, &snapshot)?;
     snapshot.well_formed();
