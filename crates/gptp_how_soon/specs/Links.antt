@@ -1,4 +1,5 @@
--- Which links of a network are new at a time, over which delays vary, and the greatest delay that one has had (profile).
+-- Which links of a network are new at a time, over which delays vary, and the greatest delay that one has had
+-- (profile).
 use Rattle.std.specs.Prelude.{ℕ, ◌*◌, ◌&&◌, not, nat_le, max, Bool, false, if◌then◌else◌, List, [], ◌∷◌, ◌++◌, map, filter, Option, Some, None, slice_get}
 use Rattle.gptp_scenario.specs.Change.{link_after}
 use Rattle.gptp_scenario.specs.Network.{NetworkState}

@@ -118,7 +118,8 @@ module _ (d : DocumentState) (network : IsNetwork d.network) (done : List Timed)
     (moments : List Moment) where
   -- at the next event
   pub passed_more : (t : Timed) (left : List Timed) (after : List Moment) → MomentsPassed d done (t ∷ left) at moments
-      → MomentIsTold (graph_after d.network done) at t.at moments after → MomentsPassed d (done ++ t ∷ []) left t.at after
+      → MomentIsTold (graph_after d.network done) at t.at moments after
+      → MomentsPassed d (done ++ t ∷ []) left t.at after
   passed_more t left after so_far (inl (same, kept)) =
       subst (MomentsPassed d (done ++ t ∷ []) left t.at) (sym kept)
       (passed_same at_of (IsBestsMoment d) d done at moments t left so_far same)

@@ -93,7 +93,8 @@ fn push_node_at(
     place: usize,
 ) -> Result<(), AllocError>
     requires place { place < length network.now.systems }
-    requires before { map tables_seen nodes.old.items ≡ map (node_after cables.now []) (take place network.now.systems) }
+    requires before { map tables_seen nodes.old.items
+        ≡ map (node_after cables.now []) (take place network.now.systems) }
     ensures { OnOk result (map tables_seen nodes.new.items
         ≡ map (node_after cables.now []) (take (place + 1) network.now.systems)) }
 {
