@@ -22,7 +22,7 @@ use Rattle.gptp_scenario.specs.declared.network.SystemSpec.{SystemSpec}
 use Rattle.gptp_scenario.specs.declared.network.LinkSpec.{LinkSpec}
 use Rattle.gptp_scenario.proofs.AfterLemmas.{after_keeps}
 use Rattle.gptp_scenario.proofs.LogLemmas.{smallest_log}
-use Rattle.gptp_model.specs.Acts.{at, Acts, AnyLink, AnySystem, AtLink, AtSystem, IsReadyAct, IsThereToChange}
+use Rattle.gptp_model.specs.Acts.{at, AnyLink, AnySystem, AtLink, AtSystem, IsReadyAct, IsThereToChange}
 use Rattle.gptp_model.specs.Course.{Begun}
 use Rattle.gptp_model.specs.Initial.{initial}
 use Rattle.gptp_model.specs.Pending.{NothingBefore}
@@ -30,7 +30,7 @@ use Rattle.gptp_model.specs.Sound.{IsSound}
 use Rattle.gptp_model.specs.World.{Channel, WorldState, port_id}
 use Rattle.gptp_model.proofs.AdvanceLemmas.{nothing_sooner}
 use Rattle.gptp_invariants.proofs.DelayLinkLaneLemmas.{true_same}
-use Rattle.gptp_invariants.proofs.WorldOutlineLemmas.{change_time, starts_are_last}
+use Rattle.gptp_invariants.proofs.WorldOutlineLemmas.{acts_time, starts_are_last}
 use Rattle.gptp_network.specs.Document.{DocumentState}
 use Rattle.gptp_network.specs.Events.{AreInOrder, IsPossibleChange, IsEvent}
 use Rattle.gptp_network.specs.Snapshot.{events_by}
@@ -253,7 +253,6 @@ module _ {F : Type 0} (answers : Bounds → ℕ → F → Option ℕ → F → T
       let (drawn, v, done, was, can_then) =
       acts all event way.fate_after way.after way.can made.allowed made.injects ready in
       let act_is = made.is.act in
-      let of_change = subst (λ (a : Act). Acts a (at event.at way.after) was.draws done v) act_is was.acts in
       record {
         ts = way.ts ++ transition event done way.after v ∷ [];
         fate_after = drawn;
@@ -270,7 +269,7 @@ module _ {F : Type 0} (answers : Bounds → ℕ → F → Option ℕ → F → T
         can = can_then;
         stands = changes_stand n before event made.is.change way.after was.draws done v act_is way.can.sound was.acts
             so_then;
-        now = change_time made.is.change (at event.at way.after) was.draws done v of_change;
+        now = acts_time event.act (at event.at way.after) was.draws done v was.acts;
         octets = octets-append way.ts (transition event done way.after v ∷ []) way.octets
             (done_octets event.act event.at way.after v was.draws done way.can was.acts, tt);
       }

@@ -15,14 +15,12 @@ use Rattle.gptp_system.specs.declared.port.Port.{Port}
 use Rattle.gptp_system.specs.Facts.{AreShown}
 use Rattle.gptp_system.specs.Input.{Frame as FrameHeard}
 use Rattle.gptp_system.specs.State.{SystemState, clock, is_capable_at, number}
-use Rattle.gptp_system.specs.Steps.{IsUp}
 use Rattle.gptp_system.specs.Touch.{Hear, Grow}
 use Rattle.gptp_model.specs.declared.station.Station.{Station}
 use Rattle.gptp_model.specs.Act.{Calls, Delivers, HasFailed, Hears, in_state}
 use Rattle.gptp_model.specs.Sound.{IsSound}
 use Rattle.gptp_model.specs.World.{Net, WorldState, receiver}
 use Rattle.gptp_lists.proofs.MappedLemmas.{same_there}
-use Rattle.gptp_model.proofs.SoundLemmas.{delivered_up}
 use Rattle.gptp_bmca_machine.specs.Acts.{Arrives, Drops, Pops}
 use Rattle.gptp_bmca_machine.specs.Frame.{Announce, Lane}
 use Rattle.gptp_bmca_machine.specs.Station.{Disabled, Port as SeenPort, Station as SeenStation}
@@ -35,6 +33,7 @@ use Rattle.gptp_invariants.proofs.ChoicePlaceLemmas.{IsPortAt, IsStationAt, port
 use Rattle.gptp_invariants.proofs.ChoiceTakeUpLemmas.{BeginApart, begin_apart}
 use Rattle.gptp_invariants.proofs.ChoiceTouchLemmas.{capable_hears, frame_young, grow_back, hear_back, heard_in}
 use Rattle.gptp_invariants.proofs.ChoiceSendLemmas.{world_apart}
+use Rattle.gptp_invariants.proofs.WorldActsByLemmas.{reached_up}
 
 -- a port that isn't Disabled is capable
 capable_on : (s : SystemState) (i : ℕ) (h : Held) (q : Port) → AreShown s → slice_get s.held i ≡ Some h
@@ -146,12 +145,6 @@ module _ (link : ℕ) (direction : Direction) (octets : List ℕ) (w : WorldStat
     same_station : k.station ≡ c.station
     same_station = same_there w.stations k.place k.station c.station k.there c.here
 
-    pub receiver_up : IsUp c.station.system port
-    receiver_up =
-        subst (λ (x : Station). IsUp x.system port) same_station
-        (delivered_up link direction octets w draws answer w' k sound.wired
-        (ap (λ (x : Station). x.live) same_station ∙ c.live))
-
     receiver_shown : AreShown c.station.system
     receiver_shown = (sound.on_time.stations k.place c.station c.here).steady.shown
 
@@ -159,7 +152,8 @@ module _ (link : ℕ) (direction : Direction) (octets : List ℕ) (w : WorldStat
     receiver_call =
         calls_seen k.place (FrameHeard port octets) emptied draws one w' c
         (sound.on_time.stations k.place c.station c.here).steady (sound.wired.setups k.place c.station c.here)
-        receiver_up (encodable.stations k.place c.station c.here).system
+        (reached_up link direction octets w draws answer w' k sound.wired c.station c.here c.live)
+        (encodable.stations k.place c.station c.here).system
         ((encodable.links link k.channel k.takes.here).frames direction (frame w.time octets)
         (subst (In (frame w.time octets)) (sym k.takes.front) (inl refl)))
         emptied_apart

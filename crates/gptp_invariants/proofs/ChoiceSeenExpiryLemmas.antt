@@ -13,15 +13,12 @@ use Rattle.gptp_setup.specs.declared.timer.Timer.{Timer}
 use Rattle.gptp_setup.specs.declared.timer.Timer.TheVariants as timers
 use Rattle.gptp_system.specs.Input.{Expires as TimerExpires}
 use Rattle.gptp_system.specs.State.{SystemState, age_due, due, held_at}
-use Rattle.gptp_system.specs.Steps.{IsDue}
 use Rattle.gptp_system.specs.Touch.{Hear, Grow}
 use Rattle.gptp_model.specs.declared.station.Station.{Station}
 use Rattle.gptp_model.specs.Act.{TimerRunsOut, in_state}
 use Rattle.gptp_model.specs.Agrees.{stopped}
 use Rattle.gptp_model.specs.Sound.{IsSound}
-use Rattle.gptp_model.specs.World.{WorldState, station_due}
-use Rattle.gptp_model.proofs.AheadLemmas.{live_due}
-use Rattle.gptp_lists.proofs.MappedLemmas.{same_there}
+use Rattle.gptp_model.specs.World.{WorldState}
 use Rattle.gptp_bmca_machine.specs.Acts.{Lapses, Runs}
 use Rattle.gptp_bmca_machine.specs.Frame.{Announce}
 use Rattle.gptp_bmca_machine.specs.Station.{Received, Reception as SeenReception, Port as SeenPort, Station as SeenStation}
@@ -32,6 +29,7 @@ use Rattle.gptp_invariants.proofs.ChoicePlaceLemmas.{IsPortAt, port_from}
 use Rattle.gptp_invariants.proofs.ChoiceReactLemmas.{received_back}
 use Rattle.gptp_invariants.proofs.ChoiceTouchLemmas.{Ages, grow_back, grown_by, hear_back, heard_in}
 use Rattle.gptp_invariants.proofs.ChoiceSendLemmas.{world_apart}
+use Rattle.gptp_invariants.proofs.WorldActsByLemmas.{expires_due, expires_timely}
 
 -- what is seen as received at a port is too old where its Age timer is due
 age_passed : (s : SystemState) (i : ℕ) (h : Held) (q : Port) (now : ℕ) (x : SeenReception) → slice_get s.held i ≡ Some h
@@ -63,20 +61,13 @@ module _ (place : ℕ) (timer : Timer) (w : WorldState) (draws : List Draw) (w' 
   abbrev station : Station
   station = k.calls.station
 
-  timer_due : due timer station.system ≡ Some w.time
-  timer_due =
-      let one : station ≡ k.station = same_there w.stations place station k.station k.calls.here k.here in
-      sym (live_due station timer k.calls.live) ∙ ap (station_due timer) one ∙ k.now_due
-
-  pub expiry_timely : IsDue station.system timer w.time
-  expiry_timely = let least : w.time ≤ w.time = omega arith in rw timer_due least
-
   expiry_call : IsCallSeen (TimerExpires timer) station k.calls.after w w'
   expiry_call =
       let steady = (sound.on_time.stations place station k.calls.here).steady in
       let its = sound.wired.setups place station k.calls.here in
       let c = calls_seen place (TimerExpires timer) (stopped place timer w) draws k.answer w' k.calls steady its
-      expiry_timely (encodable.stations place station k.calls.here).system tt (world_apart w sound encodable) in
+      (expires_timely place timer w draws w' k) (encodable.stations place station k.calls.here).system tt
+      (world_apart w sound encodable) in
       record { touch = c.touch; seen = c.seen; call = c.call; station_is = c.station_is; after_is = c.after_is }
 
   -- it is a step of the machine at that system
@@ -114,7 +105,8 @@ module _ (place : ℕ) (timer : Timer) (w : WorldState) (draws : List Draw) (w' 
           (grown_by station.system (TimerExpires timer) c.touch c.seen (suc i) grown)
         where
           out : (one : Timer) → TimerExpires timer ≡ TimerExpires one → due one station.system ≡ Some w.time
-          out one is = ap (λ t. due t station.system) (sym (same_timer timer one is)) ∙ timer_due
+          out one is = ap (λ t. due t station.system) (sym (same_timer timer one is))
+              ∙ expires_due place timer w draws w' k
 
           go : IsPortAt (span_at station.system) station.system.held station.system.ports i q
               → Ages station.system (TimerExpires timer) (suc i)

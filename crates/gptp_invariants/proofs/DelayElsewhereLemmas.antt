@@ -47,6 +47,7 @@ use Rattle.gptp_invariants.proofs.DelayWatchLemmas.{watch_kept}
 use Rattle.gptp_invariants.specs.DelayElsewhere.{IsElsewhere, IsOtherLink}
 use Rattle.gptp_invariants.proofs.DelayEndLemmas.{HearsWhatFits}
 use Rattle.gptp_invariants.proofs.DelayLinkCallLemmas.{back_in_time, back_late, back_mute, others_send, out_in_time, out_late, out_mute}
+use Rattle.gptp_invariants.proofs.WorldActsByLemmas.{PortCallsKeep}
 use Rattle.gptp_invariants.proofs.DelayLinkKeptLemmas.{HasAll, all_stay, among_stays}
 use Rattle.gptp_invariants.proofs.DelayLinkLemmas.{IsOrderly, LinkStep, link_called, net_orderly, sender_opposite, sound_orderly}
 use Rattle.gptp_invariants.proofs.DelayPartLemmas.{AsksAsBefore, asks_still}
@@ -151,6 +152,17 @@ calls_orderly place input w draws answer w' is k =
           (in_state k.after k.station) k.here (subst AreParams (sym kept.params) (is.params place k.station k.here))
           is.params other station (ap (λ (v : WorldState). slice_get v.stations other) (sym k.is) ∙ there);
     }
+
+-- and so does what a call keeps of an orderly world
+pub orderly_too : (Known : Type 0) (input : ℕ → Input) (So : WorldState → Type 0)
+    → ((place port : ℕ) (w : WorldState) (draws : List Draw) (answer : Answer) (w' : WorldState)
+    (k : Calls place (input port) w draws answer w') → (Known → HasPortNumber k.station.system port) → IsOrderly w
+    → So w → So w')
+    → PortCallsKeep Known input (λ w. IsOrderly w × So w)
+orderly_too Known input So keeps place port w draws answer w' k of (orderly, so) = (
+  calls_orderly place (input port) w draws answer w' orderly k,
+  keeps place port w draws answer w' k of orderly so,
+)
 
 -- What is known of a link that is seen, and kept by each act that is seen there, goes through changes elsewhere.
 module _ (at : LinkPlace) (P : WorldState → Type 0) (link_in : (w : WorldState) → P w → IsLinkOf at w)

@@ -24,7 +24,7 @@ use Rattle.gptp_model.specs.Sound.{IsWired}
 use Rattle.gptp_model.specs.World.{Channel, WorldState, port_id, receiver}
 use Rattle.gptp_model.proofs.WiredLemmas.{time_wired}
 use Rattle.gptp_invariants.specs.DelayLinked.{MeasureLinks}
-use Rattle.gptp_invariants.proofs.WorldKnownActLemmas.{out_due}
+use Rattle.gptp_invariants.proofs.WorldActsByLemmas.{expires_timely}
 use Rattle.gptp_invariants.proofs.DelayTimersLemmas.{sends_one_links, set_links, takes_links}
 use Rattle.gptp_invariants.proofs.DelayOnLinkLemmas.{calls_measure, net_measure, replaced_measure, station_measure}
 use Rattle.gptp_invariants.proofs.DelayComesUpLemmas.{calls_if_live_measure, comes_up_measures}
@@ -62,7 +62,7 @@ expires_measure place timer w draws w' k =
     calls_measure place (TimerExpires timer) (stopped place timer w) draws k.answer w' k.calls
     (λ n is. let same : timer ≡ timers.Pdelay n = cc in
     subst (λ t. IsSome (due t k.calls.station.system)) same
-    (some_of (due timer k.calls.station.system) _ (out_due place timer w draws w' k)))
+    (some_of (due timer k.calls.station.system) _ (expires_timely place timer w draws w' k)))
     (λ n is. absurd cc)
 
 -- ---- other changes

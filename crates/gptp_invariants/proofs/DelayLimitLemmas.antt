@@ -1,5 +1,7 @@
--- Links on which each frame is due by a limit, which follows from their bounds; what is sent and delivered keeps it.
+-- Links on which each frame is due by a limit, which follows from their bounds; what is sent and delivered keeps it,
+-- and so does every act.
 use Rattle.std.proofs.Common.{◌≡◌, ◌⊎◌, ℕ, ◌+◌, ◌≤◌, true, List, [], ◌∷◌, ◌++◌, Option, Some, None, slice_get, slice_set, refl, sym, subst, inl, inr, arith}
+use Rattle.std.specs.Prelude.{⊤}
 use Rattle.gptp_lists.specs.Members.{In}
 use Rattle.gptp_lists.proofs.SystemSpecLemmas.{In-parts}
 use Rattle.gptp_vector.specs.declared.port.PortId.{PortId}
@@ -11,11 +13,16 @@ use Rattle.gptp_links.specs.Fate.{Draw}
 use Rattle.gptp_links.specs.Queue.{Frame, due_after, frame, newest_due}
 use Rattle.gptp_system.specs.declared.sending.Sending.{Sending}
 use Rattle.gptp_system.specs.State.{SystemState, own}
+use Rattle.gptp_scenario.specs.declared.change.Act.{Act}
+use Rattle.gptp_scenario.specs.declared.change.Act.TheVariants.{Change as Changing}
+use Rattle.gptp_scenario.specs.declared.change.Change.TheVariants.{LinkSet}
 use Rattle.gptp_model.specs.Act.{TakesFrame}
+use Rattle.gptp_model.specs.Acts.{set_to}
 use Rattle.gptp_model.specs.Changing.{lost}
 use Rattle.gptp_model.specs.Sends.{SendsAll, SendsOne, entered, written}
-use Rattle.gptp_model.specs.World.{Channel, Net, world_queue, with_queue}
+use Rattle.gptp_model.specs.World.{Channel, Net, WorldState, port_id, world_queue, with_queue}
 use Rattle.gptp_lists.proofs.PlaceLemmas.{get-set_all}
+use Rattle.gptp_invariants.proofs.WorldActsByLemmas.{Elementary}
 
 -- ---- queues
 
@@ -142,3 +149,36 @@ takes_keep place direction now octets channel net net' takes =
     (λ limit is.
     requeued limit now direction takes.rest channel
     (λ f among. in_queue limit now direction channel is f (subst (In f) (sym takes.front) (inr among))) is))
+
+-- ---- acts
+
+-- all links of a world keep a limit, which follows from the time too
+abbrev pub WorldIsLimited : (ℕ → Bounds → ℕ) → WorldState → Type 0
+WorldIsLimited limit w = AreLimited (limit w.time) w.time w.net.channels
+
+-- every act keeps it that sets no link to other bounds than those that keep it
+pub keeps_limit : (limit : ℕ → Bounds → ℕ) (Allows : Act → Type 0)
+    → ((number port least greatest loss now : ℕ) (channel : Channel)
+    → Allows (Changing (LinkSet number port least greatest loss)) → IsLimited (limit now) now channel
+    → IsLimited (limit now) now (record channel { bounds = set_to least greatest loss channel }))
+    → Elementary ⊥ Allows (λ octets. ⊤) (WorldIsLimited limit)
+keeps_limit limit Allows set = record {
+  system_called = λ place input w draws answer w' k given are.
+      subst (WorldIsLimited limit) (sym k.is)
+      (sends_keep w.time k.after k.sends draws _ k.net k.sent (limit w.time) are);
+  frame_taken = λ link direction octets channel w net k are.
+      (takes_keep link direction w.time octets channel w.net net k (limit w.time) are, tt);
+  timer_stopped = λ place timer w are. are;
+  link_down = λ place channel w here are. lost_keep w.time w.net.channels place channel here (limit w.time) are;
+  link_up = λ place channel w here are. up_keep w.time w.net.channels place channel here (limit w.time) are;
+  link_set = λ number port least greatest loss place channel w here allowed now are.
+      get-set_all (IsLimited (limit w.time) w.time) w.net.channels place channel _ here
+      (set number port least greatest loss w.time channel allowed (are place channel here)) are;
+  system_failed = λ place station w here are. are;
+  system_started = λ place station w here are. are;
+  priority_set = λ number value place station w here allowed are. are;
+  octets_injected = λ number port octets w draws w' allowed k are.
+      subst (WorldIsLimited limit) (sym k.is)
+      (sends_one_keep w.time (port_id number port) octets k.draw w.net k.net k.sent (limit w.time) are);
+  change_counted = λ w are. are;
+}

@@ -1,5 +1,5 @@
 -- An expiry, seen at a link: a request is sent, an answer is sent, or others send.
-use Rattle.std.proofs.Common.{◌≡◌, ◌≢◌, ◌⊎◌, ◌+◌, ◌≤◌, ℕ, ℤ, List, map, Option, Some, None, slice_get, refl, sym, ap, subst, ◌∙◌, inl, inr, arith}
+use Rattle.std.proofs.Common.{◌≡◌, ◌≢◌, ◌⊎◌, ◌+◌, ℕ, ℤ, List, map, Option, Some, None, slice_get, refl, sym, ap, subst, ◌∙◌, inl, inr, arith}
 use Rattle.std.specs.Option.{option_and_then, option_map_or}
 use Rattle.gptp_vector.specs.declared.port.PortId.{PortId}
 use Rattle.gptp_messages.specs.Frame.{PortFits}
@@ -18,13 +18,11 @@ use Rattle.gptp_system.specs.Measures.{Part, part_answered, part_asked, measure_
 use Rattle.gptp_system.specs.Measuring.{Responds, RespondsIf, owed_at}
 use Rattle.gptp_system.specs.Messages.{AreSent}
 use Rattle.gptp_system.specs.State.{SystemState, clock, due, local_time, number, own}
-use Rattle.gptp_system.specs.Steps.{IsDue}
 use Rattle.gptp_model.specs.declared.station.Station.{Station}
 use Rattle.gptp_model.specs.Act.{TimerRunsOut}
 use Rattle.gptp_model.specs.Agrees.{stopped}
 use Rattle.gptp_model.specs.Sound.{IsSound}
-use Rattle.gptp_model.specs.World.{WorldState, receiver, sender, station_due}
-use Rattle.gptp_model.proofs.AheadLemmas.{live_due}
+use Rattle.gptp_model.specs.World.{WorldState, receiver, sender}
 use Rattle.gptp_lists.proofs.MappedLemmas.{same_there}
 use Rattle.gptp_model.proofs.SteadyLemmas.{same_clock}
 use Rattle.gptp_pdelay_machine.specs.Answerer.{Waiting}
@@ -40,6 +38,7 @@ use Rattle.gptp_invariants.specs.ChoiceSaid.{said_at}
 use Rattle.gptp_invariants.proofs.DelayLinkLemmas.{IsOrderly, LinkStep, end_fits, end_named, end_next, end_request, link_called, sender_opposite, sound_orderly}
 use Rattle.gptp_invariants.proofs.DelayPartLemmas.{AsksAsBefore, asked_measured, asked_seen, asks_still}
 use Rattle.gptp_invariants.proofs.DelaySentLemmas.{next_of, sends_answer, sends_request}
+use Rattle.gptp_invariants.proofs.WorldActsByLemmas.{expires_due, expires_timely}
 
 -- ---- the ends
 
@@ -47,18 +46,6 @@ use Rattle.gptp_invariants.proofs.DelaySentLemmas.{next_of, sends_answer, sends_
 pub clock_is : (place : ℕ) (port : PortId) (w : WorldState) (e : IsEndOf place port w) (t : ℕ)
     → local_clock e.station.setup.phase e.station.setup.drift t ≡ local_time e.station.system t
 clock_is place port w e t = λ i. local_clock (sym e.set_up.phase i) (sym e.set_up.drift i) t
-
--- the timer that expires is due now
-pub expires_due : (place : ℕ) (timer : Timer) (w : WorldState) (draws : List Draw) (w' : WorldState)
-    → (k : TimerRunsOut place timer w draws w') → due timer k.calls.station.system ≡ Some w.time
-expires_due place timer w draws w' k =
-    sym (live_due k.calls.station timer k.calls.live)
-    ∙ ap (station_due timer) (same_there w.stations place k.calls.station k.station k.calls.here k.here) ∙ k.now_due
-
-pub expires_timely : (place : ℕ) (timer : Timer) (w : WorldState) (draws : List Draw) (w' : WorldState)
-    → (k : TimerRunsOut place timer w draws w') → IsDue k.calls.station.system timer w.time
-expires_timely place timer w draws w' k =
-    let least : w.time ≤ w.time = omega arith in rw (expires_due place timer w draws w' k) least
 
 module _ (at : LinkPlace) (place : ℕ) (timer : Timer) (w : WorldState) (draws : List Draw) (w' : WorldState)
     (k : TimerRunsOut place timer w draws w') (sound : IsSound w) (l : IsLinkOf at w) where

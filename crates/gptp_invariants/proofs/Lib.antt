@@ -5,8 +5,7 @@ pub mod WorldLaterLemmas
 pub mod DelayLimitLemmas
 pub mod DelayMeasuringLemmas
 pub mod WorldKnownKeptLemmas
-pub mod WorldKnownActLemmas
-pub mod WorldChangeLemmas
+pub mod WorldKnownStepLemmas
 pub mod DelayTimersLemmas
 pub mod DelayOnLinkLemmas
 pub mod DelayComesUpLemmas
@@ -32,7 +31,6 @@ pub mod ChoiceSeenDeliveryLemmas
 pub mod ChoiceSeenActLemmas
 pub mod WorldEncodableLemmas
 pub mod WorldAnsweringLemmas
-pub mod WorldChangeEncodableLemmas
 pub mod WorldActEncodableLemmas
 pub mod WorldOutlineLemmas
 pub mod WorldBetweenLemmas
@@ -136,5 +134,6 @@ pub mod SyncFollowWorldLemmas
 pub mod SyncFollowMeasureLemmas
 pub mod SyncFollowClaimLemmas
 pub mod WorldActsByLemmas
+pub mod WorldEachLemmas
 pub mod SyncOwnClockLemmas
 pub mod SyncExactLemmas

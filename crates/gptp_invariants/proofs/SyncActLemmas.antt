@@ -37,12 +37,13 @@ use Rattle.gptp_invariants.specs.SyncView.{KnowTime, TakesTime}
 use Rattle.gptp_invariants.specs.ChoiceView.{kept_view, says_announce, says_sync, station_view, sync_id, view}
 use Rattle.gptp_bmca_machine.specs.Syncs.{HasSyncTimers, HaveSyncTimers, MayLead}
 use Rattle.gptp_invariants.proofs.ChoicePlaceLemmas.{station_from}
-use Rattle.gptp_invariants.proofs.ChoiceSeenDeliveryLemmas.{IsArrivalAt, emptied_apart, failed_drops, receiver_arrives, receiver_up}
-use Rattle.gptp_invariants.proofs.ChoiceSeenExpiryLemmas.{expires_at, expiry_timely}
+use Rattle.gptp_invariants.proofs.ChoiceSeenDeliveryLemmas.{IsArrivalAt, emptied_apart, failed_drops, receiver_arrives}
+use Rattle.gptp_invariants.proofs.ChoiceSeenExpiryLemmas.{expires_at}
 use Rattle.gptp_invariants.proofs.ChoiceSendLemmas.{world_apart}
 use Rattle.gptp_invariants.proofs.SyncCallLemmas.{TakesSyncs, kept_stays, slave_takes, timers_step}
 use Rattle.gptp_invariants.proofs.SyncHeardLemmas.{follow_ups_are_used, followed_here, syncs_are_kept}
 use Rattle.gptp_invariants.proofs.SyncTimeStepLemmas.{KeepsSync}
+use Rattle.gptp_invariants.proofs.WorldActsByLemmas.{expires_timely, reached_up}
 
 module _ (p : SettlingParams) (m start : ℕ) (times : SettlingTimes) (w : WorldState) (sound : IsSound w)
     (encodable : IsEncodable w)
@@ -72,7 +73,7 @@ module _ (p : SettlingParams) (m start : ℕ) (times : SettlingTimes) (w : World
       let c = k.calls in
       let steady = (sound.on_time.stations place c.station c.here).steady in
       let its = sound.wired.setups place c.station c.here in
-      let timely = expiry_timely place timer w draws w' sound encodable k in
+      let timely = expires_timely place timer w draws w' k in
       let time = knows place c.station c.here c.live in
       let apart = world_apart w sound encodable in
       let run = expires_at place timer w draws w' sound encodable k in
@@ -122,7 +123,7 @@ module _ (p : SettlingParams) (m start : ℕ) (times : SettlingTimes) (w : World
       timer_steps =
           timers_step k.place (FrameHeard port octets) emptied draws one w' c steady
           (sound.wired.setups k.place c.station c.here)
-          (receiver_up link direction octets w draws answer w' sound encodable k one c)
+          (reached_up link direction octets w draws answer w' k sound.wired c.station c.here c.live)
           (knows k.place c.station c.here c.live) (on k.place c.station c.here)
           (emptied_apart link direction octets w draws answer w' sound encodable k) n (span k.place c.station c.here)
 
@@ -131,7 +132,7 @@ module _ (p : SettlingParams) (m start : ℕ) (times : SettlingTimes) (w : World
       stays still none =
           kept_stays k.place (FrameHeard port octets) emptied draws one w' c steady
           (sound.wired.setups k.place c.station c.here)
-          (receiver_up link direction octets w draws answer w' sound encodable k one c)
+          (reached_up link direction octets w draws answer w' k sound.wired c.station c.here c.live)
           (knows k.place c.station c.here c.live) (on k.place c.station c.here)
           (emptied_apart link direction octets w draws answer w' sound encodable k) n (span k.place c.station c.here)
           still none

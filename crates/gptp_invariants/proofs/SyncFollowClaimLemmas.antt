@@ -1,8 +1,7 @@
 -- In every world of a network time is carried right wherever it is calm for long enough.
-use Rattle.std.proofs.Common.{◌≡◌, ◌⊎◌, inl, inr, ◌<◌, ◌≤◌, ◌*◌, ◌^◌, ℕ, List, Option, Some, None, refl, sym, ap, subst, arith}
+use Rattle.std.proofs.Common.{◌≡◌, ◌⊎◌, inl, inr, ◌<◌, ◌≤◌, ◌*◌, ◌^◌, ℕ, Option, refl, sym, ap, subst, arith}
 use Rattle.std.proofs.lemmas.Bool.{cases_lt}
 use Rattle.gptp_links.specs.declared.bounds.Bounds.{Bounds}
-use Rattle.gptp_links.specs.Fate.{Draw}
 use Rattle.gptp_setup.specs.SettlingParams.{SettlingParams}
 use Rattle.gptp_setup.proofs.IntervalLemmas.{interval_positive}
 use Rattle.gptp_scenario.specs.Allowed.{IsFitAct}
@@ -11,15 +10,13 @@ use Rattle.gptp_scenario.specs.declared.change.Act.TheVariants.{Deliver, Expire,
 use Rattle.gptp_scenario.specs.declared.change.Timed.{Timed}
 use Rattle.gptp_scenario.specs.Network.{IsNetwork, NetworkState, pace_of}
 use Rattle.gptp_scenario.specs.SyncWait.{step_more}
-use Rattle.gptp_system.specs.declared.answer.Answer.{Answer}
-use Rattle.gptp_model.specs.Act.{Hears}
 use Rattle.gptp_model.specs.Acts.{Acts, at}
 use Rattle.gptp_model.specs.Course.{Begun, WasDone}
 use Rattle.gptp_model.specs.declared.done.Done.{Done}
 use Rattle.gptp_model.specs.Initial.{initial}
 use Rattle.gptp_model.specs.Prompt.{DelaysFitIntervals}
 use Rattle.gptp_model.specs.Sound.{IsSound}
-use Rattle.gptp_model.specs.World.{WorldState, receiver}
+use Rattle.gptp_model.specs.World.{WorldState}
 use Rattle.gptp_graph.specs.PathBound.{BoundsPaths, path_bound}
 use Rattle.gptp_invariants.specs.ChoiceCalm.{sync_paths_of}
 use Rattle.gptp_invariants.specs.WorldCalmFor.{IsCalmFor, span_over}
@@ -38,7 +35,7 @@ use Rattle.gptp_invariants.proofs.SyncFollowMeasureLemmas.{measured_right}
 use Rattle.gptp_invariants.proofs.SyncFollowOffsetLemmas.{offsets_are_exact}
 use Rattle.gptp_invariants.proofs.SyncFollowWorldLemmas.{claimed_is_settled_from, done_carries}
 use Rattle.gptp_invariants.proofs.DelayMeasuredLinkLemmas.{claimed_measured}
-use Rattle.gptp_invariants.proofs.WorldOutlineLemmas.{change_is_last, starts_are_last}
+use Rattle.gptp_invariants.proofs.WorldOutlineLemmas.{acts_time, change_is_last, starts_are_last}
 
 -- ---- a calm world
 
@@ -110,21 +107,7 @@ carries_later p w time later first claimed before m settled calm late shown =
 
 -- ---- from act to act
 
--- an act that changes nothing happens at the time of the world
-pub acts_time : (act : Act) (w : WorldState) (draws : List Draw) (done : Done) (w' : WorldState) → IsNoChange act
-    → Acts act w draws done w' → w'.time ≡ w.time
-acts_time (Deliver link direction) w draws done w' none k =
-    by k.answer k.delivers.hears
-  where
-    by : (o : Option Answer)
-        → Hears k.delivers.place (receiver direction k.delivers.channel).port k.octets
-        (record w { net = k.delivers.net }) draws o w' → w'.time ≡ w.time
-    by (Some told) c = ap (λ (v : WorldState). v.time) c.is
-    by None (failed, nothing, same) = ap (λ (v : WorldState). v.time) same
-acts_time (Expire number timer) w draws done w' none (told, k) = ap (λ (v : WorldState). v.time) k.so.calls.is
-acts_time (Changing change) w draws done w' none k = absurd none
-
--- and a network that it keeps was kept
+-- a network that an act keeps was kept
 keeps_back : (w w' : WorldState) → KeepsNetwork w w' → KeepsNetwork w' w
 keeps_back w w' k = record {
   systems = sym k.systems;
@@ -163,7 +146,7 @@ module _ {F : Type 0} (answers : Bounds → ℕ → F → Option ℕ → F → T
     kept_on : IsNoChange timed.act → CarriesWhereCalm p w'
     kept_on none m settled calm late shown =
         let keeps = acts_keep timed.act then k.draws done w' none k.acts in
-        let time = acts_time timed.act then k.draws done w' none k.acts in
+        let time = acts_time timed.act then k.draws done w' k.acts in
         let calm_then : IsCalmBy p m settled then = calm_before p m settled then w' keeps calm in
         let late_then : settled ≤ timed.at = omega (arith, late, time) in
         let shown_then : timed.at ≤ 10 ^ 18 = omega (arith, shown, time) in

@@ -54,8 +54,8 @@ use Rattle.gptp_invariants.proofs.SyncFollowBaseLemmas.{GoesOn, calls_go_on}
 use Rattle.gptp_invariants.proofs.SyncFollowTreeLemmas.{FollowedBefore, followed_before, slave_is, takes_time, well_formed}
 use Rattle.gptp_invariants.proofs.DelayLinkLemmas.{IsOrderly, net_orderly, sender_opposite, sound_orderly}
 use Rattle.gptp_invariants.proofs.DelayPoppedLemmas.{queue_left, queue_set, which_way}
-use Rattle.gptp_invariants.proofs.ChoiceSeenDeliveryLemmas.{receiver_up}
 use Rattle.gptp_invariants.proofs.WorldWayLemmas.{one_way}
+use Rattle.gptp_invariants.proofs.WorldActsByLemmas.{reached_up}
 
 -- ---- directions
 
@@ -288,7 +288,7 @@ module _ (p : SettlingParams) (settled longest : ℕ) (w : WorldState) (is : IsS
     sent : AreSent s w.time (FrameHeard port octets) c.sends
     sent =
         steps_send (FrameHeard port octets) w.time s s' c.sends told
-        (receiver_up link direction octets w draws answer w' is.world.sound is.world.encodable d told c) c.steps
+        (reached_up link direction octets w draws answer w' d is.world.sound.wired c.station c.here c.live) c.steps
 
     heard : HearsTime port octets w.time s s'
     heard = hears_time port octets w.time s s' c.sends told c.steps

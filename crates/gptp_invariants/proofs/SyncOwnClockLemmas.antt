@@ -1,13 +1,11 @@
 -- Systems tell as they are set up: as their world begins, and after every act.
-use Rattle.std.proofs.Common.{◌≡◌, ℕ, Bool, true, false, ◌&&◌, if◌then◌else◌, List, length, Option, refl, sym, ap, subst, ◌∙◌, inl, inr}
+use Rattle.std.proofs.Common.{◌≡◌, ℕ, Bool, true, false, ◌&&◌, if◌then◌else◌, length, Option, refl, ap, subst, ◌∙◌, inl, inr}
+use Rattle.std.specs.Prelude.{⊤}
 use Rattle.std.specs.List.{range_with_len}
 use Rattle.gptp_lists.proofs.MappedLemmas.{mapped}
-use Rattle.gptp_lists.proofs.PlaceLemmas.{get-set_all}
 use Rattle.gptp_links.specs.declared.bounds.Bounds.{Bounds}
-use Rattle.gptp_links.specs.Fate.{Draw}
 use Rattle.gptp_scenario.specs.declared.change.Timed.{Timed}
 use Rattle.gptp_scenario.specs.Network.{NetworkState, pace_of}
-use Rattle.gptp_system.specs.declared.answer.Answer.{Answer}
 use Rattle.gptp_system.specs.Input.{Input}
 use Rattle.gptp_system.specs.State.{SystemState, local_time}
 use Rattle.gptp_system.specs.Syncing.{is_leading}
@@ -16,13 +14,13 @@ use Rattle.gptp_system.specs.TimeKept.{MakesOfTime}
 use Rattle.gptp_system.proofs.StepLemmas.{steps_sound}
 use Rattle.gptp_system.proofs.TimeKeptLemmas.{steps_make_of_time}
 use Rattle.gptp_model.specs.declared.done.Done.{Done}
-use Rattle.gptp_model.specs.Act.{Calls, in_state}
 use Rattle.gptp_model.specs.Acts.{at}
 use Rattle.gptp_model.specs.Course.{Begun, WasDone}
 use Rattle.gptp_model.specs.Initial.{initial, station_of}
 use Rattle.gptp_model.specs.World.{WorldState}
 use Rattle.gptp_invariants.specs.SyncOwnClock.{TellAsSetUp, TellsAsSetUp}
-use Rattle.gptp_invariants.proofs.WorldActsByLemmas.{Elementary, acts_by, started_all}
+use Rattle.gptp_invariants.proofs.WorldActsByLemmas.{Elementary, acts_by, starts_by}
+use Rattle.gptp_invariants.proofs.WorldEachLemmas.{OfEach, each_kept}
 
 -- a system that doesn't go on keeps its base
 base_stays : (input : Input) (now : ℕ) (s s' : SystemState) → s.continues ≡ false → MakesOfTime input now s s'
@@ -42,53 +40,25 @@ base_stays input now s s' off (inr (inr (sync, restarts))) = restarts.base ∙ b
         ap (λ b. if takes_over s && b then base_to (reading s now) (local_time s now) else s.base) off
         ∙ never (takes_over s)
 
--- what every act keeps
-abbrev KeepsAsSetUp : WorldState → WorldState → Type 0
-KeepsAsSetUp w w' = TellAsSetUp w → TellAsSetUp w'
-
-called : (place : ℕ) (input : Input) (w : WorldState) (draws : List Draw) (answer : Answer) (w' : WorldState)
-    → Calls place input w draws answer w' → KeepsAsSetUp w w'
-called place input w draws answer w' k so =
-    let was = so place k.station k.here in
-    let sound = steps_sound input w.time k.station.system k.after k.sends answer k.steps in
-    subst TellAsSetUp (sym k.is)
-    (get-set_all TellsAsSetUp w.stations place k.station (in_state k.after k.station) k.here
-    (record {
-      continues = sound.kept.continues ∙ was.continues;
+keeps : Elementary ⊥ (λ act. ⊤) (λ octets. ⊤) (OfEach TellsAsSetUp)
+keeps = each_kept TellsAsSetUp
+    (λ input now station after sends answer steps was.
+    let kept = (steps_sound input now station.system after sends answer steps).kept in
+    record {
+      continues = kept.continues ∙ was.continues;
       own = λ off.
-          base_stays input w.time k.station.system k.after (was.continues ∙ off)
-          (steps_make_of_time input w.time k.station.system k.after k.sends answer k.steps) ∙ was.own off;
-    }) so)
-
-keeps : Elementary KeepsAsSetUp
-keeps = record {
-  same = λ w so. so;
-  on = λ u v w first second so. second (first so);
-  called = called;
-  taken = λ link direction octets channel w net k so. so;
-  stopped = λ place timer w so. so;
-  downed = λ place channel w here so. so;
-  upped = λ place channel w here so. so;
-  bounded = λ bounds place channel w here so. so;
-  fails = λ place station w here so.
-      let was = so place station here in
-      get-set_all TellsAsSetUp w.stations place station (record station { live = false }) here
-      (record { continues = was.continues; own = was.own }) so;
-  set_up = λ value place station w here so.
-      let was = so place station here in
-      get-set_all TellsAsSetUp w.stations place station _ here
-      (record { continues = was.continues; own = was.own }) so;
-  renewed = λ place station w here so.
-      get-set_all TellsAsSetUp w.stations place station _ here (record { continues = refl; own = λ off. refl }) so;
-  injected = λ from octets w draws w' k so. subst TellAsSetUp (sym k.is) so;
-  stamped = λ w so. so;
-}
+          base_stays input now station.system after (was.continues ∙ off)
+          (steps_make_of_time input now station.system after sends answer steps) ∙ was.own off;
+    })
+    (λ station was. record { continues = was.continues; own = was.own })
+    (λ now station was. record { continues = refl; own = λ off. refl })
+    (λ value station was. record { continues = was.continues; own = was.own })
 
 -- the world of a network begins so
 pub own_begins : {F : Type 0} (answers : Bounds → ℕ → F → Option ℕ → F → Type 0) (n : NetworkState)
     (fate fate_after : F) (w : WorldState) → Begun answers n fate fate_after w → TellAsSetUp w
 own_begins answers n fate fate_after w k =
-    started_all KeepsAsSetUp keeps (range_with_len 0 (length n.systems)) (initial n) k.draws w k.starts
+    starts_by keeps (range_with_len 0 (length n.systems)) (initial n) k.draws w k.starts
     (λ place station here.
     let (member, there, is) = mapped (station_of (pace_of n)) n.systems place station here in
     subst TellsAsSetUp is (record { continues = refl; own = λ off. refl }))
@@ -97,4 +67,4 @@ own_begins answers n fate fate_after w k =
 pub own_kept : {F : Type 0} (answers : Bounds → ℕ → F → Option ℕ → F → Type 0) (timed : Timed) (fate fate_after : F)
     (w w' : WorldState) (done : Done) → WasDone answers timed fate fate_after w w' done → TellAsSetUp w → TellAsSetUp w'
 own_kept answers timed fate fate_after w w' done k so =
-    acts_by KeepsAsSetUp keeps timed.act (at timed.at w) k.draws done w' k.acts so
+    acts_by keeps timed.act (at timed.at w) k.draws done w' (λ none. absurd none) tt k.acts so

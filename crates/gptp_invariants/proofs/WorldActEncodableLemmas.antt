@@ -1,89 +1,168 @@
 -- The world that a network makes is encodable, and every act leaves it so.
-use Rattle.std.proofs.Common.{◌≡◌, ◌≢◌, ℕ, false, List, Some, slice_get, sym, ap, subst}
+use Rattle.std.proofs.Common.{◌≡◌, ◌≢◌, ◌<◌, ℕ, true, false, List, Some, slice_get, slice_set, refl, sym, ap, subst, ◌∙◌, inl, arith}
+use Rattle.std.specs.Prelude.{⊤}
 use Rattle.gptp_lists.specs.Members.{In}
 use Rattle.gptp_vector.specs.declared.port.PortId.{PortId}
 use Rattle.gptp_links.specs.declared.link.Direction.{Direction}
 use Rattle.gptp_links.specs.declared.link.Direction.TheVariants.{FromA, FromB}
 use Rattle.gptp_links.specs.Fate.{Draw}
-use Rattle.gptp_links.specs.Queue.{Frame}
+use Rattle.gptp_links.specs.Queue.{Frame, frame}
 use Rattle.gptp_scenario.specs.declared.change.Act.{Act}
-use Rattle.gptp_scenario.specs.declared.change.Act.TheVariants.{Deliver, Expire, Change as Changing}
-use Rattle.gptp_scenario.specs.declared.change.Change.{Change}
-use Rattle.gptp_scenario.specs.declared.change.Change.TheVariants.{LinkDown, LinkUp, LinkSet, Fail, Recover, Priority1, Inject}
-use Rattle.gptp_model.specs.declared.done.Done.{Done}
 use Rattle.gptp_scenario.specs.declared.network.LinkSpec.{LinkSpec}
-use Rattle.gptp_model.specs.declared.station.Station.{Station}
-use Rattle.gptp_model.specs.Acts.{Acts, Changes, set_to}
-use Rattle.gptp_model.specs.Initial.{channel_from, channels_of, initial, setup_of, station_of, stations_of}
 use Rattle.gptp_scenario.specs.Network.{IsNetwork, NetworkState, pace_of}
-use Rattle.gptp_model.specs.Ahead.{IsPortAmong}
-use Rattle.gptp_model.specs.Changing.{StartsAll}
+use Rattle.gptp_system.specs.Input.{Input, Expires, Frame as FrameHeard, PortDown, PortUp, Priority}
+use Rattle.gptp_system.specs.Start.{started}
+use Rattle.gptp_system.proofs.TimersChangedLemmas.{priority_clock}
+use Rattle.gptp_model.specs.declared.done.Done.{Done}
+use Rattle.gptp_model.specs.declared.station.Station.{Station}
+use Rattle.gptp_model.specs.Act.{all_timers}
+use Rattle.gptp_model.specs.Acts.{Acts, set_to}
+use Rattle.gptp_model.specs.Agrees.{stopped}
+use Rattle.gptp_model.specs.Changing.{StartsAll, brought_up, fresh, lost, taken_down, with_bounds, with_setup, with_station}
+use Rattle.gptp_model.specs.Initial.{channel_from, channels_of, initial, setup_of, station_of, stations_of}
 use Rattle.gptp_model.specs.Sound.{IsSound}
-use Rattle.gptp_model.specs.World.{Channel, WorldState, port_id, world_queue, sender}
+use Rattle.gptp_model.specs.World.{Channel, Net, WorldState, world_queue}
 use Rattle.gptp_lists.proofs.MappedLemmas.{mapped}
+use Rattle.gptp_lists.proofs.PlaceLemmas.{get-set_all}
+use Rattle.gptp_model.proofs.StayLemmas.{fresh_same}
+use Rattle.gptp_model.proofs.SteadyLemmas.{started_steady}
 use Rattle.gptp_invariants.specs.WorldEncodable.{ChannelFits, IsEncodable, SayWhatFits, StationFits}
 use Rattle.gptp_invariants.specs.WorldEncodableLaws.{SetsAnOctet}
-use Rattle.gptp_invariants.proofs.WorldEncodableLemmas.{delivers_encodable, expires_encodable}
-use Rattle.gptp_invariants.proofs.WorldAnsweringLemmas.{IsAnswering, new_fits, recovers_answering, sound_answers, starts_all_answering}
-use Rattle.gptp_invariants.proofs.WorldChangeEncodableLemmas.{bounds_encodable, comes_up_answering, fails_encodable, goes_down_answering, injects_encodable, prioritized_answering}
 use Rattle.gptp_invariants.proofs.ChoiceSeenOctetLemmas.{octets_say_what_fits}
+use Rattle.gptp_invariants.proofs.ChoiceTouchLemmas.{InputFits}
+use Rattle.gptp_invariants.proofs.WorldActsByLemmas.{Elementary, SaysWhatIsKnown, acts_by, starts_by}
+use Rattle.gptp_invariants.proofs.WorldAnsweringLemmas.{CanAnswer, IsAnswering, calls_answering, new_fits, sound_answers}
+use Rattle.gptp_invariants.proofs.WorldEncodableLemmas.{LinksFit, entered_fits, flight_fits, lost_fits, set_fits, takes_fits}
 
--- the ports at the ends of a link are those of systems
-ends_among : (w : WorldState) (link : ℕ) (channel : Channel) → IsSound w
-    → slice_get w.net.channels link ≡ Some channel → (direction : Direction)
-    → IsPortAmong (sender direction channel) w.stations
-ends_among w link channel sound here direction place station there named =
-    sound.wired.ports link place direction channel station here there named
+-- ---- elementary steps
 
--- the time of the last change is nothing that is read
-marked_answers : (w : WorldState) → IsSound w → IsEncodable w → IsAnswering (record w { last_change = w.time })
-marked_answers w sound encodable =
-    let is = sound_answers w sound encodable in
-    record {
-      stations = is.stations;
-      encodable = record { stations = encodable.stations; links = encodable.links };
-    }
+input_fits : (input : Input) → SaysWhatIsKnown SetsAnOctet SayWhatFits input → InputFits input
+input_fits (PortUp p) says = tt
+input_fits (PortDown p) says = tt
+input_fits (FrameHeard p octets) says = says
+input_fits (Expires timer) says = tt
+input_fits (Priority value) (number, octet) = octet
 
-changes_encodable : (change : Change) (w : WorldState) (draws : List Draw) (w' : WorldState) → IsSound w → IsEncodable w
-    → SetsAnOctet (Changing change) → Changes change (record w { last_change = w.time }) draws w' → IsEncodable w'
-changes_encodable (LinkDown number port) w draws w' sound encodable octet k =
-    (goes_down_answering k.place k.channel (record w { last_change = w.time }) draws w' k.is.here
-    (marked_answers w sound encodable) (ends_among w k.place k.channel sound k.is.here FromA)
-    (ends_among w k.place k.channel sound k.is.here FromB) k.channel.up k.so).encodable
-changes_encodable (LinkUp number port) w draws w' sound encodable octet k =
-    (comes_up_answering k.place k.channel (record w { last_change = w.time }) draws w' k.is.here
-    (marked_answers w sound encodable) (ends_among w k.place k.channel sound k.is.here FromA)
-    (ends_among w k.place k.channel sound k.is.here FromB) k.channel.up k.so).encodable
-changes_encodable (LinkSet number port min max loss) w draws w' sound encodable octet k =
-    subst IsEncodable (sym k.so.1)
-    (bounds_encodable (set_to min max loss k.channel) k.place k.channel (record w { last_change = w.time }) k.is.here
-    (marked_answers w sound encodable).encodable)
-changes_encodable (Fail number) w draws w' sound encodable octet k =
-    fails_encodable k.station.live k.place k.station (record w { last_change = w.time }) draws w' k.is.here
-    (marked_answers w sound encodable).encodable k.so
-changes_encodable (Recover number) w draws w' sound encodable octet k =
-    (recovers_answering k.station.live k.place (record w { last_change = w.time }) draws w'
-    (marked_answers w sound encodable) k.so).encodable
-changes_encodable (Priority1 number value) w draws w' sound encodable octet k =
-    (prioritized_answering value k.place k.station (record w { last_change = w.time }) draws w' octet k.is.here
-    (marked_answers w sound encodable) k.so).encodable
-changes_encodable (Inject number port octets) w draws w' sound encodable octet k =
-    injects_encodable k.channel.up (port_id number port) octets (record w { last_change = w.time }) draws w'
-    (octets_say_what_fits octets octet) (marked_answers w sound encodable).encodable k.so
+-- the links are others
+net_answering : (w : WorldState) (net : Net) → LinksFit net.channels → IsAnswering w
+    → IsAnswering (record w { net = net })
+net_answering w net fit is =
+    record { stations = is.stations; encodable = record { stations = is.encodable.stations; links = fit } }
+
+-- one link becomes another
+relinked : (place : ℕ) (old new : Channel) (w : WorldState) → slice_get w.net.channels place ≡ Some old
+    → (ChannelFits old → ChannelFits new) → IsAnswering w → LinksFit (slice_set w.net.channels place new)
+relinked place old new w here fits is =
+    set_fits w.net.channels place old new here (fits (is.encodable.links place old here)) is.encodable.links
+
+-- one system becomes another
+station_answering : (place : ℕ) (old new : Station) (w : WorldState) → slice_get w.stations place ≡ Some old
+    → CanAnswer new → StationFits new → IsAnswering w → IsAnswering (with_station place new w)
+station_answering place old new w here can fits is = record {
+  stations = get-set_all CanAnswer w.stations place old new here can is.stations;
+  encodable = record {
+    stations = get-set_all StationFits w.stations place old new here fits is.encodable.stations;
+    links = is.encodable.links;
+  };
+}
+
+pub answering_kept : Elementary ⊤ SetsAnOctet SayWhatFits IsAnswering
+answering_kept = record {
+  system_called = λ place input w draws answer w' k given is.
+      calls_answering place input w draws answer w' is k (given.timely tt) (input_fits input given.says);
+  frame_taken = λ link direction octets channel w net k is. (
+    net_answering w net (takes_fits link direction w.time octets channel w.net net is.encodable.links k) is,
+    (is.encodable.links link channel k.here).frames direction (frame w.time octets)
+        (subst (In (frame w.time octets)) (sym k.front) (inl refl)),
+  );
+  timer_stopped = λ place timer w is. net_answering w (stopped place timer w).net is.encodable.links is;
+  link_down = λ place channel w here is.
+      net_answering w (taken_down place channel w.net)
+      (relinked place channel (lost channel) w here (lost_fits channel) is) is;
+  link_up = λ place channel w here is.
+      net_answering w (brought_up place channel w.net)
+      (relinked place channel (record channel { up = true }) w here (flight_fits channel.bounds true channel) is) is;
+  link_set = λ number port min max loss place channel w here octet now is.
+      let bounds = set_to min max loss channel in
+      net_answering w (with_bounds bounds place channel w.net)
+      (relinked place channel (record channel { bounds = bounds }) w here (flight_fits bounds channel.up channel) is)
+      is;
+  system_failed = λ place station w here is.
+      let off : Station = record station { live = false } in
+      let old = is.stations place station here in
+      let its = old.its in
+      let fits = is.encodable.stations place station here in
+      net_answering (with_station place off w) (all_timers place off w.net) is.encodable.links
+      (station_answering place station off w here
+      (record {
+        params = old.params;
+        steady = old.steady;
+        its = record {
+          ports = its.ports;
+          few = its.few;
+          phase = its.phase;
+          drift = its.drift;
+          intervals = its.intervals;
+          named = its.named;
+        };
+      })
+      (record { system = fits.system; setup = fits.setup }) is);
+  system_started = λ place station w here is.
+      let new : Station = fresh w.time station in
+      let old = is.stations place station here in
+      net_answering (with_station place new w) (all_timers place new w.net) is.encodable.links
+      (station_answering place station new w here
+      (record {
+        params = old.params;
+        steady = started_steady station.setup w.time old.params old.its.intervals;
+        its = (fresh_same w.time station old.its).its;
+      })
+      (new_fits w.time station.setup true (is.encodable.stations place station here).setup) is);
+  priority_set = λ number value place station w here octet is.
+      let old = is.stations place station here in
+      let its = old.its in
+      let intervals = its.intervals in
+      let fits = is.encodable.stations place station here in
+      let below : value < 256 = octet in
+      station_answering place station (with_setup value station) w here
+      (record {
+        params = old.params;
+        steady = old.steady;
+        its = record {
+          ports = its.ports;
+          few = its.few;
+          phase = its.phase;
+          drift = its.drift;
+          intervals = record { many = intervals.many; each = intervals.each; largest = intervals.largest };
+          named = priority_clock value (started station.setup 0) ∙ its.named;
+        };
+      })
+      (record { system = fits.system; setup = let small = fits.setup in omega (arith, small, below) }) is;
+  octets_injected = λ number port octets w draws w' octet k is.
+      let one = k.sent in
+      subst IsAnswering (sym k.is)
+      (net_answering w k.net
+      (subst (λ (n : Net). LinksFit n.channels) (sym one.after)
+      (entered_fits w.time one.place one.direction one.channel octets k.draw.answer w.net one.here
+      (octets_say_what_fits octets octet) is.encodable.links)) is);
+  change_counted = λ w is. record {
+    stations = is.stations;
+    encodable = record { stations = is.encodable.stations; links = is.encodable.links };
+  };
+}
+
+-- ---- acts and starts
 
 pub acts_encodable : (act : Act) (w : WorldState) (draws : List Draw) (done : Done) (w' : WorldState) → IsSound w
     → IsEncodable w → SetsAnOctet act → Acts act w draws done w' → IsEncodable w'
-acts_encodable (Deliver link direction) w draws done w' sound encodable octet k =
-    delivers_encodable link direction k.octets w draws k.answer w' sound encodable k.delivers
-acts_encodable (Expire number timer) w draws done w' sound encodable octet (told, k) =
-    expires_encodable k.place timer w draws w' sound encodable k.so
-acts_encodable (Changing change) w draws done w' sound encodable octet (told, k) =
-    changes_encodable change w draws w' sound encodable octet k
+acts_encodable act w draws done w' sound encodable octet k =
+    (acts_by answering_kept act w draws done w' (λ known. sound.wired) octet k
+    (sound_answers w sound encodable)).encodable
 
 pub starts_encodable : (places : List ℕ) (w : WorldState) (draws : List Draw) (w' : WorldState) → IsSound w
     → IsEncodable w → StartsAll places w draws w' → IsEncodable w'
 starts_encodable places w draws w' sound encodable k =
-    (starts_all_answering places w draws w' (sound_answers w sound encodable) k).encodable
+    (starts_by answering_kept places w draws w' k (sound_answers w sound encodable)).encodable
 
 -- ---- the world that a network makes
 

@@ -1,27 +1,25 @@
--- Every call leaves a world encodable, and so do deliveries and expiries.
-use Rattle.std.proofs.Common.{◌≡◌, ◌⊎◌, ℕ, List, [], ◌∷◌, ◌++◌, Option, Some, None, slice_get, slice_set, refl, sym, subst, inl, inr}
+-- Links on which all fits, and calls, which leave a world encodable.
+use Rattle.std.proofs.Common.{◌≡◌, ◌⊎◌, ℕ, Bool, List, [], ◌∷◌, ◌++◌, Option, Some, None, slice_get, slice_set, refl, sym, subst, inl, inr}
 use Rattle.gptp_lists.specs.Members.{In}
 use Rattle.gptp_lists.proofs.SystemSpecLemmas.{In-parts}
+use Rattle.gptp_links.specs.declared.bounds.Bounds.{Bounds}
 use Rattle.gptp_links.specs.declared.link.Direction.{Direction}
 use Rattle.gptp_links.specs.declared.link.Direction.TheVariants.{FromA, FromB}
 use Rattle.gptp_links.specs.Fate.{Draw}
 use Rattle.gptp_links.specs.Queue.{Frame, due_after, frame}
 use Rattle.gptp_system.specs.declared.answer.Answer.{Answer}
 use Rattle.gptp_system.specs.declared.sending.Sending.{Sending}
-use Rattle.gptp_setup.specs.declared.timer.Timer.{Timer}
-use Rattle.gptp_system.specs.Input.{Input, IsTimely, Frame as FrameHeard, Expires as TimerExpires}
+use Rattle.gptp_system.specs.Input.{Input, IsTimely}
 use Rattle.gptp_system.specs.State.{SystemState}
 use Rattle.gptp_model.specs.declared.station.Station.{Station}
-use Rattle.gptp_model.specs.Act.{Calls, Delivers, TimerRunsOut, Hears, TakesFrame, all_timers, in_state}
-use Rattle.gptp_model.specs.Agrees.{stopped}
+use Rattle.gptp_model.specs.Act.{Calls, TakesFrame, all_timers, in_state}
 use Rattle.gptp_model.specs.Ahead.{IsSteady}
+use Rattle.gptp_model.specs.Changing.{lost}
 use Rattle.gptp_model.specs.Sends.{SendsAll, entered, written}
-use Rattle.gptp_model.specs.Sound.{IsItsSetup, IsSound}
-use Rattle.gptp_model.specs.World.{Channel, Net, WorldState, world_queue, receiver, with_queue}
+use Rattle.gptp_model.specs.Sound.{IsItsSetup}
+use Rattle.gptp_model.specs.World.{Channel, Net, WorldState, world_queue, with_queue}
 use Rattle.gptp_lists.proofs.PlaceLemmas.{get-set_all}
 use Rattle.gptp_invariants.specs.WorldEncodable.{ChannelFits, IsEncodable, SayWhatFits, StationFits}
-use Rattle.gptp_invariants.proofs.ChoiceSeenDeliveryLemmas.{receiver_up}
-use Rattle.gptp_invariants.proofs.ChoiceSeenExpiryLemmas.{expiry_timely}
 use Rattle.gptp_invariants.proofs.ChoiceSeenCallLemmas.{after_fits, call_sends_fit}
 use Rattle.gptp_invariants.proofs.ChoiceTouchLemmas.{InputFits}
 
@@ -51,6 +49,23 @@ queue_fits FromB frames channel all fits = record { ends = fits.ends; frames = b
     by : (way : Direction) → FramesFit (world_queue way (with_queue FromB frames channel))
     by FromA = fits.frames FromA
     by FromB = all
+
+-- nothing is in flight any more
+pub lost_fits : (channel : Channel) → ChannelFits channel → ChannelFits (lost channel)
+lost_fits channel fits = record { ends = fits.ends; frames = by }
+  where
+    by : (direction : Direction) → FramesFit (world_queue direction (lost channel))
+    by FromA f member = absurd member
+    by FromB f member = absurd member
+
+-- what is in flight stays
+pub flight_fits : (bounds : Bounds) (up : Bool) (channel : Channel) → ChannelFits channel
+    → ChannelFits (record channel { bounds = bounds; up = up })
+flight_fits bounds up channel fits = record { ends = fits.ends; frames = by }
+  where
+    by : (direction : Direction) → FramesFit (world_queue direction (record channel { bounds = bounds; up = up }))
+    by FromA = fits.frames FromA
+    by FromB = fits.frames FromB
 
 one_behind : (frames : List Frame) (g : Frame) → FramesFit frames → SayWhatFits g.octets → FramesFit (frames ++ g ∷ [])
 one_behind frames g all says f member = by (In-parts f frames (g ∷ []) member)
@@ -84,7 +99,7 @@ sends_links_fit now s (x ∷ xs) draws net net' says fit (inl (draw, rest, betwe
 sends_links_fit now s (x ∷ xs) draws net net' says fit (inr (none, more)) =
     sends_links_fit now s xs draws net net' (λ y member. says y (inr member)) fit more
 
-takes_fits : (place : ℕ) (direction : Direction) (now : ℕ) (octets : List ℕ) (channel : Channel) (net net' : Net)
+pub takes_fits : (place : ℕ) (direction : Direction) (now : ℕ) (octets : List ℕ) (channel : Channel) (net net' : Net)
     → LinksFit net.channels → TakesFrame place direction now octets channel net net' → LinksFit net'.channels
 takes_fits place direction now octets channel net net' fit k =
     let old = fit place channel k.here in
@@ -123,45 +138,3 @@ module _ (place : ℕ) (input : Input) (w : WorldState) (draws : List Draw) (ans
         links = sends_links_fit w.time k.after k.sends draws (all_timers place called w.net) k.net called_says
             encodable.links k.sent;
       })
-
--- ---- deliveries and expiries
-
--- a world is encodable by its systems and links alone
-pub net_encodable : (w : WorldState) (net : Net) → LinksFit net.channels → IsEncodable w
-    → IsEncodable (record w { net = net })
-net_encodable w net fit encodable = record { stations = encodable.stations; links = fit }
-
-pub expires_encodable : (place : ℕ) (timer : Timer) (w : WorldState) (draws : List Draw) (w' : WorldState) → IsSound w
-    → IsEncodable w → TimerRunsOut place timer w draws w' → IsEncodable w'
-expires_encodable place timer w draws w' sound encodable k =
-    calls_encodable place (TimerExpires timer) (stopped place timer w) draws k.answer w' k.calls
-    (sound.on_time.stations place k.calls.station k.calls.here).steady
-    (sound.wired.setups place k.calls.station k.calls.here)
-    (expiry_timely place timer w draws w' sound encodable k) tt
-    (net_encodable w (stopped place timer w).net encodable.links encodable)
-
-pub delivers_encodable : (link : ℕ) (direction : Direction) (octets : List ℕ) (w : WorldState) (draws : List Draw)
-    (answer : Option Answer) (w' : WorldState) → IsSound w → IsEncodable w
-    → Delivers link direction octets w draws answer w' → IsEncodable w'
-delivers_encodable link direction octets w draws answer w' sound encodable k = by answer k.hears
-  where
-    port : ℕ
-    port = (receiver direction k.channel).port
-
-    emptied : WorldState
-    emptied = record w { net = k.net }
-
-    left : IsEncodable emptied
-    left =
-        net_encodable w k.net
-        (takes_fits link direction w.time octets k.channel w.net k.net encodable.links k.takes) encodable
-
-    by : (o : Option Answer) → Hears k.place port octets emptied draws o w' → IsEncodable w'
-    by None (failed, none, is) = subst IsEncodable (sym is) left
-    by (Some one) c =
-        calls_encodable k.place (FrameHeard port octets) emptied draws one w' c
-        (sound.on_time.stations k.place c.station c.here).steady (sound.wired.setups k.place c.station c.here)
-        (receiver_up link direction octets w draws answer w' sound encodable k one c)
-        ((encodable.links link k.channel k.takes.here).frames direction (frame w.time octets)
-        (subst (In (frame w.time octets)) (sym k.takes.front) (inl refl)))
-        left

@@ -34,6 +34,7 @@ use Rattle.gptp_invariants.specs.SyncView.{KnowsTime}
 use Rattle.gptp_invariants.proofs.DelayLimitLemmas.{AreLimited, KeepLimits, in_queue, sends_keep}
 use Rattle.gptp_invariants.proofs.DelayMeasuringLemmas.{ports_measure}
 use Rattle.gptp_invariants.proofs.SyncTimeStepLemmas.{knows_on}
+use Rattle.gptp_invariants.proofs.WorldShortLemmas.{short_within, within, within_short}
 
 -- ---- the items
 
@@ -53,11 +54,7 @@ abbrev pub AreKeptStations : SettlingParams → (ℤ → Type 0) → ℕ → Lis
 AreKeptStations p So now stations =
     (place : ℕ) (station : Station) → slice_get stations place ≡ Some station → IsKeptStation p So now station
 
--- the limits for frames: an announce interval from now; and the greatest delay from now, or the largest interval after
--- the last change
-abbrev pub near_limit : ℤ → ℕ → Bounds → ℕ
-near_limit log now bounds = now + interval_of log
-
+-- the limit for frames since the last change: the greatest delay from now, or the largest interval after that change
 abbrev pub fresh_limit : SettlingParams → ℕ → ℕ → Bounds → ℕ
 fresh_limit p now last_change bounds = max (now + bounds.max) (last_change + largest_interval p)
 
@@ -65,32 +62,12 @@ pub record IsKept (p : SettlingParams) (So : ℤ → Type 0) (w : WorldState) : 
   pub change : w.last_change ≤ w.time
   pub stations : AreKeptStations p So w.time w.stations
   pub largest : So p.largest
-  pub near : (log : ℤ) → So log → AreLimited (near_limit log w.time) w.time w.net.channels
+  pub near : (log : ℤ) → So log → AreLimited (within (interval_of log) w.time) w.time w.net.channels
   pub fresh : AreLimited (fresh_limit p w.time w.last_change) w.time w.net.channels
 
 -- the intervals that count in a network: the largest, and those of its ports
 abbrev pub IsCounted : SettlingParams → List Station → ℤ → Type 0
 IsCounted p stations log = (log ≡ p.largest) ⊎ IsLogAmong stations log
-
--- links that are short are within the limit of that interval
-short_near : (log : ℤ) (w : WorldState) → IsShort (interval_of log) w
-    → AreLimited (near_limit log w.time) w.time w.net.channels
-short_near log w short link channel here =
-    let is = short link channel here in
-    record {
-      room = let most = is.most in omega arith;
-      from_a = λ f. is.dues FromA f;
-      from_b = λ f. is.dues FromB f;
-    }
-
-near_short : (log : ℤ) (w : WorldState) → AreLimited (near_limit log w.time) w.time w.net.channels
-    → IsShort (interval_of log) w
-near_short log w near link channel here =
-    let is = near link channel here in
-    record {
-      most = let room = is.room in omega arith;
-      dues = λ direction f. in_queue (near_limit log w.time) w.time direction channel is f;
-    }
 
 -- what is known, item by item
 pub known_kept : (p : SettlingParams) (w : WorldState) → IsWorldOnTime w → IsKnown p w
@@ -117,21 +94,22 @@ known_kept p w on known = record {
       };
 }
   where
-    near : (log : ℤ) → IsCounted p w.stations log → AreLimited (near_limit log w.time) w.time w.net.channels
-    near log (inl same) = short_near log w (subst (λ l. IsShort (interval_of l) w) (sym same) known.near)
-    near log (inr among) = short_near log w (known.prompt log among)
+    near : (log : ℤ) → IsCounted p w.stations log → AreLimited (within (interval_of log) w.time) w.time w.net.channels
+    near log (inl same) =
+        short_within (interval_of log) w (subst (λ l. IsShort (interval_of l) w) (sym same) known.near)
+    near log (inr among) = short_within (interval_of log) w (known.prompt log among)
 
 -- and so it is known, where ports measure only at links that are up
 pub kept_known : (p : SettlingParams) (So : ℤ → Type 0) (w : WorldState) → IsKept p So w → MeasureLinks w → IsKnown p w
 kept_known p So w kept links = record {
   set = λ place station here. (kept.stations place station here).set;
   prompt = λ log at.
-      near_short log w (kept.near log ((kept.stations at.place at.station at.here).logs log at.among));
+      within_short (interval_of log) w (kept.near log ((kept.stations at.place at.station at.here).logs log at.among));
   in_time = λ place station here. (kept.stations place station here).in_time;
   measuring = λ place station here. (kept.stations place station here).measuring;
   time = λ place station here. (kept.stations place station here).time;
   links = links;
-  near = near_short p.largest w (kept.near p.largest kept.largest);
+  near = within_short (interval_of p.largest) w (kept.near p.largest kept.largest);
   fresh = record {
     change = kept.change;
     frames = λ link direction channel f here.
@@ -148,7 +126,7 @@ net_kept p So w net keep kept = record {
   change = kept.change;
   stations = kept.stations;
   largest = kept.largest;
-  near = λ log so. keep (near_limit log w.time) (kept.near log so);
+  near = λ log so. keep (within (interval_of log) w.time) (kept.near log so);
   fresh = keep (fresh_limit p w.time w.last_change) kept.fresh;
 }
 

@@ -1,5 +1,5 @@
 -- What is known of a world begins with it, and every act keeps it.
-use Rattle.std.proofs.Common.{◌≡◌, ℕ, ◌+◌, ◌≤◌, true, false, List, length, Option, Some, slice_get, refl, sym, ap, subst, ◌∙◌, arith, ◌⊎◌, ℤ, [], ◌∷◌, inl, inr}
+use Rattle.std.proofs.Common.{◌≡◌, ℕ, ◌+◌, ◌≤◌, true, false, List, [], length, Option, Some, slice_get, refl, sym, ap, subst, ◌∙◌, arith, ◌⊎◌, ℤ, ◌∷◌, inl, inr}
 use Rattle.std.specs.List.{range_with_len, AllByRecursion}
 use Rattle.gptp_links.specs.declared.bounds.Bounds.{Bounds}
 use Rattle.gptp_links.specs.Fate.{Draw}
@@ -8,7 +8,6 @@ use Rattle.gptp_setup.specs.Intervals.{IsLogUpTo, interval_of, AreIntervals}
 use Rattle.gptp_setup.specs.SettlingParams.{SettlingParams, largest_interval}
 use Rattle.gptp_setup.proofs.IntervalLemmas.{interval_rises}
 use Rattle.gptp_scenario.specs.declared.change.Act.{Act}
-use Rattle.gptp_scenario.specs.declared.change.Act.TheVariants.{Deliver, Expire, Change as Changing}
 use Rattle.gptp_scenario.specs.declared.change.Timed.{Timed}
 use Rattle.gptp_model.specs.declared.done.Done.{Done}
 use Rattle.gptp_scenario.specs.declared.network.SystemSpec.{SystemSpec}
@@ -28,13 +27,13 @@ use Rattle.gptp_lists.proofs.SystemSpecLemmas.{In-slice_get}
 use Rattle.gptp_lists.proofs.PlaceLemmas.{member_there}
 use Rattle.gptp_model.proofs.SoundLemmas.{later_sound}
 use Rattle.gptp_model.proofs.SteadyLemmas.{started_steady}
-use Rattle.gptp_model.proofs.WiredLemmas.{time_wired}
 use Rattle.gptp_model.specs.Prompt.{DelaysFitIntervals}
 use Rattle.gptp_invariants.specs.WorldKnown.{IsKnown}
 use Rattle.gptp_invariants.specs.DelayLinked.{MeasureLinks}
-use Rattle.gptp_invariants.proofs.WorldKnownActLemmas.{delivers_kept, expires_kept}
-use Rattle.gptp_invariants.proofs.WorldChangeLemmas.{changed_kept, changes_kept, started_set, starts_all_kept}
-use Rattle.gptp_invariants.proofs.WorldKnownKeptLemmas.{IsKept, IsKeptStation, fresh_limit, kept_known, known_kept, near_limit, IsCounted}
+use Rattle.gptp_invariants.proofs.WorldActsByLemmas.{acts_by, starts_by}
+use Rattle.gptp_invariants.proofs.WorldKnownKeptLemmas.{IsKept, IsKeptStation, fresh_limit, kept_known, known_kept, IsCounted}
+use Rattle.gptp_invariants.proofs.WorldKnownStepLemmas.{IsPromptFor, keeps, started_set}
+use Rattle.gptp_invariants.proofs.WorldShortLemmas.{within}
 use Rattle.gptp_invariants.proofs.WorldLaterLemmas.{later_known}
 use Rattle.gptp_invariants.proofs.DelayLimitLemmas.{AreLimited, IsLimited}
 use Rattle.gptp_invariants.proofs.DelayKnownLinkActLemmas.{acts_measure}
@@ -42,21 +41,10 @@ use Rattle.gptp_invariants.proofs.DelayStartsLemmas.{starts_all_measure}
 
 -- ---- acts
 
-acts_kept : (p : SettlingParams) (So : ℤ → Type 0) (act : Act) (w : WorldState) (draws : List Draw) (done : Done)
-    (w' : WorldState) → IsSound w → ((log : ℤ) → So log → DelayFitsInterval (interval_of log) act)
-    → Acts act w draws done w' → IsKept p So w → IsKept p So w'
-acts_kept p So (Deliver link direction) w draws done w' sound prompt k kept =
-    delivers_kept p So link direction k.octets w draws k.answer w' sound.wired k.delivers kept
-acts_kept p So (Expire number timer) w draws done w' sound prompt k kept =
-    expires_kept p So k.1.place timer w draws w' k.1.so kept
-acts_kept p So (Changing c) w draws done w' sound prompt k kept =
-    changes_kept p So c (record w { last_change = w.time }) draws w' (time_wired w w.time w.time sound.wired) refl
-    prompt (changed_kept p So w kept) k.1
-
 -- such an act is prompt for each interval that counts
 counted_prompt : (p : SettlingParams) (act : Act) (w : WorldState) → DelayFitsInterval (largest_interval p) act
     → DelaysFitIntervals w act
-    → (log : ℤ) → IsCounted p w.stations log → DelayFitsInterval (interval_of log) act
+    → IsPromptFor (IsCounted p w.stations) act
 counted_prompt p act w most prompt log (inl same) = subst (λ l. DelayFitsInterval (interval_of l) act) (sym same) most
 counted_prompt p act w most prompt log (inr at) = prompt at.place at.station log at.here at.among
 
@@ -67,7 +55,7 @@ pub acts_known : (p : SettlingParams) (act : Act) (w : WorldState) (draws : List
 acts_known p act w draws done w' sound most prompt k known =
     let counted = IsCounted p w.stations in
     kept_known p counted w'
-    (acts_kept p counted act w draws done w' sound (counted_prompt p act w most prompt) k
+    (acts_by (keeps p counted) act w draws done w' (λ known. sound.wired) (counted_prompt p act w most prompt) k
     (known_kept p w sound.on_time known))
     (acts_measure act w draws done w' sound.wired k known.links)
 
@@ -160,7 +148,7 @@ initial_kept n is = record {
       let member = mapped (station_of (pace_of n)) n.systems place station here in
       subst (IsKeptStation (pace_of n) (IsOf n) 0) member.2 (initial_station n is place member.0 member.1);
   largest = inl refl;
-  near = λ log so. initial_limited n (near_limit log 0)
+  near = λ log so. initial_limited n (within (interval_of log) 0)
       (λ place wire here. let prompt = wire_prompt n is place wire here log so in omega arith);
   fresh = initial_limited n (fresh_limit (pace_of n) 0 0) (λ place wire here. omega arith);
 }
@@ -177,5 +165,5 @@ pub begins_known : {F : Type 0} (answers : Bounds → ℕ → F → Option ℕ �
 begins_known answers n fate fate_after w is begun =
     let places : List ℕ = range_with_len 0 (length n.systems) in
     kept_known (pace_of n) (IsOf n) w
-    (starts_all_kept (pace_of n) (IsOf n) places (initial n) begun.draws w (initial_kept n is) begun.starts)
+    (starts_by (keeps (pace_of n) (IsOf n)) places (initial n) begun.draws w begun.starts (initial_kept n is))
     (starts_all_measure places (initial n) begun.draws w (initial_measure n) begun.starts)

@@ -10,10 +10,9 @@ use Rattle.gptp_scenario.specs.declared.change.Change.TheVariants.{LinkUp}
 use Rattle.gptp_setup.specs.declared.setup.Params.{Params}
 use Rattle.gptp_setup.specs.Intervals.{interval_of}
 use Rattle.gptp_setup.specs.SettlingParams.{SettlingParams}
-use Rattle.gptp_system.specs.Input.{PortUp}
 use Rattle.gptp_model.specs.declared.done.Done.{Done}
 use Rattle.gptp_model.specs.Acts.{Acts, AtLink}
-use Rattle.gptp_model.specs.Changing.{CallsIfLive, ComesUpIf, Nothing, TellsEnds, brought_up}
+use Rattle.gptp_model.specs.Changing.{ComesUpIf, Nothing, brought_up}
 use Rattle.gptp_model.specs.World.{Channel, WorldState, port_id, receiver, sender}
 use Rattle.gptp_invariants.specs.ChoiceCalm.{delay_in}
 use Rattle.gptp_invariants.specs.DelayElsewhere.{IsOtherLink}
@@ -26,38 +25,15 @@ use Rattle.gptp_invariants.specs.DelayMeasured.{LinkIsMeasured, LinkStandsAt}
 use Rattle.gptp_invariants.specs.WorldNews.{AreReadyBy, AreSilentBy, IsReadyBy}
 use Rattle.gptp_invariants.specs.WorldNewsLaws.{LinkUpIsNews}
 use Rattle.gptp_invariants.specs.WorldStanding.{live_stations}
-use Rattle.gptp_invariants.proofs.ChoiceCalmKeptLemmas.{KeepsNetwork, calls_keep, keeps_on, net_keeps}
+use Rattle.gptp_invariants.proofs.ChoiceCalmKeptLemmas.{KeepsNetwork}
 use Rattle.gptp_invariants.proofs.DelayCapableKeptLemmas.{known_params, stood_among}
 use Rattle.gptp_invariants.proofs.DelayChangeKeptLemmas.{acts_measured}
 use Rattle.gptp_invariants.proofs.WorldGreatestDelayLemmas.{delay_of_used}
 use Rattle.gptp_invariants.proofs.DelayFirstUpLemmas.{link_up_first, receiver_up, sender_up}
 use Rattle.gptp_invariants.proofs.WorldNewsLemmas.{link_used, news_begin, ready_goes_through}
+use Rattle.gptp_invariants.proofs.WorldOutlineLemmas.{acts_time}
+use Rattle.gptp_invariants.proofs.WorldSoundCallLemmas.{tells_keep}
 use Rattle.gptp_invariants.proofs.WorldSoundLemmas.{sound_gains}
-
--- a call of a port that comes up, if its system lives: the network stays, and no time passes
-record LeavesAll (w w' : WorldState) : Type 0 where
-  keeps : KeepsNetwork w w'
-  time : w'.time ≡ w.time
-
-if_live_leaves : (place port : ℕ) (w : WorldState) (draws : List Draw) (w' : WorldState)
-    → CallsIfLive place (PortUp port) w draws w' → LeavesAll w w'
-if_live_leaves place port w draws w' (inl (answer, k)) = record {
-  keeps = calls_keep place (PortUp port) w draws answer w' (λ value same. absurd cc) k;
-  time = ap (λ (v : WorldState). v.time) k.is;
-}
-if_live_leaves place port w draws w' (inr (failed, none, same)) =
-    subst (LeavesAll w) (sym same)
-    (record { keeps = net_keeps w w.net refl; time = refl })
-
-tells_leave : (channel : Channel) (w : WorldState) (draws : List Draw) (w' : WorldState)
-    → TellsEnds PortUp channel w draws w' → LeavesAll w w'
-tells_leave channel w draws w' k =
-    let one = if_live_leaves k.place_a channel.a.port w k.first k.between k.at_a in
-    let two = if_live_leaves k.place_b channel.b.port k.between k.second w' k.at_b in
-    record {
-      keeps = keeps_on w k.between w' one.keeps two.keeps;
-      time = two.time ∙ one.time;
-    }
 
 module _ (p : SettlingParams) (start number port : ℕ) (w : WorldState) (draws : List Draw) (done : Done)
     (w' : WorldState)
@@ -124,8 +100,8 @@ module _ (p : SettlingParams) (start number port : ℕ) (w : WorldState) (draws 
     abbrev brought : WorldState
     brought = record now { net = brought_up k.place k.channel w.net }
 
-    leaves : LeavesAll brought w'
-    leaves = tells_leave k.channel brought draws w'
+    keeps : KeepsNetwork brought w'
+    keeps = tells_keep k.channel brought draws w'
         (subst (λ b. ComesUpIf b k.place k.channel now draws w') down k.so)
 
     down_silent : AreSilentBy p start w'
@@ -139,7 +115,7 @@ module _ (p : SettlingParams) (start number port : ℕ) (w : WorldState) (draws 
     before : (at : LinkPlace) → LinkStandsAt at w' → LinkStandsAt at brought
     before =
         stood_among p brought w' is.sound.wired.clocks (known_params p w is.known.set) is'.sound.wired.clocks
-        (known_params p w' is'.known.set) leaves.keeps
+        (known_params p w' is'.known.set) keeps
 
     -- another link stood
     beside : (at : LinkPlace) → at.link ≢ k.place → LinkStandsAt at brought → LinkStandsAt at w
@@ -228,17 +204,18 @@ module _ (p : SettlingParams) (start number port : ℕ) (w : WorldState) (draws 
       | inr apart ↦ on at (beside at apart (before at stands))
     ]
 
-  after : (AreSilentBy p start w' × AreReadyBy p start w') × (w'.time ≡ w.time)
+  after : AreSilentBy p start w' × AreReadyBy p start w'
   after = by k.channel.up refl
     where
-      by : (up : Bool) → k.channel.up ≡ up → (AreSilentBy p start w' × AreReadyBy p start w') × (w'.time ≡ w.time)
-      by true up = ((up_silent up, up_ready up), ap (λ (v : WorldState). v.time) (same up))
-      by false down = ((down_silent down, down_ready down), (leaves down).time)
+      by : (up : Bool) → k.channel.up ≡ up → AreSilentBy p start w' × AreReadyBy p start w'
+      by true up = (up_silent up, up_ready up)
+      by false down = (down_silent down, down_ready down)
 
 pub link_up_news : LinkUpIsNews
 link_up_news p start number port w draws done w' pace is is' measured silent sound ready apart soon acts =
-    let ((silent', ready'), time) =
+    let (silent', ready') =
     after p start number port w draws done w' pace is is' measured silent ready apart soon acts in
+    let time = acts_time (Changing (LinkUp number port)) w draws done w' acts in
     news_begin p start w' pace is'
     (acts_measured (Changing (LinkUp number port)) w w' draws done is.sound measured tt acts) silent'
     (sound_gains p (LinkUp number port) w draws done w' tt tt acts is is' sound) ready' (omega (arith, soon, time))

@@ -4,6 +4,7 @@ use Rattle.gptp_graph.specs.PathBound.{BoundsPaths}
 use Rattle.gptp_links.specs.declared.bounds.Bounds.{Bounds}
 use Rattle.gptp_scenario.specs.Network.{pace_of}
 use Rattle.gptp_scenario.specs.declared.change.Act.{Act}
+use Rattle.gptp_scenario.specs.declared.change.Act.TheVariants.{Change as Changing}
 use Rattle.gptp_model.specs.declared.item.Item.{Item}
 use Rattle.gptp_model.specs.declared.item.Item.TheVariants.{Arrival, Expiry}
 use Rattle.gptp_setup.specs.Intervals.{interval_of}
@@ -24,11 +25,10 @@ use Rattle.gptp_invariants.specs.WorldStanding.{snapshot_of}
 use Rattle.gptp_invariants.proofs.WorldBoundedLemmas.{bounded_by}
 use Rattle.gptp_invariants.proofs.ChoiceCalmKeptLemmas.{KeepsNetwork, acts_keep, delay_kept, keeps_on}
 use Rattle.gptp_invariants.proofs.WorldClaimLemmas.{claim_begins, claim_later}
-use Rattle.gptp_invariants.proofs.SyncFollowClaimLemmas.{acts_time}
 use Rattle.gptp_invariants.proofs.WorldLinkUpNewsLemmas.{link_up_news}
 use Rattle.gptp_invariants.proofs.WorldNewsActLemmas.{gain_news, news_done, unanswered_silent, watched_ready}
 use Rattle.gptp_invariants.proofs.WorldNewsLemmas.{news_above, news_above_in_turn, news_go_on, none_silent, news_worlds_settle, news_worlds_settle_in_turn}
-use Rattle.gptp_invariants.proofs.WorldOutlineLemmas.{change_is_last, change_time}
+use Rattle.gptp_invariants.proofs.WorldOutlineLemmas.{acts_time, change_is_last}
 use Rattle.gptp_invariants.proofs.WorldSoundLemmas.{sound_later}
 use Rattle.gptp_invariants.proofs.WorldStartNewsLemmas.{start_news}
 
@@ -57,7 +57,7 @@ module _ {F : Type 0} (answers : Bounds → ℕ → F → Option ℕ → F → T
       let (still, octet) = next_still happens.next.item timed.act w happens.next.act in
       let was = happens.was_done in
       let acts = was.acts in
-      let time = acts_time timed.act (at_time timed.at w) was.draws one.done between still acts in
+      let time = acts_time timed.act (at_time timed.at w) was.draws one.done between acts in
       let in_time = happens.early in
       let next = news_done answers p start timed fate drawn w between one.done still octet was news in
       let after = advances_news told drawn fate_after between w' (omega (arith, time, in_time)) more next in
@@ -146,7 +146,7 @@ gain_settles answers p change time start fate drawn fate_after until m told done
     settles_by p m start w' after quiet bounded late
   where
     same : between.time ≡ time
-    same = change_time change (at_time time w) k.draws done between k.acts
+    same = acts_time (Changing change) (at_time time w) k.draws done between k.acts
 
     begins : SettlesFrom p time start between
         → AreSilentBy p start between

@@ -1,5 +1,6 @@
 -- Calls and direct edits of a world keep all that is held and in flight sound.
-use Rattle.std.proofs.Common.{◌≡◌, ◌≢◌, ℕ, true, List, [], ◌∷◌, map, Some, slice_get, slice_set, refl, sym, ap, subst, ◌∙◌, inl, inr}
+use Rattle.std.proofs.Common.{◌≡◌, ◌≢◌, ℕ, true, List, map, Some, slice_get, slice_set, refl, sym, ap, subst, ◌∙◌, inl, inr}
+use Rattle.std.specs.Prelude.{⊤}
 use Rattle.std.proofs.lemmas.Bool.{and_from, and_parts}
 use Rattle.gptp_lists.specs.Members.{In}
 use Rattle.gptp_lists.proofs.MappedLemmas.{same_there}
@@ -12,15 +13,14 @@ use Rattle.gptp_links.specs.Fate.{Draw}
 use Rattle.gptp_system.specs.declared.answer.Answer.{Answer}
 use Rattle.gptp_system.specs.Input.{Input, IsTimely, PortUp, Frame as FrameHeard}
 use Rattle.gptp_system.specs.State.{clock}
-use Rattle.gptp_system.specs.Steps.{HasPortNumber}
 use Rattle.gptp_system.proofs.FollowLemmas.{follows}
 use Rattle.gptp_model.specs.declared.station.Station.{Station}
 use Rattle.gptp_model.specs.Act.{Calls, in_state}
-use Rattle.gptp_model.specs.Ahead.{IsPortAmong, IsSteady}
-use Rattle.gptp_model.specs.Changing.{CallsAll, CallsIfLive, TellsEnds}
+use Rattle.gptp_model.specs.Ahead.{IsSteady}
+use Rattle.gptp_model.specs.Changing.{TellsEnds}
 use Rattle.gptp_model.specs.Sound.{AreApart, HaveTheirSetups}
 use Rattle.gptp_model.specs.World.{Channel, Net, WorldState, world_queue, sender}
-use Rattle.gptp_model.proofs.StayLemmas.{calls_if_live_stay, calls_stay, stays_apart, sender_same}
+use Rattle.gptp_model.proofs.StayLemmas.{calls_stay, stays_apart, sender_same}
 use Rattle.gptp_model.proofs.SteadyLemmas.{steps_steady}
 use Rattle.gptp_bmca_machine.specs.SoundEverywhere.{IsSoundEverywhere, IsSoundSent, LaneIsSound, MaySay}
 use Rattle.gptp_bmca_machine.specs.Frame.{Lane}
@@ -29,10 +29,10 @@ use Rattle.gptp_bmca_machine.proofs.SoundEverywhereLemmas.{calls_sound}
 use Rattle.gptp_invariants.proofs.DelayLinkLemmas.{receiver_same}
 use Rattle.gptp_invariants.specs.WorldStanding.{stations_have_clock, channel_is_used, live_stations, snapshot_of, standing_system}
 use Rattle.gptp_invariants.specs.ChoiceView.{frame_view, port_identity_number, lane_place, lane_view, lanes_view, says_announce, station_view, touch_view, view}
+use Rattle.gptp_invariants.proofs.WorldActsByLemmas.{PortCallsKeep, ends_told}
 use Rattle.gptp_invariants.proofs.WorldAnsweringLemmas.{IsAnswering, calls_answering}
 use Rattle.gptp_invariants.proofs.ChoiceCalmFactLemmas.{follows_seen}
 use Rattle.gptp_invariants.proofs.ChoiceCalmKeptLemmas.{KeepsNetwork, calls_keep, keeps_on, net_keeps, same_snapshot}
-use Rattle.gptp_invariants.proofs.DelayLinkKeptLemmas.{HasAll, all_stay, among_stays}
 use Rattle.gptp_invariants.proofs.WorldOrderLemmas.{in_contains}
 use Rattle.gptp_invariants.proofs.ChoicePortLemmas.{held_from, same_standing}
 use Rattle.gptp_invariants.proofs.ChoiceSeenCallLemmas.{calls_seen}
@@ -101,10 +101,8 @@ setups_of w is place station here = (is.stations place station here).its
 up_deaf : (p : ℕ) → IsDeaf (PortUp p)
 up_deaf p = record { deaf = λ n octets same. absurd cc; fits = tt }
 
-call_goes : (g : Snapshot) (well : IsWellFormed g) (place p : ℕ) (w : WorldState) (draws : List Draw)
-    (answer : Answer) (w' : WorldState) (k : Calls place (PortUp p) w draws answer w')
-    → HasPortNumber k.station.system p → Goes g w → Goes g w'
-call_goes g well place p w draws answer w' k of goes =
+pub up_goes : (g : Snapshot) → IsWellFormed g → PortCallsKeep ⊤ PortUp (Goes g)
+up_goes g well place p w draws answer w' k of goes =
     let keeps = calls_keep place (PortUp p) w draws answer w' (λ value same. absurd cc) k in
     let same' : snapshot_of w' ≡ g = same_snapshot w w' keeps ∙ goes.same in
     let called = in_state k.after k.station in
@@ -114,51 +112,13 @@ call_goes g well place p w draws answer w' k of goes =
     subst (λ (h : Snapshot). In (standing_system called) h.systems) same'
     (live_there w'.stations place called there k.live) in
     record {
-      answering = calls_answering place (PortUp p) w draws answer w' goes.answering k of tt;
+      answering = calls_answering place (PortUp p) w draws answer w' goes.answering k (of tt) tt;
       apart = stays_apart w w' (calls_stay place (PortUp p) w draws answer w' (setups_of w goes.answering) k)
           goes.apart;
       same = same';
-      sound = call_sound g well place (PortUp p) w draws answer w' k goes.answering goes.apart of (up_deaf p) known
+      sound = call_sound g well place (PortUp p) w draws answer w' k goes.answering goes.apart (of tt) (up_deaf p) known
           goes.sound;
     }
-
-if_live_goes : (g : Snapshot) (well : IsWellFormed g) (place p : ℕ) (w : WorldState) (draws : List Draw)
-    (w' : WorldState)
-    → ((station : Station) → slice_get w.stations place ≡ Some station → HasPortNumber station.system p)
-    → Goes g w → CallsIfLive place (PortUp p) w draws w' → Goes g w'
-if_live_goes g well place p w draws w' of goes (inl (answer, k)) =
-    call_goes g well place p w draws answer w' k (of k.station k.here) goes
-if_live_goes g well place p w draws w' of goes (inr (failed, none, same)) = subst (Goes g) (sym same) goes
-
-pub tells_goes : (g : Snapshot) (well : IsWellFormed g) (channel : Channel) (w : WorldState) (draws : List Draw)
-    (w' : WorldState) → IsPortAmong channel.a w.stations → IsPortAmong channel.b w.stations → Goes g w
-    → TellsEnds PortUp channel w draws w' → Goes g w'
-tells_goes g well channel w draws w' port_a port_b goes k =
-    let first = if_live_goes g well k.place_a channel.a.port w k.first k.between
-    (λ station there.
-    port_a k.place_a station there
-    (ap (λ (x : Station). clock x.system) (same_there w.stations k.place_a station k.station_a there k.is_a.here)
-    ∙ k.is_a.named))
-    goes k.at_a in
-    let stays = calls_if_live_stay k.place_a (PortUp channel.a.port) w k.first k.between
-    (setups_of w goes.answering) k.at_a in
-    if_live_goes g well k.place_b channel.b.port k.between k.second w'
-    (λ station there.
-    let near = stays.stations k.place_b station there in
-    among_stays w k.between channel.b stays port_b k.place_b station there
-    (near.same.named
-    ∙ ap (λ (x : Station). clock x.system) (same_there w.stations k.place_b near.old k.station_b near.here k.is_b.here)
-    ∙ k.is_b.named))
-    first k.at_b
-
-pub all_goes : (g : Snapshot) (well : IsWellFormed g) (place : ℕ) (ps : List ℕ) (w : WorldState) (draws : List Draw)
-    (w' : WorldState) → HasAll place ps w → Goes g w → CallsAll place (map PortUp ps) w draws w' → Goes g w'
-all_goes g well place [] w draws w' has goes (none, same) = subst (Goes g) (sym same) goes
-all_goes g well place (p ∷ ps) w draws w' has goes (first, rest, between, answer, split, k, more) =
-    let one = call_goes g well place p w first answer between k (has p (inl refl) k.station k.here) goes in
-    let stays = calls_stay place (PortUp p) w first answer between (setups_of w goes.answering) k in
-    all_goes g well place ps between rest w' (all_stay place ps w between stays (λ q member. has q (inr member))) one
-    more
 
 -- ---- what stands of the one is there in the other
 
@@ -296,22 +256,12 @@ pub same_systems : (systems : List System) → HasClocks systems systems
 same_systems systems s member = (s, member, refl)
 
 -- a call that sets no priority1 keeps the network
-if_live_keeps : (place p : ℕ) (w : WorldState) (draws : List Draw) (w' : WorldState)
-    → CallsIfLive place (PortUp p) w draws w' → KeepsNetwork w w'
-if_live_keeps place p w draws w' (inl (answer, k)) =
-    calls_keep place (PortUp p) w draws answer w' (λ value same. absurd cc) k
-if_live_keeps place p w draws w' (inr (failed, none, same)) =
-    subst (KeepsNetwork w) (sym same) (net_keeps w w.net refl)
+pub up_keeps : (first : WorldState) → PortCallsKeep ⊥ PortUp (KeepsNetwork first)
+up_keeps first place port w draws answer w' k of keeps =
+    keeps_on first w w' keeps (calls_keep place (PortUp port) w draws answer w' (λ value same. absurd cc) k)
 
 pub tells_keep : (channel : Channel) (w : WorldState) (draws : List Draw) (w' : WorldState)
     → TellsEnds PortUp channel w draws w' → KeepsNetwork w w'
 tells_keep channel w draws w' k =
-    keeps_on w k.between w' (if_live_keeps k.place_a channel.a.port w k.first k.between k.at_a)
-    (if_live_keeps k.place_b channel.b.port k.between k.second w' k.at_b)
-
-pub all_keep : (place : ℕ) (ps : List ℕ) (w : WorldState) (draws : List Draw) (w' : WorldState)
-    → CallsAll place (map PortUp ps) w draws w' → KeepsNetwork w w'
-all_keep place [] w draws w' (none, same) = subst (KeepsNetwork w) (sym same) (net_keeps w w.net refl)
-all_keep place (p ∷ ps) w draws w' (first, rest, between, answer, split, k, more) =
-    keeps_on w between w' (calls_keep place (PortUp p) w first answer between (λ value same. absurd cc) k)
-    (all_keep place ps between rest w' more)
+    ends_told ⊥ (KeepsNetwork w) PortUp (up_keeps w) channel w draws w' (λ none. absurd none) k
+    (net_keeps w w.net refl)

@@ -1,8 +1,9 @@
 -- Worlds in which all that is held and in flight is sound stay so, through acts and gains.
 use Rattle.std.proofs.Common.{◌≡◌, ◌⊎◌, ◌≤◌, ◌<◌, ◌+◌, ◌*◌, ◌^◌, ◌%◌, ℕ, Bool, true, false, List, [], ◌∷◌, map, Option, Some, length, slice_get, refl, sym, ap, subst, ◌∙◌, inl, inr, arith}
+use Rattle.std.specs.Prelude.{⊤}
 use Rattle.std.specs.List.{range_with_len}
 use Rattle.std.proofs.lemmas.List.{append-nil}
-use Rattle.std.proofs.lemmas.Option.{none-some, same_Some}
+use Rattle.std.proofs.lemmas.Option.{none-some}
 use Rattle.gptp_lists.specs.Members.{In}
 use Rattle.gptp_lists.proofs.MappedLemmas.{alike, mapped, same_there}
 use Rattle.gptp_lists.proofs.PlaceLemmas.{get-set_all, get-set_other, get-set_same, same_place, set_each}
@@ -22,23 +23,20 @@ use Rattle.gptp_setup.specs.SettlingParams.{largest_interval}
 use Rattle.gptp_system.specs.declared.answer.Answer.{Answer}
 use Rattle.gptp_system.specs.Input.{PortUp, Priority}
 use Rattle.gptp_system.specs.State.{SystemState, clock}
-use Rattle.gptp_system.specs.Steps.{HasPortNumber}
 use Rattle.gptp_system.proofs.StartLemmas.{disabled_at}
 use Rattle.gptp_system.proofs.StepLemmas.{steps_steady as identity_kept}
-use Rattle.gptp_system.proofs.TimersChangedLemmas.{priority_clock}
-use Rattle.gptp_system.specs.Start.{started}
 use Rattle.gptp_model.specs.declared.station.Station.{Station}
 use Rattle.gptp_model.specs.Act.{Calls, all_timers, in_state}
 use Rattle.gptp_model.specs.Acts.{Changes, set_to}
-use Rattle.gptp_model.specs.Changing.{CallsAll, CallsIfLive, ComesUpIf, FailsIf, GoesDownIf, InjectsIf, RecoversIf, Starts, StartsAll, brought_up, fresh, up_ports, with_bounds, with_setup, with_station}
+use Rattle.gptp_model.specs.Changing.{CallsIfLive, ComesUpIf, FailsIf, GoesDownIf, InjectsIf, RecoversIf, Starts, StartsAll, brought_up, fresh, with_bounds, with_setup, with_station}
 use Rattle.gptp_model.specs.Initial.{channel_from, channels_of, initial, station_of, stations_of}
 use Rattle.gptp_model.specs.Sound.{AreApart, IsSound, JoinPorts}
 use Rattle.gptp_model.specs.World.{Channel, WorldState, port_id, world_queue}
+use Rattle.gptp_model.proofs.AgreeLemmas.{replaced}
 use Rattle.gptp_model.proofs.BareLemmas.{bare, calls_bare}
 use Rattle.gptp_model.proofs.StayLemmas.{brought_up_stays, fresh_same, refreshed_stays, stays_apart, with_setup_stays}
-use Rattle.gptp_model.proofs.SteadyLemmas.{same_clock, started_steady}
+use Rattle.gptp_model.proofs.SteadyLemmas.{same_clock}
 use Rattle.gptp_model.proofs.SoundLemmas.{starts_sound}
-use Rattle.gptp_model.proofs.UpLemmas.{brought_ports}
 use Rattle.gptp_bmca_machine.specs.SoundLaws.{HasNews}
 use Rattle.gptp_bmca_machine.specs.SoundEverywhere.{IsSoundEverywhere, StationIsSound}
 use Rattle.gptp_bmca_machine.specs.Frame.{AnnounceFrame as SeenFrame, Lane}
@@ -48,18 +46,18 @@ use Rattle.gptp_bmca_machine.specs.Station.{Station as SeenStation}
 use Rattle.gptp_bmca_machine.specs.Acts.{MachineSteps}
 use Rattle.gptp_bmca_machine.proofs.SoundEverywhereLemmas.{sound_kept, sound_more}
 use Rattle.gptp_invariants.specs.ChoiceCalm.{network_of}
-use Rattle.gptp_invariants.specs.WorldEncodable.{IsEncodable, StationFits}
+use Rattle.gptp_invariants.specs.WorldEncodable.{IsEncodable}
 use Rattle.gptp_invariants.specs.WorldEncodableLaws.{SetsAnOctet}
 use Rattle.gptp_invariants.specs.WorldSound.{IsGain, IsSoundWorld}
 use Rattle.gptp_invariants.specs.WorldSoundLaws.{SoundActs, SoundBegins, SoundGains, SoundLater}
 use Rattle.gptp_invariants.specs.WorldStanding.{AreBetween, live_stations, snapshot_of, standing_system, used_channels}
 use Rattle.gptp_invariants.specs.ChoiceView.{frame_view, says_announce, station_view, view}
-use Rattle.gptp_invariants.proofs.WorldActEncodableLemmas.{initial_encodable, starts_encodable}
-use Rattle.gptp_invariants.proofs.WorldAnsweringLemmas.{CanAnswer, IsAnswering, new_fits, sound_answers}
+use Rattle.gptp_invariants.proofs.WorldActEncodableLemmas.{answering_kept, initial_encodable, starts_encodable}
+use Rattle.gptp_invariants.proofs.WorldActsByLemmas.{PortCallsKeep, ends_told, start_told, system_starts}
+use Rattle.gptp_invariants.proofs.WorldAnsweringLemmas.{CanAnswer, IsAnswering, sound_answers}
 use Rattle.gptp_invariants.proofs.WorldBetweenLemmas.{networks_between, starts_between}
 use Rattle.gptp_invariants.proofs.ChoiceCalmFactLemmas.{facts}
-use Rattle.gptp_invariants.proofs.ChoiceCalmKeptLemmas.{KeepsNetwork, acts_keep, same_network, same_snapshot, systems_kept}
-use Rattle.gptp_invariants.proofs.WorldChangeEncodableLemmas.{link_encodable, station_encodable, up_fits}
+use Rattle.gptp_invariants.proofs.ChoiceCalmKeptLemmas.{KeepsNetwork, acts_keep, net_keeps, same_network, same_snapshot, systems_kept}
 use Rattle.gptp_invariants.proofs.ChoicePlaceLemmas.{station_from, station_there}
 use Rattle.gptp_invariants.proofs.ChoicePortLemmas.{held_from}
 use Rattle.gptp_invariants.proofs.ChoiceSeenActLemmas.{acts_seen}
@@ -67,7 +65,7 @@ use Rattle.gptp_invariants.proofs.ChoiceSeenLaneLemmas.{lane_from}
 use Rattle.gptp_invariants.proofs.WorldSettledLemmas.{still_acts_stay}
 use Rattle.gptp_invariants.proofs.WorldStandsLemmas.{stands_well}
 use Rattle.gptp_invariants.proofs.WorldSystemLemmas.{IsLiveAt, live_from, live_there}
-use Rattle.gptp_invariants.proofs.WorldSoundCallLemmas.{Goes, HasClocks, IsThereToo, all_goes, all_keep, call_sound, lanes_like, links_more, net_sound, same_flight, same_systems, set_flight, set_there, setups_of, tells_goes, tells_keep}
+use Rattle.gptp_invariants.proofs.WorldSoundCallLemmas.{Goes, HasClocks, IsThereToo, call_sound, lanes_like, links_more, net_sound, same_flight, same_systems, set_flight, set_there, setups_of, tells_keep, up_goes, up_keeps}
 
 -- ---- changes
 
@@ -118,20 +116,15 @@ module _ (w : WorldState) (well : IsWellFormed (snapshot_of w)) (is : IsAnswerin
         systems = λ s member. (s, member, refl, omega arith);
       } in
       let goes : Goes g v = record {
-        answering = record {
-          stations = is.stations;
-          encodable = link_encodable place channel new w net refl here
-              (up_fits channel (is.encodable.links place channel here))
-              is.encodable;
-        };
+        answering = answering_kept.link_up place channel w here is;
         apart = stays_apart w v (brought_up_stays place channel w here (setups_of w is)) apart;
         same = refl;
         sound = net_sound g w net (set_flight w.net.channels place channel new here refl refl refl refl)
             (sound_more (snapshot_of w) g well more says_announce (view w) all);
       } in
-      let end = tells_goes g well_up channel v draws w'
-      (λ other station there named. ports place other FromA channel station here there named)
-      (λ other station there named. ports place other FromB channel station here there named) goes k in
+      let end = ends_told ⊤ (Goes g) PortUp (up_goes g well_up) channel v draws w'
+      (λ known direction other station there named. ports place other direction channel station here there named) k goes
+      in
       subst (λ (h : Snapshot). IsSoundEverywhere says_announce h (view w')) (sym end.same) end.sound
 
   -- a system starts that has failed, or that has the identity that it starts with
@@ -219,21 +212,7 @@ module _ (w : WorldState) (well : IsWellFormed (snapshot_of w)) (is : IsAnswerin
 
       goes : Goes g v
       goes = record {
-        answering = record {
-          stations = get-set_all CanAnswer w.stations place k.station new k.here
-              (record {
-                params = old.params;
-                steady = started_steady k.station.setup w.time old.params old.its.intervals;
-                its = (fresh_same w.time k.station old.its).its;
-              })
-              is.stations;
-          encodable = record {
-            stations = get-set_all StationFits w.stations place k.station new k.here
-                (new_fits w.time k.station.setup true (is.encodable.stations place k.station k.here).setup)
-                is.encodable.stations;
-            links = is.encodable.links;
-          };
-        };
+        answering = answering_kept.system_started place k.station w k.here is;
         apart = stays_apart w v (refreshed_stays place k.station w k.here (setups_of w is)) apart;
         same = refl;
         sound = record {
@@ -243,21 +222,19 @@ module _ (w : WorldState) (well : IsWellFormed (snapshot_of w)) (is : IsAnswerin
       }
 
       keeps : KeepsNetwork v w'
-      keeps = all_keep place (up_ports new w.net) v draws w' k.calls
+      keeps = start_told ⊥ (KeepsNetwork v) (up_keeps v) place w draws w' k (net_keeps v v.net refl)
 
       end : Goes g w'
-      end = all_goes g (subst IsWellFormed (same_snapshot v w' keeps) well') place (up_ports new w.net) v draws w'
-          (λ p member station there.
-          subst (λ (x : Station). HasPortNumber x.system p) (same_Some new station (sym now_there ∙ there))
-          (brought_ports new w.net p member))
-          goes k.calls
+      end =
+          start_told ⊤ (Goes g) (up_goes g (subst IsWellFormed (same_snapshot v w' keeps) well')) place w draws w' k
+          goes
 
   -- a system has another priority1
-  priority_sound : (value place : ℕ) (station : Station) (draws : List Draw) (w' : WorldState)
+  priority_sound : (number value place : ℕ) (station : Station) (draws : List Draw) (w' : WorldState)
       → IsWellFormed (snapshot_of w') → value < 256 → slice_get w.stations place ≡ Some station
       → value * 2 ^ 104 + station.system.identity % 2 ^ 104 ≤ station.system.identity
       → CallsIfLive place (Priority value) (with_station place (with_setup value station) w) draws w' → IsSoundWorld w'
-  priority_sound value place station draws w' well' octet here better k = by k
+  priority_sound number value place station draws w' well' octet here better k = by k
     where
       new : Station
       new = with_setup value station
@@ -284,37 +261,10 @@ module _ (w : WorldState) (well : IsWellFormed (snapshot_of w)) (is : IsAnswerin
             i at.station at.here (ap (λ (x : SeenStation). x.live) (sym at.is) ∙ live));
       }
 
-      fits : StationFits station
-      fits = is.encodable.stations place station here
-
-      answering : IsAnswering v
-      answering =
-          let old = is.stations place station here in
-          let intervals = old.its.intervals in
-          record {
-            stations = get-set_all CanAnswer w.stations place station new here
-                (record {
-                  params = old.params;
-                  steady = old.steady;
-                  its = record {
-                    ports = old.its.ports;
-                    few = old.its.few;
-                    phase = old.its.phase;
-                    drift = old.its.drift;
-                    intervals =
-                        record { many = intervals.many; each = intervals.each; largest = intervals.largest };
-                    named = priority_clock value (started station.setup 0) ∙ old.its.named;
-                  };
-                })
-                is.stations;
-            encodable = station_encodable place station new w here
-                (record { system = fits.system; setup = let small = fits.setup in omega (arith, small, octet) })
-                is.encodable;
-          }
-
       called : (answer : Answer) → Calls place (Priority value) v draws answer w' → IsSoundWorld w'
       called answer c =
-          call_sound g well' place (Priority value) v draws answer w' c answering
+          call_sound g well' place (Priority value) v draws answer w' c
+          (answering_kept.priority_set number value place station w here octet is)
           (stays_apart w v (with_setup_stays value place station w here (setups_of w is)) apart) tt
           (record { deaf = λ n octets same. absurd cc; fits = octet }) known
           (seen_v g (sound_more (snapshot_of w) g well more says_announce (view w) all))
@@ -431,22 +381,15 @@ module _ (w : WorldState) (well : IsWellFormed (snapshot_of w)) (is : IsAnswerin
   changes_sound (Recover number) draws w' well' gain octet k =
       recovers_sound k.station.live k.place k.station draws w' well' k.is.here refl k.so
   changes_sound (Priority1 number value) draws w' well' gain octet k =
-      priority_sound value k.place k.station draws w' well' octet k.is.here (gain k.place k.station k.is) k.so
+      priority_sound number value k.place k.station draws w' well' octet k.is.here (gain k.place k.station k.is) k.so
   changes_sound (Inject number port octets) draws w' well' gain octet k =
       injects_sound k.channel.up (port_id number port) octets draws w' (gain k.place k.channel k.is) k.so
 
 pub sound_gains : SoundGains
 sound_gains p change w draws done w' gain octet acts is is' all =
     let now : WorldState = record w { last_change = w.time } in
-    let answers = sound_answers w is.sound is.encodable in
     changes_sound now (stands_well w is.sound is.between is.encodable)
-    (record {
-      stations = answers.stations;
-      encodable = record {
-        stations = is.encodable.stations;
-        links = is.encodable.links;
-      };
-    })
+    (answering_kept.change_counted w (sound_answers w is.sound is.encodable))
     is.sound.wired.apart is.sound.wired.ports
     (record { lanes = all.lanes; stations = all.stations }) change draws w'
     (stands_well w' is'.sound is'.between is'.encodable) (there change gain) octet acts.1
@@ -489,33 +432,22 @@ HaveOwnIdentity : WorldState → Type 0
 HaveOwnIdentity w = (place : ℕ) (station : Station) → slice_get w.stations place ≡ Some station
     → station.system.identity ≡ station.setup.identity
 
-call_identity : (place p : ℕ) (w : WorldState) (draws : List Draw) (answer : Answer) (w' : WorldState)
-    → Calls place (PortUp p) w draws answer w' → HaveOwnIdentity w → HaveOwnIdentity w'
+call_identity : PortCallsKeep ⊤ PortUp HaveOwnIdentity
 unfolding HaveOwnIdentity
-call_identity place p w draws answer w' k own other station there =
-    let called = in_state k.after k.station in
-    get-set_all (λ (x : Station). x.system.identity ≡ x.setup.identity) w.stations place k.station called k.here
+call_identity place p w draws answer w' k of own other station there =
+    get-set_all (λ (x : Station). x.system.identity ≡ x.setup.identity) w.stations place k.station
+    (in_state k.after k.station) k.here
     ((identity_kept (PortUp p) w.time k.station.system k.after k.sends answer (λ value same. absurd cc)
     k.steps).identity
     ∙ own place k.station k.here)
     own other station (ap (λ (v : WorldState). slice_get v.stations other) (sym k.is) ∙ there)
 
-all_identity : (place : ℕ) (ps : List ℕ) (w : WorldState) (draws : List Draw) (w' : WorldState)
-    → CallsAll place (map PortUp ps) w draws w' → HaveOwnIdentity w → HaveOwnIdentity w'
-all_identity place [] w draws w' (none, same) own = subst HaveOwnIdentity (sym same) own
-all_identity place (p ∷ ps) w draws w' (first, rest, between, answer, split, k, more) own =
-    all_identity place ps between rest w' more (call_identity place p w first answer between k own)
-
-start_identity : (place : ℕ) (w : WorldState) (draws : List Draw) (w' : WorldState) → Starts place w draws w'
-    → HaveOwnIdentity w → HaveOwnIdentity w'
+start_identity : (place : ℕ) (station : Station) (w : WorldState) → slice_get w.stations place ≡ Some station
+    → HaveOwnIdentity w → HaveOwnIdentity (replaced place (fresh w.time station) w)
 unfolding HaveOwnIdentity
-start_identity place w draws w' k own =
-    let new = fresh w.time k.station in
-    let v : WorldState = record (with_station place new w) { net = all_timers place new w.net } in
-    let begun : HaveOwnIdentity v =
-    get-set_all (λ (x : Station). x.system.identity ≡ x.setup.identity) w.stations place k.station new k.here refl
-    own in
-    all_identity place (up_ports new w.net) v draws w' k.calls begun
+start_identity place station w here own =
+    get-set_all (λ (x : Station). x.system.identity ≡ x.setup.identity) w.stations place station (fresh w.time station)
+    here refl own
 
 starts_all_sound : (places : List ℕ) (w : WorldState) (draws : List Draw) (w' : WorldState) → IsSound w → IsEncodable w
     → AreBetween w → HaveOwnIdentity w → IsSoundWorld w → StartsAll places w draws w' → IsSoundWorld w'
@@ -529,7 +461,8 @@ starts_all_sound (place ∷ places) w draws w' sound encodable between own all (
     let all' = start_sound w (stands_well w sound between encodable) (sound_answers w sound encodable) sound.wired.apart
     sound.wired.ports all place first next (stands_well next sound' between' encodable') k
     (inr (own place k.station k.here)) in
-    starts_all_sound places next rest w' sound' encodable' between' (start_identity place w first next k own) all' more
+    starts_all_sound places next rest w' sound' encodable' between'
+    (system_starts ⊤ HaveOwnIdentity call_identity start_identity place w first next k own) all' more
 
 -- nothing is held or in flight before systems start
 initial_all_sound : (n : NetworkState) → IsSoundWorld (initial n)

@@ -1,5 +1,5 @@
 -- What each live system keeps in every world of a network; and that its Lapse timer runs wherever it may.
-use Rattle.std.proofs.Common.{◌≡◌, ℕ, Bool, true, false, List, [], ◌∷◌, map, Option, Some, None, slice_get, sym, ap, subst, ◌∙◌, inl, inr}
+use Rattle.std.proofs.Common.{◌≡◌, ℕ, Bool, true, false, List, Option, Some, None, slice_get, sym, ap, subst, ◌∙◌, inl, inr}
 use Rattle.std.specs.Prelude.{⊤}
 use Rattle.gptp_lists.proofs.MappedLemmas.{mapped}
 use Rattle.gptp_lists.proofs.PlaceLemmas.{get-set_all, get-set_same}
@@ -17,13 +17,15 @@ use Rattle.gptp_scenario.specs.declared.change.Act.TheVariants.{Deliver, Expire,
 use Rattle.gptp_scenario.specs.declared.change.Change.{Change}
 use Rattle.gptp_scenario.specs.declared.change.Change.TheVariants.{LinkDown, LinkUp, LinkSet, Fail, Recover, Priority1, Inject}
 use Rattle.gptp_scenario.specs.Network.{NetworkState, pace_of}
-use Rattle.gptp_model.specs.Act.{Calls, Hears, all_timers, in_state}
+use Rattle.gptp_model.specs.Act.{Calls, Hears, in_state}
 use Rattle.gptp_model.specs.Acts.{Acts, Changes}
 use Rattle.gptp_model.specs.Agrees.{stopped}
 use Rattle.gptp_model.specs.Ahead.{IsSteady}
-use Rattle.gptp_model.specs.Changing.{CallsAll, CallsIfLive, ComesUpIf, FailsIf, GoesDownIf, InjectsIf, RecoversIf, Starts, StartsAll, TellsEnds, brought_up, fresh, taken_down, up_ports, with_setup, with_station}
+use Rattle.gptp_model.specs.Changing.{CallsIfLive, ComesUpIf, FailsIf, GoesDownIf, InjectsIf, RecoversIf, StartsAll, brought_up, fresh, taken_down, with_setup, with_station}
 use Rattle.gptp_model.specs.declared.done.Done.{Done}
 use Rattle.gptp_model.specs.declared.station.Station.{Station}
+use Rattle.gptp_model.proofs.AgreeLemmas.{replaced}
+use Rattle.gptp_invariants.proofs.WorldActsByLemmas.{PortCallsKeep, ends_told, system_starts, systems_start}
 use Rattle.gptp_model.specs.Initial.{initial, station_of}
 use Rattle.gptp_model.specs.Sound.{IsSound}
 use Rattle.gptp_model.specs.World.{Channel, WorldState, port_id, receiver}
@@ -65,47 +67,34 @@ module _ (Q : SystemState → Type 0)
       (get-set_all (IsIn Q) w.stations place k.station (in_state k.after k.station) k.here
       (λ live. step (each place k.station k.here k.live)) each)
 
-  if_live_keep : (place : ℕ) (input : Input) (w : WorldState) (draws : List Draw) (w' : WorldState)
-      → IsNoFrame input → (input ≡ TimerExpires timers.Lapse → ⊥) → CallsIfLive place input w draws w' → Each Q w
-      → Each Q w'
-  if_live_keep place input w draws w' own other (inl (answer, k)) each =
-      calls_keep place input w draws answer w' k
-      (keeps input w.time k.station.system k.after k.sends answer k.steps own (λ is. absurd (other is))) each
-  if_live_keep place input w draws w' own other (inr (failed, none, same)) each = same_world w w' same each
+  up_keeps : PortCallsKeep ⊥ PortUp (Each Q)
+  up_keeps place port w draws answer w' k of =
+      calls_keep place (PortUp port) w draws answer w' k
+      (keeps (PortUp port) w.time k.station.system k.after k.sends answer k.steps tt (λ is. absurd cc))
 
-  ends_keep : (input : ℕ → Input) (channel : Channel) (w : WorldState) (draws : List Draw) (w' : WorldState)
-      → ((port : ℕ) → IsNoFrame (input port)) → ((port : ℕ) → input port ≡ TimerExpires timers.Lapse → ⊥)
-      → TellsEnds input channel w draws w' → Each Q w → Each Q w'
-  ends_keep input channel w draws w' own other k each =
-      if_live_keep k.place_b (input channel.b.port) k.between k.second w' (own channel.b.port) (other channel.b.port)
-      k.at_b
-      (if_live_keep k.place_a (input channel.a.port) w k.first k.between (own channel.a.port) (other channel.a.port)
-      k.at_a each)
+  down_keeps : PortCallsKeep ⊥ PortDown (Each Q)
+  down_keeps place port w draws answer w' k of =
+      calls_keep place (PortDown port) w draws answer w' k
+      (keeps (PortDown port) w.time k.station.system k.after k.sends answer k.steps tt (λ is. absurd cc))
+
+  priority_keeps : (place value : ℕ) (w : WorldState) (draws : List Draw) (w' : WorldState)
+      → CallsIfLive place (Priority value) w draws w' → Each Q w → Each Q w'
+  priority_keeps place value w draws w' (inl (answer, k)) each =
+      calls_keep place (Priority value) w draws answer w' k
+      (keeps (Priority value) w.time k.station.system k.after k.sends answer k.steps tt (λ is. absurd cc)) each
+  priority_keeps place value w draws w' (inr (failed, none, same)) each = same_world w w' same each
 
   -- ---- starts
 
-  ups_keep : (place : ℕ) (ports : List ℕ) (w : WorldState) (draws : List Draw) (w' : WorldState)
-      → CallsAll place (map PortUp ports) w draws w' → Each Q w → Each Q w'
-  ups_keep place [] w draws w' (none, same) each = same_world w w' same each
-  ups_keep place (port ∷ ports) w draws w' (first, rest, between, answer, are, k, more) each =
-      ups_keep place ports between rest w' more
-      (calls_keep place (PortUp port) w first answer between k
-      (keeps (PortUp port) w.time k.station.system k.after k.sends answer k.steps tt (λ is. absurd cc)) each)
-
-  starts_keep : (place : ℕ) (w : WorldState) (draws : List Draw) (w' : WorldState) → Starts place w draws w' → Each Q w
-      → Each Q w'
-  starts_keep place w draws w' k each =
-      ups_keep place (up_ports (fresh w.time k.station) w.net)
-      (record (with_station place (fresh w.time k.station) w) { net = all_timers place (fresh w.time k.station) w.net })
-      draws w' k.calls
-      (get-set_all (IsIn Q) w.stations place k.station (fresh w.time k.station) k.here
-      (λ live. starts k.station.setup w.time) each)
+  started_keeps : (place : ℕ) (station : Station) (w : WorldState) → slice_get w.stations place ≡ Some station
+      → Each Q w → Each Q (replaced place (fresh w.time station) w)
+  started_keeps place station w here each =
+      get-set_all (IsIn Q) w.stations place station (fresh w.time station) here (λ live. starts station.setup w.time)
+      each
 
   pub all_start : (places : List ℕ) (w : WorldState) (draws : List Draw) (w' : WorldState)
       → StartsAll places w draws w' → Each Q w → Each Q w'
-  all_start [] w draws w' (none, same) each = same_world w w' same each
-  all_start (place ∷ places) w draws w' (first, rest, between, are, k, more) each =
-      all_start places between rest w' more (starts_keep place w first between k each)
+  all_start = systems_start ⊥ (Each Q) up_keeps started_keeps
 
   -- no system lives before that
   pub none_lives : (n : NetworkState) → Each Q (initial n)
@@ -118,15 +107,15 @@ module _ (Q : SystemState → Type 0)
   goes_down_keeps : (up : Bool) (place : ℕ) (channel : Channel) (w : WorldState) (draws : List Draw) (w' : WorldState)
       → GoesDownIf up place channel w draws w' → Each Q w → Each Q w'
   goes_down_keeps true place channel w draws w' k each =
-      ends_keep PortDown channel (record w { net = taken_down place channel w.net }) draws w' (λ port. tt)
-      (λ port is. cc) k each
+      ends_told ⊥ (Each Q) PortDown down_keeps channel (record w { net = taken_down place channel w.net }) draws w'
+      (λ none. absurd none) k each
   goes_down_keeps false place channel w draws w' (none, same) each = same_world w w' same each
 
   comes_up_keeps : (up : Bool) (place : ℕ) (channel : Channel) (w : WorldState) (draws : List Draw) (w' : WorldState)
       → ComesUpIf up place channel w draws w' → Each Q w → Each Q w'
   comes_up_keeps false place channel w draws w' k each =
-      ends_keep PortUp channel (record w { net = brought_up place channel w.net }) draws w' (λ port. tt)
-      (λ port is. cc) k each
+      ends_told ⊥ (Each Q) PortUp up_keeps channel (record w { net = brought_up place channel w.net }) draws w'
+      (λ none. absurd none) k each
   comes_up_keeps true place channel w draws w' (none, same) each = same_world w w' same each
 
   fails_keep : (live : Bool) (place : ℕ) (station : Station) (w : WorldState) (draws : List Draw) (w' : WorldState)
@@ -139,7 +128,8 @@ module _ (Q : SystemState → Type 0)
   recovers_keep : (live : Bool) (place : ℕ) (w : WorldState) (draws : List Draw) (w' : WorldState)
       → RecoversIf live place w draws w' → Each Q w → Each Q w'
   recovers_keep true place w draws w' (none, same) each = same_world w w' same each
-  recovers_keep false place w draws w' k each = starts_keep place w draws w' k each
+  recovers_keep false place w draws w' k each =
+      system_starts ⊥ (Each Q) up_keeps started_keeps place w draws w' k each
 
   injects_keep : (up : Bool) (from : PortId) (octets : List ℕ) (w : WorldState) (draws : List Draw) (w' : WorldState)
       → InjectsIf up from octets w draws w' → Each Q w → Each Q w'
@@ -157,8 +147,7 @@ module _ (Q : SystemState → Type 0)
       fails_keep k.station.live k.place k.station w draws w' k.is.here k.so each
   changes_keep (Recover number) w draws w' k each = recovers_keep k.station.live k.place w draws w' k.so each
   changes_keep (Priority1 number value) w draws w' k each =
-      if_live_keep k.place (Priority value) (with_station k.place (with_setup value k.station) w) draws w'
-      tt (λ is. cc) k.so
+      priority_keeps k.place value (with_station k.place (with_setup value k.station) w) draws w' k.so
       (get-set_all (IsIn Q) w.stations k.place k.station (with_setup value k.station) k.is.here
       (each k.place k.station k.is.here) each)
   changes_keep (Inject number port octets) w draws w' k each =

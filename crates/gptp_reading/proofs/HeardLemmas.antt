@@ -64,11 +64,10 @@ use Rattle.gptp_invariants.specs.WorldShown.{IsSettledFor, distance_span}
 use Rattle.gptp_invariants.proofs.ChoiceCalmKeptLemmas.{KeepsNetwork, acts_keep, earlier_quiet, same_paths, same_snapshot, stays_quiet}
 use Rattle.gptp_invariants.proofs.WorldSettlingInvariantLemmas.{distance_follows}
 use Rattle.gptp_invariants.proofs.WorldClaimLemmas.{claim_begins, claim_kept, claim_later}
-use Rattle.gptp_invariants.proofs.SyncFollowClaimLemmas.{acts_time}
 use Rattle.gptp_invariants.proofs.ChoiceSettlesAsMachineLemmas.{paths_bound}
 use Rattle.gptp_invariants.proofs.SyncWaitLemmas.{step_long, wait_is}
 use Rattle.gptp_invariants.proofs.WorldGreatestDelayLemmas.{delay_short}
-use Rattle.gptp_invariants.proofs.WorldOutlineLemmas.{change_is_last, starts_are_last}
+use Rattle.gptp_invariants.proofs.WorldOutlineLemmas.{acts_time, change_is_last, starts_are_last}
 use Rattle.gptp_invariants.proofs.WorldStandsLemmas.{stands_well}
 use Rattle.gptp_theorem.specs.Headline.{HasPassed, WorldIsCalm, UsesFollowUp}
 use Rattle.gptp_theorem.proofs.HeadlineLemmas.{quiet_as}
@@ -402,7 +401,7 @@ module _ {F : Type 0} (answers' : Bounds → ℕ → F → Option ℕ → F → 
       on : IsNoChange timed.act → IsTimedBy (snapshot_of w') more d settled span station
       on none =
           let keeps = acts_keep timed.act then k.was.draws done w' none k.was.acts in
-          let moment = acts_time timed.act then k.was.draws done w' none k.was.acts in
+          let moment = acts_time timed.act then k.was.draws done w' k.was.acts in
           subst (λ x. IsTimedBy x more d settled span station) (sym (same_snapshot then w' keeps))
           (acts_timed m d settled keeps calm late moment k.was.acts none place station there)
 

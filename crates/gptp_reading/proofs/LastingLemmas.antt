@@ -43,9 +43,9 @@ use Rattle.gptp_invariants.specs.SyncTimedClaim.{WorldInvariant}
 use Rattle.gptp_invariants.proofs.ChoiceCalmKeptLemmas.{KeepsNetwork, acts_keep, keeps_on, same_paths, same_snapshot, stays_quiet}
 use Rattle.gptp_invariants.proofs.SyncExactLemmas.{all_later, claimed_of}
 use Rattle.gptp_invariants.proofs.SyncFollowBaseLemmas.{GoesOn, base_there}
-use Rattle.gptp_invariants.proofs.SyncFollowClaimLemmas.{acts_time, settled_from}
+use Rattle.gptp_invariants.proofs.SyncFollowClaimLemmas.{settled_from}
 use Rattle.gptp_invariants.proofs.SyncFollowPartLemmas.{clock_shown, same_parts}
-use Rattle.gptp_invariants.proofs.WorldOutlineLemmas.{change_is_last, change_time}
+use Rattle.gptp_invariants.proofs.WorldOutlineLemmas.{acts_time, change_is_last}
 use Rattle.gptp_invariants.proofs.WorldSystemLemmas.{live_from}
 use Rattle.gptp_theorem.specs.Headline.{HasComeDown, WorldIsCalm, UsesFollowUp}
 use Rattle.gptp_theorem.specs.PlayedLaws.{IsPlayable}
@@ -177,12 +177,7 @@ module _ {F : Type 0} (answers : Bounds → ℕ → F → Option ℕ → F → T
   before = lasts_later acts w timed.at k.was.ready.timely.now so
 
   moment : w'.time ≡ timed.at
-  moment = by timed.act k.was.acts
-    where
-      by : (act : Act) → Acts act then k.was.draws done w' → w'.time ≡ timed.at
-      by (Deliver link direction) acts = acts_time (Deliver link direction) then k.was.draws done w' tt acts
-      by (Expire number timer) acts = acts_time (Expire number timer) then k.was.draws done w' tt acts
-      by (Changing change) acts = change_time change then k.was.draws done w' acts
+  moment = acts_time timed.act then k.was.draws done w' k.was.acts
 
   early_more : (t : ActTrace) → In t more → t.told.timed.at ≤ w'.time
   early_more t member = by (In-parts t acts (one ∷ []) member)

@@ -1,8 +1,8 @@
 -- Ports that come up leave those in time that are beside failed systems, and so does a link.
-use Rattle.std.proofs.Common.{◌≡◌, ◌≢◌, ℕ, Bool, true, false, List, [], ◌∷◌, map, Some, slice_get, refl, sym, ap, subst, ◌∙◌, ◌+◌, inl, inr, arith, ◌≤◌, ◌-◌, zero, suc, Option, None}
+use Rattle.std.proofs.Common.{◌≡◌, ◌≢◌, ℕ, Bool, true, false, List, [], Some, slice_get, refl, sym, ap, subst, ◌∙◌, ◌+◌, inl, inr, arith, ◌≤◌, ◌-◌, zero, suc, Option, None}
+use Rattle.std.specs.Prelude.{⊤}
 use Rattle.gptp_lists.proofs.MappedLemmas.{same_there}
 use Rattle.gptp_lists.proofs.PlaceLemmas.{get-set_other, get-set_all, get-set_same, member_there, same_place}
-use Rattle.gptp_links.specs.declared.link.Direction.TheVariants.{FromA, FromB}
 use Rattle.gptp_links.specs.Fate.{Draw}
 use Rattle.gptp_pdelay.specs.Peer.{reset_peer}
 use Rattle.gptp_scenario.specs.declared.change.Act.TheVariants.{Change as Changing}
@@ -15,23 +15,21 @@ use Rattle.gptp_system.specs.Measures.{IsPartAfter, Part, measure_at, part_asked
 use Rattle.gptp_system.specs.State.{clock, number}
 use Rattle.gptp_system.specs.Steps.{HasPortNumber}
 use Rattle.gptp_model.specs.declared.done.Done.{Done}
-use Rattle.gptp_model.specs.declared.station.Station.{Station}
 use Rattle.gptp_model.specs.Act.{Calls}
 use Rattle.gptp_model.specs.Acts.{Acts, AtLink}
-use Rattle.gptp_model.specs.Ahead.{IsPortAmong}
-use Rattle.gptp_model.specs.Changing.{CallsAll, CallsIfLive, ComesUpIf, Nothing, TellsEnds, brought_up}
+use Rattle.gptp_model.specs.Changing.{ComesUpIf, Nothing, TellsEnds, brought_up}
 use Rattle.gptp_model.specs.Sound.{IsSound}
 use Rattle.gptp_model.specs.World.{Channel, WorldState, port_id, sender, world_queue}
-use Rattle.gptp_model.proofs.StayLemmas.{JoinTheSame, Stays, calls_if_live_stay, calls_stay, set_join}
+use Rattle.gptp_model.proofs.StayLemmas.{JoinTheSame, set_join}
 use Rattle.gptp_invariants.specs.DelayLinkView.{LinkPlace, asked_at, IsEndOf, RequestSaysWhatFits, other_direction}
 use Rattle.gptp_invariants.specs.FailedUnanswered.{StandsUnanswered}
-use Rattle.gptp_invariants.proofs.DelayElsewhereLemmas.{calls_orderly}
 use Rattle.gptp_invariants.proofs.DelayLinkCallLemmas.{at_own}
-use Rattle.gptp_invariants.proofs.DelayLinkKeptLemmas.{HasAll, all_stay, among_stays}
 use Rattle.gptp_invariants.proofs.DelayLinkLemmas.{IsOrderly, net_orderly, sound_orderly}
+use Rattle.gptp_invariants.proofs.DelayElsewhereLemmas.{orderly_too}
+use Rattle.gptp_invariants.proofs.WorldActsByLemmas.{PortCallsKeep, ends_told}
 use Rattle.gptp_invariants.proofs.WorldBeforeLemmas.{stood}
 use Rattle.gptp_invariants.proofs.FailedSilentElsewhereLemmas.{changed_stood, live_before}
-use Rattle.gptp_settling_time.proofs.BetweenFailedLemmas.{AreGoneBetween, IsGoneBetween, gone_still, live_gone}
+use Rattle.gptp_settling_time.proofs.BetweenFailedLemmas.{AreGoneBetween, IsGoneBetween, gone_still, gone_up}
 use Rattle.gptp_settling_time.proofs.AskedInTimeLemmas.{AreAskedInTime, AsksAfter, IsAskedInTime, called_in_time}
 use Rattle.std.proofs.lemmas.Option.{none-some, slice_get_within}
 use Rattle.gptp_lists.specs.Members.{In}
@@ -83,18 +81,12 @@ up_in_time gone at place q w draws answer w' k of orderly is =
           )
         ]
 
--- ---- ports of a system come up
+-- ---- ports come up
 
-pub all_in_time : (gone : ℕ) (at : LinkPlace) (place : ℕ) (ps : List ℕ) (w : WorldState) (draws : List Draw)
-    (w' : WorldState) → CallsAll place (map PortUp ps) w draws w' → HasAll place ps w → IsOrderly w
-    → IsAskedInTime gone at w → IsAskedInTime gone at w'
-all_in_time gone at place [] w draws w' (none, same) has orderly is = subst (IsAskedInTime gone at) (sym same) is
-all_in_time gone at place (q ∷ ps) w draws w' (first, rest, between, answer, split, k, more) has orderly is =
-    let stays = calls_stay place (PortUp q) w first answer between orderly.setups k in
-    all_in_time gone at place ps between rest w' more
-    (all_stay place ps w between stays (λ n member. has n (inr member)))
-    (calls_orderly place (PortUp q) w first answer between orderly k)
-    (up_in_time gone at place q w first answer between k (has q (inl refl) k.station k.here) orderly is)
+pub asked_up : (gone : ℕ) (at : LinkPlace) → PortCallsKeep ⊤ PortUp (λ w. IsOrderly w × IsAskedInTime gone at w)
+asked_up gone at =
+    orderly_too ⊤ PortUp (IsAskedInTime gone at)
+    (λ place port w draws answer w' k of. up_in_time gone at place port w draws answer w' k (of tt))
 
 -- ---- a link comes up
 
@@ -103,21 +95,6 @@ pub still_in_time : (gone : ℕ) (w : WorldState) → AreAskedInTime gone w
 still_in_time gone w asked at s =
     let one = asked at (changed_stood at w s) in
     record { link = one.link; asked = one.asked; frames = one.frames; requests = one.requests; old = one.old }
-
--- a system is told, if it lives
-live_in_time : (gone : ℕ) (at : LinkPlace) (place port : ℕ) (w : WorldState) (draws : List Draw) (w' : WorldState)
-    → ((station : Station) → slice_get w.stations place ≡ Some station → HasPortNumber station.system port)
-    → IsOrderly w → IsAskedInTime gone at w → CallsIfLive place (PortUp port) w draws w' → IsAskedInTime gone at w'
-live_in_time gone at place port w draws w' of orderly is (inl (answer, k)) =
-    up_in_time gone at place port w draws answer w' k (of k.station k.here) orderly is
-live_in_time gone at place port w draws w' of orderly is (inr (failed, none, same)) =
-    subst (IsAskedInTime gone at) (sym same) is
-
-live_orderly : (place port : ℕ) (w : WorldState) (draws : List Draw) (w' : WorldState) → IsOrderly w
-    → CallsIfLive place (PortUp port) w draws w' → IsOrderly w'
-live_orderly place port w draws w' orderly (inl (answer, k)) =
-    calls_orderly place (PortUp port) w draws answer w' orderly k
-live_orderly place port w draws w' orderly (inr (failed, none, same)) = subst IsOrderly (sym same) orderly
 
 -- the last request of a port went before
 asked_before : (p : SettlingParams) (place : ℕ) (port : PortId) (w : WorldState) → IsSound w → IsKnown p w
@@ -192,6 +169,14 @@ module _ (p : SettlingParams) (gone number port : ℕ) (w : WorldState) (draws :
           (λ direction f member. absurd (none_due direction raised refl f member)) measured.frames;
     }
 
+    -- what the calls of its ends keep
+    raised_told : (So : WorldState → Type 0) → PortCallsKeep ⊤ PortUp (λ v. IsOrderly v × So v) → So brought
+        → IsOrderly w' × So w'
+    raised_told So called so =
+        ends_told ⊤ (λ v. IsOrderly v × So v) PortUp called k.channel brought draws w'
+        (λ known direction place station there named.
+        sound.wired.ports k.place place direction k.channel station k.is.here there named) told (orderly, so)
+
     module _ (asked : AreAskedInTime gone w) (at : LinkPlace) (s : StandsUnanswered at w') where
       before : StandsUnanswered at brought
       unfolding told
@@ -263,52 +248,13 @@ module _ (p : SettlingParams) (gone number port : ℕ) (w : WorldState) (draws :
         | inr other ↦ begun_beside other
       ]
 
-      named_a : (station : Station) → slice_get brought.stations told.place_a ≡ Some station
-          → clock station.system ≡ k.channel.a.clock
-      named_a station there =
-          ap (λ (x : Station). clock x.system)
-          (same_there brought.stations told.place_a station told.station_a there told.is_a.here)
-          ∙ told.is_a.named
-
-      port_a : IsPortAmong k.channel.a brought.stations
-      port_a place station there named = sound.wired.ports k.place place FromA k.channel station k.is.here there named
-
-      port_b : IsPortAmong k.channel.b brought.stations
-      port_b place station there named = sound.wired.ports k.place place FromB k.channel station k.is.here there named
-
-      first : IsAskedInTime gone at told.between
-      unfolding begun
-      first =
-          live_in_time gone at told.place_a k.channel.a.port brought told.first told.between
-          (λ station there. port_a told.place_a station there (named_a station there)) orderly begun told.at_a
-
-      stays : Stays brought told.between
-      stays =
-          calls_if_live_stay told.place_a (PortUp k.channel.a.port) brought told.first told.between sound.wired.setups
-          told.at_a
-
-      named_b : (station : Station) → slice_get told.between.stations told.place_b ≡ Some station
-          → clock station.system ≡ k.channel.b.clock
-      named_b station there =
-          let near = stays.stations told.place_b station there in
-          near.same.named
-          ∙ ap (λ (x : Station). clock x.system)
-          (same_there brought.stations told.place_b near.old told.station_b near.here told.is_b.here) ∙ told.is_b.named
-
       raised_in_time : IsAskedInTime gone at w'
-      raised_in_time =
-          live_in_time gone at told.place_b k.channel.b.port told.between told.second w'
-          (λ station there.
-          among_stays brought told.between k.channel.b stays port_b told.place_b station there (named_b station there))
-          (live_orderly told.place_a k.channel.a.port brought told.first told.between orderly told.at_a) first
-          told.at_b
+      raised_in_time = (raised_told (IsAskedInTime gone at) (asked_up gone at) begun).1
 
     -- what is in flight between two failed systems
     raised_gone : AreGoneBetween gone w → (at : LinkPlace) → IsGoneBetween gone at w'
     raised_gone all at =
-        live_gone gone at told.place_b (PortUp k.channel.b.port) told.between told.second w' told.at_b
-        (live_orderly told.place_a k.channel.a.port brought told.first told.between orderly told.at_a)
-        (live_gone gone at told.place_a (PortUp k.channel.a.port) brought told.first told.between told.at_a orderly
+        (raised_told (IsGoneBetween gone at) (gone_up gone at)
         (λ s direction f member. elim (same_place at.link k.place) [
           | inl same ↦
               absurd (none_due direction s.channel
@@ -323,7 +269,7 @@ module _ (p : SettlingParams) (gone number port : ℕ) (w : WorldState) (draws :
                 asking = s.asking;
                 answering = s.answering;
               }) direction f member
-        ]))
+        ])).1
 
   pub up_in_time_still : AreAskedInTime gone w → AreAskedInTime gone w'
   up_in_time_still asked = go k.channel.up refl

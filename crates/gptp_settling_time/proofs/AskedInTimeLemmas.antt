@@ -1,6 +1,6 @@
 -- Beside a failed system what a port sends takes no longer than its link lets it: what is in flight is due within the
 -- greatest delay, a request of it from the last one on, but for what is old.
-use Rattle.std.proofs.Common.{◌≡◌, ◌≢◌, ◌⊎◌, ◌≤◌, ◌+◌, max, ℕ, true, List, Some, None, Option, slice_get, refl, sym, ap, subst, ◌∙◌, inl, inr, arith}
+use Rattle.std.proofs.Common.{◌≡◌, ◌≢◌, ◌⊎◌, ◌≤◌, ◌+◌, max, ℕ, List, Some, None, Option, slice_get, refl, sym, ap, subst, ◌∙◌, inl, inr, arith}
 use Rattle.gptp_lists.specs.Members.{In}
 use Rattle.gptp_lists.proofs.MappedLemmas.{same_there}
 use Rattle.gptp_lists.proofs.PlaceLemmas.{same_place}
@@ -23,16 +23,13 @@ use Rattle.gptp_system.specs.Input.{Expires as TimerExpires, Frame as FrameHeard
 use Rattle.gptp_system.specs.Measures.{IsPartAfter, Part, measure_at, part_heard}
 use Rattle.gptp_system.specs.Messages.{AreSent}
 use Rattle.gptp_system.specs.State.{SystemState}
-use Rattle.gptp_system.specs.Steps.{IsUp}
 use Rattle.gptp_system.proofs.SentLemmas.{steps_send}
-use Rattle.gptp_model.specs.declared.station.Station.{Station}
 use Rattle.gptp_model.specs.Act.{Calls, Delivers, Hears, TimerRunsOut, all_timers, in_state}
 use Rattle.gptp_model.specs.Agrees.{stopped}
 use Rattle.gptp_model.specs.Acts.{Acts, at as at_time}
 use Rattle.gptp_model.specs.declared.done.Done.{Done}
 use Rattle.gptp_model.specs.Sound.{IsSound}
 use Rattle.gptp_model.specs.World.{Channel, Net, WorldState, receiver, sender, world_queue}
-use Rattle.gptp_model.proofs.SoundLemmas.{delivered_up}
 use Rattle.gptp_model.proofs.StayLemmas.{carry_join, takes_carry}
 use Rattle.gptp_pdelay_machine.specs.Asker.{Asker}
 use Rattle.gptp_pdelay_machine.specs.Messages.{Request}
@@ -45,7 +42,7 @@ use Rattle.gptp_invariants.specs.WorldShort.{IsShort}
 use Rattle.gptp_invariants.proofs.DelayEndLemmas.{HearsWhatFits}
 use Rattle.gptp_invariants.proofs.DelayLinkLaneLemmas.{GrowsIn, IsAlone, sends_grow}
 use Rattle.gptp_invariants.proofs.DelayLinkCallLemmas.{asker_timer, at_own}
-use Rattle.gptp_invariants.proofs.DelayLinkExpiryLemmas.{expires_timely}
+use Rattle.gptp_invariants.proofs.WorldActsByLemmas.{expires_timely, reached_up}
 use Rattle.gptp_invariants.proofs.DelayLinkLemmas.{IsOrderly, net_orderly, one_end, sender_opposite, sound_orderly}
 use Rattle.gptp_invariants.proofs.DelayPartLemmas.{heard_asked}
 use Rattle.gptp_invariants.proofs.DelaySentLemmas.{asks_nothing}
@@ -426,13 +423,8 @@ module _ (gone : ℕ) (at : LinkPlace) (w : WorldState) (sound : IsSound w) (mea
             let port : (sender at.direction back.new).port ≡ own.port =
             ap (λ (q : PortId). q.port)
             (same_sender at w emptied is.link back is.link.asking is.link.answering) in
-            let one : k.station ≡ calls.station =
-            same_there w.stations k.place k.station calls.station k.there calls.here in
-            let live : k.station.live ≡ true = ap (λ (x : Station). x.live) one ∙ calls.live in
-            let up = subst (λ (x : Station). IsUp x.system (receiver direction k.channel).port) one
-            (delivered_up link direction octets w draws answer w' k sound.wired live) in
             called_in_time gone at k.place (FrameHeard (receiver direction k.channel).port octets) emptied draws told w'
-            calls up
+            calls (reached_up link direction octets w draws answer w' k sound.wired calls.station calls.here calls.live)
             (net_orderly w k.net (carry_join w.net.channels k.net.channels
             (takes_carry link direction w.time octets k.channel w.net k.net k.takes)) orderly)
             emptied_in_time (λ here n. fits)

@@ -1,6 +1,7 @@
 -- Between two failed systems what is in flight only gets less.
-use Rattle.std.proofs.Common.{◌≡◌, ◌≢◌, ◌≤◌, ◌+◌, ℕ, true, List, [], ◌∷◌, Option, Some, None, slice_get, slice_set, refl, sym, ap, subst, ◌∙◌, inl, inr, arith}
+use Rattle.std.proofs.Common.{◌≡◌, ◌≢◌, ◌≤◌, ◌+◌, ℕ, true, List, Option, Some, None, slice_get, slice_set, refl, sym, ap, subst, ◌∙◌, inl, inr, arith}
 use Rattle.std.proofs.lemmas.Option.{same_Some}
+use Rattle.std.specs.Prelude.{⊤}
 use Rattle.gptp_lists.specs.Members.{In}
 use Rattle.gptp_lists.proofs.MappedLemmas.{same_there}
 use Rattle.gptp_lists.proofs.PlaceLemmas.{get-set_other, get-set_same}
@@ -13,24 +14,25 @@ use Rattle.gptp_scenario.specs.declared.change.Act.TheVariants.{Deliver, Expire,
 use Rattle.gptp_scenario.specs.declared.change.Change.{Change}
 use Rattle.gptp_setup.specs.declared.timer.Timer.{Timer}
 use Rattle.gptp_system.specs.declared.answer.Answer.{Answer}
-use Rattle.gptp_system.specs.Input.{Expires as TimerExpires, Frame as FrameHeard, Input}
+use Rattle.gptp_system.specs.Input.{Expires as TimerExpires, Frame as FrameHeard, Input, PortUp}
 use Rattle.gptp_system.specs.State.{clock}
 use Rattle.gptp_model.specs.declared.done.Done.{Done}
 use Rattle.gptp_model.specs.declared.station.Station.{Station}
 use Rattle.gptp_model.specs.Act.{Calls, Delivers, Hears, TimerRunsOut, in_state}
 use Rattle.gptp_model.specs.Acts.{Acts, at as at_time}
 use Rattle.gptp_model.specs.Agrees.{stopped}
-use Rattle.gptp_model.specs.Changing.{CallsAll, CallsIfLive}
+use Rattle.gptp_model.specs.Changing.{CallsIfLive}
 use Rattle.gptp_model.specs.Sound.{HaveOwnClocks, IsSound}
 use Rattle.gptp_model.specs.World.{Channel, Net, WorldState, receiver, sender, world_queue}
 use Rattle.gptp_model.proofs.StayLemmas.{begins_same, calls_carry, sender_same, takes_carry}
 use Rattle.gptp_invariants.specs.DelayLinkView.{LinkPlace}
 use Rattle.gptp_invariants.specs.FailedUnanswered.{IsFailedAmong}
 use Rattle.gptp_invariants.specs.WorldShort.{IsShort}
-use Rattle.gptp_invariants.proofs.DelayElsewhereLemmas.{calls_orderly}
 use Rattle.gptp_invariants.proofs.DelayLinkLemmas.{IsOrderly, receiver_same, sender_opposite}
 use Rattle.gptp_invariants.proofs.FailedUnansweredCallLemmas.{failed_apart}
 use Rattle.gptp_invariants.proofs.FailedUnansweredLaneLemmas.{calls_shrink, takes_shrink}
+use Rattle.gptp_invariants.proofs.DelayElsewhereLemmas.{orderly_too}
+use Rattle.gptp_invariants.proofs.WorldActsByLemmas.{PortCallsKeep}
 use Rattle.gptp_settling_time.proofs.AsksSoonLemmas.{both_ways}
 
 -- a link that is up stands there between two systems that have failed
@@ -218,13 +220,11 @@ gone_acts gone (Changing change) w w' draws done sound calm k all = absurd (calm
 
 -- ---- calls one after another
 
-pub all_gone : (gone : ℕ) (at : LinkPlace) (place : ℕ) (inputs : List Input) (w : WorldState) (draws : List Draw)
-    (w' : WorldState) → CallsAll place inputs w draws w' → IsOrderly w → IsGoneBetween gone at w
-    → IsGoneBetween gone at w'
-all_gone gone at place [] w draws w' (none, same) orderly all = subst (IsGoneBetween gone at) (sym same) all
-all_gone gone at place (x ∷ xs) w draws w' (first, rest, between, answer, split, k, more) orderly all =
-    all_gone gone at place xs between rest w' more (calls_orderly place x w first answer between orderly k)
-    (call_gone gone at place x w first answer between k orderly.clocks all)
+pub gone_up : (gone : ℕ) (at : LinkPlace) → PortCallsKeep ⊤ PortUp (λ w. IsOrderly w × IsGoneBetween gone at w)
+gone_up gone at =
+    orderly_too ⊤ PortUp (IsGoneBetween gone at)
+    (λ place port w draws answer w' k of orderly.
+    call_gone gone at place (PortUp port) w draws answer w' k orderly.clocks)
 
 pub live_gone : (gone : ℕ) (at : LinkPlace) (place : ℕ) (input : Input) (w : WorldState) (draws : List Draw)
     (w' : WorldState) → CallsIfLive place input w draws w' → IsOrderly w → IsGoneBetween gone at w

@@ -7,7 +7,7 @@ use Rattle.gptp_lists.specs.Members.{In}
 use Rattle.gptp_lists.proofs.SystemSpecLemmas.{In-left, In-parts, In-right}
 use Rattle.gptp_links.specs.declared.bounds.Bounds.{Bounds}
 use Rattle.gptp_scenario.specs.declared.change.Timed.{Timed}
-use Rattle.gptp_model.specs.Acts.{Acts, at}
+use Rattle.gptp_model.specs.Acts.{at}
 use Rattle.gptp_model.specs.Advancing.{Happens}
 use Rattle.gptp_model.specs.Initial.{initial}
 use Rattle.gptp_model.specs.Pending.{NothingBefore}
@@ -17,12 +17,10 @@ use Rattle.gptp_world.specs.Transitions.{Passes, PassesTo, ActTrace, transition}
 use Rattle.gptp_network.specs.Document.{DocumentState}
 use Rattle.gptp_network.specs.Snapshot.{events_by}
 use Rattle.gptp_report.specs.Transitions.{Courses, Makes, Unfolds}
-use Rattle.gptp_invariants.proofs.SyncFollowClaimLemmas.{acts_time}
-use Rattle.gptp_invariants.proofs.WorldOutlineLemmas.{change_time, starts_are_last}
+use Rattle.gptp_invariants.proofs.WorldOutlineLemmas.{acts_time, starts_are_last}
 use Rattle.gptp_theorem.specs.PlayedLaws.{IsMade}
 use Rattle.gptp_theorem.proofs.BeginLemmas.{begun_stands}
 use Rattle.gptp_theorem.proofs.SettlingInvariantLemmas.{events_made}
-use Rattle.gptp_theorem.proofs.PlayedLemmas.{no_change}
 use Rattle.gptp_settling_time.specs.Documents.{RunsBeginSo}
 
 -- ---- events
@@ -67,14 +65,12 @@ module _ {F : Type 0} (answers : Bounds → ℕ → F → Option ℕ → F → T
       → Happens answers until t.told fate drawn w t.after → t.after.time ≡ t.told.timed.at
   done_at until t fate drawn w happens =
       let timed = t.told.timed in let was = happens.was_done in
-      acts_time timed.act (at timed.at w) was.draws t.told.done t.after
-      (no_change happens.next.item timed.act w happens.next.act) was.acts
+      acts_time timed.act (at timed.at w) was.draws t.told.done t.after was.acts
 
-  made_at : (event : Timed) (first : List ActTrace) (fate drawn : F) (w between : WorldState) → IsMade event
+  made_at : (event : Timed) (first : List ActTrace) (fate drawn : F) (w between : WorldState)
       → (k : Makes answers event first fate drawn w between) → between.time ≡ event.at
-  made_at event first fate drawn w between is k =
-      change_time is.change (at event.at k.between) k.made.draws k.done between
-      (subst (λ act. Acts act (at event.at k.between) k.made.draws k.done between) is.act k.made.acts)
+  made_at event first fate drawn w between k =
+      acts_time event.act (at event.at k.between) k.made.draws k.done between k.made.acts
 
   -- no act is earlier than the world in which it passes
   passes_later : (until : ℕ) (ts : List ActTrace) (fate fate_after : F) (w w' : WorldState)
@@ -129,7 +125,7 @@ module _ {F : Type 0} (answers : Bounds → ℕ → F → Option ℕ → F → T
         | inl here ↦ (makes_within event first fate drawn w between k u here).later
         | inr behind ↦
             let later = courses_later until events rest drawn fate_after between w' is.1 on u behind in
-            let time = made_at event first fate drawn w between is.0 k in
+            let time = made_at event first fate drawn w between k in
             let ahead = k.passes.ahead in
             omega (arith, later, time, ahead)
       ]
@@ -155,7 +151,7 @@ module _ {F : Type 0} (answers : Bounds → ℕ → F → Option ℕ → F → T
       → events_by early events ≡ []
   none_by early until [] ts fate fate_after w w' is k late = refl
   none_by early until (event ∷ events) ts fate fate_after w w' is (first, rest, drawn, between, k, on, split) late =
-      let time = made_at event first fate drawn w between is.0 k in
+      let time = made_at event first fate drawn w between k in
       let ahead = k.passes.ahead in
       by (nat_le event.at early) refl
       (none_by early until events rest drawn fate_after between w' is.1 on (omega (arith, time, ahead, late)))
@@ -271,7 +267,7 @@ module _ {F : Type 0} (answers : Bounds → ℕ → F → Option ℕ → F → T
         (λ now. cut_courses until events rest drawn fate_after between w' less is.1 on now)
       where
         time : between.time ≡ event.at
-        time = made_at event first fate drawn w between is.0 k
+        time = made_at event first fate drawn w between k
 
         by : (soon : Bool) → nat_le event.at early ≡ soon → (between.time ≤ early → IsCourse events rest drawn between)
             → IsCourse (event ∷ events) ts fate w

@@ -22,7 +22,7 @@ use Rattle.gptp_invariants.specs.SyncTimed.{AllMeasureRight, CarriesTime, IsSett
 use Rattle.gptp_invariants.specs.WorldKnown.{IsKnown}
 use Rattle.gptp_invariants.specs.WorldStanding.{live_stations}
 use Rattle.gptp_invariants.proofs.DelayMeasuredLinkLemmas.{used_measured}
-use Rattle.gptp_invariants.proofs.SyncFollowClaimLemmas.{acts_time}
+use Rattle.gptp_invariants.proofs.WorldOutlineLemmas.{acts_time}
 use Rattle.gptp_invariants.proofs.SyncFollowLaterLemmas.{time_begins, time_carries}
 use Rattle.gptp_invariants.proofs.SyncFollowMeasureLemmas.{measured_right}
 use Rattle.gptp_invariants.proofs.SyncFollowWorldLemmas.{done_carries, used_within}
@@ -153,7 +153,7 @@ module _ (d : DocumentState) (playable : IsPlayable d) (all : List Timed) (calm 
         record {
           so = after;
           carries = λ on shown.
-              let time = acts_time timed.act (at timed.at w) was.draws t.told.done t.after still was.acts in
+              let time = acts_time timed.act (at timed.at w) was.draws t.told.done t.after was.acts in
               let on_then : settled ≤ timed.at = omega (arith, on, time) in
               let shown_then : timed.at ≤ 10 ^ 18 = omega (arith, shown, time) in
               let now = was.ready.timely.now in

@@ -21,7 +21,7 @@ use Rattle.gptp_invariants.proofs.WorldClaimLemmas.{claim_begins, claim_kept, cl
 use Rattle.gptp_invariants.proofs.WorldLinkUpNewsLemmas.{link_up_news}
 use Rattle.gptp_invariants.proofs.WorldNewsActLemmas.{gain_news, unanswered_silent, watched_ready}
 use Rattle.gptp_invariants.proofs.WorldNewsLemmas.{none_silent}
-use Rattle.gptp_invariants.proofs.WorldOutlineLemmas.{change_is_last, change_time, starts_are_last}
+use Rattle.gptp_invariants.proofs.WorldOutlineLemmas.{acts_time, change_is_last, starts_are_last}
 use Rattle.gptp_invariants.proofs.WorldSoundLemmas.{sound_later}
 use Rattle.gptp_invariants.proofs.WorldStartNewsLemmas.{start_news}
 use Rattle.gptp_invariants.proofs.WorldNewsCourseLemmas.{later_keeps, same_from}
@@ -127,7 +127,7 @@ module _ {F : Type 0} (answers : Bounds → ℕ → F → Option ℕ → F → T
       let then = at_time time w in
       let claim_then = claim_later p w time timely.now timely.first claim in
       let last = change_is_last change then k.draws made between k.acts in
-      let same = change_time change then k.draws made between k.acts in
+      let same = acts_time (Changing change) then k.draws made between k.acts in
       let requests = claim.pace.requests in
       let begins : AreSilentBy p start between
       × (between.time + 2 * largest_interval p + 3 * interval_of p.params.pdelay ≤ start) = elim from [

@@ -34,7 +34,7 @@ use Rattle.gptp_invariants.specs.DelayWatched.{IsWatched}
 use Rattle.gptp_invariants.proofs.DelayElsewhereLemmas.{goes_through, watch_goes_through, watched_stay_capable}
 use Rattle.gptp_invariants.proofs.DelayFirstAtLemmas.{by_goes_on, by_goes_through, first_full}
 use Rattle.gptp_invariants.proofs.DelayWatchLemmas.{watch_goes_on}
-use Rattle.gptp_invariants.proofs.SyncFollowClaimLemmas.{acts_time}
+use Rattle.gptp_invariants.proofs.WorldOutlineLemmas.{acts_time}
 use Rattle.gptp_settling_time.proofs.OrderedLemmas.{IsOrderedAt, IsTimelyAt, VariesLittle, link_seen, opposite, order_acted, sent_late, stays_capable, tells, tells_no_reply, timely_acted, timely_later}
 use Rattle.gptp_settling_time.proofs.ToldLemmas.{told_capable}
 
@@ -217,7 +217,7 @@ module _ (p : SettlingParams) (start : ℕ) (act : Act) (w : WorldState) (draws 
   watched_then : (gone calm : ℕ) (x : IsWatchedLong p gone calm at w)
       → HeardThen p start at w w' (inr (inr (inl (gone, calm, x))))
   watched_then gone calm x =
-      let same = acts_time act w draws done w' none acts in
+      let same = acts_time act w draws done w' acts in
       let late = x.late in
       let then : IsWatchedLong p gone calm at w' = record {
         watched = watch_goes_through at gone calm act w w' draws done is.sound measured (alone act none) acts x.watched;
@@ -228,7 +228,7 @@ module _ (p : SettlingParams) (start : ℕ) (act : Act) (w : WorldState) (draws 
   first_then : (first by : ℕ) (x : IsFirstLong first by at w)
       → HeardThen p start at w w' (inr (inr (inr (first, by, x))))
   first_then first by x =
-      let same = acts_time act w draws done w' none acts in
+      let same = acts_time act w draws done w' acts in
       let late = x.late in
       let then : IsFirstLong first by at w' = record {
         is = by_goes_through at first by act w w' draws done is.sound measured (alone act none) acts x.is;

@@ -37,7 +37,7 @@ use Rattle.gptp_invariants.proofs.WorldClaimLemmas.{claim_kept, claim_later}
 use Rattle.gptp_invariants.proofs.WorldLinkUpNewsLemmas.{link_up_news}
 use Rattle.gptp_invariants.proofs.WorldNewsActLemmas.{gain_news, ready_later, silent_by_later, unanswered_silent, watched_ready}
 use Rattle.gptp_invariants.proofs.WorldNewsLemmas.{none_silent}
-use Rattle.gptp_invariants.proofs.WorldOutlineLemmas.{change_is_last, change_time}
+use Rattle.gptp_invariants.proofs.WorldOutlineLemmas.{acts_time, change_is_last}
 use Rattle.gptp_invariants.proofs.WorldShortLemmas.{acts_short, later_short}
 use Rattle.gptp_invariants.proofs.WorldSoundLemmas.{sound_later}
 use Rattle.gptp_theorem.specs.PlayedLaws.{IsMade, IsPlayable}
@@ -165,7 +165,7 @@ module _ {F : Type 0} (answers : Bounds → ℕ → F → Option ℕ → F → T
   acts = subst (λ act. Acts act then k.draws done w') is.act k.acts
 
   pub made_time : w'.time ≡ event.at
-  made_time = change_time is.change then k.draws done w' acts
+  made_time = acts_time event.act then k.draws done w' k.acts
 
   pub made_last : w'.last_change ≡ w'.time
   made_last = change_is_last is.change then k.draws done w' acts

@@ -28,7 +28,7 @@ use Rattle.gptp_invariants.proofs.DelayCapableKeptLemmas.{stood}
 use Rattle.gptp_invariants.proofs.DelayChangeKeptLemmas.{acts_measured, later_measured}
 use Rattle.gptp_invariants.proofs.DelayFirstAtLemmas.{by_goes_on}
 use Rattle.gptp_invariants.proofs.DelayWatchLemmas.{watch_goes_on}
-use Rattle.gptp_invariants.proofs.SyncFollowClaimLemmas.{acts_time}
+use Rattle.gptp_invariants.proofs.WorldOutlineLemmas.{acts_time}
 use Rattle.gptp_invariants.proofs.WorldNewsLemmas.{acts_silent, news_are_kept, news_begin, news_go_on, ready_goes_through, silent_later}
 use Rattle.gptp_invariants.proofs.WorldSettledLemmas.{still_acts_stay, time_stays}
 use Rattle.gptp_invariants.proofs.WorldSoundLemmas.{sound_acts, sound_later}
@@ -180,7 +180,7 @@ module _ (p : SettlingParams) (start : ℕ) where
   soon_acts act w draws done w' none octet k is =
       let world' = still_acts_stay p act w draws done w' none k is.world in
       let keeps = acts_keep act w draws done w' none k in
-      let time = acts_time act w draws done w' none k in
+      let time = acts_time act w draws done w' k in
       let early = is.early in
       record {
         by = is.by;

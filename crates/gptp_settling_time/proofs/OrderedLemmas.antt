@@ -49,7 +49,7 @@ use Rattle.gptp_invariants.proofs.DelayCapableKeptLemmas.{no_change}
 use Rattle.gptp_invariants.proofs.DelayLinkActLemmas.{acts_seen}
 use Rattle.gptp_invariants.proofs.DelayLinkFactLemmas.{nothing_late}
 use Rattle.gptp_invariants.proofs.DelayLinkLemmas.{sender_opposite}
-use Rattle.gptp_invariants.proofs.SyncFollowClaimLemmas.{acts_time}
+use Rattle.gptp_invariants.proofs.WorldOutlineLemmas.{acts_time}
 use Rattle.gptp_invariants.proofs.DelayPoppedLemmas.{receiver_opposite}
 use Rattle.gptp_settling_time.proofs.MasterLemmas.{BeginsAtMaster, WasOnLane, acted, master_capable}
 use Rattle.gptp_settling_time.proofs.ToldLemmas.{capable_on}
@@ -229,7 +229,7 @@ module _ (p : SettlingParams) (first : ℕ) (act : Act) (w : WorldState) (draws 
   timely_on at x = timely_acted at first w w' x (link_seen at x.link)
 
   time_is : w'.time ≡ w.time
-  time_is = acts_time act w draws done w' none acts
+  time_is = acts_time act w draws done w' acts
 
   -- what is told now is told by a capable port
   module _ (at : LinkPlace) (x : IsTimelyAt first at w) (y : IsTimelyAt first (opposite at) w) where

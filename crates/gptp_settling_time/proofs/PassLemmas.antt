@@ -10,7 +10,7 @@ use Rattle.gptp_model.specs.World.{WorldState}
 use Rattle.gptp_model.proofs.AdvanceLemmas.{nothing_sooner}
 use Rattle.gptp_world.specs.Transitions.{Passes, PassesTo, ActTrace}
 use Rattle.gptp_invariants.specs.ChoiceSeenLaws.{IsNoChange}
-use Rattle.gptp_invariants.proofs.SyncFollowClaimLemmas.{acts_time}
+use Rattle.gptp_invariants.proofs.WorldOutlineLemmas.{acts_time}
 use Rattle.gptp_theorem.proofs.PlayedLemmas.{no_change}
 
 -- this is so of the worlds before and after an act, which was done at its time
@@ -48,8 +48,7 @@ module _ {F : Type 0} (answers : Bounds → ℕ → F → Option ℕ → F → T
       let timed = t.told.timed in let next = happens.next in let was = happens.was_done in
       let in_time = happens.early in
       let after = acts t fate drawn w next was so in
-      let then = acts_time timed.act (at timed.at w) was.draws t.told.done t.after
-      (no_change next.item timed.act w next.act) was.acts in
+      let then = acts_time timed.act (at timed.at w) was.draws t.told.done t.after was.acts in
       let more = passes ts drawn fate_after t.after w' rest (omega (arith, then, in_time)) after in
       let one : IsStep answers So t = record {
         before = subst So (sym before) so;

@@ -35,7 +35,7 @@ use Rattle.gptp_invariants.proofs.ChoiceSeenLaneLemmas.{lane_from, lane_there}
 use Rattle.gptp_invariants.proofs.ChoiceSendLemmas.{lanes_apart}
 use Rattle.gptp_invariants.proofs.ChoiceTakeUpLemmas.{BeginApart, begin_apart}
 use Rattle.gptp_invariants.proofs.WorldAnsweringLemmas.{IsAnswering, calls_answering}
-use Rattle.gptp_invariants.proofs.WorldChangeEncodableLemmas.{link_encodable, up_fits}
+use Rattle.gptp_invariants.proofs.WorldActEncodableLemmas.{answering_kept}
 use Rattle.gptp_invariants.proofs.WorldAnsweringLemmas.{sound_answers}
 use Rattle.gptp_invariants.proofs.DelayFirstUpLemmas.{sender_up}
 use Rattle.gptp_invariants.specs.FailedUnanswered.{IsUnmeasured, is_answered}
@@ -162,13 +162,9 @@ module _ (p : SettlingParams) (w : WorldState) (is : IsWorld p w) (place : ℕ) 
   v = record w { net = brought_up place channel w.net; last_change = w.time }
 
   answering : IsAnswering v
-  answering = record {
-    stations = (sound_answers w is.sound is.encodable).stations;
-    encodable =
-        let fits = link_encodable place channel new w (brought_up place channel w.net) refl here
-        (up_fits channel (is.encodable.links place channel here)) is.encodable in
-        record { stations = fits.stations; links = fits.links };
-  }
+  answering =
+      answering_kept.link_up place channel (record w { last_change = w.time }) here
+      (answering_kept.change_counted w (sound_answers w is.sound is.encodable))
 
   apart : BeginApart (lanes_view v.net.channels)
   apart =

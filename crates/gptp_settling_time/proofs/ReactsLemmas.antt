@@ -5,7 +5,7 @@ use Rattle.std.specs.Prelude.{◌==◌, ◌||◌, if◌then◌else◌}
 use Rattle.std.proofs.lemmas.Option.{same_Some}
 use Rattle.gptp_lists.specs.Members.{In}
 use Rattle.gptp_lists.proofs.MappedLemmas.{alike, same_there}
-use Rattle.gptp_lists.proofs.PlaceLemmas.{get-set_all, get-set_other, get-set_same, map-set_same, same_place}
+use Rattle.gptp_lists.proofs.PlaceLemmas.{get-set_other, get-set_same, map-set_same, same_place}
 use Rattle.gptp_graph.specs.Snapshot.{PortIdentity, System}
 use Rattle.gptp_links.specs.Fate.{Draw}
 use Rattle.gptp_setup.specs.SettlingParams.{SettlingParams}
@@ -14,8 +14,6 @@ use Rattle.gptp_scenario.specs.declared.change.Change.TheVariants.{Priority1}
 use Rattle.gptp_system.specs.declared.answer.Answer.{Answer}
 use Rattle.gptp_system.specs.Input.{Priority}
 use Rattle.gptp_system.specs.State.{SystemState, clock}
-use Rattle.gptp_system.specs.Start.{started}
-use Rattle.gptp_system.proofs.TimersChangedLemmas.{priority_clock}
 use Rattle.gptp_model.specs.declared.done.Done.{Done}
 use Rattle.gptp_model.specs.declared.station.Station.{Station}
 use Rattle.gptp_model.specs.Act.{Calls, in_state}
@@ -36,8 +34,8 @@ use Rattle.gptp_invariants.specs.WorldStanding.{live_stations, snapshot_of, stan
 use Rattle.gptp_invariants.proofs.ChoiceSeenCallLemmas.{IsCallSeen, calls_seen}
 use Rattle.gptp_invariants.proofs.ChoiceTakeUpLemmas.{BeginApart}
 use Rattle.gptp_invariants.proofs.ChoiceSendLemmas.{lanes_apart}
-use Rattle.gptp_invariants.proofs.WorldAnsweringLemmas.{CanAnswer, IsAnswering, sound_answers}
-use Rattle.gptp_invariants.proofs.WorldChangeEncodableLemmas.{station_encodable}
+use Rattle.gptp_invariants.proofs.WorldActEncodableLemmas.{answering_kept}
+use Rattle.gptp_invariants.proofs.WorldAnsweringLemmas.{IsAnswering, sound_answers}
 use Rattle.gptp_invariants.proofs.WorldSoundCallLemmas.{IsThereToo, links_more}
 use Rattle.gptp_invariants.proofs.WorldSystemLemmas.{IsLiveAt, live_from, live_there}
 use Rattle.gptp_settling_time.specs.Idle.{Lives}
@@ -144,29 +142,8 @@ module _ (p : SettlingParams) (w : WorldState) (is : IsWorld p w) (owner value :
 
   answering : IsAnswering v
   answering =
-      let all = sound_answers w is.sound is.encodable in
-      let old = all.stations place station here in
-      let intervals = old.its.intervals in
-      let fits = is.encodable.stations place station here in
-      let one = station_encodable place station new w here
-      (record { system = fits.system; setup = let small = fits.setup in omega (arith, small, octet) }) is.encodable in
-      record {
-        stations = get-set_all CanAnswer w.stations place station new here
-            (record {
-              params = old.params;
-              steady = old.steady;
-              its = record {
-                ports = old.its.ports;
-                few = old.its.few;
-                phase = old.its.phase;
-                drift = old.its.drift;
-                intervals = record { many = intervals.many; each = intervals.each; largest = intervals.largest };
-                named = priority_clock value (started station.setup 0) ∙ old.its.named;
-              };
-            })
-            all.stations;
-        encodable = record { stations = one.stations; links = one.links };
-      }
+      answering_kept.priority_set owner value place station now here octet
+      (answering_kept.change_counted w (sound_answers w is.sound is.encodable))
 
   apart : BeginApart (lanes_view v.net.channels)
   apart =

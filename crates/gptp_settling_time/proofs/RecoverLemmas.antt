@@ -1,7 +1,8 @@
 -- A failed system recovers, whose links that are up lead to live systems: its ports ask at once, and those at their
 -- other ends an interval between requests later at most.
-use Rattle.std.proofs.Common.{◌≡◌, ◌⊎◌, ◌≢◌, ◌<◌, ◌≤◌, ◌+◌, ◌*◌, ℕ, zero, suc, Bool, true, false, List, [], ◌∷◌, map, Some, None, slice_get, refl, sym, ap, subst, ◌∙◌, inl, inr, arith}
+use Rattle.std.proofs.Common.{◌≡◌, ◌⊎◌, ◌≢◌, ◌<◌, ◌≤◌, ◌+◌, ◌*◌, ℕ, zero, suc, Bool, true, false, List, Some, None, slice_get, refl, sym, ap, subst, ◌∙◌, inl, inr, arith}
 use Rattle.std.proofs.lemmas.Option.{none-some, same_Some}
+use Rattle.std.specs.Prelude.{⊤}
 use Rattle.gptp_lists.specs.Members.{In}
 use Rattle.gptp_lists.proofs.MappedLemmas.{same_there, some_same}
 use Rattle.gptp_lists.proofs.PlaceLemmas.{get-set_all, get-set_other, get-set_same, same_place}
@@ -28,7 +29,7 @@ use Rattle.gptp_model.specs.declared.done.Done.{Done}
 use Rattle.gptp_model.specs.declared.station.Station.{Station}
 use Rattle.gptp_model.specs.Act.{Calls, all_timers}
 use Rattle.gptp_model.specs.Acts.{Acts, AtSystem}
-use Rattle.gptp_model.specs.Changing.{CallsAll, Nothing, RecoversIf, Starts, fresh, up_ports, with_station}
+use Rattle.gptp_model.specs.Changing.{Nothing, RecoversIf, Starts, fresh, up_ports, with_station}
 use Rattle.gptp_model.specs.World.{Channel, WorldState, receiver, sender, world_queue}
 use Rattle.gptp_model.proofs.StayLemmas.{Stays, refreshed_stays, stays_apart, stays_clocks, starts_stays, stays_ports, stays_setups}
 use Rattle.gptp_model.proofs.UpLemmas.{brings_port, brought_ports}
@@ -44,37 +45,29 @@ use Rattle.gptp_invariants.specs.DelayMeasured.{IsStationMeasured, LinkIsMeasure
 use Rattle.gptp_invariants.specs.FailedUnanswered.{IsFailedAmong, IsNeverAnswered, IsSilent, IsUnansweredAt, IsUnmeasured, StandsUnanswered, silent_setting, silent_view}
 use Rattle.gptp_invariants.specs.WorldNews.{AreReadyBy, AreSilentBy, IsNews, IsSilentBy}
 use Rattle.gptp_invariants.specs.WorldSound.{IsSoundWorld}
-use Rattle.gptp_invariants.proofs.ChoiceCalmKeptLemmas.{KeepsNetwork, calls_keep, keeps_on, net_keeps}
+use Rattle.gptp_invariants.proofs.ChoiceCalmKeptLemmas.{KeepsNetwork, net_keeps}
 use Rattle.gptp_invariants.proofs.DelayCapableKeptLemmas.{HaveParams, known_params, stood_among}
-use Rattle.gptp_invariants.proofs.DelayElsewhereLemmas.{calls_orderly}
 use Rattle.gptp_invariants.proofs.DelayLinkCallLemmas.{at_own, seen_from}
 use Rattle.gptp_invariants.proofs.DelayLinkKeptLemmas.{HasAll, started_measured}
 use Rattle.gptp_invariants.proofs.DelayLinkLemmas.{IsOrderly, sender_opposite, sound_orderly}
 use Rattle.gptp_invariants.proofs.DelayLinkStandLemmas.{end_is}
 use Rattle.gptp_invariants.proofs.FailedNeverAnsweredLemmas.{never_called}
 use Rattle.gptp_invariants.proofs.FailedUnansweredCallLemmas.{asker_is, call_seen, view_stays}
+use Rattle.gptp_invariants.proofs.DelayElsewhereLemmas.{orderly_too}
+use Rattle.gptp_invariants.proofs.WorldActsByLemmas.{PortCallsKeep, start_told}
 use Rattle.gptp_invariants.proofs.WorldBeforeLemmas.{calls_before, stood}
 use Rattle.gptp_invariants.proofs.WorldNewsLemmas.{news_begin, ready_goes_through}
+use Rattle.gptp_invariants.proofs.WorldOutlineLemmas.{acts_time}
+use Rattle.gptp_invariants.proofs.WorldSoundCallLemmas.{up_keeps}
 use Rattle.gptp_invariants.proofs.WorldSoundLemmas.{sound_gains}
-use Rattle.gptp_settling_time.proofs.AskedElsewhereLemmas.{all_in_time, still_in_time}
+use Rattle.gptp_settling_time.proofs.AskedElsewhereLemmas.{asked_up, still_in_time}
 use Rattle.gptp_settling_time.proofs.AskedInTimeLemmas.{AreAskedInTime, IsAskedInTime}
 use Rattle.gptp_settling_time.proofs.AsksSoonLemmas.{alone_asks, asked_before, both_ways, due_now, now_asks, seen_due, soon_after}
-use Rattle.gptp_settling_time.proofs.BetweenFailedLemmas.{AreGoneBetween, StandsFailed, all_gone, gone_still}
+use Rattle.gptp_settling_time.proofs.BetweenFailedLemmas.{AreGoneBetween, IsGoneBetween, StandsFailed, gone_still, gone_up}
 use Rattle.gptp_settling_time.proofs.NewsSoonLemmas.{AreComing, IsComing, IsNewsSoon, coming_goes_through}
 use Rattle.gptp_settling_time.proofs.OrderedLemmas.{opposite, turned}
 use Rattle.gptp_settling_time.proofs.RestartLemmas.{AskedAlone, HasAskedNow, IsPrompt, alone_all, asks_all}
 use Rattle.gptp_settling_time.proofs.WillAskLemmas.{WillAsk}
-
--- calls of ports that come up keep the network, and take no time
-all_keep : (place : ℕ) (ps : List ℕ) (w : WorldState) (draws : List Draw) (w' : WorldState)
-    → CallsAll place (map PortUp ps) w draws w' → KeepsNetwork w w' × (w'.time ≡ w.time)
-all_keep place [] w draws w' (none, same) =
-    subst (λ v. KeepsNetwork w v × (v.time ≡ w.time)) (sym same) (net_keeps w w.net refl, refl)
-all_keep place (p ∷ ps) w draws w' (first, rest, between, answer, split, k, more) =
-    let (keeps, when) = all_keep place ps between rest w' more in (
-      keeps_on w between w' (calls_keep place (PortUp p) w first answer between (λ value same. absurd cc) k) keeps,
-      when ∙ ap (λ (v : WorldState). v.time) k.is,
-    )
 
 -- a port that comes up leaves one beside a failed system silent
 beside_silent : (gone : ℕ) (at : LinkPlace) (place q : ℕ) (w : WorldState) (draws : List Draw) (answer : Answer)
@@ -117,30 +110,17 @@ beside_silent gone at place q w draws answer w' k orderly is =
       | inr left ↦ still left.1
     ]
 
-all_silent : (gone : ℕ) (at : LinkPlace) (place : ℕ) (ps : List ℕ) (w : WorldState) (draws : List Draw)
-    (w' : WorldState) → CallsAll place (map PortUp ps) w draws w' → IsOrderly w → IsSilent gone at w
-    → IsSilent gone at w'
-all_silent gone at place [] w draws w' (none, same) orderly is = subst (IsSilent gone at) (sym same) is
-all_silent gone at place (q ∷ ps) w draws w' (first, rest, between, answer, split, k, more) orderly is =
-    all_silent gone at place ps between rest w' more
-    (calls_orderly place (PortUp q) w first answer between orderly k)
-    (beside_silent gone at place q w first answer between k orderly is)
+silent_up : (gone : ℕ) (at : LinkPlace) → PortCallsKeep ⊤ PortUp (λ w. IsOrderly w × IsSilent gone at w)
+silent_up gone at =
+    orderly_too ⊤ PortUp (IsSilent gone at)
+    (λ place port w draws answer w' k of. beside_silent gone at place port w draws answer w' k)
 
 -- nor are they answered that have never been
-all_never : (at : LinkPlace) (place : ℕ) (ps : List ℕ) (w : WorldState) (draws : List Draw) (w' : WorldState)
-    → CallsAll place (map PortUp ps) w draws w' → IsOrderly w → IsNeverAnswered at w → IsNeverAnswered at w'
-all_never at place [] w draws w' (none, same) usual is = subst (IsNeverAnswered at) (sym same) is
-all_never at place (q ∷ ps) w draws w' (first, rest, between, answer, split, k, more) usual is =
-    all_never at place ps between rest w' more (calls_orderly place (PortUp q) w first answer between usual k)
-    (never_called at place (PortUp q) w first answer between k usual.clocks is (λ same. tt) (λ same. tt))
-
--- and it stood there
-all_stood : (at : LinkPlace) (place : ℕ) (ps : List ℕ) (w : WorldState) (draws : List Draw) (w' : WorldState)
-    → CallsAll place (map PortUp ps) w draws w' → StandsUnanswered at w' → StandsUnanswered at w
-all_stood at place [] w draws w' (none, same) s = subst (StandsUnanswered at) same s
-all_stood at place (q ∷ ps) w draws w' (first, rest, between, answer, split, k, more) s =
-    stood at w between (calls_before place (PortUp q) w first answer between k)
-    (all_stood at place ps between rest w' more s)
+never_up : (at : LinkPlace) → PortCallsKeep ⊤ PortUp (λ w. IsOrderly w × IsNeverAnswered at w)
+never_up at =
+    orderly_too ⊤ PortUp (IsNeverAnswered at)
+    (λ place port w draws answer w' k of orderly is.
+    never_called at place (PortUp port) w draws answer w' k orderly.clocks is (λ same. tt) (λ same. tt))
 
 -- A port of a system as it starts answers nothing, hasn't asked, and has measured nothing.
 record IsFreshPort (q : Port) : Type 0 where
@@ -246,10 +226,16 @@ module _ (p : SettlingParams) (by next number : ℕ) (w : WorldState) (draws : L
         (brought_ports new w.net q member)
 
     pub keeps : KeepsNetwork begun w'
-    keeps = (all_keep k.place ports begun draws w' starts.calls).0
+    keeps =
+        start_told ⊥ (KeepsNetwork begun) (up_keeps begun) k.place now draws w' starts (net_keeps begun begun.net refl)
 
     same_time : w'.time ≡ w.time
-    same_time = (all_keep k.place ports begun draws w' starts.calls).1
+    same_time = acts_time (Changing (Recover number)) w draws done w' acts
+
+    -- what the calls of its ports keep
+    through : (So : WorldState → Type 0) → PortCallsKeep ⊤ PortUp (λ v. IsOrderly v × So v) → So begun → So w'
+    through So called so =
+        (start_told ⊤ (λ v. IsOrderly v × So v) called k.place now draws w' starts (orderly, so)).1
 
     params_begun : HaveParams p begun
     params_begun =
@@ -528,7 +514,11 @@ module _ (p : SettlingParams) (by next number : ℕ) (w : WorldState) (draws : L
 
     module _ (at : LinkPlace) (s : StandsUnanswered at w') where
       stood_begun : StandsUnanswered at begun
-      stood_begun = all_stood at k.place ports begun draws w' starts.calls s
+      stood_begun =
+          start_told ⊥ (λ v. StandsUnanswered at v → StandsUnanswered at begun)
+          (λ place port v ds answer v' c of back stands.
+          back (stood at v v' (calls_before place (PortUp port) v ds answer v' c) stands)) k.place now draws w' starts
+          (λ stands. stands) s
 
       -- what is failed is another system than the one that recovers
       answering_apart : at.answering ≢ k.place
@@ -586,7 +576,7 @@ module _ (p : SettlingParams) (by next number : ℕ) (w : WorldState) (draws : L
 
         others_silent : AreSilentBy p next w → IsSilentBy p next at w'
         others_silent silent = elim (silent at was) [
-          | inl never ↦ inl (all_never at k.place ports begun draws w' starts.calls orderly (record {
+          | inl never ↦ inl (through (IsNeverAnswered at) (never_up at) (record {
             link = unanswered_begun never.link;
             mute = never.mute;
             unmeasured = never.unmeasured;
@@ -595,8 +585,7 @@ module _ (p : SettlingParams) (by next number : ℕ) (w : WorldState) (draws : L
               let old_by = change + largest_interval p in
               inr (
                 change,
-                all_silent old_by at k.place ports begun draws w' starts.calls orderly
-                    (begun_silent old_by one),
+                through (IsSilent old_by at) (silent_up old_by at) (begun_silent old_by one),
                 from,
               )
         ]
@@ -605,7 +594,7 @@ module _ (p : SettlingParams) (by next number : ℕ) (w : WorldState) (draws : L
         others_in_time gone asked =
             let one = asked at was in
             let l = one.link in
-            all_in_time gone at k.place ports begun draws w' starts.calls has orderly
+            through (IsAskedInTime gone at) (asked_up gone at)
             (record {
               link = unanswered_begun l;
               asked = one.asked;
@@ -655,7 +644,7 @@ module _ (p : SettlingParams) (by next number : ℕ) (w : WorldState) (draws : L
         own_in_time : IsAskedInTime gone at w'
         unfolding own_begun
         own_in_time =
-            all_in_time gone at k.place ports begun draws w' starts.calls has orderly
+            through (IsAskedInTime gone at) (asked_up gone at)
             (record {
               link = own_begun;
               asked =
@@ -671,7 +660,7 @@ module _ (p : SettlingParams) (by next number : ℕ) (w : WorldState) (draws : L
         own_never : gone < w.time → IsNeverAnswered at w'
         unfolding own_begun
         own_never past =
-            all_never at k.place ports begun draws w' starts.calls orderly
+            through (IsNeverAnswered at) (never_up at)
             (record {
               link = own_begun;
               mute = λ f member r says.
@@ -696,7 +685,7 @@ module _ (p : SettlingParams) (by next number : ℕ) (w : WorldState) (draws : L
 
     recovers_gone : (gone : ℕ) → AreGoneBetween gone w → AreGoneBetween gone w'
     recovers_gone gone all at =
-        all_gone gone at k.place (map PortUp ports) begun draws w' starts.calls orderly
+        through (IsGoneBetween gone at) (gone_up gone at)
         (λ s. all at (record {
           channel = s.channel;
           here = s.here;

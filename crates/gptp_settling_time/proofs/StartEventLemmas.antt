@@ -1,24 +1,22 @@
 -- Events at time 0, as a network starts, leave it so that nothing is told; and what happens by itself then does.
-use Rattle.std.proofs.Common.{◌≡◌, ◌<◌, inl, inr, ◌≤◌, ℕ, Bool, true, false, List, [], ◌∷◌, ◌++◌, length, Option, Some, slice_get, refl, sym, ap, subst, ◌∙◌, arith}
+use Rattle.std.proofs.Common.{◌≡◌, ◌<◌, inl, inr, ◌≤◌, ℕ, Bool, true, false, List, [], ◌∷◌, ◌++◌, Option, Some, slice_get, refl, sym, ap, subst, ◌∙◌, arith}
 use Rattle.std.specs.Prelude.{◌==◌}
-use Rattle.std.specs.List.{range_with_len}
 use Rattle.std.proofs.lemmas.Bool.{eq-eqb}
 use Rattle.gptp_lists.specs.Members.{In}
-use Rattle.gptp_lists.proofs.MappedLemmas.{alike, mapped, same_there}
+use Rattle.gptp_lists.proofs.MappedLemmas.{alike, same_there}
 use Rattle.gptp_lists.proofs.PlaceLemmas.{get-set_other, same_place}
 use Rattle.gptp_links.specs.declared.bounds.Bounds.{Bounds}
 use Rattle.gptp_links.specs.declared.link.Direction.{Direction}
 use Rattle.gptp_links.specs.declared.link.Direction.TheVariants.{FromA, FromB}
 use Rattle.gptp_links.specs.Fate.{Draw}
-use Rattle.gptp_links.specs.Queue.{Frame, frame}
+use Rattle.gptp_links.specs.Queue.{frame}
 use Rattle.gptp_pdelay.specs.GoodLink.{IsGoodLink}
 use Rattle.gptp_roles.specs.Selection.{clock_of}
 use Rattle.gptp_setup.specs.declared.setup.Params.{Params}
 use Rattle.gptp_setup.specs.SettlingParams.{SettlingParams}
-use Rattle.gptp_setup.specs.declared.timer.Timer.TheVariants as timers
 use Rattle.gptp_scenario.specs.Calm.{IsUsed}
 use Rattle.gptp_scenario.specs.Change.{link_acted, link_after, link_changed, standing, system_acted, system_after, system_changed}
-use Rattle.gptp_scenario.specs.Network.{IsEnd, IsNetwork, NetworkState, pace_of}
+use Rattle.gptp_scenario.specs.Network.{IsEnd, NetworkState, pace_of}
 use Rattle.gptp_scenario.specs.SyncWait.{sync_paths}
 use Rattle.gptp_scenario.specs.declared.change.Act.{Act}
 use Rattle.gptp_scenario.specs.declared.change.Act.TheVariants.{Deliver, Expire, Change as Changing}
@@ -33,10 +31,9 @@ use Rattle.gptp_model.specs.Changing.{ComesUpIf, IsStation, brought_up}
 use Rattle.gptp_model.specs.Course.{Begun, WasDone}
 use Rattle.gptp_model.specs.declared.done.Done.{Done}
 use Rattle.gptp_model.specs.declared.station.Station.{Station}
-use Rattle.gptp_model.specs.Initial.{channel_from, initial}
 use Rattle.gptp_model.specs.Pending.{NothingBefore}
 use Rattle.gptp_model.specs.Views.{IsNextAct}
-use Rattle.gptp_model.specs.World.{Channel, WorldState, port_id, receiver, sender, world_queue}
+use Rattle.gptp_model.specs.World.{Channel, WorldState, port_id, receiver, sender}
 use Rattle.gptp_model.proofs.StayLemmas.{acts_stay}
 use Rattle.gptp_world.specs.Transitions.{ActTrace}
 use Rattle.gptp_world.proofs.InitialLemmas.{initial_sound}
@@ -44,7 +41,6 @@ use Rattle.gptp_network.specs.Document.{DocumentState}
 use Rattle.gptp_invariants.specs.ChoiceCalm.{delay_in}
 use Rattle.gptp_invariants.specs.ChoiceSeenLaws.{IsNoChange}
 use Rattle.gptp_invariants.specs.ChoiceSettlesAsMachine.{IsWorld}
-use Rattle.gptp_invariants.specs.ChoiceView.{says_announce, view}
 use Rattle.gptp_invariants.specs.DelayFirstAt.{IsFirstAt}
 use Rattle.gptp_invariants.specs.DelayElsewhere.{IsOtherLink}
 use Rattle.gptp_invariants.specs.DelayLinkView.{LinkPlace}
@@ -52,11 +48,10 @@ use Rattle.gptp_invariants.specs.DelayMeasured.{LinkIsMeasured, LinkStandsAt, St
 use Rattle.gptp_invariants.specs.WorldEncodableLaws.{SetsAnOctet}
 use Rattle.gptp_invariants.specs.WorldNews.{AreSilentBy, IsNews}
 use Rattle.gptp_invariants.proofs.ChoiceCalmKeptLemmas.{acts_keep}
-use Rattle.gptp_invariants.proofs.ChoiceSeenActLemmas.{acts_seen}
 use Rattle.gptp_invariants.proofs.DelayCapableKeptLemmas.{stood}
 use Rattle.gptp_invariants.proofs.DelayFirstAtLemmas.{first_goes_on, first_goes_through}
 use Rattle.gptp_invariants.proofs.DelayStartFirstLemmas.{start_first, start_lives, start_time}
-use Rattle.gptp_invariants.proofs.SyncFollowClaimLemmas.{acts_time}
+use Rattle.gptp_invariants.proofs.WorldOutlineLemmas.{acts_time}
 use Rattle.gptp_invariants.proofs.WorldNewsLemmas.{link_used, none_silent}
 use Rattle.gptp_invariants.proofs.WorldSoundCallLemmas.{tells_keep}
 use Rattle.gptp_theorem.specs.PlayedLaws.{IsMade, IsPlayable}
@@ -65,8 +60,6 @@ use Rattle.gptp_theorem.proofs.EventLemmas.{link_behind, system_behind}
 use Rattle.gptp_theorem.proofs.PlayedLemmas.{no_change}
 use Rattle.gptp_theorem.proofs.SettlingInvariantLemmas.{IsFitEvent, least_of}
 use Rattle.gptp_theorem.proofs.SyncPathLemmas.{paths_stand}
-use Rattle.gptp_invariants.proofs.DelayLinkExpiryLemmas.{expires_due, expires_timely}
-use Rattle.gptp_system.specs.State.{due}
 use Rattle.gptp_settling_time.specs.InTurn.{AreCapableSoon, StartsWith, TellsNothing, UsedVaryLittle}
 use Rattle.gptp_settling_time.proofs.AlwaysClaimedLemmas.{IsClaimedAlways}
 use Rattle.gptp_settling_time.proofs.BegunLemmas.{begun_keeps}
@@ -76,10 +69,8 @@ use Rattle.gptp_settling_time.proofs.GainLemmas.{lives_as, member_at, named_as, 
 use Rattle.gptp_settling_time.proofs.KeptToLemmas.{KeepsTo, keeps_act, keeps_later}
 use Rattle.gptp_settling_time.proofs.LinkStoodLemmas.{stood_in, stood_untold, up_first}
 use Rattle.gptp_settling_time.proofs.MadeLemmas.{made_keeps, made_time}
-use Rattle.gptp_settling_time.proofs.MasterLemmas.{acted}
-use Rattle.gptp_settling_time.proofs.StartCallLemmas.{AreAhead, IsQuietYet, called_ahead, changes_quiet, respond_stopped, same_timer, starting_never, starts_ahead}
+use Rattle.gptp_settling_time.proofs.StartCallLemmas.{IsQuietYet, begun_quiet, quiet_acts, starting_never}
 use Rattle.gptp_settling_time.proofs.StartLemmas.{ExchangesAreOver, untold_news, untold_since}
-use Rattle.gptp_settling_time.proofs.UntoldLemmas.{begun_untold, call_unmeasured, master_measured}
 
 -- ---- as a network starts
 
@@ -95,21 +86,6 @@ pub record IsStartingTo (d : DocumentState) (events : List Timed) (w : WorldStat
 
 -- ---- it begins
 
-initial_ahead : (n : NetworkState) → IsNetwork n → AreAhead (initial n).net.channels
-initial_ahead n network link channel here =
-    let (wire, stood, made) = mapped channel_from n.links link channel here in
-    record {
-      least = ((initial_sound n network).on_time.links link channel here).positive;
-      frames = λ direction f member.
-          absurd (still wire direction f (subst (λ (c : Channel). In f (world_queue direction c)) (sym made) member));
-      mute = λ direction f member.
-          absurd (still wire direction f (subst (λ (c : Channel). In f (world_queue direction c)) (sym made) member));
-    }
-  where
-    still : (wire : LinkSpec) (direction : Direction) (f : Frame) → In f (world_queue direction (channel_from wire)) → ⊥
-    still wire FromA f member = member
-    still wire FromB f member = member
-
 pub starting_begins : {F : Type 0} (answers : Bounds → ℕ → F → Option ℕ → F → Type 0) (d : DocumentState)
     (playable : IsPlayable d) (fate fate_after : F) (w : WorldState) → Begun answers d.network fate fate_after w
     → IsStartingTo d [] w
@@ -119,12 +95,7 @@ starting_begins answers d playable fate fate_after w k =
     record {
       keeps = keeps;
       yet = λ now. record {
-        quiet = record {
-          untold = begun_untold answers d.network fate fate_after w playable.network sound k;
-          ahead = starts_ahead (range_with_len 0 (length d.network.systems)) (initial d.network) k.draws w
-              sound.wired.setups k.starts
-              (initial_ahead d.network playable.network);
-        };
+        quiet = begun_quiet answers d.network fate fate_after w playable.network sound k;
         first = λ at stands.
             start_first answers d.network fate fate_after w playable.network sound k keeps.claim.world at stands;
       };
@@ -155,29 +126,8 @@ module _ (p : SettlingParams) where
       (subst (In (frame w.time k.octets)) (sym takes.front) (inl refl)) in
       absurd (omega (arith, late, now))
   starting_acts (Expire number timer) w draws done w' none now (told, k) is is' measured yet =
-      let unmeasured = call_unmeasured k.place _ _ draws k.so.answer w' k.so.calls tt yet.quiet.untold.measured in
-      let seen = acts_seen (Expire number timer) w draws done w' none is.sound is.encodable (told, k) in
       record {
-        quiet = record {
-          untold = record {
-            measured = unmeasured;
-            lanes = λ j l f a there member said.
-                elim (acted says_announce j f a said (view w) (view w') seen l there member) [
-                  | inl was ↦ yet.quiet.untold.lanes j was.lane f a was.there was.among said
-                  | inr master ↦ master_measured w'
-                      (λ place station here. (is'.sound.on_time.stations place station here).steady.shown) unmeasured l
-                      master
-                ];
-          };
-          ahead = called_ahead k.place _ _ draws k.so.answer w' k.so.calls
-              (expires_timely k.place timer w draws w' k.so)
-              (λ n same.
-              respond_stopped k.so.calls.station n w.time
-              (yet.quiet.untold.measured k.place k.so.calls.station k.so.calls.here)
-              (subst (λ t. due t k.so.calls.station.system ≡ Some w.time) (same_timer timer (timers.Respond n) same)
-              (expires_due k.place timer w draws w' k.so)))
-              yet.quiet.ahead;
-        };
+        quiet = quiet_acts p (Expire number timer) w draws done w' now tt (told, k) is yet.quiet;
         first = λ at stands.
             first_goes_through at 0 (Expire number timer) w w' draws done is.sound measured tt (told, k)
             (yet.first at
@@ -203,7 +153,7 @@ module _ (d : DocumentState) (events : List Timed) where
       let then = starting_later w timed.at was.ready.timely.now was.ready.timely.first so in
       let after = keeps_act d events answers t fate drawn w next was so.keeps in
       let none = no_change next.item timed.act w next.act in
-      let same = acts_time timed.act (at_time timed.at w) was.draws t.told.done t.after none was.acts in
+      let same = acts_time timed.act (at_time timed.at w) was.draws t.told.done t.after was.acts in
       record {
         keeps = after;
         yet = λ now.
@@ -521,8 +471,8 @@ module _ {F : Type 0} (answers : Bounds → ℕ → F → Option ℕ → F → T
     starts_on tells =
         let told = subst TellsNothing is.act tells in
         record {
-          quiet = changes_quiet p then k.draws w' world yet.quiet is.change (subst SetsAnOctet is.act fit.octet) told
-              (came_so is.change refl).1;
+          quiet = quiet_acts p (Changing is.change) then k.draws done w' now (subst SetsAnOctet is.act fit.octet, told)
+              (came_so is.change refl) world yet.quiet;
           first = firsts is.change refl told;
         }
 

@@ -59,7 +59,7 @@ use Rattle.gptp_bmca_machine.specs.Network.{IsSettlingNetwork, Network}
 use Rattle.gptp_invariants.specs.ChoiceCalm.{clock_place}
 use Rattle.gptp_invariants.specs.DelayLinkView.{IsLinkOf}
 use Rattle.gptp_invariants.specs.WorldNewsCourse.{capable_from}
-use Rattle.gptp_invariants.proofs.SyncFollowClaimLemmas.{acts_time}
+use Rattle.gptp_invariants.proofs.WorldOutlineLemmas.{acts_time}
 use Rattle.gptp_invariants.proofs.WorldNewsCourseLemmas.{later_keeps}
 use Rattle.gptp_settling_time.specs.Starts.{DelaysVaryLittle, StartsSettleAtOnce}
 use Rattle.gptp_invariants.specs.FailedUnanswered.{IsUnmeasured, is_answered}
@@ -68,7 +68,8 @@ use Rattle.gptp_settling_time.proofs.LinkStoodLemmas.{exchange_over}
 use Rattle.gptp_settling_time.proofs.OrderedLemmas.{IsOrderedAt, opposite, turned}
 use Rattle.gptp_settling_time.proofs.SeenSettledLemmas.{seen_settles}
 use Rattle.gptp_settling_time.proofs.AlwaysClaimedLemmas.{AreHeard, IsClaimedAlways, little_back, since_acts, since_later, start_calm, start_net, start_network}
-use Rattle.gptp_settling_time.proofs.UntoldLemmas.{IsUntold, begun_untold}
+use Rattle.gptp_settling_time.proofs.StartCallLemmas.{begun_quiet}
+use Rattle.gptp_settling_time.proofs.UntoldLemmas.{IsUntold}
 
 -- ---- a network begins
 
@@ -208,7 +209,7 @@ module _ {F : Type 0} (answers : Bounds → ℕ → F → Option ℕ → F → T
   begun_since start over little =
       let sound = initial_sound n network in
       let world = (claim_begins answers n fate fate_after w network sound k).world in
-      untold_since (pace_of n) w world (begun_untold answers n fate fate_after w network sound k)
+      untold_since (pace_of n) w world (begun_quiet answers n fate fate_after w network sound k).untold
       (λ at stands. start_first answers n fate fate_after w network sound k world at stands) start
       (start_news answers n fate fate_after w start network sound k world over) (λ at stands. over) little
 
@@ -276,8 +277,7 @@ module _ {F : Type 0} (answers : Bounds → ℕ → F → Option ℕ → F → T
     ends_by [] fate fate_after w w' (same, is) early = subst (λ (v : WorldState). v.time ≤ until) (sym is) early
     ends_by (one ∷ told) fate fate_after w w' (drawn, between, happens, rest) early =
         let was = happens.was_done in
-        let time = acts_time one.timed.act (at_time one.timed.at w) was.draws one.done between
-        (no_change happens.next.item one.timed.act w happens.next.act) was.acts in
+        let time = acts_time one.timed.act (at_time one.timed.at w) was.draws one.done between was.acts in
         let soon = happens.early in
         ends_by told drawn fate_after between w' rest (omega (arith, time, soon))
 

@@ -20,7 +20,7 @@ use Rattle.gptp_invariants.specs.WorldStanding.{live_stations, snapshot_of}
 use Rattle.gptp_invariants.specs.SyncTimed.{AllMeasureRight, CarriesTime, IsSettledFrom}
 use Rattle.gptp_invariants.proofs.WorldBoundedLemmas.{bounded_by}
 use Rattle.gptp_invariants.proofs.ChoiceCalmKeptLemmas.{KeepsNetwork, acts_keep, delay_kept, links_quiet, same_snapshot}
-use Rattle.gptp_invariants.proofs.SyncFollowClaimLemmas.{acts_time}
+use Rattle.gptp_invariants.proofs.WorldOutlineLemmas.{acts_time}
 use Rattle.gptp_invariants.proofs.SyncFollowLaterLemmas.{time_begins, time_carries}
 use Rattle.gptp_invariants.proofs.SyncFollowMeasureLemmas.{measured_right}
 use Rattle.gptp_invariants.proofs.SyncFollowWorldLemmas.{done_carries, used_within}
@@ -181,7 +181,7 @@ module _ (p : SettlingParams) (m start settled : ℕ) where
         → CarriesTime p.params settled p.params.threshold w'
     carries_after can old on shown =
         let keeps = acts_keep timed.act moved k.draws done w' none k.acts in
-        let time = acts_time timed.act moved k.draws done w' none k.acts in
+        let time = acts_time timed.act moved k.draws done w' k.acts in
         let can_then : CanSettle p m start settled moved = can_back p m start settled moved w' keeps can in
         let change = keeps.change in
         let old_then : IsOldBy p settled moved = omega (arith, old, change) in

@@ -1,12 +1,9 @@
--- As a network begins no port has measured anything, and nothing is told yet.
+-- Before a network begins no port has measured anything, and nothing is told; and calls without frames leave it so.
 use Rattle.std.specs.Prelude.{if◌then◌else◌, ⊤}
-use Rattle.std.proofs.Common.{◌≡◌, ◌⊎◌, ◌==◌, ℕ, suc, Bool, true, false, List, [], ◌∷◌, map, length, Option, Some, None, slice_get, refl, sym, ap, subst, ◌∙◌, append-nil, inl, inr}
-use Rattle.std.specs.List.{range_with_len}
+use Rattle.std.proofs.Common.{◌≡◌, ◌⊎◌, ◌==◌, ℕ, suc, Bool, true, false, List, map, Some, None, slice_get, refl, sym, ap, subst, ◌∙◌, inl, inr}
 use Rattle.gptp_lists.specs.Members.{In}
 use Rattle.gptp_lists.proofs.MappedLemmas.{mapped}
-use Rattle.gptp_lists.proofs.PlaceLemmas.{get-set_all, get-set_same}
-use Rattle.std.proofs.lemmas.Option.{same_Some}
-use Rattle.gptp_links.specs.declared.bounds.Bounds.{Bounds}
+use Rattle.gptp_lists.proofs.PlaceLemmas.{get-set_all}
 use Rattle.gptp_links.specs.declared.link.Direction.{Direction}
 use Rattle.gptp_links.specs.declared.link.Direction.TheVariants.{FromA, FromB}
 use Rattle.gptp_links.specs.Fate.{Draw}
@@ -14,7 +11,7 @@ use Rattle.gptp_pdelay.specs.Peer.{after_interval, reset_peer}
 use Rattle.gptp_roles.specs.Selection.{clock_of}
 use Rattle.gptp_setup.specs.declared.setup.Setup.{Setup}
 use Rattle.gptp_setup.specs.declared.timer.Timer.TheVariants as timers
-use Rattle.gptp_scenario.specs.Network.{IsNetwork, NetworkState, pace_of}
+use Rattle.gptp_scenario.specs.Network.{NetworkState, pace_of}
 use Rattle.gptp_scenario.specs.declared.network.LinkSpec.{LinkSpec}
 use Rattle.gptp_system.specs.declared.answer.Answer.{Answer}
 use Rattle.gptp_system.specs.declared.port.Port.{Port}
@@ -23,31 +20,20 @@ use Rattle.gptp_system.specs.Input.{Expires, Frame, Input, IsTimely, PortDown, P
 use Rattle.gptp_system.specs.Measures.{IsPartAfter, Part, measure_at, only_at, part_answered, part_asked, part_down}
 use Rattle.gptp_system.specs.Start.{started}
 use Rattle.gptp_system.specs.State.{SystemState}
-use Rattle.gptp_system.specs.Steps.{HasPortNumber}
 use Rattle.gptp_system.proofs.MeasureLemmas.{steps_measure}
 use Rattle.gptp_system.proofs.StartLemmas.{new_port_at}
-use Rattle.gptp_model.specs.Act.{Calls, all_timers, in_state}
-use Rattle.gptp_model.specs.Changing.{CallsAll, Starts, StartsAll, fresh, up_ports, with_station}
-use Rattle.gptp_model.specs.Course.{Begun}
+use Rattle.gptp_model.specs.Act.{Calls, in_state}
 use Rattle.gptp_model.specs.declared.station.Station.{Station}
 use Rattle.gptp_model.specs.Initial.{channel_from, channels_of, initial, station_of}
-use Rattle.gptp_model.specs.Sound.{AreApart, IsSound}
+use Rattle.gptp_model.specs.Sound.{AreApart}
 use Rattle.gptp_model.specs.World.{Channel, WorldState, world_queue}
-use Rattle.gptp_model.proofs.SoundLemmas.{starts_sound}
-use Rattle.gptp_model.proofs.StayLemmas.{calls_stay, fresh_same, refreshed_stays, stays_apart}
-use Rattle.gptp_model.proofs.SteadyLemmas.{started_steady}
-use Rattle.gptp_model.proofs.UpLemmas.{brought_ports}
 use Rattle.gptp_bmca_machine.specs.Frame.{Announce, AnnounceFrame, Lane}
 use Rattle.gptp_invariants.specs.ChoiceView.{frame_view, says_announce, touch_view, view}
-use Rattle.gptp_invariants.specs.WorldEncodable.{IsEncodable, StationFits}
 use Rattle.gptp_invariants.proofs.ChoiceSeenCallLemmas.{calls_seen}
 use Rattle.gptp_invariants.proofs.ChoiceSeenLaneLemmas.{lane_from}
 use Rattle.gptp_invariants.proofs.ChoiceSendLemmas.{lanes_apart}
 use Rattle.gptp_invariants.proofs.ChoiceTouchLemmas.{InputFits}
-use Rattle.gptp_invariants.proofs.DelayLinkKeptLemmas.{HasAll, all_stay}
-use Rattle.gptp_invariants.proofs.WorldActEncodableLemmas.{initial_encodable, starts_encodable}
-use Rattle.gptp_invariants.proofs.WorldAnsweringLemmas.{CanAnswer, IsAnswering, calls_answering, new_fits, sound_answers}
-use Rattle.gptp_invariants.proofs.WorldSoundCallLemmas.{setups_of}
+use Rattle.gptp_invariants.proofs.WorldAnsweringLemmas.{IsAnswering, calls_answering}
 use Rattle.gptp_invariants.specs.FailedUnanswered.{IsUnmeasured}
 use Rattle.gptp_invariants.proofs.UnmeasuredLemmas.{IsMuteTo, part_stays, unmeasured_off}
 use Rattle.gptp_settling_time.proofs.MasterLemmas.{BeginsAtMaster, WasOnLane, answered, master_capable}
@@ -127,7 +113,7 @@ module _ (place : ℕ) (input : Input) (w : WorldState) (draws : List Draw) (ans
         owes_nothing k.station.system w.time input (suc i) (measure_at q) (measure_at q') nothing part old.1,
       )
 
-  pub call_unmeasured : ((other : ℕ) (station : Station) → slice_get w.stations other ≡ Some station
+  call_unmeasured : ((other : ℕ) (station : Station) → slice_get w.stations other ≡ Some station
       → HasMeasuredNothing station) → (other : ℕ) (station : Station) → slice_get w'.stations other ≡ Some station
       → HasMeasuredNothing station
   call_unmeasured unmeasured other station there =
@@ -136,7 +122,7 @@ module _ (place : ℕ) (input : Input) (w : WorldState) (draws : List Draw) (ans
       (ap (λ (v : WorldState). slice_get v.stations other) (sym k.is) ∙ there)
 
 -- what begins at a master port is told where something was measured
-pub master_measured : (w : WorldState) → ((place : ℕ) (station : Station) → slice_get w.stations place ≡ Some station
+master_measured : (w : WorldState) → ((place : ℕ) (station : Station) → slice_get w.stations place ≡ Some station
     → AreShown station.system) → ((place : ℕ) (station : Station) → slice_get w.stations place ≡ Some station
     → HasMeasuredNothing station) → (l : Lane) → BeginsAtMaster (view w) l → ⊥
 master_measured w shown unmeasured l master =
@@ -175,73 +161,8 @@ module _ (place : ℕ) (input : Input) (w : WorldState) (draws : List Draw) (ans
   pub call_untold : IsUntold w'
   call_untold = record { measured = stations; lanes = none_told }
 
-calls_untold : (place : ℕ) (ps : List ℕ) (w : WorldState) (draws : List Draw) (w' : WorldState) → HasAll place ps w
-    → IsAnswering w → AreApart w → IsUntold w → CallsAll place (map PortUp ps) w draws w' → IsUntold w'
-calls_untold place [] w draws w' has is apart untold (none, same) = subst IsUntold (sym same) untold
-calls_untold place (p ∷ ps) w draws w' has is apart untold (first, rest, between, answer, split, k, more) =
-    let of = has p (inl refl) k.station k.here in
-    let stays = calls_stay place (PortUp p) w first answer between (setups_of w is) k in
-    calls_untold place ps between rest w' (all_stay place ps w between stays (λ q member. has q (inr member)))
-    (answering place (PortUp p) w first answer between k tt of tt is apart untold)
-    (stays_apart w between stays apart)
-    (call_untold place (PortUp p) w first answer between k tt of tt is apart untold) more
-
--- ---- starts
-
-start_untold : (place : ℕ) (w : WorldState) (draws : List Draw) (w' : WorldState) → IsSound w → IsEncodable w
-    → IsUntold w → Starts place w draws w' → IsUntold w'
-start_untold place w draws w' sound encodable untold k =
-    calls_untold place (up_ports new w.net) v draws w'
-    (λ p member station there.
-    subst (λ (x : Station). HasPortNumber x.system p) (same_Some new station (sym now_there ∙ there))
-    (brought_ports new w.net p member))
-    (record {
-      stations = get-set_all CanAnswer w.stations place k.station new k.here
-          (record {
-            params = old.params;
-            steady = started_steady k.station.setup w.time old.params old.its.intervals;
-            its = (fresh_same w.time k.station old.its).its;
-          })
-          is.stations;
-      encodable = record {
-        stations = get-set_all StationFits w.stations place k.station new k.here
-            (new_fits w.time k.station.setup true (is.encodable.stations place k.station k.here).setup)
-            is.encodable.stations;
-        links = is.encodable.links;
-      };
-    })
-    (stays_apart w v (refreshed_stays place k.station w k.here (setups_of w is)) sound.wired.apart)
-    (record {
-      measured = get-set_all HasMeasuredNothing w.stations place k.station new k.here
-          (started_unmeasured k.station.setup w.time true) untold.measured;
-      lanes = untold.lanes;
-    }) k.calls
-  where
-    new : Station
-    new = fresh w.time k.station
-
-    v : WorldState
-    v = record (with_station place new w) { net = all_timers place new w.net }
-
-    is : IsAnswering w
-    is = sound_answers w sound encodable
-
-    old : CanAnswer k.station
-    old = is.stations place k.station k.here
-
-    now_there : slice_get v.stations place ≡ Some new
-    now_there = get-set_same w.stations place k.station new k.here
-
-starts_untold : (places : List ℕ) (w : WorldState) (draws : List Draw) (w' : WorldState) → IsSound w → IsEncodable w
-    → IsUntold w → StartsAll places w draws w' → IsUntold w'
-starts_untold [] w draws w' sound encodable untold (none, same) = subst IsUntold (sym same) untold
-starts_untold (place ∷ places) w draws w' sound encodable untold (first, rest, next, split, k, more) =
-    let alone : StartsAll (place ∷ []) w first next = (first, [], next, sym (append-nil first), k, (refl, refl)) in
-    starts_untold places next rest w' (starts_sound (place ∷ []) w first next sound alone)
-    (starts_encodable (place ∷ []) w first next sound encodable alone)
-    (start_untold place w first next sound encodable untold k) more
-
-initial_untold : (n : NetworkState) → IsUntold (initial n)
+-- nor is anything before its systems start
+pub initial_untold : (n : NetworkState) → IsUntold (initial n)
 initial_untold n = record {
   measured = λ place station there.
       let (member, stood, made) = mapped (station_of (pace_of n)) n.systems place station there in
@@ -258,10 +179,3 @@ initial_untold n = record {
         → In f (map frame_view (world_queue direction (channel_from wire))) → ⊥
     still wire FromA f member = member
     still wire FromB f member = member
-
-pub begun_untold : {F : Type 0} (answers : Bounds → ℕ → F → Option ℕ → F → Type 0) (n : NetworkState)
-    (fate fate_after : F) (w : WorldState) → IsNetwork n → IsSound (initial n) → Begun answers n fate fate_after w
-    → IsUntold w
-begun_untold answers n fate fate_after w network sound k =
-    starts_untold (range_with_len 0 (length n.systems)) (initial n) k.draws w sound (initial_encodable n network)
-    (initial_untold n) k.starts

@@ -23,7 +23,7 @@ use Rattle.gptp_invariants.specs.WorldSound.{IsSoundWorld}
 use Rattle.gptp_invariants.proofs.ChoiceCalmKeptLemmas.{KeepsNetwork}
 use Rattle.gptp_invariants.proofs.DelayChangeKeptLemmas.{acts_measured}
 use Rattle.gptp_invariants.proofs.FailedSilentElsewhereLemmas.{changed_silent, up_silences}
-use Rattle.gptp_invariants.proofs.WorldOutlineLemmas.{change_time}
+use Rattle.gptp_invariants.proofs.WorldOutlineLemmas.{acts_time}
 use Rattle.gptp_invariants.proofs.WorldSoundCallLemmas.{tells_keep}
 use Rattle.gptp_invariants.proofs.WorldSoundLemmas.{sound_gains}
 use Rattle.gptp_settling_time.proofs.LinkStoodLemmas.{exchange_over, stood_in, stood_untold, up_first}
@@ -109,7 +109,7 @@ module _ (p : SettlingParams) (by next number port : ℕ) (w : WorldState) (draw
 
     pub up_soon : IsSoundWorld w → w.time ≤ by → by < next → IsNewsSoon p next w'
     up_soon sound early before_next =
-        let time = change_time (LinkUp number port) w draws done w' acts in
+        let time = acts_time (Changing (LinkUp number port)) w draws done w' acts in
         record {
           by = by;
           early = omega (arith, time, early);

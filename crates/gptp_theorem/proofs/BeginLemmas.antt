@@ -7,25 +7,19 @@ use Rattle.gptp_links.specs.Fate.{Draw}
 use Rattle.gptp_setup.specs.declared.setup.Setup.{Setup}
 use Rattle.gptp_system.specs.Input.{PortUp}
 use Rattle.gptp_model.specs.declared.station.Station.{Station}
-use Rattle.gptp_model.specs.Act.{all_timers}
-use Rattle.gptp_model.specs.Changing.{CallsAll, Starts, StartsAll, fresh, up_ports, with_station}
+use Rattle.gptp_model.specs.Changing.{Starts, StartsAll, fresh}
 use Rattle.gptp_model.specs.Course.{Begun}
 use Rattle.gptp_model.specs.Initial.{channel_from, initial, station_of, stations_of}
 use Rattle.gptp_scenario.specs.Network.{NetworkState, pace_of}
 use Rattle.gptp_model.specs.World.{WorldState}
 use Rattle.gptp_lists.proofs.MappedLemmas.{mapped_there, same_there}
 use Rattle.gptp_lists.proofs.PlaceLemmas.{map-set}
+use Rattle.gptp_model.proofs.AgreeLemmas.{replaced}
+use Rattle.gptp_invariants.proofs.WorldActsByLemmas.{start_told}
 use Rattle.gptp_theorem.specs.Reached.{Shape, StandsAsPlanned, shape, channel_wire}
-use Rattle.gptp_theorem.proofs.KeptLemmas.{KeepLinks, Keeps, calls_keep, keeps_on, same_keeps}
+use Rattle.gptp_theorem.proofs.KeptLemmas.{KeepLinks, Keeps, port_calls_keep, same_keeps}
 
 -- ---- one system
-
-ports_up_keep : (place : ℕ) (ports : List ℕ) (w : WorldState) (draws : List Draw) (w' : WorldState)
-    → CallsAll place (map PortUp ports) w draws w' → Keeps w w'
-ports_up_keep place [] w draws w' k = same_keeps w w' k.1
-ports_up_keep place (port ∷ ports) w draws w' (first, rest, between, answer, is, calls, more) =
-    keeps_on w between w' (calls_keep place (PortUp port) w first answer between (λ value e. cc) calls)
-    (ports_up_keep place ports between rest w' more)
 
 -- a system that has this setup, and its identity
 abbrev pub of_setup : Bool → Setup → Shape
@@ -46,9 +40,9 @@ pub starts_becomes : (place : ℕ) (w : WorldState) (draws : List Draw) (w' : Wo
     → SystemBecomes place (of_setup true k.station.setup) w w'
 starts_becomes place w draws w' k =
     let new = fresh w.time k.station in
-    let begun : WorldState =
-    record (with_station place new w) { net = all_timers place new w.net } in
-    let kept = ports_up_keep place (up_ports new w.net) begun draws w' k.calls in
+    let begun : WorldState = replaced place new w in
+    let kept = start_told ⊥ (Keeps begun) (port_calls_keep PortUp begun (λ port value e. cc)) place w draws w' k
+    (same_keeps begun begun refl) in
     record {
       systems = kept.systems ∙ map-set shape w.stations place new;
       links = kept.links;

@@ -1,5 +1,5 @@
 -- What a delivery, an expiry and a call leave of how a world stands.
-use Rattle.std.proofs.Common.{◌≡◌, ◌≢◌, ℕ, Bool, true, false, List, map, Option, Some, None, refl, sym, subst, ◌∙◌, inl, inr}
+use Rattle.std.proofs.Common.{◌≡◌, ◌≢◌, ℕ, Bool, true, false, List, map, Option, Some, None, refl, sym, subst, ◌∙◌}
 use Rattle.gptp_vector.specs.declared.port.PortId.{PortId}
 use Rattle.gptp_links.specs.declared.link.Direction.{Direction}
 use Rattle.gptp_links.specs.Fate.{Draw}
@@ -15,13 +15,14 @@ use Rattle.gptp_model.specs.declared.station.Station.{Station}
 use Rattle.gptp_model.specs.Act.{Calls, Delivers, TimerRunsOut, Hears, in_state}
 use Rattle.gptp_model.specs.Acts.{Acts, at}
 use Rattle.gptp_model.specs.Agrees.{stopped}
-use Rattle.gptp_model.specs.Changing.{CallsIfLive, InjectsIf, TellsEnds}
+use Rattle.gptp_model.specs.Changing.{InjectsIf, TellsEnds}
 use Rattle.gptp_scenario.specs.Network.{NetworkState}
 use Rattle.gptp_model.specs.World.{Channel, WorldState, receiver}
 use Rattle.gptp_model.proofs.BareLemmas.{DifferInFlight, calls_bare, same_but_flight, sends_one_bare, takes_bare}
 use Rattle.gptp_lists.proofs.PlaceLemmas.{map-set_same}
 use Rattle.gptp_invariants.specs.ChoiceSeenLaws.{IsNoChange}
 use Rattle.gptp_theorem.specs.Reached.{StandsAsPlanned, shape, channel_wire}
+use Rattle.gptp_invariants.proofs.WorldActsByLemmas.{PortCallsKeep, ends_told}
 
 -- ---- links
 
@@ -74,18 +75,16 @@ calls_keep place input w draws answer w' other k =
         let same = (steps_steady input w.time k.station.system k.after k.sends answer other k.steps).identity in
         rw same refl
 
-calls_if_live_keep : (place : ℕ) (input : Input) (w : WorldState) (draws : List Draw) (w' : WorldState)
-    → ((value : ℕ) → input ≢ Priority value) → CallsIfLive place input w draws w' → Keeps w w'
-calls_if_live_keep place input w draws w' other (inl (answer, calls)) =
-    calls_keep place input w draws answer w' other calls
-calls_if_live_keep place input w draws w' other (inr (failed, none, same)) = same_keeps w w' same
+pub port_calls_keep : (input : ℕ → Input) (first : WorldState) → ((port value : ℕ) → input port ≢ Priority value)
+    → PortCallsKeep ⊥ input (Keeps first)
+port_calls_keep input first other place port w draws answer w' k of keeps =
+    keeps_on first w w' keeps (calls_keep place (input port) w draws answer w' (other port) k)
 
 pub tells_keep : (input : ℕ → Input) (channel : Channel) (w : WorldState) (draws : List Draw) (w' : WorldState)
     → ((port value : ℕ) → input port ≢ Priority value) → TellsEnds input channel w draws w' → Keeps w w'
 tells_keep input channel w draws w' other k =
-    keeps_on w k.between w'
-    (calls_if_live_keep k.place_a (input channel.a.port) w k.first k.between (other channel.a.port) k.at_a)
-    (calls_if_live_keep k.place_b (input channel.b.port) k.between k.second w' (other channel.b.port) k.at_b)
+    ends_told ⊥ (Keeps w) input (port_calls_keep input w other) channel w draws w' (λ none. absurd none) k
+    (same_keeps w w refl)
 
 -- ---- octets that enter a link
 

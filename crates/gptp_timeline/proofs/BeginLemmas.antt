@@ -1,13 +1,14 @@
 -- No system expects time as a world begins: none has measured anything, so none has a Slave port.
-use Rattle.std.proofs.Common.{◌≡◌, ◌==◌, ℕ, zero, suc, ◌+◌, Bool, true, false, List, [], ◌∷◌, map, Option, Some, None, if◌then◌else◌, length, option_map, slice_get, refl, sym, subst, inl, inr}
+use Rattle.std.proofs.Common.{◌≡◌, ◌==◌, ℕ, zero, suc, ◌+◌, Bool, true, false, List, [], ◌∷◌, Option, Some, None, if◌then◌else◌, length, option_map, slice_get, refl, sym, subst, inl, inr}
+use Rattle.std.specs.Prelude.{⊤}
 use Rattle.std.specs.List.{range_with_len}
 use Rattle.gptp_model.specs.declared.station.Station.{Station}
-use Rattle.gptp_model.specs.Act.{in_state, Calls}
-use Rattle.gptp_model.specs.Changing.{CallsAll, fresh, Starts, StartsAll, up_ports}
+use Rattle.gptp_model.specs.Act.{in_state}
+use Rattle.gptp_model.specs.Changing.{fresh, StartsAll}
 use Rattle.gptp_model.specs.Course.{Begun}
 use Rattle.gptp_model.specs.Initial.{initial, setup_of, station_of}
 use Rattle.gptp_model.specs.World.{WorldState}
-use Rattle.gptp_model.proofs.AgreeLemmas.{replaced}
+use Rattle.gptp_invariants.proofs.WorldActsByLemmas.{PortCallsKeep, systems_start}
 use Rattle.gptp_links.specs.declared.bounds.Bounds.{Bounds}
 use Rattle.gptp_links.specs.Fate.{Draw}
 use Rattle.gptp_lists.proofs.MappedLemmas.{mapped}
@@ -16,7 +17,6 @@ use Rattle.gptp_pdelay.specs.Peer.{reset_peer}
 use Rattle.gptp_scenario.specs.Network.{NetworkState, pace_of}
 use Rattle.gptp_setup.specs.Intervals.{interval_of}
 use Rattle.gptp_setup.specs.declared.setup.Setup.{Setup}
-use Rattle.gptp_system.specs.declared.answer.Answer.{Answer}
 use Rattle.gptp_system.specs.declared.port.Port.{Port}
 use Rattle.gptp_system.specs.declared.sending.Sending.{Sending}
 use Rattle.gptp_system.specs.Input.{PortUp}
@@ -87,33 +87,20 @@ abbrev pub NoneMeasured : List Station → Type 0
 NoneMeasured stations =
     (place : ℕ) (station : Station) → slice_get stations place ≡ Some station → HasMeasuredNothing station.system
 
-calls_so : (place p : ℕ) (w : WorldState) (draws : List Draw) (answer : Answer) (w' : WorldState)
-    → Calls place (PortUp p) w draws answer w' → NoneMeasured w.stations → NoneMeasured w'.stations
-calls_so place p w draws answer w' k all =
+calls_so : PortCallsKeep ⊤ PortUp (λ w. NoneMeasured w.stations)
+calls_so place p w draws answer w' k of all =
     subst (λ (v : WorldState). NoneMeasured v.stations) (sym k.is)
     (get-set_all (λ (x : Station). HasMeasuredNothing x.system) w.stations place k.station
     (in_state k.after k.station) k.here
     (comes_up p w.time k.station.system k.after k.sends k.steps (all place k.station k.here)) all)
 
-calls_all_so : (place : ℕ) (ports : List ℕ) (w : WorldState) (draws : List Draw) (w' : WorldState)
-    → CallsAll place (map PortUp ports) w draws w' → NoneMeasured w.stations → NoneMeasured w'.stations
-calls_all_so place [] w draws w' (none, is) all = subst (λ (v : WorldState). NoneMeasured v.stations) (sym is) all
-calls_all_so place (p ∷ ports) w draws w' (first, rest, between, answer, are, calls, more) all =
-    calls_all_so place ports between rest w' more (calls_so place p w first answer between calls all)
-
-starts_one : (place : ℕ) (w : WorldState) (draws : List Draw) (w' : WorldState) → Starts place w draws w'
-    → NoneMeasured w.stations → NoneMeasured w'.stations
-starts_one place w draws w' k all =
-    let new : Station = fresh w.time k.station in
-    calls_all_so place (up_ports new w.net) (replaced place new w) draws w' k.calls
-    (get-set_all (λ (x : Station). HasMeasuredNothing x.system) w.stations place k.station new k.here
-    (starts_so k.station.setup w.time) all)
-
 starts_all : (places : List ℕ) (w : WorldState) (draws : List Draw) (w' : WorldState) → StartsAll places w draws w'
     → NoneMeasured w.stations → NoneMeasured w'.stations
-starts_all [] w draws w' (none, is) all = subst (λ (v : WorldState). NoneMeasured v.stations) (sym is) all
-starts_all (place ∷ places) w draws w' (first, rest, between, are, one, more) all =
-    starts_all places between rest w' more (starts_one place w first between one all)
+starts_all =
+    systems_start ⊤ (λ w. NoneMeasured w.stations) calls_so
+    (λ place station w here.
+    get-set_all (λ (x : Station). HasMeasuredNothing x.system) w.stations place station (fresh w.time station) here
+    (starts_so station.setup w.time))
 
 initially : (n : NetworkState) → NoneMeasured (initial n).stations
 initially n place station there =

@@ -1,9 +1,9 @@
 -- The acts of a stretch, parted after its last event.
 use Rattle.std.proofs.Common.{◌≡◌, ◌≤◌, ℕ, suc, ℤ, true, false, List, [], ◌∷◌, ◌++◌, length, Option, refl, sym, ap, subst, ◌∙◌, append_assoc, append-nil, arith}
 use Rattle.std.specs.List.{AllByRecursion}
-use Rattle.gptp_invariants.proofs.WorldOutlineLemmas.{change_time}
+use Rattle.gptp_invariants.proofs.WorldOutlineLemmas.{acts_time}
 use Rattle.gptp_links.specs.declared.bounds.Bounds.{Bounds}
-use Rattle.gptp_model.specs.Acts.{Acts, at}
+use Rattle.gptp_model.specs.Acts.{at}
 use Rattle.gptp_model.specs.World.{WorldState}
 use Rattle.gptp_model.specs.declared.done.Done.{Done}
 use Rattle.gptp_network.specs.Document.{DocumentState}
@@ -140,13 +140,6 @@ module _ {F : Type 0} (answers : Bounds → ℕ → F → Option ℕ → F → T
         → GoodLooks low high most (looked_over rs (length es) (head ++ vs))
         → GoodLooks low high most (looked_all middle.time middle (readings_after head rs))
 
-  made_time : (before : List Timed) (event : Timed) (ts : List ActTrace) (fate fate_after : F) (w w' : WorldState)
-      → IsFitEvent answers d playable names event → (k : Makes answers event ts fate fate_after w w')
-      → w'.time ≡ event.at
-  made_time before event ts fate fate_after w w' fit k =
-      change_time fit.change (at event.at k.between) k.made.draws k.done w'
-      (subst (λ act. Acts act (at event.at k.between) k.made.draws k.done w') fit.act k.made.acts)
-
   event_leaves : (left : ℕ) (event : Timed) (change : Change) (done : Done) (v v' : WorldState)
       → event.act ≡ Changing change → events_left (transition event done v v' ∷ []) (suc left) ≡ left
   event_leaves left event change done v v' is =
@@ -162,8 +155,7 @@ module _ {F : Type 0} (answers : Bounds → ℕ → F → Option ℕ → F → T
 
     time_is : between.time ≡ event.at
     time_is =
-        change_time fit.change (at event.at k.between) k.made.draws k.done between
-        (subst (λ act. Acts act (at event.at k.between) k.made.draws k.done between) fit.act k.made.acts)
+        acts_time event.act (at event.at k.between) k.made.draws k.done between k.made.acts
 
     along : (vs : List ActTrace) → first ++ vs ≡ k.first ++ (transition event k.done k.between between ∷ vs)
     along vs = ap (λ us. us ++ vs) k.are ∙ append_assoc k.first (_ ∷ []) vs

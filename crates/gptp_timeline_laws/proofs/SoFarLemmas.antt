@@ -2,17 +2,14 @@
 use Rattle.std.proofs.Common.{◌≡◌, ◌⊎◌, ◌<◌, ◌≤◌, ◌^◌, ℕ, List, [], ◌∷◌, ◌++◌, Option, refl, sym, ap, subst, ◌∙◌, inl, inr, append-nil, arith}
 use Rattle.std.proofs.lemmas.Bool.{cases_lt}
 use Rattle.gptp_links.specs.declared.bounds.Bounds.{Bounds}
-use Rattle.gptp_invariants.proofs.SyncFollowClaimLemmas.{acts_time}
-use Rattle.gptp_invariants.proofs.WorldOutlineLemmas.{change_time}
-use Rattle.gptp_model.specs.Acts.{Acts, at}
+use Rattle.gptp_invariants.proofs.WorldOutlineLemmas.{acts_time}
+use Rattle.gptp_model.specs.Acts.{at}
 use Rattle.gptp_model.specs.Pending.{NothingBefore}
 use Rattle.gptp_model.specs.World.{WorldState}
 use Rattle.gptp_model.specs.declared.done.Done.{Done}
 use Rattle.gptp_model.proofs.AdvanceLemmas.{nothing_sooner}
 use Rattle.gptp_network.specs.Document.{DocumentState}
 use Rattle.gptp_report.specs.Transitions.{Unfolds}
-use Rattle.gptp_scenario.specs.declared.change.Act.{Act}
-use Rattle.gptp_scenario.specs.declared.change.Act.TheVariants.{Change as Changing, Deliver, Expire}
 use Rattle.gptp_scenario.specs.declared.change.Timed.{Timed}
 use Rattle.gptp_theorem.specs.PlayedLaws.{IsPlayable}
 use Rattle.gptp_reading.proofs.RunLemmas.{IsKeptAct, runs_keep}
@@ -60,13 +57,7 @@ module _ {F : Type 0} (answers : Bounds → ℕ → F → Option ℕ → F → T
   -- an act was done at its time
   act_is_then : (timed : Timed) (done : Done) (w w' : WorldState) → IsKeptAct answers timed done w w'
       → w'.time ≡ timed.at
-  act_is_then timed done w w' k = by timed.act k.was.acts
-    where
-      by : (act : Act) → Acts act (at timed.at w) k.was.draws done w' → w'.time ≡ timed.at
-      by (Deliver link direction) acts =
-          acts_time (Deliver link direction) (at timed.at w) k.was.draws done w' tt acts
-      by (Expire number timer) acts = acts_time (Expire number timer) (at timed.at w) k.was.draws done w' tt acts
-      by (Changing change) acts = change_time change (at timed.at w) k.was.draws done w' acts
+  act_is_then timed done w w' k = acts_time timed.act (at timed.at w) k.was.draws done w' k.was.acts
 
   record IsSoFar (acts : List ActTrace) (w : WorldState) : Type 0 where
     now : Q acts w

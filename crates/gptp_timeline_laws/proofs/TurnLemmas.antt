@@ -3,17 +3,12 @@ use Rattle.std.proofs.Common.{◌≡◌, ◌≤◌, ℕ, List, [], ◌∷◌, �
 use Rattle.std.specs.List.{AllByRecursion}
 use Rattle.std.specs.Prelude.{⊤}
 use Rattle.std.proofs.lemmas.Option.{same_Some}
-use Rattle.gptp_invariants.proofs.SyncFollowClaimLemmas.{acts_time}
-use Rattle.gptp_invariants.proofs.WorldOutlineLemmas.{change_time}
+use Rattle.gptp_invariants.proofs.WorldOutlineLemmas.{acts_time}
 use Rattle.gptp_links.specs.declared.bounds.Bounds.{Bounds}
-use Rattle.gptp_links.specs.Fate.{Draw}
 use Rattle.gptp_lists.specs.Members.{In}
-use Rattle.gptp_model.specs.Acts.{Acts, at}
+use Rattle.gptp_model.specs.Acts.{at}
 use Rattle.gptp_model.specs.World.{WorldState}
-use Rattle.gptp_model.specs.declared.done.Done.{Done}
 use Rattle.gptp_report.specs.Transitions.{Courses, Makes}
-use Rattle.gptp_scenario.specs.declared.change.Act.{Act}
-use Rattle.gptp_scenario.specs.declared.change.Act.TheVariants.{Change as Changing, Deliver, Expire}
 use Rattle.gptp_scenario.specs.declared.change.Timed.{Timed}
 use Rattle.gptp_timeline.specs.Stretch.{at_of, receives}
 use Rattle.gptp_timeline_laws.specs.Exact.{last_receipt}
@@ -144,13 +139,6 @@ last_receipt_is name l (t ∷ ts) last is =
 
 -- ---- of a stretch
 
--- an act is done at the time of the world
-act_moment : (act : Act) (w : WorldState) (draws : List Draw) (done : Done) (w' : WorldState) → Acts act w draws done w'
-    → w'.time ≡ w.time
-act_moment (Deliver link direction) w draws done w' acts = acts_time (Deliver link direction) w draws done w' tt acts
-act_moment (Expire number timer) w draws done w' acts = acts_time (Expire number timer) w draws done w' tt acts
-act_moment (Changing change) w draws done w' acts = change_time change w draws done w' acts
-
 module _ {F : Type 0} (answers : Bounds → ℕ → F → Option ℕ → F → Type 0) where
   abbrev InTurnBy : ℕ → List ActTrace → ℕ → Type 0
   InTurnBy now ts until = AreInTurn now ts × (last_time now ts ≤ until)
@@ -161,7 +149,7 @@ module _ {F : Type 0} (answers : Bounds → ℕ → F → Option ℕ → F → T
   passes_turn until (t ∷ ts) fate fate_after w w' by (drawn, before, happens, rest) =
       let was = happens.was_done in
       let moment : t.after.time ≡ at_of t =
-      act_moment t.told.timed.act (at (at_of t) w) was.draws t.told.done t.after was.acts in
+      acts_time t.told.timed.act (at (at_of t) w) was.draws t.told.done t.after was.acts in
       let soon = happens.early in
       let on = passes_turn until ts drawn fate_after t.after w' (omega (arith, moment, soon)) rest in
       let more = subst (λ now. InTurnBy now ts until) moment on in
@@ -176,7 +164,7 @@ module _ {F : Type 0} (answers : Bounds → ℕ → F → Option ℕ → F → T
   makes_turn event ts fate fate_after w w' k =
       let one = transition event k.done k.between w' in
       let moment : w'.time ≡ event.at =
-      act_moment event.act (at event.at k.between) k.made.draws k.done w' k.made.acts in
+      acts_time event.act (at event.at k.between) k.made.draws k.done w' k.made.acts in
       let first = passes_to_turn event.at k.first fate k.drawn w k.between k.passes in
       let itself : event.at ≤ event.at = omega arith in
       subst (λ us. InTurnBy w.time us w'.time) (sym k.are) (
