@@ -6,9 +6,9 @@ use Rattle.gptp_vector.specs.declared.port.PortId.{PortId}
 use Rattle.gptp_scenario.specs.Network.{NetworkState, IsEnd}
 use Rattle.gptp_scenario.specs.declared.change.Timed.{Timed}
 use Rattle.gptp_scenario.specs.declared.network.LinkSpec.{LinkSpec}
+use Rattle.gptp_topology.specs.After.{standing_then, standings_after}
 use Rattle.gptp_topology.specs.declared.course.Standing.{Standing}
 use Rattle.gptp_topology.proofs.CourseLemmas.{same_a, same_b}
-use Rattle.gptp_how_soon.specs.Links.{standing_then, standings_after}
 use Rattle.gptp_accuracy.specs.Ways.{HasDelays}
 
 abbrev pub IsAt : PortId → Standing → Type 0

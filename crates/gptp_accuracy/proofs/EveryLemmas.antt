@@ -28,7 +28,7 @@ use Rattle.gptp_accuracy.specs.Readings.{ReadingTerms, reading_terms}
 use Rattle.gptp_accuracy.specs.Ways.{HasDrift, IsLinkTo, IsWay, root_way}
 use Rattle.gptp_accuracy.specs.declared.errors.SystemError.{SystemError}
 use Rattle.gptp_accuracy.specs.declared.errors.TimeErrors.{TimeErrors}
-use Rattle.gptp_accuracy.proofs.CalmLemmas.{calm_dec}
+use Rattle.gptp_topology.proofs.RestLemmas.{calm_dec}
 use Rattle.gptp_accuracy.proofs.StandingLemmas.{member_stands, wire_stands}
 
 abbrev said : ℕ → ℕ → ℕ → Bool → Option ℕ → Option ReadingTerms → SystemError

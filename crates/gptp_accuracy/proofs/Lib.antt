@@ -10,5 +10,4 @@ pub mod ExactLemmas
 mod TextLemmas
 pub mod WayLemmas
 pub mod OneLemmas
-pub mod CalmLemmas
 pub mod EveryLemmas

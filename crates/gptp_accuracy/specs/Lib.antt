@@ -1,7 +1,6 @@
 pub mod Ways
 pub mod Readings
 pub mod Sums
-pub mod Tables
 pub mod Passing
 pub mod Settlings
 pub mod TimeErrors

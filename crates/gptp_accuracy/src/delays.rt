@@ -4,7 +4,7 @@ ghost use Rattle.std.specs.Prelude.{◌≡◌, ◌⊎◌, ◌↔◌, IsTrue};
 ghost use Rattle.gptp_lists.specs.Members.{In};
 ghost use Rattle.gptp_scenario.specs.Network.{IsEnd};
 ghost use Rattle.gptp_scenario.specs.declared.network.LinkSpec.{LinkSpec};
-ghost use Rattle.gptp_how_soon.specs.Links.{standings_after};
+ghost use Rattle.gptp_topology.specs.After.{standings_after};
 ghost use Rattle.gptp_accuracy.specs.Ways.{HasDelays};
 
 use gptp_scenario::{Network, Timed};

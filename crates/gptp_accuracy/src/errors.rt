@@ -3,7 +3,6 @@
 ghost use Rattle.std.specs.Prelude.{◌≡◌, ◌+◌, ◌≤◌, ◌<◌, false, length, IfOk, OnOk};
 ghost use Rattle.gptp_scenario.specs.Allowed.{AreAllowed};
 ghost use Rattle.gptp_scenario.specs.Calm.{last_change};
-ghost use Rattle.gptp_network.specs.Snapshot.{events_by};
 ghost use Rattle.gptp_certificate_text.specs.Certificate.{line_of};
 ghost use Rattle.gptp_accuracy.specs.Passing.{AreNearWithin};
 ghost use Rattle.gptp_accuracy.specs.Settlings.{AreTimesOf};
@@ -13,13 +12,13 @@ ghost use Rattle.gptp_accuracy.specs.TimeErrors.{AreEntries, AreTimeErrors, IsSy
 use crate::reading::ReadingError;
 use crate::settlings::settling_of;
 use crate::sums::Sums;
-use crate::tables::tables_after;
 use crate::ways::sums_of_all;
 use gptp_certificate_text::{Certificate, SystemLine};
 use gptp_choice::settled_choice;
 use gptp_how_soon::{SettlingTime, settling_times};
 use gptp_network::Document;
 use gptp_scenario::{Network, SyncPaths, Timed};
+use gptp_topology::Tables;
 use gptp_vector::{ClockId, Identity};
 use std::alloc::{AllocError, Global};
 
@@ -71,17 +70,6 @@ pub struct TimeErrors {
     pub systems: Vec<SystemError>,
 }
 
-/// The events of a document with time up to a time.
-fn events_by(document: &Document, until: u64) -> &[Timed]
-    ensures events { result.now ≡ events_by until document.now.events }
-    ensures allowed { AreAllowed result.now }
-{
-    document.well_formed();
-    let events = document.events();
-    let count = events.partition_point(|event| event.at <= until);
-    &events[..count]
-}
-
 /// The time of the last of these events, or 0.
 #[tactic(auto, using(crate::proofs::EventLemmas::last_change_early, gptp_network::proofs::EventLemmas::last_from))]
 fn last_change(events: &[Timed]) -> u64
@@ -101,7 +89,7 @@ pub fn exact_from(document: &Document, times: &[SettlingTime], until: u64) -> Op
     requires { AreTimesOf document.now times.now }
     ensures { result ≡ exact_from document.now until }
 {
-    let events = events_by(document, until);
+    let events = document.events_by(until);
     match settling_of(times, last_change(events)) {
         Some(settling) => Some(settling.exact_from),
         None => None,
@@ -212,12 +200,13 @@ pub fn time_errors_among(
     ensures { IfOk result (AreTimeErrors document.now until) }
 {
     let network = document.network();
-    let events = events_by(document, until);
+    network.well_formed();
+    let events = document.events_by(until);
     let snapshot = document.snapshot(alloc, until)?;
     let certificate = settled_choice(alloc, &snapshot)?;
     snapshot.well_formed();
     certificate.well_formed();
-    let tables = tables_after(alloc, network, events)?;
+    let tables = Tables::after(alloc, network, events)?;
     let paths = tables.sync_paths();
     let calm = tables.is_calm(network, paths);
     let standings = tables.standings.as_slice();

@@ -14,7 +14,6 @@ mod options;
 mod reading;
 mod settlings;
 mod sums;
-mod tables;
 mod text;
 mod ways;
 

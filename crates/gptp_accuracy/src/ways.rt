@@ -12,7 +12,7 @@ ghost use Rattle.gptp_scenario.specs.declared.network.SystemSpec.{SystemSpec};
 ghost use Rattle.gptp_scenario.specs.declared.network.LinkSpec.{LinkSpec};
 ghost use Rattle.gptp_network.specs.Snapshot.{StandsAfter};
 ghost use Rattle.gptp_network.specs.SnapshotTables.{HasClock};
-ghost use Rattle.gptp_how_soon.specs.Links.{standings_after};
+ghost use Rattle.gptp_topology.specs.After.{standings_after};
 ghost use Rattle.gptp_certificate_text.specs.Certificate.{line_of};
 ghost use Rattle.gptp_accuracy.specs.Passing.{AreBySteps, ArePlaces, IsDoneAt, IsParentDone, IsSummedUp};
 ghost use Rattle.gptp_accuracy.specs.Ways.{HasDelays, HasDrift};

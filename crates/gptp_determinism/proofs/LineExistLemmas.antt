@@ -16,7 +16,7 @@ use Rattle.gptp_model.specs.World.{WorldState}
 use Rattle.gptp_model.proofs.RisingLemmas.{rising_clocks-at}
 use Rattle.gptp_network.specs.Document.{DocumentState}
 use Rattle.gptp_network.specs.Snapshot.{events_by}
-use Rattle.gptp_accuracy.proofs.CalmLemmas.{calm_dec}
+use Rattle.gptp_topology.proofs.RestLemmas.{calm_dec}
 use Rattle.gptp_world.proofs.FollowLemmas.{all_told, passes_advances}
 use Rattle.gptp_report.specs.declared.frame_line.FrameType.{FrameType}
 use Rattle.gptp_report.specs.declared.frame_line.FrameType.TheVariants.{Unread}

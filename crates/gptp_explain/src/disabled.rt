@@ -3,8 +3,7 @@
 ghost use Rattle.std.specs.Prelude.{◌≡◌, ◌⊎◌, IfNone, IfSome, Some, false, slice_get, true};
 ghost use Rattle.gptp_graph.specs.Snapshot.{IsLinked, clocks};
 ghost use Rattle.gptp_lists.specs.Members.{In};
-ghost use Rattle.gptp_network.specs.Events.{AreInOrder};
-ghost use Rattle.gptp_network.specs.Snapshot.{IsSnapshot, events_by, port_identity};
+ghost use Rattle.gptp_network.specs.Snapshot.{IsSnapshot, port_identity};
 ghost use Rattle.gptp_scenario.specs.Change.{link_after};
 ghost use Rattle.gptp_scenario.specs.declared.network.LinkSpec.{LinkSpec};
 ghost use Rattle.gptp_explain.specs.Ports.{OtherEndHasFailed, IsKnownLink, JoinsPorts};
@@ -13,15 +12,6 @@ use crate::why::Why;
 use gptp_network::{Document, Snapshot};
 use gptp_scenario::{Network, Timed};
 use gptp_vector::PortId;
-
-/// The events up to a time, of events in order.
-fn events_by(events: &[Timed], until: u64) -> &[Timed]
-    requires { AreInOrder events.now }
-    ensures { result.now ≡ events_by until events.now }
-{
-    let count = events.partition_point(|event| event.at <= until);
-    &events[..count]
-}
 
 /// The port at the other end of the link at a place, where the port is one of its ends.
 fn beyond(network: &Network, place: usize, port: &PortId) -> Option<PortId>
@@ -56,9 +46,8 @@ fn known_at(network: &Network, events: &[Timed], place: usize, there: PortId) ->
 fn known_of(document: &Document, at: u64, port: &PortId) -> Why
     ensures { IsKnownLink document.now at port.now result }
 {
-    document.well_formed();
     let network = document.network();
-    let events = events_by(document.events(), at);
+    let events = document.events_by(at);
     for place in 0..network.links() {
         if let Some(there) = beyond(network, place, port) {
             return known_at(network, events, place, there);

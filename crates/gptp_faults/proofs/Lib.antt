@@ -11,7 +11,6 @@ pub mod RefusalLemmas
 pub mod TextLemmas
 pub mod AnswerLemmas
 pub mod BoundsLemmas
-pub mod CableLemmas
 pub mod RangeLemmas
 pub mod MostLemmas
 pub mod PlacedLemmas

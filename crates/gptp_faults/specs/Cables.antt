@@ -3,13 +3,11 @@ use Rattle.std.specs.Prelude.{◌≤◌, ◌+◌, ◌&&◌, ◌||◌, ℕ, Bool,
 use Rattle.std.specs.List.{list_any, range_with_len}
 use Rattle.gptp_links.specs.declared.bounds.Bounds.{Bounds}
 use Rattle.gptp_network.specs.Document.{DocumentState}
-use Rattle.gptp_scenario.specs.Change.{link_acted, link_after, link_changed}
+use Rattle.gptp_scenario.specs.Change.{link_after}
 use Rattle.gptp_scenario.specs.Network.{same_port}
-use Rattle.gptp_scenario.specs.declared.change.Act.{Act}
-use Rattle.gptp_scenario.specs.declared.change.Change.{Change}
 use Rattle.gptp_scenario.specs.declared.change.Timed.{Timed}
 use Rattle.gptp_scenario.specs.declared.network.LinkSpec.{LinkSpec}
-use Rattle.gptp_topology.specs.Course.{cable_of, cable_wire}
+use Rattle.gptp_topology.specs.Course.{cable_of}
 use Rattle.gptp_topology.specs.declared.course.Cable.{Cable}
 use Rattle.gptp_vector.specs.declared.port.PortId.{PortId}
 
@@ -43,14 +41,3 @@ port_after clock index = record { clock = clock; port = index + 1 }
 
 abbrev pub up_ports : List Cable → ℕ → List PortId
 up_ports cs clock = filter (is_up_at cs) (map (port_after clock) (range_with_len 0 16))
-
--- ---- by what the code keeps
-
-abbrev pub changed_cable : Change → Cable → Cable
-changed_cable change c = cable_of (link_changed change (cable_wire c))
-
-abbrev pub acted_cable : Act → Cable → Cable
-acted_cable act c = cable_of (link_acted act (cable_wire c))
-
-abbrev pub stood_cable : List Timed → Cable → Cable
-stood_cable events c = cable_of (link_after events (cable_wire c))

@@ -1,13 +1,12 @@
 //! Links as they stand after all events.
 
-ghost use Rattle.std.specs.Prelude.{◌≡◌, ◌+◌, ◌++◌, ◌∷◌, [], if◌then◌else◌, IfOk, OnOk, map, take};
+ghost use Rattle.std.specs.Prelude.{◌≡◌, ◌++◌, ◌∷◌, [], if◌then◌else◌, IfOk, OnOk};
 ghost use Rattle.std.specs.List.{AllByRecursion};
-ghost use Rattle.gptp_faults.specs.Cables.{HasBounds, acted_cable, bounds_at, cable_after, cables_after, changed_cable, is_at_port, is_up_at, stood_cable, up_ports};
+ghost use Rattle.gptp_faults.specs.Cables.{HasBounds, bounds_at, cables_after, is_at_port, is_up_at, up_ports};
 
 use gptp_links::Bounds;
 use gptp_network::Document;
-use gptp_scenario::{Act, Change, Timed};
-use gptp_topology::Cable;
+use gptp_topology::{Cable, Tables};
 use gptp_vector::{ClockId, PortId};
 use std::alloc::{AllocError, Global};
 
@@ -18,73 +17,6 @@ fn is_at(cable: &Cable, port: PortId) -> bool
     cable.a == port || cable.b == port
 }
 
-/// A link after a change.
-fn changed(change: &Change, cable: Cable) -> Cable
-    ensures { result ≡ changed_cable change.now cable }
-{
-    let mut cable = cable;
-    match *change {
-        Change::LinkDown { clock, port } => {
-            if is_at(&cable, PortId { clock, port }) {
-                cable.up = false;
-            }
-        }
-        Change::LinkUp { clock, port } => {
-            if is_at(&cable, PortId { clock, port }) {
-                cable.up = true;
-            }
-        }
-        Change::LinkSet {
-            clock,
-            port,
-            min,
-            max,
-            loss,
-        } => {
-            if is_at(&cable, PortId { clock, port }) {
-                cable.bounds.min = min;
-                cable.bounds.max = max;
-                cable.bounds.loss = loss;
-            }
-        }
-        _ => {}
-    }
-    cable
-}
-
-/// A link after an act.
-fn acted(act: &Act, cable: Cable) -> Cable
-    ensures { result ≡ acted_cable act.now cable }
-{
-    match act {
-        Act::Change(change) => changed(change, cable),
-        _ => cable,
-    }
-}
-
-/// A link after events.
-fn stood(events: &[Timed], cable: Cable) -> Cable
-    ensures { result ≡ stood_cable events.now cable }
-{
-    let mut cable = cable;
-    for event in events {
-        cable = acted(&event.act, cable);
-    }
-    cable
-}
-
-/// Puts the link at a place after those of the places before.
-fn push_cable(cables: &mut Vec<Cable>, document: &Document, place: usize) -> Result<(), AllocError>
-    requires { cables.old.items ≡ map (cable_after document.now.events) (take place document.now.network.links) }
-    ensures { OnOk result (cables.new.items
-        ≡ map (cable_after document.now.events) (take (place + 1) document.now.network.links)) }
-{
-    if let Some((a, b, bounds, up)) = document.network().link_at(place) {
-        cables.push(stood(document.events(), Cable { a, b, bounds, up }))?;
-    }
-    Ok(())
-}
-
 /// All links after all events, in the order of the document.
 pub(crate) fn cables_after(alloc: Global, document: &Document) -> Result<Vec<Cable>, AllocError>
     ensures are { IfOk result (λ cables. cables.items ≡ cables_after document.now) }
@@ -92,9 +24,10 @@ pub(crate) fn cables_after(alloc: Global, document: &Document) -> Result<Vec<Cab
 {
     document.well_formed();
     document.network().well_formed();
+    let tables = Tables::after(alloc, document.network(), document.events())?;
     let mut cables = Vec::new(alloc);
-    for place in 0..document.network().links() {
-        push_cable(&mut cables, document, place)?;
+    for standing in &tables.standings {
+        cables.push(standing.cable)?;
     }
     Ok(cables)
 }

@@ -1,9 +1,7 @@
-pub mod SystemsLemmas
 pub mod LinksLemmas
 pub mod WalkLemmas
 pub mod RisingLemmas
 pub mod TimesLemmas
 pub mod SettleLemmas
-pub mod CalmLemmas
 pub mod ShortLemmas
 pub mod WatchLemmas

@@ -1,42 +1,32 @@
--- The links of a network stand so after events, by the tables of gptp_topology.
-use Rattle.std.proofs.Common.{◌≡◌, ◌≢◌, ℕ, Bool, true, false, ◌==◌, ◌&&◌, ◌||◌, not, cond, List, [], ◌∷◌, ◌++◌, ◌+◌, zero, suc, drop, filter, map, Option, Some, None, slice_get, refl, sym, ap, ap₂, ◌∙◌, inl, inr, arith}
-use Rattle.std.specs.List.{find, list_any}
-use Rattle.std.specs.Option.{is_some, option_or}
+-- Which links are new at a time, and the link that an act names.
+use Rattle.std.proofs.Common.{◌≡◌, ◌≢◌, ℕ, Bool, true, false, ◌==◌, ◌&&◌, not, cond, List, [], ◌∷◌, ◌++◌, ◌+◌, zero, suc, drop, filter, map, Option, Some, None, slice_get, refl, sym, ap, ap₂, ◌∙◌, inl, inr, arith}
+use Rattle.std.specs.List.{find}
+use Rattle.std.specs.Option.{option_or}
 use Rattle.std.proofs.lemmas.Bool.{eqb-false}
 use Rattle.gptp_lists.specs.Members.{In}
 use Rattle.gptp_lists.proofs.MappedLemmas.{mapped_there, some_same}
 use Rattle.gptp_lists.proofs.SystemSpecLemmas.{slice_get-In}
 use Rattle.gptp_vector.specs.declared.port.PortId.{PortId}
-use Rattle.gptp_setup.specs.declared.setup.Params.{Params}
 use Rattle.gptp_scenario.specs.Change.{link_after}
-use Rattle.gptp_scenario.specs.InUse.{lives}
 use Rattle.gptp_scenario.specs.Network.{IsNetwork, NetworkState}
-use Rattle.gptp_scenario.specs.SyncWait.{sync_paths}
 use Rattle.gptp_scenario.specs.declared.change.Act.{Act}
 use Rattle.gptp_scenario.specs.declared.change.Act.TheVariants as acts
 use Rattle.gptp_scenario.specs.declared.change.Change.{Change}
 use Rattle.gptp_scenario.specs.declared.change.Change.TheVariants as changes
 use Rattle.gptp_scenario.specs.declared.change.Timed.{Timed}
 use Rattle.gptp_scenario.specs.declared.network.LinkSpec.{LinkSpec}
-use Rattle.gptp_scenario.specs.declared.sync_wait.SyncPaths.{SyncPaths}
-use Rattle.gptp_topology.specs.Course.{acted, cable_is_used, cable_of, cable_wire, first, is_link_named, named, named_by, names_link}
-use Rattle.gptp_topology.specs.Tables.{are_calm, late_of, led, link_named, mark_of, marked_paths, named_among, named_there, neighbours_at, neighbours_of}
+use Rattle.gptp_topology.specs.After.{Stand, standing_then, standings_after}
+use Rattle.gptp_topology.specs.Course.{cable_is_used, cable_of, cable_wire, is_link_named, named, named_by, names_link}
+use Rattle.gptp_topology.specs.Tables.{led, link_named, named_among, named_there, neighbours_at, neighbours_of}
 use Rattle.gptp_topology.specs.declared.course.Cable.{Cable}
 use Rattle.gptp_topology.specs.declared.course.Standing.{Standing}
 use Rattle.gptp_topology.specs.declared.nodes.Neighbour.{Neighbour}
-use Rattle.gptp_topology.specs.declared.tables.Mark.{Mark}
 use Rattle.gptp_topology.specs.declared.tables.Tables.{Tables}
-use Rattle.gptp_topology.proofs.BoundLemmas.{greatest_is, lives_is, paths_is}
-use Rattle.gptp_topology.proofs.CourseLemmas.{a_after, after, b_after, cable_after, same_a, same_b}
+use Rattle.gptp_topology.proofs.CourseLemmas.{same_a, same_b}
 use Rattle.gptp_topology.proofs.NamedLemmas.{not_at}
-use Rattle.gptp_topology.proofs.StandingLemmas.{Stand, neighbours_are}
-use Rattle.gptp_how_soon.specs.Links.{is_old_at, is_used_at, new_among, new_links, new_one, standing_then, standings_after}
-use Rattle.gptp_how_soon.specs.Times.{is_calm, is_standing_named, is_troubled}
-
-maps_in : {X Y : Type 0} (f g : X → Y) (xs : List X) → ((x : X) → In x xs → f x ≡ g x) → map f xs ≡ map g xs
-maps_in f g [] same = refl
-maps_in f g (x ∷ xs) same =
-    ap₂ (λ y ys. y ∷ ys) (same x (inl refl)) (maps_in f g xs (λ y member. same y (inr member)))
+use Rattle.gptp_topology.proofs.StandingLemmas.{neighbours_are}
+use Rattle.gptp_how_soon.specs.Links.{is_old_at, is_used_at, new_among, new_links, new_one}
+use Rattle.gptp_how_soon.specs.Times.{is_standing_named}
 
 -- ---- new links
 
@@ -124,31 +114,6 @@ module _ (n : NetworkState) (network : IsNetwork n) (events : List Timed) where
   abbrev stood : LinkSpec → Standing
   stood = standing_then n events
 
-  -- ---- how links stand
-
-  at_after : (ts : List Timed) (s : Standing) → (after ts s).at ≡ s.at
-  at_after [] s = refl
-  at_after (t ∷ ts) s = at_after ts (acted t.act s)
-
-  pub standing_is : (w : LinkSpec) → In w n.links → after events (first w) ≡ stood w
-  standing_is w member =
-      let (place, there) = slice_get-In w n.links member in
-      let wire = network.links place w there in
-      let a : (after events (first w)).a_lives ≡ lives n.systems events w.a.clock =
-      a_after events (first w) ∙ lives_is n.systems events w.a wire.a in
-      let b : (after events (first w)).b_lives ≡ lives n.systems events w.b.clock =
-      b_after events (first w) ∙ lives_is n.systems events w.b wire.b in
-      λ i. record {
-        at = at_after events (first w) i;
-        cable = cable_after events (first w) i;
-        a_lives = a i;
-        b_lives = b i;
-      }
-
-  pub standings_are : (t : Tables) → Stand n events t → t.standings.items ≡ standings_after n events
-  standings_are t stand =
-      stand.standings ∙ maps_in (λ w. after events (first w)) (standing_then n events) n.links standing_is
-
   -- ---- the link that an act names
 
   abbrev ss : List Standing
@@ -205,27 +170,6 @@ module _ (n : NetworkState) (network : IsNetwork n) (events : List Timed) where
         → link_named t.standings.items act (neighbours_at (named act) t.nodes.items)
         ≡ find (is_standing_named act) (standings_after n events)
     link_is t stand =
-        ap₂ (λ ss os. link_named ss act os) (standings_are t stand)
+        ap₂ (λ ss os. link_named ss act os) stand.standings
         (neighbours_are n network events t (named act) stand)
         ∙ find_near n.links (λ w member. member)
-
-  -- ---- what Sync has to cross, and whether the network is calm
-
-  pub crossed_is : (t : Tables) → Stand n events t → marked_paths t.marks.items t.nodes.items ≡ sync_paths n events
-  crossed_is t stand = ap₂ paths_with (paths_is n network events t stand) (greatest_is n network events t stand)
-    where
-      paths_with : ℕ → ℕ → SyncPaths
-      paths_with m most = record { systems = m; delay = most }
-
-  any_troubled : (p : Params) (ss : List Standing)
-      → list_any (λ (m : Mark). m.troubled) (map (mark_of p) ss) ≡ list_any (is_troubled p) ss
-  any_troubled p [] = refl
-  any_troubled p (s ∷ ss) = ap (λ b. is_troubled p s || b) (any_troubled p ss)
-
-  pub calm_is : (t : Tables) → Stand n events t
-      → are_calm n.params (marked_paths t.marks.items t.nodes.items) t.marks.items ≡ is_calm n events
-  calm_is t stand =
-      ap₂ (are_calm n.params) (crossed_is t stand)
-      (stand.marks ∙ ap₂ (λ p ss. map (mark_of p) ss) stand.params (standings_are t stand))
-      ∙ ap (λ b. not (is_some (late_of n.params (sync_paths n events)) || b))
-      (any_troubled n.params (standings_after n events))

@@ -8,24 +8,24 @@ use Rattle.gptp_scenario.specs.Calm.{last_change}
 use Rattle.gptp_scenario.specs.Network.{IsNetwork, NetworkState}
 use Rattle.gptp_scenario.specs.SyncWait.{sync_paths}
 use Rattle.gptp_scenario.specs.declared.change.Timed.{Timed}
+use Rattle.gptp_topology.specs.After.{Stand, standings_after}
 use Rattle.gptp_topology.specs.Course.{cable_is_used, named}
-use Rattle.gptp_topology.proofs.StandingLemmas.{Stand, stand_first, stand_more}
+use Rattle.gptp_topology.specs.Tables.{has_clock}
+use Rattle.gptp_topology.proofs.BoundLemmas.{calm_is, crossed_is}
+use Rattle.gptp_topology.proofs.StandingLemmas.{stand_more, systems_are}
 use Rattle.gptp_how_soon.specs.Kinds.{sets_bounds, told_by}
-use Rattle.gptp_how_soon.specs.Links.{delay_set, longest_delay, longest_set, new_among, standings_after}
-use Rattle.gptp_how_soon.specs.Systems.{has_clock, system_done, systems_after}
+use Rattle.gptp_how_soon.specs.Links.{delay_set, longest_delay, longest_set, new_among}
 use Rattle.gptp_how_soon.specs.Times.{last_set, told_at, told_of, view_at}
 use Rattle.gptp_how_soon.specs.Walk.{IsFirstWalk, WalkGoesOn, WalkPasses, view_seen}
 use Rattle.gptp_how_soon.specs.declared.bounds.SettlingTime.{SettlingTime}
 use Rattle.gptp_how_soon.specs.declared.walk.Walk.{Walk}
-use Rattle.gptp_how_soon.proofs.LinksLemmas.{calm_is, crossed_is, link_is, new_are, standings_are}
-use Rattle.gptp_how_soon.proofs.SystemsLemmas.{systems_first, systems_more}
+use Rattle.gptp_how_soon.proofs.LinksLemmas.{link_is, new_are}
 
 -- after the events made before this time, and those of it so far
 pub record WalkStands (n : NetworkState) (made now : List Timed) (w : Walk) : Type 0 where
   pub set : w.last_set ≡ last_set (made ++ now)
   pub longest : w.longest ≡ longest_delay n (made ++ now)
   pub tables : Stand n (made ++ now) w.tables
-  pub systems : w.systems.items ≡ systems_after n (made ++ now)
   pub told : w.told.items ≡ told_of n made now
   pub used : w.used_before.items ≡ map cable_is_used (standings_after n made)
   pub paths : w.paths_before ≡ sync_paths n made
@@ -76,9 +76,8 @@ module _ (n : NetworkState) (network : IsNetwork n) where
   pub view_is : (made now : List Timed) (w : Walk) (at : ℕ) → WalkStands n made now w
       → view_seen n w at ≡ view_at n made now w.before at
   view_is made now w at so =
-      let standings = standings_are n network (made ++ now) w.tables so.tables in
       let first = not (is_some w.before) in
-      let new = ap₂ (new_among first) standings so.used ∙ new_are n made (made ++ now) first in
+      let new = ap₂ (new_among first) so.tables.standings so.used ∙ new_are n made (made ++ now) first in
       λ i. record {
         at = at;
         last_set = so.set i;
@@ -94,16 +93,14 @@ module _ (n : NetworkState) (network : IsNetwork n) where
   -- ---- before all events
 
   pub stands_first : (w : Walk) → IsFirstWalk n w → WalkStands n [] [] w
-  stands_first w is =
-      let tables = stand_first n w.tables is.tables in record {
-        set = is.set;
-        longest = is.longest ∙ omega arith;
-        tables = tables;
-        systems = is.systems ∙ systems_first n;
-        told = is.told;
-        used = is.used ∙ ap (map cable_is_used) (standings_are n network [] w.tables tables);
-        paths = is.paths ∙ crossed_is n network [] w.tables tables;
-      }
+  stands_first w is = record {
+    set = is.set;
+    longest = is.longest ∙ omega arith;
+    tables = is.tables;
+    told = is.told;
+    used = is.used ∙ ap (map cable_is_used) is.tables.standings;
+    paths = is.paths ∙ crossed_is n network [] w.tables is.tables;
+  }
 
   -- ---- one event more
 
@@ -118,12 +115,10 @@ module _ (n : NetworkState) (network : IsNetwork n) where
             ∙ ap (longest_delay n) joined;
         tables = subst (λ events. Stand n events new.tables) joined
             (stand_more n network (made ++ now) t old.tables new.tables so.tables passes.tables);
-        systems = passes.systems ∙ ap (map (system_done t.act)) so.systems ∙ systems_more n (made ++ now) t
-            ∙ ap (systems_after n) joined;
         told = passes.told
             ∙ ap₂ (λ es e. es ++ e ∷ []) so.told
             (ap₂ (told_by t.act) (link_is n network (made ++ now) t.act old.tables so.tables)
-            (ap (find (has_clock (named t.act))) so.systems))
+            (ap (find (has_clock (named t.act))) (systems_are n (made ++ now) old.tables so.tables)))
             ∙ sym (told_more n made now t);
         used = ap (λ (v : _). v.items) passes.used ∙ so.used;
         paths = passes.paths ∙ so.paths;
@@ -140,8 +135,7 @@ module _ (n : NetworkState) (network : IsNetwork n) where
         longest = on.longest ∙ so.longest ∙ ap (longest_delay n) none;
         tables = subst (λ events. Stand n events new.tables) none
             (subst (Stand n (made ++ now)) (sym on.tables) so.tables);
-        systems = ap (λ (v : _). v.items) on.systems ∙ so.systems ∙ ap (systems_after n) none;
         told = on.told;
-        used = on.used ∙ ap (map cable_is_used) (standings_are n network (made ++ now) old.tables so.tables);
+        used = on.used ∙ ap (map cable_is_used) so.tables.standings;
         paths = on.paths ∙ crossed_is n network (made ++ now) old.tables so.tables;
       }

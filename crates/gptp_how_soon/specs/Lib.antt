@@ -1,5 +1,4 @@
 pub mod Kinds
-pub mod Systems
 pub mod Links
 pub mod Bounds
 pub mod Rest

@@ -1,8 +1,7 @@
--- How the links of a network stand after events, which of them are new at a time, over which delays vary, and the
--- greatest delay that one has had (profile).
+-- Which links of a network are new at a time, over which delays vary, and the greatest delay that one has had
+-- (profile).
 use Rattle.std.specs.Prelude.{ℕ, ◌*◌, ◌&&◌, not, nat_le, max, Bool, false, if◌then◌else◌, List, [], ◌∷◌, ◌++◌, map, filter, Option, Some, None, slice_get}
 use Rattle.gptp_scenario.specs.Change.{link_after}
-use Rattle.gptp_scenario.specs.InUse.{lives}
 use Rattle.gptp_scenario.specs.Network.{NetworkState}
 use Rattle.gptp_scenario.specs.declared.change.Act.{Act}
 use Rattle.gptp_scenario.specs.declared.change.Act.TheVariants as acts
@@ -10,22 +9,11 @@ use Rattle.gptp_scenario.specs.declared.change.Change.{Change}
 use Rattle.gptp_scenario.specs.declared.change.Change.TheVariants as changes
 use Rattle.gptp_scenario.specs.declared.change.Timed.{Timed}
 use Rattle.gptp_scenario.specs.declared.network.LinkSpec.{LinkSpec}
+use Rattle.gptp_topology.specs.After.{standing_then}
 use Rattle.gptp_topology.specs.Course.{cable_is_used, cable_of}
 use Rattle.gptp_topology.specs.declared.course.Cable.{Cable}
 use Rattle.gptp_topology.specs.declared.course.Standing.{Standing}
 use Rattle.gptp_topology.specs.Tables.{cables_of}
-
--- how a link stands after events, and each of a network
-abbrev pub standing_then : NetworkState → List Timed → LinkSpec → Standing
-standing_then n events w = record {
-  at = 0;
-  cable = cable_of (link_after events w);
-  a_lives = lives n.systems events w.a.clock;
-  b_lives = lives n.systems events w.b.clock;
-}
-
-abbrev pub standings_after : NetworkState → List Timed → List Standing
-standings_after n events = map (standing_then n events) n.links
 
 -- the greatest delay of a link is twice the least or more
 abbrev pub varies : Cable → Bool

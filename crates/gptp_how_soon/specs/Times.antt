@@ -2,10 +2,9 @@
 --
 -- What stands *before* a time stands after the events up to the time before, at 0 before all events; what stands *at*
 -- it after its own too.
-use Rattle.std.specs.Prelude.{ℕ, ◌+◌, ◌≤◌, ◌<◌, ⊤, ◌==◌, ◌||◌, not, Bool, List, [], ◌∷◌, ◌++◌, filter, Option, Some, None}
-use Rattle.std.specs.List.{AllByRecursion, find, list_any}
+use Rattle.std.specs.Prelude.{ℕ, ◌+◌, ◌≤◌, ◌<◌, ⊤, ◌==◌, not, Bool, List, [], ◌∷◌, ◌++◌, filter, Option, Some, None}
+use Rattle.std.specs.List.{AllByRecursion, find}
 use Rattle.std.specs.Option.{is_some}
-use Rattle.gptp_setup.specs.declared.setup.Params.{Params}
 use Rattle.gptp_scenario.specs.Calm.{last_change}
 use Rattle.gptp_scenario.specs.Network.{NetworkState}
 use Rattle.gptp_scenario.specs.SyncWait.{sync_paths}
@@ -14,17 +13,16 @@ use Rattle.gptp_scenario.specs.declared.change.Timed.{Timed}
 use Rattle.gptp_scenario.specs.declared.sync_wait.SyncPaths.{SyncPaths}
 use Rattle.gptp_network.specs.Document.{DocumentState}
 use Rattle.gptp_network.specs.Snapshot.{events_by}
+use Rattle.gptp_topology.specs.After.{is_calm, standings_after, systems_after}
 use Rattle.gptp_topology.specs.Course.{is_link_named, named}
-use Rattle.gptp_topology.specs.Tables.{late_of}
+use Rattle.gptp_topology.specs.Tables.{has_clock}
 use Rattle.gptp_topology.specs.Times.{times_of}
-use Rattle.gptp_topology.specs.Trouble.{is_long, loss_in_use}
 use Rattle.gptp_topology.specs.declared.course.Cable.{Cable}
 use Rattle.gptp_topology.specs.declared.course.Standing.{Standing}
 use Rattle.gptp_how_soon.specs.Bounds.{heard_by, ready, times_by, way_span}
 use Rattle.gptp_how_soon.specs.Kinds.{sets_bounds, sets_link, told_by}
-use Rattle.gptp_how_soon.specs.Links.{longest_delay, new_links, standings_after}
+use Rattle.gptp_how_soon.specs.Links.{longest_delay, new_links}
 use Rattle.gptp_how_soon.specs.Rest.{heard_at_once, is_from_rest, row_of}
-use Rattle.gptp_how_soon.specs.Systems.{has_clock, systems_after}
 use Rattle.gptp_how_soon.specs.declared.bounds.SettlingTime.{SettlingTime}
 use Rattle.gptp_how_soon.specs.declared.bounds.Row.{Row}
 use Rattle.gptp_how_soon.specs.declared.kinds.Told.{Told}
@@ -84,14 +82,6 @@ told_of n made (t ∷ ts) = told_at n made t.act ∷ told_of n (made ++ t ∷ []
 -- when the last of these events was that sets a link, or 0
 abbrev pub last_set : List Timed → ℕ
 last_set events = last_change (filter (λ (t : Timed). sets_bounds t.act) events)
-
--- A network is calm where Sync isn't late, and no link in use is too long or loses frames.
-abbrev pub is_troubled : Params → Standing → Bool
-is_troubled p s = is_long p s || not (loss_in_use s == 0)
-
-abbrev pub is_calm : NetworkState → List Timed → Bool
-is_calm n events =
-    not (is_some (late_of n.params (sync_paths n events)) || list_any (is_troubled n.params) (standings_after n events))
 
 -- at a time, after the events made before and those of that time now
 abbrev pub view_at : NetworkState → List Timed → List Timed → Option SettlingTime → ℕ → View

@@ -4,11 +4,11 @@ use Rattle.std.specs.List.{find}
 use Rattle.std.specs.Option.{is_some}
 use Rattle.gptp_scenario.specs.Network.{NetworkState}
 use Rattle.gptp_scenario.specs.declared.change.Act.{Act}
+use Rattle.gptp_topology.specs.After.{Stand}
 use Rattle.gptp_topology.specs.Course.{cable_is_used, named}
-use Rattle.gptp_topology.specs.Tables.{AreFirstTables, TablesActed, are_calm, cables_of, link_named, marked_paths, neighbours_at}
+use Rattle.gptp_topology.specs.Tables.{TablesActed, are_calm, cables_of, has_clock, link_named, marked_paths, neighbours_at, systems_in}
 use Rattle.gptp_how_soon.specs.Kinds.{sets_bounds, told_by}
 use Rattle.gptp_how_soon.specs.Links.{delay_set, longest_among, new_among}
-use Rattle.gptp_how_soon.specs.Systems.{first_system, has_clock, system_done}
 use Rattle.gptp_how_soon.specs.Times.{View, settling_time}
 use Rattle.gptp_how_soon.specs.declared.bounds.SettlingTime.{SettlingTime}
 use Rattle.gptp_how_soon.specs.declared.walk.Walk.{Walk}
@@ -17,8 +17,7 @@ use Rattle.gptp_how_soon.specs.declared.walk.Walk.{Walk}
 pub record IsFirstWalk (n : NetworkState) (w : Walk) : Type 0 where
   pub set : w.last_set ≡ 0
   pub longest : w.longest ≡ longest_among (cables_of n)
-  pub tables : AreFirstTables n w.tables
-  pub systems : w.systems.items ≡ map first_system n.systems
+  pub tables : Stand n [] w.tables
   pub told : w.told.items ≡ []
   pub before : w.before ≡ None
   pub used : w.used_before.items ≡ map cable_is_used w.tables.standings.items
@@ -29,12 +28,11 @@ pub record WalkPasses (at : ℕ) (act : Act) (old new : Walk) : Type 0 where
   pub set : new.last_set ≡ (if sets_bounds act then at else old.last_set)
   pub longest : new.longest ≡ max (delay_set act) old.longest
   pub tables : TablesActed act old.tables new.tables
-  pub systems : new.systems.items ≡ map (system_done act) old.systems.items
   pub told : new.told.items
       ≡ old.told.items
       ++ told_by act
       (link_named old.tables.standings.items act (neighbours_at (named act) old.tables.nodes.items))
-      (find (has_clock (named act)) old.systems.items)
+      (find (has_clock (named act)) (systems_in old.tables.nodes.items))
       ∷ []
   pub before : new.before ≡ old.before
   pub used : new.used_before ≡ old.used_before
@@ -45,7 +43,6 @@ pub record WalkGoesOn (time : SettlingTime) (old new : Walk) : Type 0 where
   pub set : new.last_set ≡ old.last_set
   pub longest : new.longest ≡ old.longest
   pub tables : new.tables ≡ old.tables
-  pub systems : new.systems ≡ old.systems
   pub told : new.told.items ≡ []
   pub before : new.before ≡ Some time
   pub used : new.used_before.items ≡ map cable_is_used old.tables.standings.items

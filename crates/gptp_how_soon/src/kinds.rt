@@ -4,9 +4,8 @@ ghost use Rattle.std.specs.Prelude.{◌≡◌, ◌++◌, ◌∷◌, [], false, O
 ghost use Rattle.std.specs.List.{list_all, list_any};
 ghost use Rattle.gptp_how_soon.specs.Kinds.{are_heard, begins_wider, first_wider_by, is_wider, kind_of_link_set, wider_by, fails_and_recovers, is_fail, is_recover, is_better, is_failure_of_same, is_gain, is_link_down, is_unused, lowers_unused, makes_nothing, tells_nothing, is_heard_too, is_idle, is_loss, is_other, is_priority1, is_link_up, is_recovery, is_recovery_of, kind_of, kind_of_change, kind_of_failure, kind_of_link_down, kind_of_link_up, kind_of_priority1, kind_of_recovery, recovers, sets_bounds, sets_link, is_link_set, told_by, what_of, what_of_change};
 
-use crate::systems::System;
 use gptp_scenario::{Act, Change};
-use gptp_topology::{Standing, is_used, named};
+use gptp_topology::{Standing, System, is_used, named};
 use gptp_vector::ClockId;
 use std::alloc::AllocError;
 

@@ -8,7 +8,6 @@ mod bounds;
 mod kinds;
 mod links;
 mod rest;
-mod systems;
 #[cfg(test)]
 mod tests;
 mod times;
@@ -16,5 +15,4 @@ mod walk;
 
 pub use bounds::{Row, Settling, SettlingTime};
 pub use kinds::{Kind, Told, What};
-pub use systems::System;
 pub use times::{settling_at, settling_times};

@@ -15,15 +15,15 @@ pub(crate) fn varies(cable: &Cable) -> bool
     2 * u128::from(cable.bounds.min) <= u128::from(cable.bounds.max)
 }
 
-/// Which of these links are in use.
-pub(crate) fn used_links(alloc: Global, standings: &[Standing]) -> Result<Vec<bool>, AllocError>
-    ensures { IfOk result (λ used. used.items ≡ map cable_is_used standings.now) }
+/// Writes which of these links are in use.
+pub(crate) fn mark_used(used: &mut Vec<bool>, standings: &[Standing]) -> Result<(), AllocError>
+    ensures { OnOk result (used.new.items ≡ map cable_is_used standings.now) }
 {
-    let mut used = Vec::new(alloc);
+    used.clear();
     for standing in standings {
         used.push(is_used(standing))?;
     }
-    Ok(used)
+    Ok(())
 }
 
 /// Whether the link at a place is among those in use.

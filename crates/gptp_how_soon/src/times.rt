@@ -2,7 +2,7 @@
 
 ghost use Rattle.std.specs.Prelude.{◌≡◌, ◌≤◌, IfOk, OnOk, IfSome, length};
 ghost use Rattle.std.specs.List.{AllByRecursion, find};
-ghost use Rattle.gptp_topology.specs.Tables.{cables_of, greatest_used};
+ghost use Rattle.gptp_topology.specs.Tables.{greatest_used};
 ghost use Rattle.gptp_how_soon.specs.Times.{AreRising, IsWatchedShortly, is_time_at, settling_times};
 ghost use Rattle.gptp_how_soon.specs.Walk.{WalkTells};
 
@@ -10,7 +10,6 @@ use crate::bounds::SettlingTime;
 use crate::walk::Walk;
 use gptp_network::Document;
 use gptp_scenario::Network;
-use gptp_topology::{Cable, cables_of};
 use std::alloc::{AllocError, Global};
 
 /// Where the next time is another, puts this one after others, and goes on.
@@ -29,39 +28,12 @@ fn tell(
     ensures { OnOk result (WalkTells network.now at next walk.old walk.new times.old.items times.new.items) }
 {
     if next != at {
-        let time = walk.settle(alloc, network, at)?;
+        let paths = walk.tables.sync_paths();
+        let time = walk.settle(alloc, network, at, paths)?;
         times.push(time)?;
-        walk.go_on(alloc, time)?;
+        walk.go_on(time, paths)?;
     }
     Ok(())
-}
-
-/// The times of a document whose links are these.
-fn settling_times_over(
-    alloc: Global,
-    document: &Document,
-    cables: &[Cable],
-) -> Result<Vec<SettlingTime>, AllocError>
-    requires { cables.now ≡ cables_of document.now.network }
-    ensures times { IfOk result (λ times. times.items ≡ settling_times document.now) }
-    ensures rising { IfOk result (λ times. AreRising times.items) }
-    ensures watched { IfOk result (λ times. AllByRecursion IsWatchedShortly times.items) }
-{
-    document.network().well_formed();
-    document.well_formed();
-    let network = document.network();
-    let events = document.events();
-    let mut walk = Walk::first(alloc, network, cables)?;
-    let mut times = Vec::new(alloc);
-    let mut at = 0;
-    for event in events {
-        tell(alloc, &mut times, &mut walk, network, at, event.at)?;
-        at = event.at;
-        walk.pass(at, &event.act)?;
-    }
-    let time = walk.settle(alloc, network, at)?;
-    times.push(time)?;
-    Ok(times)
 }
 
 /// Each time of a document, 0 and those of its events, each once, in their order: how soon the choice and the roles
@@ -71,8 +43,22 @@ pub fn settling_times(alloc: Global, document: &Document) -> Result<Vec<Settling
     ensures rising { IfOk result (λ times. AreRising times.items) }
     ensures watched { IfOk result (λ times. AllByRecursion IsWatchedShortly times.items) }
 {
-    let cables = cables_of(alloc, document.network())?;
-    settling_times_over(alloc, document, &cables)
+    document.network().well_formed();
+    document.well_formed();
+    let network = document.network();
+    let events = document.events();
+    let mut walk = Walk::first(alloc, network)?;
+    let mut times = Vec::new(alloc);
+    let mut at = 0;
+    for event in events {
+        tell(alloc, &mut times, &mut walk, network, at, event.at)?;
+        at = event.at;
+        walk.pass(at, &event.act)?;
+    }
+    let paths = walk.tables.sync_paths();
+    let time = walk.settle(alloc, network, at, paths)?;
+    times.push(time)?;
+    Ok(times)
 }
 
 /// The first of these times that is at a moment, if there is one.

@@ -1,25 +1,23 @@
 //! How a document stands at each time, as its events come.
 
-ghost use Rattle.std.specs.Prelude.{◌≡◌, ◌≤◌, IfOk, OnOk, length, map};
+ghost use Rattle.std.specs.Prelude.{◌≡◌, ◌≤◌, IfOk, OnOk, [], map};
 ghost use Rattle.gptp_scenario.specs.Network.{NetworkState};
-ghost use Rattle.gptp_topology.specs.Tables.{AreMarked, cables_of, greatest_used};
+ghost use Rattle.gptp_topology.specs.Tables.{AreMarked, marked_paths};
 ghost use Rattle.gptp_how_soon.specs.Times.{settling_time};
 ghost use Rattle.gptp_how_soon.specs.Walk.{IsFirstWalk, WalkGoesOn, WalkPasses, view_seen};
 
 use crate::bounds::{SettlingTime, heard, ready, times_by, way_span};
 use crate::kinds::{Told, sets_bounds, sets_link, tell};
-use crate::links::{delay_set, longest_among, new_links, used_links};
+use crate::links::{delay_set, longest_among, mark_used, new_links};
 use crate::rest::{heard_at_once, is_from_rest, row_of};
-use crate::systems::{System, act_on_systems, first_systems, system_at};
 use gptp_scenario::{Act, Network, SyncPaths};
-use gptp_topology::{Cable, Tables, named};
+use gptp_topology::{Tables, cables_of};
 use std::alloc::{AllocError, Global};
 
 /// How a document stands after its events so far, of which some have this time.
 #[derive(Drop)]
 pub(crate) struct Walk {
     pub tables: Tables,
-    pub systems: Vec<System>,
     /// When a link was last set; 0 where none was.
     pub last_set: u64,
     /// The greatest delay that a link has had, in ns.
@@ -35,24 +33,19 @@ pub(crate) struct Walk {
 
 impl Walk {
     /// How it stands before all events.
-    pub(crate) fn first(
-        alloc: Global,
-        network: &Network,
-        cables: &[Cable],
-    ) -> Result<Self, AllocError>
-        requires { cables.now ≡ cables_of network.now }
+    pub(crate) fn first(alloc: Global, network: &Network) -> Result<Self, AllocError>
         ensures { IfOk result (IsFirstWalk network.now) }
     {
         network.well_formed();
-        let tables = Tables::first(alloc, network, cables)?;
-        let systems = first_systems(alloc, network)?;
-        let used_before = used_links(alloc, &tables.standings)?;
+        let cables = cables_of(alloc, network)?;
+        let tables = Tables::first(alloc, network)?;
+        let mut used_before = Vec::new(alloc);
+        mark_used(&mut used_before, &tables.standings)?;
         let paths_before = tables.sync_paths();
         Ok(Walk {
             tables,
-            systems,
             last_set: 0,
-            longest: longest_among(cables),
+            longest: longest_among(&cables),
             told: Vec::new(alloc),
             before: None,
             used_before,
@@ -66,10 +59,9 @@ impl Walk {
         ensures { OnOk result (WalkPasses at act.now self.old self.new) }
     {
         let link = self.tables.link_named(act);
-        let system = system_at(&self.systems, named(act));
+        let system = self.tables.system_named(act);
         tell(&mut self.told, act, link, system)?;
         self.tables.act(act);
-        act_on_systems(self.systems.as_mut_slice(), act);
         if sets_bounds(act) {
             self.last_set = at;
         }
@@ -77,27 +69,29 @@ impl Walk {
         Ok(())
     }
 
-    /// Goes on to another time, where this is what is told of the one so far.
-    pub(crate) fn go_on(&mut self, alloc: Global, time: SettlingTime) -> Result<(), AllocError>
-        requires { length self.old.tables.nodes.items ≤ 512 }
+    /// Goes on to another time, where this is what is told of the one so far, and what Sync has to cross at it.
+    pub(crate) fn go_on(&mut self, time: SettlingTime, paths: SyncPaths) -> Result<(), AllocError>
+        requires { paths ≡ marked_paths self.old.tables.marks.items self.old.tables.nodes.items }
         ensures { OnOk result (WalkGoesOn time self.old self.new) }
     {
-        self.used_before = used_links(alloc, &self.tables.standings)?;
-        self.paths_before = self.tables.sync_paths();
-        self.told = Vec::new(alloc);
+        mark_used(&mut self.used_before, &self.tables.standings)?;
+        self.paths_before = paths;
+        self.told.clear();
         self.before = Some(time);
         Ok(())
     }
 
-    /// What is told of this time.
+    /// What is told of this time, where this is what Sync has to cross at it.
     pub(crate) fn settle(
         &self,
         alloc: Global,
         network: &Network,
         at: u64,
+        paths: SyncPaths,
     ) -> Result<SettlingTime, AllocError>
-        requires few { length self.now.tables.nodes.items ≤ 512 }
-        requires short { greatest_used self.now.tables.marks.items ≤ 16000000000 }
+        requires paths { paths ≡ marked_paths self.now.tables.marks.items self.now.tables.nodes.items }
+        requires few { paths.systems ≤ 512 }
+        requires short { paths.delay ≤ 16000000000 }
         requires early { at ≤ 800000000000000 }
         requires set { self.now.last_set ≤ at }
         ensures is { IfOk result (λ time. time ≡ settling_time network.now (view_seen network.now self.now at)) }
@@ -107,7 +101,6 @@ impl Walk {
         let standings = self.tables.standings.as_slice();
         let told = self.told.as_slice();
         let used = self.used_before.as_slice();
-        let paths = self.tables.sync_paths();
         let new = new_links(alloc, first, standings, used)?;
         let new = new.as_slice();
         let ready = ready(network, paths, told, new);

@@ -26,11 +26,12 @@ use Rattle.gptp_scenario.proofs.AfterLemmas.{after_keeps}
 use Rattle.gptp_model.specs.World.{port_id}
 use Rattle.gptp_theorem.proofs.EventLemmas.{link_behind}
 use Rattle.gptp_network.proofs.PassLemmas.{kept, passes_at}
+use Rattle.gptp_topology.specs.After.{standing_then}
 use Rattle.gptp_topology.specs.Course.{cable_is_used, cable_of, named}
 use Rattle.gptp_topology.specs.declared.course.Cable.{Cable}
 use Rattle.gptp_how_soon.specs.Bounds.{asked_again, is_again, is_hard_to_hear, ready, two_exchanges}
 use Rattle.gptp_how_soon.specs.Kinds.{are_heard, is_better, is_gain, is_heard_too, is_idle, is_link_up, is_loss, is_other, is_priority1, is_recover, is_recovery, is_recovery_of, is_unused, lowers_unused, makes_nothing, recovers, what_of, begins_wider, first_wider_by, is_wider, wider_by}
-use Rattle.gptp_how_soon.specs.Links.{is_new, new_links, standing_then, varies}
+use Rattle.gptp_how_soon.specs.Links.{is_new, new_links, varies}
 use Rattle.gptp_how_soon.specs.Times.{told_at, told_of}
 use Rattle.gptp_how_soon.specs.declared.kinds.Told.{Told}
 use Rattle.gptp_settling_time.specs.Gains.{AreSparedBy, ChangesNothing, HasDelaysWithin, IsNoWorse, IsSparedBy, JoinsLive, LeavesCapable, SparesFailed, TakesNothing, UsesNoLink, exchanged_again_from}
@@ -38,7 +39,7 @@ use Rattle.gptp_settling_time.specs.HowSoon.{AfterIdleEvents, AreGainEvents, Are
 use Rattle.gptp_settling_time.specs.InTurn.{AddsHeard, BettersClock, BringsUp, MakesNothing, RecoversAlone, TurnsInVain}
 use Rattle.gptp_settling_time.proofs.DelayWithinLemmas.{within_before}
 use Rattle.gptp_settling_time.proofs.SamePathsLemmas.{idle_paths, turned_paths}
-use Rattle.gptp_how_soon_laws.proofs.CalmLemmas.{lives_to, three_from, three_parts, used_cable}
+use Rattle.gptp_topology.proofs.RestLemmas.{lives_to, three_from, three_parts, used_cable}
 use Rattle.gptp_how_soon_laws.proofs.KindLemmas.{Gains, RaisesLink, gain_gains, gain_is_not_idle, idle_changes, nothing_or_gain, unused_turns, wider_widens}
 use Rattle.gptp_how_soon_laws.proofs.MoreLemmas.{IsMore, Leaves, more_delay, more_live, more_lives, more_on, one_more, same_more}
 use Rattle.gptp_how_soon_laws.proofs.NamedLemmas.{end_first}

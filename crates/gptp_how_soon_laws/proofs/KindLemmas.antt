@@ -19,16 +19,16 @@ use Rattle.gptp_scenario.proofs.AfterLemmas.{after_keeps}
 use Rattle.gptp_model.specs.World.{port_id}
 use Rattle.gptp_topology.specs.declared.course.Standing.{Standing}
 use Rattle.gptp_how_soon.specs.Kinds.{identity_with, is_gain, is_idle, is_loss, is_other, is_unused, makes_nothing, kind_of_failure, kind_of_link_down, kind_of_link_up, kind_of_priority1, kind_of_recovery, what_of, is_wider, kind_of_link_set, wider_by}
-use Rattle.gptp_how_soon.specs.Links.{standings_after}
-use Rattle.gptp_how_soon.specs.Systems.{has_clock, systems_after}
+use Rattle.gptp_topology.specs.After.{standings_after, systems_after}
+use Rattle.gptp_topology.specs.Tables.{has_clock}
 use Rattle.gptp_how_soon.specs.Times.{is_standing_named, told_at}
 use Rattle.gptp_how_soon.specs.declared.kinds.Kind.{Kind}
 use Rattle.gptp_how_soon.specs.declared.kinds.Kind.TheVariants.{Idle, Unused, Loss, Gain, Other, Wider}
 use Rattle.gptp_how_soon.specs.declared.kinds.Told.{Told}
 use Rattle.gptp_how_soon.specs.declared.kinds.What.{What}
-use Rattle.gptp_how_soon.specs.declared.systems.System.{System}
+use Rattle.gptp_topology.specs.declared.nodes.System.{System}
 use Rattle.gptp_settling_time.specs.Gains.{ChangesNothing, EndHasFailed, IsNoWorse}
-use Rattle.gptp_how_soon_laws.proofs.CalmLemmas.{lives_from, cable_used}
+use Rattle.gptp_topology.proofs.RestLemmas.{lives_from, cable_used}
 use Rattle.gptp_how_soon_laws.proofs.NamedLemmas.{LinkNamed, SystemNamed, end_first, named_link, named_system}
 use Rattle.gptp_links.specs.declared.bounds.Bounds.{Bounds}
 use Rattle.gptp_topology.specs.Course.{cable_is_used}

@@ -1,5 +1,4 @@
 mod TimesLemmas
-mod CalmLemmas
 mod NamedLemmas
 mod KindLemmas
 mod MoreLemmas

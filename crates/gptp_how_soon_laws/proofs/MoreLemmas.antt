@@ -20,10 +20,10 @@ use Rattle.gptp_scenario.specs.declared.network.SystemSpec.{SystemSpec}
 use Rattle.gptp_scenario.proofs.AfterLemmas.{after_keeps}
 use Rattle.gptp_model.specs.World.{port_id}
 use Rattle.gptp_theorem.proofs.EventLemmas.{link_behind, system_behind}
+use Rattle.gptp_topology.specs.After.{standing_then}
 use Rattle.gptp_topology.specs.Course.{cable_is_used}
-use Rattle.gptp_how_soon.specs.Links.{standing_then}
+use Rattle.gptp_topology.proofs.RestLemmas.{lives_from, lives_to, three_from, three_parts}
 use Rattle.gptp_settling_time.specs.Gains.{EndHasFailed, IsDownAfter}
-use Rattle.gptp_how_soon_laws.proofs.CalmLemmas.{lives_from, lives_to, three_from, three_parts}
 use Rattle.gptp_how_soon_laws.proofs.NamedLemmas.{at_end}
 
 -- After more events each link is in use that was, with the bounds that it had, and each system lives that did.

@@ -18,10 +18,10 @@ use Rattle.gptp_scenario.proofs.AfterLemmas.{after_keeps}
 use Rattle.gptp_model.specs.World.{port_id}
 use Rattle.gptp_topology.specs.Course.{cable_wire}
 use Rattle.gptp_topology.specs.declared.course.Standing.{Standing}
-use Rattle.gptp_how_soon.specs.Links.{standing_then, standings_after}
-use Rattle.gptp_how_soon.specs.Systems.{has_clock, system_then, systems_after}
+use Rattle.gptp_topology.specs.After.{standing_then, standings_after, system_then, systems_after}
+use Rattle.gptp_topology.specs.Tables.{has_clock}
 use Rattle.gptp_how_soon.specs.Times.{is_standing_named}
-use Rattle.gptp_how_soon.specs.declared.systems.System.{System}
+use Rattle.gptp_topology.specs.declared.nodes.System.{System}
 
 -- what is found is a member that passes
 found : {X : Type 0} (p : X → Bool) (xs : List X) (y : X) → find p xs ≡ Some y → In y xs × (p y ≡ true)

@@ -25,17 +25,19 @@ use Rattle.gptp_network.proofs.ExistenceLemmas.{snapshot_exists}
 use Rattle.gptp_network.proofs.MeantLemmas.{SetsOctets, meant_document, meant_octets, stands_below}
 use Rattle.gptp_network.proofs.SnapshotLemmas.{from_filter}
 use Rattle.gptp_network.proofs.TakingLemmas.{in_all}
+use Rattle.gptp_topology.specs.After.{system_then, systems_after}
 use Rattle.gptp_topology.specs.Course.{cable_of, cable_wire}
 use Rattle.gptp_topology.specs.Tables.{clocks_of}
 use Rattle.gptp_topology.specs.Times.{IsCalmTime, late_at, times_of}
+use Rattle.gptp_topology.specs.declared.nodes.System.{System}
 use Rattle.gptp_topology.specs.declared.times.CalmTime.{CalmTime}
-use Rattle.gptp_accuracy.proofs.CalmLemmas.{calm_dec}
+use Rattle.gptp_topology.proofs.RestLemmas.{calm_dec}
 use Rattle.gptp_lint.specs.Components.{AreComponents, IsChance, IsBestsMoment, apart_from, nobody_from}
 use Rattle.gptp_lint.specs.Findings.{AreFound}
-use Rattle.gptp_lint.specs.Graph.{NodesHaveOctets}
+use Rattle.gptp_lint.specs.Graph.{GraphState, HaveOctets, graph_after}
 use Rattle.gptp_lint.specs.Labels.{bests_in, labels_in}
 use Rattle.gptp_lint.specs.Laws.{EachIsFound}
-use Rattle.gptp_lint.specs.Moments.{AreSorted, Stands, chance_at, edge_after, node_after}
+use Rattle.gptp_lint.specs.Moments.{AreSorted, chance_at}
 use Rattle.gptp_lint.specs.Trouble.{longs_of, lossies_of}
 use Rattle.gptp_lint.specs.Unlinked.{AreUnlinked, is_linked, unlinked_in}
 use Rattle.gptp_lint.specs.declared.components.Apart.{Apart}
@@ -43,8 +45,6 @@ use Rattle.gptp_lint.specs.declared.components.Components.{Components}
 use Rattle.gptp_lint.specs.declared.components.Moment.{Moment}
 use Rattle.gptp_lint.specs.declared.components.Nobody.{Nobody}
 use Rattle.gptp_lint.specs.declared.findings.Findings.{Findings}
-use Rattle.gptp_lint.specs.declared.graph.Graph.{Graph}
-use Rattle.gptp_lint.specs.declared.graph.Node.{Node}
 use Rattle.gptp_lint.proofs.FewLemmas.{few_apart, few_bests, few_chances, few_kept, few_longs, few_lossies, few_meant, few_nobody, few_times}
 use Rattle.gptp_lint.proofs.FoundLemmas.{found}
 use Rattle.gptp_lint.proofs.MomentLemmas.{is_chance, is_moment}
@@ -66,32 +66,20 @@ held xs few = record {
 -- ---- how a network stands after events, and the bests then
 
 module _ (n : NetworkState) (network : IsNetwork n) (events : List Timed) where
-  few_nodes : length (map (node_after events) n.systems) ≤ 512
-  few_nodes =
-      let long = length-map n.systems (node_after events) in
+  few_systems : length (systems_after n events) ≤ 512
+  few_systems =
+      let long = length-map n.systems (system_then events) in
       let few = network.few_systems in
       omega arith
 
-  few_edges : length (map (edge_after n events) n.links) ≤ 2048
-  few_edges =
-      let long = length-map n.links (edge_after n events) in
-      let few = network.few_links in
-      omega arith
+  abbrev graph_then : GraphState
+  graph_then = graph_after n events
 
-  abbrev graph_then : Graph
-  graph_then = record {
-    nodes = held (map (node_after events) n.systems) (omega (arith, few_nodes));
-    edges = held (map (edge_after n events) n.links) (omega (arith, few_edges));
-  }
-
-  stands_so : Stands n events graph_then
-  stands_so = record { nodes = refl; edges = refl }
-
-  nodes_octets : ((t : Timed) → In t events → SetsOctets t.act) → NodesHaveOctets (map (node_after events) n.systems)
-  nodes_octets sets o member =
-      let (m, among, is) = from_map (node_after events) o n.systems member in
+  have_octets : ((t : Timed) → In t events → SetsOctets t.act) → HaveOctets (systems_after n events)
+  have_octets sets o member =
+      let (m, among, is) = from_map (system_then events) o n.systems member in
       let (place, there) = slice_get-In m n.systems among in
-      subst (λ (p : Node). p.identity < 2 ^ 112) is
+      subst (λ (p : System). p.identity < 2 ^ 112) is
       (stands_below events sets (clock_of m.identity) (standing m) (network.identities place m there))
 
   -- these are the bests then, and no more of them than systems
@@ -104,12 +92,11 @@ module _ (n : NetworkState) (network : IsNetwork n) (events : List Timed) where
   bests_exist sets =
       let (bests, moved, sorted) = sorted_exists (bests_in (labels_in graph_then)) in
       let long = length_permutation (bests_in (labels_in graph_then)) bests moved in
-      let few : length (bests_in (labels_in graph_then)) ≤ length (map (node_after events) n.systems) =
-      few_bests graph_then in
-      let most = few_nodes in
+      let few : length (bests_in (labels_in graph_then)) ≤ length (systems_after n events) = few_bests graph_then in
+      let most = few_systems in
       record {
         bests = bests;
-        are = record { all = moved; sorted = sorted; octets = nodes_octets sets };
+        are = record { all = moved; sorted = sorted; octets = have_octets sets };
         few = omega arith;
       }
 
@@ -169,8 +156,7 @@ module _ (d : DocumentState) (network : IsNetwork d.network)
       let m : Moment = record { at = at; bests = held have.bests (omega (arith, have.few)) } in
       record {
         moment = m;
-        is = is_moment d network (events_by at d.events) (graph_then d.network network (events_by at d.events)) at m
-            (stands_so d.network network (events_by at d.events)) (record { at_is = refl; bests = have.are }) refl;
+        is = is_moment d network (events_by at d.events) at m (record { at_is = refl; bests = have.are }) refl;
         at_is = refl;
         few = have.few;
       }
@@ -250,13 +236,12 @@ module _ (d : DocumentState) (network : IsNetwork d.network)
   chances_exist : HaveChances
   chances_exist =
       let have = bests_exist d.network network d.events sets in
-      let g : Graph = graph_then d.network network d.events in
+      let g : GraphState = graph_after d.network d.events in
       let most = have.few in
       let short = few_chances (labels_in g) have.bests in
       record {
         pairs = flat_map (chance_at (labels_in g)) have.bests;
-        are = is_chance d network g (flat_map (chance_at (labels_in g)) have.bests)
-            (stands_so d.network network d.events)
+        are = is_chance d network (flat_map (chance_at (labels_in g)) have.bests)
             (record { bests = have.bests; are = have.are; pairs_are = refl });
         few = omega arith;
       }

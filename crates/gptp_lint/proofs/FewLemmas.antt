@@ -21,6 +21,7 @@ use Rattle.gptp_topology.specs.Times.{times_from}
 use Rattle.gptp_topology.specs.Trouble.{loss_in_use}
 use Rattle.gptp_topology.specs.declared.course.Standing.{Standing}
 use Rattle.gptp_lint.specs.Components.{apart_at, apart_from, decides_by_clock, is_told, nobody_at, nobody_from, nobody_if}
+use Rattle.gptp_lint.specs.Graph.{GraphState}
 use Rattle.gptp_lint.specs.Labels.{lone_label, best_at, bests_in, joined, joined_all, labels_in, live_best, relabelled, second_in, united, united_if}
 use Rattle.gptp_lint.specs.Moments.{chance_at, chance_if}
 use Rattle.gptp_lint.specs.Trouble.{long_of, longs_of, lossies_of, next_other, lossy_stretch, stretches}
@@ -28,7 +29,6 @@ use Rattle.gptp_lint.specs.declared.components.Apart.{Apart}
 use Rattle.gptp_lint.specs.declared.components.Moment.{Moment}
 use Rattle.gptp_lint.specs.declared.components.Nobody.{Nobody}
 use Rattle.gptp_lint.specs.declared.graph.Edge.{Edge}
-use Rattle.gptp_lint.specs.declared.graph.Graph.{Graph}
 use Rattle.gptp_lint.specs.declared.labels.Label.{Label}
 use Rattle.gptp_lint.specs.declared.trouble.Lossy.{Lossy}
 
@@ -154,12 +154,12 @@ same_joined_all [] ls = refl
 same_joined_all (e ∷ es) ls = same_joined_all es (joined e ls) ∙ same_joined e ls
 
 -- no more bests than systems
-pub few_bests : (g : Graph) → length (bests_in (labels_in g)) ≤ length g.nodes.items
+pub few_bests : (g : GraphState) → length (bests_in (labels_in g)) ≤ length g.systems
 few_bests g =
     let bests : length (bests_in (labels_in g)) ≤ length (labels_in g) * 1 =
     few_flat best_at 1 (labels_in g) (λ l member. one_or_none (l.lives && (l.best == l.identity)) l.identity) in
-    let same : length (labels_in g) ≡ length g.nodes.items =
-    same_joined_all g.edges.items (map lone_label g.nodes.items) ∙ length-map g.nodes.items lone_label in
+    let same : length (labels_in g) ≡ length g.systems =
+    same_joined_all g.edges (map lone_label g.systems) ∙ length-map g.systems lone_label in
     omega arith
 
 few_chance : (best : ℕ) (second : Option ℕ) → length (chance_if best second) ≤ 1

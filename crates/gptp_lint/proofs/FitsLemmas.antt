@@ -17,57 +17,52 @@ use Rattle.gptp_network.specs.Snapshot.{StandsAfter, has_clock, joins_two, link_
 use Rattle.gptp_network.proofs.InUseLemmas.{runs}
 use Rattle.gptp_network.proofs.PassLemmas.{given, kept, passes_at}
 use Rattle.gptp_network.proofs.SnapshotLemmas.{In-permutation, clock_after, from_filter_map, with_clock}
-use Rattle.gptp_lint.specs.Graph.{first_node, place_in}
+use Rattle.gptp_topology.specs.After.{system_then, systems_after}
+use Rattle.gptp_topology.specs.Tables.{clocks_of}
+use Rattle.gptp_lint.specs.Graph.{edge_after, place_in}
 use Rattle.gptp_lint.specs.Labels.{lone_label}
-use Rattle.gptp_lint.specs.Moments.{edge_after, node_after, node_place}
 use Rattle.gptp_lint.specs.declared.graph.Edge.{Edge}
-use Rattle.gptp_lint.specs.declared.graph.Node.{Node}
 use Rattle.gptp_lint.specs.declared.labels.Label.{Label}
 use Rattle.gptp_lint.proofs.LabelLemmas.{Fits, Joining, Links, Lives, own_clock}
 
 -- ---- the place of a clock
 
--- what stands there has the clock
-place_is : (clock : ℕ) (os : List Node) (o : Node) → slice_get os (place_in clock os) ≡ Some o → o.clock ≡ clock
-place_is clock [] o there = absurd cc
-place_is clock (p ∷ os) o there = by (place_is clock os o) (p.clock == clock) refl there
+-- what stands there is the clock
+place_is : (clock : ℕ) (cs : List ℕ) (c : ℕ) → slice_get cs (place_in clock cs) ≡ Some c → c ≡ clock
+place_is clock [] c there = absurd cc
+place_is clock (d ∷ cs) c there = by (place_is clock cs c) (d == clock) refl there
   where
-    by : (slice_get os (place_in clock os) ≡ Some o → o.clock ≡ clock) → (test : Bool) → (p.clock == clock) ≡ test
-        → slice_get (p ∷ os) (cond test 0 (suc (place_in clock os))) ≡ Some o
-        → o.clock ≡ clock
-    by rest true is there = ap (λ (q : Node). q.clock) (sym (some_same p o there)) ∙ eqb-true p.clock clock is
+    by : (slice_get cs (place_in clock cs) ≡ Some c → c ≡ clock) → (test : Bool) → (d == clock) ≡ test
+        → slice_get (d ∷ cs) (cond test 0 (suc (place_in clock cs))) ≡ Some c
+        → c ≡ clock
+    by rest true is there = sym (some_same d c there) ∙ eqb-true d clock is
     by rest false is there = rest there
 
--- where clocks differ, what has the clock stands there
-abbrev Once : List Node → Type 0
-Once os = (i j : ℕ) (o p : Node) → slice_get os i ≡ Some o → slice_get os j ≡ Some p → o.clock ≡ p.clock → i ≡ j
+-- where clocks differ, the clock stands nowhere else
+abbrev Once : List ℕ → Type 0
+Once cs = (i j c : ℕ) → slice_get cs i ≡ Some c → slice_get cs j ≡ Some c → i ≡ j
 
-is_place : (clock : ℕ) (os : List Node) → Once os → (i : ℕ) (o : Node) → slice_get os i ≡ Some o → o.clock ≡ clock
-    → place_in clock os ≡ i
-is_place clock [] once i o there is = absurd cc
-is_place clock (p ∷ os) once zero o there is =
-    let first : p.clock ≡ clock = ap (λ (q : Node). q.clock) (some_same p o there) ∙ is in
-    ap (λ test. cond test 0 (suc (place_in clock os))) (eq-eqb p.clock clock first)
-is_place clock (p ∷ os) once (suc i) o there is =
-    let apart : p.clock ≡ clock → ⊥ =
-    λ same. (let none : zero ≡ suc i = once zero (suc i) p o refl there (same ∙ sym is) in omega arith) in
-    let behind : Once os =
-    λ k j q r at here same. (let e : suc k ≡ suc j = once (suc k) (suc j) q r at here same in omega arith) in
-    ap (λ test. cond test 0 (suc (place_in clock os))) (ne_eqb p.clock clock apart)
-    ∙ ap suc (is_place clock os behind i o there is)
+is_place : (clock : ℕ) (cs : List ℕ) → Once cs → (i : ℕ) → slice_get cs i ≡ Some clock → place_in clock cs ≡ i
+is_place clock [] once i there = absurd cc
+is_place clock (d ∷ cs) once zero there =
+    ap (λ test. cond test 0 (suc (place_in clock cs))) (eq-eqb d clock (some_same d clock there))
+is_place clock (d ∷ cs) once (suc i) there =
+    let apart : d ≡ clock → ⊥ =
+    λ same. (let none : zero ≡ suc i = once zero (suc i) clock (ap Some same) there in omega arith) in
+    let behind : Once cs =
+    λ k j c at here. (let e : suc k ≡ suc j = once (suc k) (suc j) c at here in omega arith) in
+    ap (λ test. cond test 0 (suc (place_in clock cs))) (ne_eqb d clock apart)
+    ∙ ap suc (is_place clock cs behind i there)
 
 -- ---- systems and links
 
 module _ (n : NetworkState) (network : IsNetwork n) (events : List Timed) (g : Snapshot)
     (stands : StandsAfter n events g) where
   abbrev label_after : SystemSpec → Label
-  label_after m = lone_label (node_after events m)
-
-  abbrev first_nodes : List Node
-  first_nodes = map (λ (m : SystemSpec). first_node m.identity) n.systems
+  label_after m = lone_label (system_then events m)
 
   abbrev labels : List Label
-  labels = map lone_label (map (node_after events) n.systems)
+  labels = map lone_label (systems_after n events)
 
   abbrev edges : List Edge
   edges = map (edge_after n events) n.links
@@ -80,26 +75,28 @@ module _ (n : NetworkState) (network : IsNetwork n) (events : List Timed) (g : S
 
   member_at : (place : ℕ) (l : Label) → slice_get labels place ≡ Some l → Member_at place l
   member_at place l there =
-      let (o, at, is) = mapped lone_label (map (node_after events) n.systems) place l there in
-      let (m, here, same) = mapped (node_after events) n.systems place o at in
+      let (o, at, is) = mapped lone_label (systems_after n events) place l there in
+      let (m, here, same) = mapped (system_then events) n.systems place o at in
       record { member = m; there = here; is = ap lone_label same ∙ is }
 
   label_at : (place : ℕ) (m : SystemSpec) → slice_get n.systems place ≡ Some m
       → slice_get labels place ≡ Some (label_after m)
   label_at place m there =
-      mapped_there lone_label (map (node_after events) n.systems) place (node_after events m)
-      (mapped_there (node_after events) n.systems place m there)
+      mapped_there lone_label (systems_after n events) place (system_then events m)
+      (mapped_there (system_then events) n.systems place m there)
 
   -- a label has the clock of its member
   label_clock : (m : SystemSpec) → own_clock (label_after m) ≡ clock_of m.identity
   label_clock m = clock_after events m
 
-  node_once : Once first_nodes
-  node_once i j o p at there same =
-      let (m, m-there, m-is) = mapped (λ (m : SystemSpec). first_node m.identity) n.systems i o at in
-      let (k, k-there, k-is) = mapped (λ (m : SystemSpec). first_node m.identity) n.systems j p there in
-      network.clocks i j m k m-there k-there
-      (ap (λ (q : Node). q.clock) m-is ∙ same ∙ sym (ap (λ (q : Node). q.clock) k-is))
+  abbrev clock_in : SystemSpec → ℕ
+  clock_in m = clock_of m.identity
+
+  clock_once : Once (clocks_of n)
+  clock_once i j c at there =
+      let (m, m-there, m-is) = mapped clock_in n.systems i c at in
+      let (k, k-there, k-is) = mapped clock_in n.systems j c there in
+      network.clocks i j m k m-there k-there (m-is ∙ sym k-is)
 
   -- a system that lives is one of the snapshot
   system_for : (m : SystemSpec) → In m n.systems → (system_after events m).live ≡ true
@@ -138,24 +135,24 @@ module _ (n : NetworkState) (network : IsNetwork n) (events : List Timed) (g : S
       (eq-eqb s.clock (own_clock l) (ap own_clock at.is))
 
   -- the label at the place of a link's end has the clock of that end
-  end_clock : (clock : ℕ) (l : Label) → slice_get labels (node_place n clock) ≡ Some l → own_clock l ≡ clock
+  end_clock : (clock : ℕ) (l : Label) → slice_get labels (place_in clock (clocks_of n)) ≡ Some l → own_clock l ≡ clock
   end_clock clock l there =
-      let at = member_at (node_place n clock) l there in
+      let at = member_at (place_in clock (clocks_of n)) l there in
       ap own_clock (sym at.is) ∙ label_clock at.member
-      ∙ place_is clock first_nodes (first_node at.member.identity)
-      (mapped_there (λ (m : SystemSpec). first_node m.identity) n.systems (node_place n clock) at.member at.there)
+      ∙ place_is clock (clocks_of n) (clock_in at.member)
+      (mapped_there clock_in n.systems (place_in clock (clocks_of n)) at.member at.there)
 
   -- and the system there lives, if one of the snapshot has that clock
   live_end : (clock : ℕ) → has_clock g.systems clock ≡ true
-      → (l : Label) × Lives labels (node_place n clock) l × (own_clock l ≡ clock)
+      → (l : Label) × Lives labels (place_in clock (clocks_of n)) l × (own_clock l ≡ clock)
   live_end clock has =
       let (s, live, named) = with_clock g.systems clock has in
       let m = living s live in
       let (place, there) = slice_get-In m.member n.systems m.among in
       let clock_is : clock_of m.member.identity ≡ clock =
       sym (clock_after events m.member) ∙ ap (λ (t : System). t.clock) m.is ∙ named in
-      let here = is_place clock first_nodes node_once place (first_node m.member.identity)
-      (mapped_there (λ (m : SystemSpec). first_node m.identity) n.systems place m.member there) clock_is in (
+      let here = is_place clock (clocks_of n) clock_once place
+      (mapped_there clock_in n.systems place m.member there ∙ ap Some clock_is) in (
         label_after m.member,
         record {
           there = subst (λ i. slice_get labels i ≡ Some (label_after m.member)) (sym here)

@@ -1,8 +1,8 @@
 -- No link is told of, and Sync is never late, exactly where each time is calm.
-use Rattle.std.proofs.Common.{◌≡◌, ◌↔◌, ℕ, false, [], Option, Some, None, refl, sym, ap, subst}
+use Rattle.std.proofs.Common.{◌≡◌, ◌↔◌, ℕ, false, [], Option, Some, None, refl, sym, ap, subst, ◌∙◌}
 use Rattle.std.specs.Option.{option_to_list}
 use Rattle.gptp_lists.specs.Members.{In}
-use Rattle.gptp_lists.proofs.SystemSpecLemmas.{In-map, from_map, slice_get-In}
+use Rattle.gptp_lists.proofs.SystemSpecLemmas.{In-map, from_map}
 use Rattle.gptp_setup.specs.declared.setup.Params.{Params}
 use Rattle.gptp_scenario.specs.Calm.{AllRest, Rests}
 use Rattle.gptp_scenario.specs.Network.{IsNetwork}
@@ -17,6 +17,7 @@ use Rattle.gptp_topology.specs.Trouble.{is_long, loss_in_use}
 use Rattle.gptp_topology.specs.declared.course.Standing.{Standing}
 use Rattle.gptp_topology.proofs.CourseLemmas.{course_is, stood}
 use Rattle.gptp_topology.proofs.RestLemmas.{all_in, in_all, in_time, not_late, rests_from, rests_to}
+use Rattle.gptp_topology.proofs.StandingLemmas.{standing_is}
 use Rattle.gptp_lint.specs.Findings.{IsAlwaysCalm}
 use Rattle.gptp_lint.specs.Trouble.{longs_of, lossies_of}
 use Rattle.gptp_lint.proofs.TroubleLemmas.{no_long, no_lossy, none_at_all, none_of, not_long, not_lossy}
@@ -37,9 +38,12 @@ module _ (d : DocumentState) (network : IsNetwork d.network) (order : AreInOrder
       let f = stood d.events (first w) in
       let there : In (f at) (course_of d.events w) =
       subst (In (f at)) (sym (course_is d.events w order)) (In-map f at (times_of d.events) time) in
-      rests_from params d.network.systems (events_by at d.events) w
-      (not_long params (course_of d.events w) (none_told _ (none_of _ d.network.links long w member)) (f at) there)
-      (not_lossy w.bounds.link (course_of d.events w) (none_of _ d.network.links lossy w member) (f at) there))
+      let stands = standing_is d.network network (events_by at d.events) w member in
+      rests_from d.network (events_by at d.events) w
+      (sym (ap (is_long params) stands)
+      ∙ not_long params (course_of d.events w) (none_told _ (none_of _ d.network.links long w member)) (f at) there)
+      (sym (ap loss_in_use stands)
+      ∙ not_lossy w.bounds.link (course_of d.events w) (none_of _ d.network.links lossy w member) (f at) there))
 
   -- how a link of the network stands at a time that is calm
   stands_quiet : IsAlwaysCalm d → (w : LinkSpec) → In w d.network.links → (s : Standing) → In s (course_of d.events w)
@@ -47,11 +51,11 @@ module _ (d : DocumentState) (network : IsNetwork d.network) (order : AreInOrder
   stands_quiet calm w member s stands =
       let f = stood d.events (first w) in
       let (at, time, is) = from_map f s (times_of d.events) (subst (In s) (course_is d.events w order) stands) in
-      let (place, there) = slice_get-In w d.network.links member in
-      let wire = network.links place w there in
+      let stands = standing_is d.network network (events_by at d.events) w member in
+      let (long, lossy) = rests_to d.network (events_by at d.events) w
+      (all_in (Rests params d.network.systems (events_by at d.events)) w d.network.links (calm at time).links member) in
       subst (λ r. (is_long params r ≡ false) × (loss_in_use r ≡ 0)) is
-      (rests_to params d.network.systems (events_by at d.events) w wire.a wire.b
-      (all_in (Rests params d.network.systems (events_by at d.events)) w d.network.links (calm at time).links member))
+      (ap (is_long params) stands ∙ long, ap loss_in_use stands ∙ lossy)
 
   no_long_where_calm : IsAlwaysCalm d → longs_of d d.network.links ≡ []
   no_long_where_calm calm = none_at_all _ d.network.links (λ w member.

@@ -1,13 +1,13 @@
 -- How the bests of components are found: links join systems one after another (profile).
 use Rattle.std.specs.Prelude.{ℕ, ◌==◌, ◌&&◌, not, nat_lt, if◌then◌else◌, List, [], ◌∷◌, map, Option, Some, None, slice_get}
 use Rattle.std.specs.List.{flat_map}
+use Rattle.gptp_topology.specs.declared.nodes.System.{System}
+use Rattle.gptp_lint.specs.Graph.{GraphState}
 use Rattle.gptp_lint.specs.declared.graph.Edge.{Edge}
-use Rattle.gptp_lint.specs.declared.graph.Graph.{Graph}
-use Rattle.gptp_lint.specs.declared.graph.Node.{Node}
 use Rattle.gptp_lint.specs.declared.labels.Label.{Label}
 
 -- a system that isn't joined to another
-abbrev pub lone_label : Node → Label
+abbrev pub lone_label : System → Label
 lone_label o = record { identity = o.identity; lives = o.lives; best = o.identity }
 
 -- another best for one
@@ -43,8 +43,8 @@ joined_all [] ls = ls
 joined_all (e ∷ es) ls = joined_all es (joined e ls)
 
 -- the systems, each with the best of its component
-abbrev pub labels_in : Graph → List Label
-labels_in g = joined_all g.edges.items (map lone_label g.nodes.items)
+abbrev pub labels_in : GraphState → List Label
+labels_in g = joined_all g.edges (map lone_label g.systems)
 
 -- the identity of a system that is the best of its component
 abbrev pub best_at : Label → List ℕ

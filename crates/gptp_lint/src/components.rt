@@ -4,7 +4,8 @@ ghost use Rattle.std.specs.Prelude.{◌≡◌, ◌++◌, [], map, OnOk, IfOk};
 ghost use Rattle.std.specs.List.{flat_map};
 ghost use Rattle.gptp_topology.specs.Course.{cable_of};
 ghost use Rattle.gptp_lint.specs.Components.{AreComponents, AreMoments, apart_at, apart_from, are_alike, decides_by_clock, can_be_grandmaster, is_told, nobody_at, nobody_from, nobody_if, was_best};
-ghost use Rattle.gptp_lint.specs.Moments.{AreChancesOf, IsMomentOf, MomentIsTold, Stands, chance_at};
+ghost use Rattle.gptp_lint.specs.Graph.{IsGraph, graph_seen};
+ghost use Rattle.gptp_lint.specs.Moments.{AreChancesOf, IsMomentOf, MomentIsTold, chance_at};
 
 use crate::graph::Graph;
 use crate::labels::{Label, bests_of, labels_of, second_of};
@@ -47,7 +48,7 @@ pub(crate) struct Moment {
 
 /// The bests of the components of a network as it stands, at a time.
 fn moment_of(alloc: Global, graph: &Graph, at: u64) -> Result<Moment, AllocError>
-    ensures { IfOk result (IsMomentOf graph.now at) }
+    ensures { IfOk result (IsMomentOf (graph_seen graph.now) at) }
 {
     let labels = labels_of(alloc, graph)?;
     let bests = bests_of(alloc, &labels)?;
@@ -62,7 +63,7 @@ fn tell(
     at: u64,
     next: u64,
 ) -> Result<(), AllocError>
-    ensures { OnOk result (MomentIsTold graph.now at next moments.old.items moments.new.items) }
+    ensures { OnOk result (MomentIsTold (graph_seen graph.now) at next moments.old.items moments.new.items) }
 {
     if next != at {
         let moment = moment_of(alloc, graph, at)?;
@@ -73,9 +74,9 @@ fn tell(
 
 /// The moments of a document, and how its network, which stands as at first, stands after all its events.
 fn follow(alloc: Global, document: &Document, graph: &mut Graph) -> Result<Vec<Moment>, AllocError>
-    requires { Stands document.now.network [] graph.old }
+    requires { IsGraph document.now.network [] graph.old }
     ensures moments { IfOk result (λ moments. AreMoments document.now moments.items) }
-    ensures graph { OnOk result (Stands document.now.network document.now.events graph.new) }
+    ensures graph { OnOk result (IsGraph document.now.network document.now.events graph.new) }
 {
     document.network().well_formed();
     document.well_formed();
@@ -85,7 +86,7 @@ fn follow(alloc: Global, document: &Document, graph: &mut Graph) -> Result<Vec<M
     for event in events {
         tell(alloc, &mut moments, graph, at, event.at)?;
         at = event.at;
-        graph.act(&event.act);
+        graph.tables.act(&event.act);
     }
     let moment = moment_of(alloc, graph, at)?;
     moments.push(moment)?;
@@ -236,7 +237,7 @@ fn chances_in(
 
 /// The two best of each component between which a clock decides, in a network as it stands.
 fn chances_of(alloc: Global, graph: &Graph) -> Result<Vec<(Identity, Identity)>, AllocError>
-    ensures { IfOk result (λ chance. AreChancesOf graph.now chance.items) }
+    ensures { IfOk result (λ chance. AreChancesOf (graph_seen graph.now) chance.items) }
 {
     let labels = labels_of(alloc, graph)?;
     let bests = bests_of(alloc, &labels)?;

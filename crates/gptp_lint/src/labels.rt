@@ -1,12 +1,14 @@
 //! Which systems are of one component, and which of them is the best.
 
-ghost use Rattle.std.specs.Prelude.{◌≡◌, ◌<◌, ◌^◌, ◌++◌, map, None, IfOk, OnOk};
+ghost use Rattle.std.specs.Prelude.{◌≡◌, ◌<◌, ◌+◌, ◌^◌, ◌++◌, drop, map, None, IfOk, OnOk};
 ghost use Rattle.std.specs.List.Sorted.{IsPermutation, IsSorted};
 ghost use Rattle.std.specs.Ordering.{nat_cmp};
-ghost use Rattle.gptp_lint.specs.Graph.{NodesHaveOctets};
+ghost use Rattle.gptp_topology.specs.Tables.{systems_in};
+ghost use Rattle.gptp_lint.specs.Graph.{HaveOctets, edges_in, graph_seen};
 ghost use Rattle.gptp_lint.specs.Labels.{lone_label, best_at, bests_in, better_label, joined, joined_all, labels_in, live_best, relabelled, second_in, united, with_other};
 
-use crate::graph::{Edge, Graph, Node};
+use crate::graph::{Edge, Ends, Graph, edge_at};
+use gptp_topology::{Node, Standing, System};
 use gptp_vector::Identity;
 use std::alloc::{AllocError, Global};
 
@@ -19,33 +21,33 @@ pub(crate) struct Label {
 }
 
 /// The identity of a system.
-fn identity_of(node: &Node) -> Identity
-    ensures { result ≡ node.now.identity }
+fn identity_of(system: &System) -> Identity
+    ensures { result ≡ system.now.identity }
 {
-    node.identity
+    system.identity
 }
 
 /// A system that isn't joined to another.
-fn alone(node: &Node) -> Label
-    ensures is { result ≡ lone_label node.now }
+fn alone(system: &System) -> Label
+    ensures is { result ≡ lone_label system.now }
     ensures octets { result.identity < 2 ^ 112 }
 {
-    let identity = identity_of(node);
+    let identity = identity_of(system);
     Label {
         identity,
-        lives: node.lives,
+        lives: system.lives,
         best: identity,
     }
 }
 
 /// Systems none of which is joined to another.
 fn all_alone(alloc: Global, nodes: &[Node]) -> Result<Vec<Label>, AllocError>
-    ensures are { IfOk result (λ labels. labels.items ≡ map lone_label nodes.now) }
-    ensures octets { IfOk result (λ labels. NodesHaveOctets nodes.now) }
+    ensures are { IfOk result (λ labels. labels.items ≡ map lone_label (systems_in nodes.now)) }
+    ensures octets { IfOk result (λ labels. HaveOctets (systems_in nodes.now)) }
 {
     let mut labels = Vec::new(alloc);
     for node in nodes {
-        labels.push(alone(node))?;
+        labels.push(alone(&node.system))?;
     }
     Ok(labels)
 }
@@ -102,22 +104,34 @@ fn join(labels: &mut [Label], edge: &Edge)
     }
 }
 
-/// Joins the systems at the ends of each of these links.
-fn join_all(labels: &mut [Label], edges: &[Edge])
-    ensures { labels.new ≡ joined_all edges.now labels.old }
+/// Joins the systems at the ends of the link at a place, where links have these ends and stand so.
+fn join_at(labels: &mut [Label], ends: &[Ends], standings: &[Standing], place: usize)
+    ensures { joined_all (drop (place + 1) (edges_in ends.now standings.now)) labels.new
+        ≡ joined_all (drop place (edges_in ends.now standings.now)) labels.old }
 {
-    for edge in edges {
-        join(labels, edge);
+    match edge_at(ends, standings, place) {
+        Some(edge) => join(labels, &edge),
+        None => {}
+    }
+}
+
+/// Joins the systems at the ends of each link, where links have these ends and stand so.
+fn join_all(labels: &mut [Label], ends: &[Ends], standings: &[Standing])
+    ensures { labels.new ≡ joined_all (edges_in ends.now standings.now) labels.old }
+{
+    for place in 0..ends.len() {
+        join_at(labels, ends, standings, place);
     }
 }
 
 /// The systems, each with the best of its component, if it lives.
 pub(crate) fn labels_of(alloc: Global, graph: &Graph) -> Result<Vec<Label>, AllocError>
-    ensures are { IfOk result (λ labels. labels.items ≡ labels_in graph.now) }
-    ensures octets { IfOk result (λ labels. NodesHaveOctets graph.now.nodes.items) }
+    ensures are { IfOk result (λ labels. labels.items ≡ labels_in (graph_seen graph.now)) }
+    ensures octets { IfOk result (λ labels. HaveOctets (graph_seen graph.now).systems) }
 {
-    let mut labels = all_alone(alloc, &graph.nodes)?;
-    join_all(labels.as_mut_slice(), &graph.edges);
+    let tables = &graph.tables;
+    let mut labels = all_alone(alloc, &tables.nodes)?;
+    join_all(labels.as_mut_slice(), &graph.ends, &tables.standings);
     Ok(labels)
 }
 

@@ -11,7 +11,7 @@ ghost use Rattle.gptp_scenario.specs.SettlingTime.{settles};
 ghost use Rattle.gptp_network.specs.Adding.{adding_fault, with_event, with_first};
 ghost use Rattle.gptp_network.specs.Events.{AreEvents, IsInRange};
 ghost use Rattle.gptp_network.specs.Faults.{RefusesDocument};
-ghost use Rattle.gptp_network.specs.Snapshot.{IsSnapshot};
+ghost use Rattle.gptp_network.specs.Snapshot.{IsSnapshot, events_by};
 ghost use Rattle.gptp_network.specs.Document.{Parses, Means, Fails, IsNoToml, document_of};
 ghost use Rattle.gptp_network.specs.ReadDocument.{read_document, read_version, read_whole_network};
 ghost use Rattle.gptp_network.specs.Why.{StopsAt};
@@ -100,6 +100,15 @@ impl Document {
         ensures { IfOk result (IsSnapshot self.now at) }
     {
         Snapshot::after(alloc, &self.network, events_by(&self.events, at))
+    }
+
+    /// The events with time up to a time, in ns.
+    pub fn events_by(&self, until: u64) -> &[Timed]
+        ensures events { result.now ≡ events_by until self.now.events }
+        ensures allowed { AreAllowed result.now }
+    {
+        self.well_formed();
+        events_by(self.events(), until)
     }
 
     /// The time of the last event, in ns, or 0.

@@ -1,9 +1,11 @@
 -- Whether the systems at the ends of a link live after events.
-use Rattle.std.proofs.Common.{◌≡◌, ℕ, Bool, true, false, ◌==◌, cond, List, [], ◌∷◌, refl, sym, ap, ◌∙◌}
+use Rattle.std.proofs.Common.{◌≡◌, ℕ, Bool, true, false, ◌==◌, ◌&&◌, cond, List, [], ◌∷◌, refl, sym, ap, ◌∙◌}
+use Rattle.std.proofs.lemmas.Bool.{and_from, and_parts, eq-eqb, eqb-true}
+use Rattle.gptp_lists.proofs.SystemSpecLemmas.{In-slice_get}
 use Rattle.gptp_roles.specs.Selection.{clock_of}
 use Rattle.gptp_vector.specs.declared.port.PortId.{PortId}
-use Rattle.gptp_scenario.specs.Calm.{IsLive}
 use Rattle.gptp_scenario.specs.Change.{standing, system_acted, system_after, system_changed, system_stands, with_live, with_priority1}
+use Rattle.gptp_scenario.specs.InUse.{lives}
 use Rattle.gptp_scenario.specs.Network.{IsPort}
 use Rattle.gptp_scenario.specs.declared.change.Act.{Act}
 use Rattle.gptp_scenario.specs.declared.change.Act.TheVariants as acts
@@ -11,6 +13,7 @@ use Rattle.gptp_scenario.specs.declared.change.Change.{Change}
 use Rattle.gptp_scenario.specs.declared.change.Change.TheVariants as changes
 use Rattle.gptp_scenario.specs.declared.change.Timed.{Timed}
 use Rattle.gptp_scenario.specs.declared.network.SystemSpec.{SystemSpec}
+use Rattle.gptp_network.proofs.PassLemmas.{passes, passes_at, same_tests}
 use Rattle.gptp_topology.specs.Course.{lives_acted}
 
 -- whether a system lives after a change stands by whether it lived before, whatever its identity
@@ -59,18 +62,18 @@ pub member_lives : (events : List Timed) (m : SystemSpec)
     → lives_after events (clock_of m.identity) true ≡ (system_after events m).live
 member_lives events m = sym (stands_lives events (clock_of m.identity) (standing m))
 
--- the system at a port of the network lives exactly where it does by its clock
-pub live_from : (members : List SystemSpec) (events : List Timed) (p : PortId) → IsPort members p
-    → lives_after events p.clock true ≡ true → IsLive members events p.clock
-live_from members events p port lives = record {
-  place = port.place;
-  system = port.system;
-  there = port.there;
-  clock = port.clock;
-  live = sym (member_lives events port.system) ∙ ap (λ own. lives_after events own true) port.clock ∙ lives;
-}
-
-pub live_to : (members : List SystemSpec) (events : List Timed) (own : ℕ) → IsLive members events own
-    → lives_after events own true ≡ true
-live_to members events own live =
-    ap (λ own. lives_after events own true) (sym live.clock) ∙ member_lives events live.system ∙ live.live
+-- the system at a port of the network lives where one with its clock does
+pub lives_is : (members : List SystemSpec) (events : List Timed) (p : PortId) → IsPort members p
+    → lives_after events p.clock true ≡ lives members events p.clock
+lives_is members events p port =
+    same_tests (lives_after events p.clock true) (lives members events p.clock)
+    (λ is. passes_at (λ m. clock_of m.identity == p.clock && (system_after events m).live) members port.system
+    (In-slice_get port.system members port.place port.there)
+    (and_from (clock_of port.system.identity == p.clock) (system_after events port.system).live
+    (eq-eqb (clock_of port.system.identity) p.clock port.clock)
+    (sym (member_lives events port.system) ∙ ap (λ own. lives_after events own true) port.clock ∙ is)))
+    (λ is. let (m, member, both) =
+    passes (λ m. clock_of m.identity == p.clock && (system_after events m).live) members is in
+    let (named, live) = and_parts (clock_of m.identity == p.clock) (system_after events m).live both in
+    ap (λ own. lives_after events own true) (sym (eqb-true (clock_of m.identity) p.clock named))
+    ∙ member_lives events m ∙ live)

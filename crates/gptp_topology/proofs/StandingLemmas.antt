@@ -8,19 +8,23 @@ use Rattle.gptp_lists.specs.Members.{In}
 use Rattle.gptp_lists.proofs.SystemSpecLemmas.{In-map, In-slice_get, slice_get-In}
 use Rattle.gptp_vector.specs.declared.port.PortId.{PortId}
 use Rattle.gptp_roles.specs.Selection.{clock_of}
+use Rattle.gptp_scenario.specs.Change.{standing, system_acted, system_stands}
+use Rattle.gptp_scenario.specs.InUse.{lives}
 use Rattle.gptp_scenario.specs.Network.{IsNetwork, IsPort, NetworkState}
 use Rattle.gptp_scenario.specs.declared.change.Act.{Act}
 use Rattle.gptp_scenario.specs.declared.change.Timed.{Timed}
 use Rattle.gptp_scenario.specs.declared.network.SystemSpec.{SystemSpec}
 use Rattle.gptp_scenario.specs.declared.network.LinkSpec.{LinkSpec}
-use Rattle.gptp_topology.specs.Course.{acted, cable_of, first, lives_acted, named, cable_wire}
-use Rattle.gptp_topology.specs.Tables.{TablesActed, AreFirstTables, AreMarked, NodeState, acted_along, acted_at, cables_of, clocks_of, led, neighbours_at, neighbours_of, node_acted, tables_seen}
+use Rattle.gptp_topology.specs.After.{Stand, node_after, standing_then, standings_after, system_then, systems_after}
+use Rattle.gptp_topology.specs.Course.{acted, cable_of, cable_wire, first, named}
+use Rattle.gptp_topology.specs.Tables.{NodeState, TablesActed, acted_along, acted_at, acted_system, cables_of, clocks_of, led, neighbours_at, neighbours_of, node_acted, systems_in, tables_seen}
 use Rattle.gptp_topology.specs.declared.course.Cable.{Cable}
 use Rattle.gptp_topology.specs.declared.course.Standing.{Standing}
 use Rattle.gptp_topology.specs.declared.nodes.Node.{Node}
+use Rattle.gptp_topology.specs.declared.nodes.System.{System}
 use Rattle.gptp_topology.specs.declared.tables.Tables.{Tables}
-use Rattle.gptp_topology.proofs.CourseLemmas.{after, cable_after, one_more, same_a, same_b}
-use Rattle.gptp_topology.proofs.LivesLemmas.{lives_after}
+use Rattle.gptp_topology.proofs.CourseLemmas.{a_after, after, b_after, cable_after, one_more, same_a, same_b}
+use Rattle.gptp_topology.proofs.LivesLemmas.{lives_is}
 use Rattle.gptp_topology.proofs.NamedLemmas.{untouched}
 
 -- ---- an act meets the links at a system
@@ -121,25 +125,54 @@ beyond act (s ∷ ss) (suc place) past = ap (λ rs. s ∷ rs) (beyond act ss pla
 
 -- ---- how the tables stand
 
--- the system with this clock
-abbrev pub node_after : List Timed → List Cable → ℕ → NodeState
-node_after events cables own =
-    record { clock = own; lives = lives_after events own true; neighbours = neighbours_of own cables }
+pub maps_twice : {X Y Z : Type 0} (f : Y → Z) (g : X → Y) (h : X → Z) (xs : List X) → ((x : X) → f (g x) ≡ h x)
+    → map f (map g xs) ≡ map h xs
+maps_twice f g h [] same = refl
+maps_twice f g h (x ∷ xs) same = ap₂ (λ y ys. y ∷ ys) (same x) (maps_twice f g h xs same)
 
--- after these events
-pub record Stand (n : NetworkState) (events : List Timed) (t : Tables) : Type 0 where
-  pub params : t.params ≡ n.params
-  pub nodes : map tables_seen t.nodes.items ≡ map (node_after events (cables_of n)) (clocks_of n)
-  pub standings : t.standings.items ≡ map (λ w. after events (first w)) n.links
-  pub marks : AreMarked t
+maps_in : {X Y : Type 0} (f g : X → Y) (xs : List X) → ((x : X) → In x xs → f x ≡ g x) → map f xs ≡ map g xs
+maps_in f g [] same = refl
+maps_in f g (x ∷ xs) same =
+    ap₂ (λ y ys. y ∷ ys) (same x (inl refl)) (maps_in f g xs (λ y member. same y (inr member)))
+
+-- a link, as it stands at first, after events
+abbrev pub after_first : List Timed → LinkSpec → Standing
+after_first events w = after events (first w)
+
+at_after : (ts : List Timed) (s : Standing) → (after ts s).at ≡ s.at
+at_after [] s = refl
+at_after (t ∷ ts) s = at_after ts (acted t.act s)
+
+module _ (n : NetworkState) (network : IsNetwork n) (events : List Timed) where
+  pub standing_is : (w : LinkSpec) → In w n.links → after events (first w) ≡ standing_then n events w
+  standing_is w member =
+      let (place, there) = slice_get-In w n.links member in
+      let wire = network.links place w there in
+      let a : (after events (first w)).a_lives ≡ lives n.systems events w.a.clock =
+      a_after events (first w) ∙ lives_is n.systems events w.a wire.a in
+      let b : (after events (first w)).b_lives ≡ lives n.systems events w.b.clock =
+      b_after events (first w) ∙ lives_is n.systems events w.b wire.b in
+      λ i. record {
+        at = at_after events (first w) i;
+        cable = cable_after events (first w) i;
+        a_lives = a i;
+        b_lives = b i;
+      }
+
+  pub standings_are : map (after_first events) n.links ≡ standings_after n events
+  standings_are = maps_in (after_first events) (standing_then n events) n.links standing_is
+
+-- the tables of a network have its systems
+pub systems_are : (n : NetworkState) (events : List Timed) (t : Tables) → Stand n events t
+    → systems_in t.nodes.items ≡ systems_after n events
+systems_are n events t stand =
+    sym (maps_twice (λ (s : NodeState). s.system) tables_seen (λ (o : Node). o.system) t.nodes.items (λ o. refl))
+    ∙ ap (map (λ (s : NodeState). s.system)) stand.nodes
+    ∙ maps_twice (λ (s : NodeState). s.system) (node_after (cables_of n) events) (system_then events) n.systems
+    (λ m. refl)
 
 pub starts : (ws : List LinkSpec) → map (λ c. first (cable_wire c)) (map cable_of ws) ≡ map first ws
-starts [] = refl
-starts (w ∷ ws) = ap (λ ss. first w ∷ ss) (starts ws)
-
-pub stand_first : (n : NetworkState) (t : Tables) → AreFirstTables n t → Stand n [] t
-stand_first n t are =
-    record { params = are.params; nodes = are.nodes; standings = are.standings; marks = are.marks }
+starts ws = maps_twice (λ c. first (cable_wire c)) cable_of first ws (λ w. refl)
 
 -- ---- the links at the system with a clock
 
@@ -149,42 +182,45 @@ same_heads x y xs ys e = cc
 same_tails : {X : Type 0} (x y : X) (xs ys : List X) → x ∷ xs ≡ y ∷ ys → xs ≡ ys
 same_tails x y xs ys e = cc
 
-pub maps_alike : {X Y : Type 0} (f g : X → Y) (xs : List X) → ((x : X) → f x ≡ g x) → map f xs ≡ map g xs
-maps_alike f g [] same = refl
-maps_alike f g (x ∷ xs) same = ap₂ (λ y ys. y ∷ ys) (same x) (maps_alike f g xs same)
+abbrev clock_in : SystemSpec → ℕ
+clock_in m = clock_of m.identity
 
 module _ (events : List Timed) (cables : List Cable) (clock : ℕ) where
   -- the neighbours are those of the first system with the clock, or there is none
-  abbrev Looked : List Node → List ℕ → Type 0
-  Looked os owns =
+  abbrev Looked : List Node → List SystemSpec → Type 0
+  Looked os ms =
       (neighbours_at clock os ≡ neighbours_of clock cables)
-      ⊎ ((neighbours_at clock os ≡ []) × (In clock owns → ⊥))
+      ⊎ ((neighbours_at clock os ≡ []) × (In clock (map clock_in ms) → ⊥))
 
-  looked : (os : List Node) (owns : List ℕ) → map tables_seen os ≡ map (node_after events cables) owns → Looked os owns
+  looked : (os : List Node) (ms : List SystemSpec) → map tables_seen os ≡ map (node_after cables events) ms
+      → Looked os ms
   looked [] [] are = inr (refl, λ none. absurd none)
-  looked [] (own ∷ owns) are = absurd cc
+  looked [] (m ∷ ms) are = absurd cc
   looked (o ∷ os) [] are = absurd cc
-  looked (o ∷ os) (own ∷ owns) are =
-      by (o.clock == clock) refl
-      (looked os owns (same_tails (tables_seen o) (node_after events cables own) (map tables_seen os)
-      (map (node_after events cables) owns) are))
+  looked (o ∷ os) (m ∷ ms) are =
+      by (o.system.clock == clock) refl
+      (looked os ms (same_tails (tables_seen o) (node_after cables events m) (map tables_seen os)
+      (map (node_after cables events) ms) are))
     where
-      head : tables_seen o ≡ node_after events cables own
+      head : tables_seen o ≡ node_after cables events m
       head =
-          same_heads (tables_seen o) (node_after events cables own) (map tables_seen os)
-          (map (node_after events cables) owns) are
+          same_heads (tables_seen o) (node_after cables events m) (map tables_seen os)
+          (map (node_after cables events) ms) are
 
-      by : (test : Bool) → (o.clock == clock) ≡ test → Looked os owns
+      own : o.system.clock ≡ clock_of m.identity
+      own = ap (λ (s : NodeState). s.system.clock) head
+
+      by : (test : Bool) → (o.system.clock == clock) ≡ test → Looked os ms
           → (cond test o.neighbours.items (neighbours_at clock os) ≡ neighbours_of clock cables)
-          ⊎ ((cond test o.neighbours.items (neighbours_at clock os) ≡ []) × (In clock (own ∷ owns) → ⊥))
+          ⊎ ((cond test o.neighbours.items (neighbours_at clock os) ≡ []) × (In clock (map clock_in (m ∷ ms)) → ⊥))
       by true is rest =
           inl (ap (λ (s : NodeState). s.neighbours) head
-          ∙ ap (λ c. neighbours_of c cables) (sym (ap (λ (s : NodeState). s.clock) head) ∙ eqb-true o.clock clock is))
+          ∙ ap (λ c. neighbours_of c cables) (sym own ∙ eqb-true o.system.clock clock is))
       by false is (inl same) = inl same
       by false is (inr (none, nowhere)) = inr (
         none,
         λ member. elim member [
-          | inl here ↦ eqb-false o.clock clock is (ap (λ (s : NodeState). s.clock) head ∙ sym here)
+          | inl here ↦ eqb-false o.system.clock clock is (own ∙ sym here)
           | inr there ↦ nowhere there
         ],
       )
@@ -217,46 +253,40 @@ module _ (n : NetworkState) (network : IsNetwork n) where
   pub neighbours_are : (events : List Timed) (t : Tables) (clock : ℕ) → Stand n events t
       → neighbours_at clock t.nodes.items ≡ neighbours_of clock (cables_of n)
   neighbours_are events t clock stand =
-      by (looked events (cables_of n) clock t.nodes.items (clocks_of n) stand.nodes)
+      by (looked events (cables_of n) clock t.nodes.items n.systems stand.nodes)
     where
-      by : Looked events (cables_of n) clock t.nodes.items (clocks_of n)
+      by : Looked events (cables_of n) clock t.nodes.items n.systems
           → neighbours_at clock t.nodes.items ≡ neighbours_of clock (cables_of n)
       by (inl same) = same
       by (inr (none, nowhere)) = none ∙ sym (no_link clock (clocks_of n) n.links nowhere ends_known)
 
 -- ---- one event more
 
-lives_more : (done : List Timed) (t : Timed) (own : ℕ) (lives : Bool)
-    → lives_acted t.act own (lives_after done own lives) ≡ lives_after (done ++ t ∷ []) own lives
-lives_more [] t own lives = refl
-lives_more (u ∷ done) t own lives = lives_more done t own (lives_acted u.act own lives)
+stands_more : (done : List Timed) (t : Timed) (own : ℕ) (s : _)
+    → system_acted t.act own (system_stands done own s) ≡ system_stands (done ++ t ∷ []) own s
+stands_more [] t own s = refl
+stands_more (u ∷ done) t own s = stands_more done t own (system_acted u.act own s)
 
-nodes_more : (done : List Timed) (t : Timed) (cables : List Cable) (os : List Node) (owns : List ℕ)
-    → map tables_seen os ≡ map (node_after done cables) owns
-    → map tables_seen (map (node_acted t.act) os) ≡ map (node_after (done ++ t ∷ []) cables) owns
-nodes_more done t cables [] [] are = refl
-nodes_more done t cables [] (own ∷ owns) are = absurd cc
-nodes_more done t cables (o ∷ os) [] are = absurd cc
-nodes_more done t cables (o ∷ os) (own ∷ owns) are =
-    let head =
-    same_heads (tables_seen o) (node_after done cables own) (map tables_seen os)
-    (map (node_after done cables) owns) are in
-    let tail =
-    same_tails (tables_seen o) (node_after done cables own) (map tables_seen os)
-    (map (node_after done cables) owns) are in
-    ap₂ (λ x xs. x ∷ xs)
-    (ap
-    (λ (s : NodeState).
-    record { clock = s.clock; lives = lives_acted t.act s.clock s.lives; neighbours = s.neighbours }) head
-    ∙ ap (λ lives. record { clock = own; lives = lives; neighbours = neighbours_of own cables })
-    (lives_more done t own true))
-    (nodes_more done t cables os owns tail)
+system_more : (done : List Timed) (t : Timed) (m : SystemSpec)
+    → acted_system t.act (system_then done m) ≡ system_then (done ++ t ∷ []) m
+system_more done t m =
+    let more = stands_more done t (clock_of m.identity) (standing m) in
+    λ i. record { clock = clock_of m.identity; identity = (more i).identity; lives = (more i).live }
 
-pub ends_a : (events : List Timed) (w : LinkSpec) → (after events (first w)).cable.a ≡ w.a
-ends_a events w = ap (λ (c : Cable). c.a) (cable_after events (first w)) ∙ same_a events w
+-- what an act makes of a system with the links at it
+abbrev seen_acted : Act → NodeState → NodeState
+seen_acted act s = record { system = acted_system act s.system; neighbours = s.neighbours }
 
-pub ends_b : (events : List Timed) (w : LinkSpec) → (after events (first w)).cable.b ≡ w.b
-ends_b events w = ap (λ (c : Cable). c.b) (cable_after events (first w)) ∙ same_b events w
+nodes_more : (done : List Timed) (t : Timed) (cables : List Cable) (os : List Node) (ms : List SystemSpec)
+    → map tables_seen os ≡ map (node_after cables done) ms
+    → map tables_seen (map (node_acted t.act) os) ≡ map (node_after cables (done ++ t ∷ [])) ms
+nodes_more done t cables os ms are =
+    maps_twice tables_seen (node_acted t.act) (λ (o : Node). seen_acted t.act (tables_seen o)) os (λ o. refl)
+    ∙ sym (maps_twice (seen_acted t.act) tables_seen (λ (o : Node). seen_acted t.act (tables_seen o)) os (λ o. refl))
+    ∙ ap (map (seen_acted t.act)) are
+    ∙ maps_twice (seen_acted t.act) (node_after cables done) (node_after cables (done ++ t ∷ [])) ms
+    (λ m. ap (λ (s : System). record { system = s; neighbours = neighbours_of (clock_of m.identity) cables })
+    (system_more done t m))
 
 pub stand_more : (n : NetworkState) → IsNetwork n → (done : List Timed) (t : Timed) (old new : Tables)
     → Stand n done old → TablesActed t.act old new → Stand n (done ++ t ∷ []) new
@@ -264,23 +294,30 @@ stand_more n network done t old new stand acts = record {
   params = acts.params ∙ stand.params;
   nodes =
       ap (map tables_seen) acts.nodes
-      ∙ nodes_more done t (cables_of n) old.nodes.items (clocks_of n) stand.nodes;
+      ∙ nodes_more done t (cables_of n) old.nodes.items n.systems stand.nodes;
   standings =
       acts.standings
-      ∙ ap₂ (acted_along t.act) (neighbours_are n network done old (named t.act) stand) stand.standings
-      ∙ all t.act (λ w. after done (first w)) (ends_a done) (ends_b done) n.links [] 0 refl
+      ∙ ap₂ (acted_along t.act) (neighbours_are n network done old (named t.act) stand)
+      (stand.standings ∙ sym (standings_are n network done))
+      ∙ all t.act (after_first done) (ends_a done) (ends_b done) n.links [] 0 refl
       (numbered_from n.links 0 (λ i w there. let is = (network.links i w there).number in omega (arith, is)))
-      ∙ maps_alike (λ w. acted t.act (after done (first w))) (λ w. after (done ++ t ∷ []) (first w)) n.links
-      (λ w. one_more done t (first w));
+      ∙ maps_in (λ w. acted t.act (after_first done w)) (after_first (done ++ t ∷ [])) n.links
+      (λ w member. one_more done t (first w))
+      ∙ standings_are n network (done ++ t ∷ []);
   marks = acts.marks;
 }
+  where
+    ends_a : (events : List Timed) (w : LinkSpec) → (after_first events w).cable.a ≡ w.a
+    ends_a events w = ap (λ (c : Cable). c.a) (cable_after events (first w)) ∙ same_a events w
+
+    ends_b : (events : List Timed) (w : LinkSpec) → (after_first events w).cable.b ≡ w.b
+    ends_b events w = ap (λ (c : Cable). c.b) (cable_after events (first w)) ∙ same_b events w
 
 pub few_nodes : (n : NetworkState) → IsNetwork n → (events : List Timed) (t : Tables) → Stand n events t
     → length t.nodes.items ≤ 512
 few_nodes n network events t stand =
     let limit = network.few_systems in
     let nodes = length-map t.nodes.items tables_seen in
-    let clocks = length-map n.systems (λ (m : SystemSpec). clock_of m.identity) in
-    let both = length-map (clocks_of n) (node_after events (cables_of n)) in
+    let systems = length-map n.systems (node_after (cables_of n) events) in
     let same = ap length stand.nodes in
-    omega (arith, limit, nodes, clocks, both, same)
+    omega (arith, limit, nodes, systems, same)

@@ -1,23 +1,26 @@
 -- How the systems and the links of a document stand, by place, and what bounds its settling then (profile).
-use Rattle.std.specs.Prelude.{◌≡◌, ℕ, zero, suc, ◌+◌, ◌==◌, ◌&&◌, ◌||◌, max, min, nat_le, not, Bool, true, false, if◌then◌else◌, List, [], ◌∷◌, ◌++◌, map, Option, Some, None, slice_get}
+use Rattle.std.specs.Prelude.{◌≡◌, ℕ, zero, suc, ◌+◌, ◌==◌, ◌&&◌, ◌||◌, max, min, nat_le, not, Bool, false, if◌then◌else◌, List, [], ◌∷◌, ◌++◌, map, Option, Some, None, slice_get}
 use Rattle.std.specs.List.{count_by, flat_map, list_any}
 use Rattle.std.specs.Option.{is_some, option_or}
 use Rattle.gptp_roles.specs.Selection.{clock_of}
 use Rattle.gptp_setup.specs.SettlingParams.{lapse_span}
 use Rattle.gptp_setup.specs.declared.setup.Params.{Params}
+use Rattle.gptp_scenario.specs.Change.{system_acted, system_changed}
 use Rattle.gptp_scenario.specs.Network.{NetworkState, pace_of}
 use Rattle.gptp_scenario.specs.SettlingTime.{settling_span_with}
 use Rattle.gptp_scenario.specs.SyncWait.{sync_wait}
 use Rattle.gptp_scenario.specs.declared.change.Act.{Act}
+use Rattle.gptp_scenario.specs.declared.change.Change.{Change}
 use Rattle.gptp_scenario.specs.declared.network.SystemSpec.{SystemSpec}
 use Rattle.gptp_scenario.specs.declared.sync_wait.SyncPaths.{SyncPaths}
-use Rattle.gptp_topology.specs.Course.{acted, cable_of, first, cable_is_used, is_link_named, lives_acted, named}
-use Rattle.gptp_topology.specs.Trouble.{is_long, loss_in_use}
+use Rattle.gptp_topology.specs.Course.{acted, cable_of, cable_is_used, is_link_named, named}
+use Rattle.gptp_topology.specs.Trouble.{is_troubled}
 use Rattle.gptp_topology.specs.declared.course.Cable.{Cable}
 use Rattle.gptp_topology.specs.declared.course.Standing.{Standing}
 use Rattle.gptp_topology.specs.declared.times.CalmTime.{CalmTime}
 use Rattle.gptp_topology.specs.declared.nodes.Neighbour.{Neighbour}
 use Rattle.gptp_topology.specs.declared.nodes.Node.{Node}
+use Rattle.gptp_topology.specs.declared.nodes.System.{System}
 use Rattle.gptp_topology.specs.declared.tables.Mark.{Mark}
 use Rattle.gptp_topology.specs.declared.tables.Tables.{Tables}
 
@@ -34,30 +37,49 @@ led clock c =
 abbrev pub neighbours_of : ℕ → List Cable → List Neighbour
 neighbours_of clock = flat_map (led clock)
 
--- a system: its clock, whether it lives, and the links at it
+-- a system, and the links at it
 pub record NodeState : Type 0 where
-  pub clock : ℕ
-  pub lives : Bool
+  pub system : System
   pub neighbours : List Neighbour
 
 abbrev pub tables_seen : Node → NodeState
-tables_seen o = record { clock = o.clock; lives = o.lives; neighbours = o.neighbours.items }
+tables_seen o = record { system = o.system; neighbours = o.neighbours.items }
 
-abbrev pub node_of : List Cable → ℕ → NodeState
-node_of cables clock = record { clock = clock; lives = true; neighbours = neighbours_of clock cables }
+abbrev pub node_with : List Cable → System → NodeState
+node_with cables s = record { system = s; neighbours = neighbours_of s.clock cables }
 
 abbrev pub clocks_of : NetworkState → List ℕ
 clocks_of n = map (λ (m : SystemSpec). clock_of m.identity) n.systems
 
--- what an act makes of a system
+-- what a change makes of a system, and an act
+abbrev pub changed_system : Change → System → System
+changed_system change s = record {
+  clock = s.clock;
+  identity = (system_changed change s.clock (record { identity = s.identity; live = s.lives })).identity;
+  lives = (system_changed change s.clock (record { identity = s.identity; live = s.lives })).live;
+}
+
+abbrev pub acted_system : Act → System → System
+acted_system act s = record {
+  clock = s.clock;
+  identity = (system_acted act s.clock (record { identity = s.identity; live = s.lives })).identity;
+  lives = (system_acted act s.clock (record { identity = s.identity; live = s.lives })).live;
+}
+
 abbrev pub node_acted : Act → Node → Node
-node_acted act o =
-    record { clock = o.clock; lives = lives_acted act o.clock o.lives; neighbours = o.neighbours }
+node_acted act o = record { system = acted_system act o.system; neighbours = o.neighbours }
+
+-- the systems, and whether one has this clock
+abbrev pub systems_in : List Node → List System
+systems_in = map (λ (o : Node). o.system)
+
+abbrev pub has_clock : ℕ → System → Bool
+has_clock clock s = s.clock == clock
 
 -- the links at the system with a clock
 abbrev pub neighbours_at : ℕ → List Node → List Neighbour
 neighbours_at clock [] = []
-neighbours_at clock (o ∷ os) = if o.clock == clock then o.neighbours.items else neighbours_at clock os
+neighbours_at clock (o ∷ os) = if o.system.clock == clock then o.neighbours.items else neighbours_at clock os
 
 -- links stand so, of which an act meets the one at a place, or these one after another
 abbrev pub acted_at : Act → ℕ → List Standing → List Standing
@@ -77,7 +99,7 @@ delay_in_use s = if cable_is_used s then s.cable.bounds.max else 0
 abbrev pub mark_of : Params → Standing → Mark
 mark_of p s = record {
   used = cable_is_used s;
-  troubled = is_long p s || not (loss_in_use s == 0);
+  troubled = is_troubled p s;
   delay = delay_in_use s;
 }
 
@@ -111,37 +133,29 @@ abbrev pub leads_to_two : List Mark → List Neighbour → Bool
 leads_to_two marks os = elsewhere marks os (first_used marks os)
 
 abbrev pub marked_between : List Mark → Node → Bool
-marked_between marks o = o.lives && leads_to_two marks o.neighbours.items
+marked_between marks o = o.system.lives && leads_to_two marks o.neighbours.items
 
 -- how many systems a path has at most
 abbrev pub marked_path_bound : List Mark → List Node → ℕ
-marked_path_bound marks os = min (count_by (marked_between marks) os + 2) (count_by (λ (o : Node). o.lives) os)
+marked_path_bound marks os = min (count_by (marked_between marks) os + 2) (count_by (λ (o : Node). o.system.lives) os)
 
 -- something may lapse for want of Sync
 abbrev pub may_lapse : Params → Bool
 may_lapse p = not (p.sync_timeout == 0)
-
--- what Sync has to cross; where nothing may lapse for want of it delays don't count
-abbrev pub crossing_delay : Params → List Mark → ℕ
-crossing_delay p marks = if may_lapse p then greatest_used marks else 0
-
-abbrev pub paths_of : Params → List Mark → List Node → SyncPaths
-paths_of p marks os = record { systems = marked_path_bound marks os; delay = crossing_delay p marks }
 
 -- for how long at most a settled system waits for Sync, where that isn't below the timeout
 abbrev pub late_of : Params → SyncPaths → Option ℕ
 late_of p paths =
     if may_lapse p && nat_le (lapse_span p) (sync_wait p paths) then Some (sync_wait p paths) else None
 
--- the span, where Sync isn't late and no link in use is too long or loses frames
-abbrev pub bound_of : NetworkState → SyncPaths → List Mark → Option ℕ
-bound_of n paths marks =
-    if is_some (late_of n.params paths) || list_any (λ (m : Mark). m.troubled) marks then None
-    else Some (settling_span_with (pace_of n) paths paths.systems)
-
 -- neither is Sync late, nor is a link in use too long or loses frames
 abbrev pub are_calm : Params → SyncPaths → List Mark → Bool
 are_calm p paths marks = not (is_some (late_of p paths) || list_any (λ (m : Mark). m.troubled) marks)
+
+-- the span, where the network is calm
+abbrev pub bound_of : NetworkState → SyncPaths → List Mark → Option ℕ
+bound_of n paths marks =
+    if are_calm n.params paths marks then Some (settling_span_with (pace_of n) paths paths.systems) else None
 
 -- how many systems a path has at most, and the greatest delay of a link in use
 abbrev pub marked_paths : List Mark → List Node → SyncPaths
@@ -163,8 +177,8 @@ link_named ss act (o ∷ os) = option_or (named_there ss act o.link) (link_named
 abbrev pub time_of : NetworkState → List Mark → List Node → ℕ → CalmTime
 time_of n marks os at = record {
   at = at;
-  bound = bound_of n (paths_of n.params marks os) marks;
-  needs = late_of n.params (paths_of n.params marks os);
+  bound = bound_of n (marked_paths marks os) marks;
+  needs = late_of n.params (marked_paths marks os);
 }
 
 -- it is told where the next time is another
@@ -181,10 +195,3 @@ pub record TablesActed (act : Act) (old new : Tables) : Type 0 where
   pub nodes : new.nodes.items ≡ map (node_acted act) old.nodes.items
   pub standings : new.standings.items ≡ acted_along act (neighbours_at (named act) old.nodes.items) old.standings.items
   pub marks : AreMarked new
-
--- the tables of a network at first
-pub record AreFirstTables (n : NetworkState) (t : Tables) : Type 0 where
-  pub params : t.params ≡ n.params
-  pub nodes : map tables_seen t.nodes.items ≡ map (node_of (cables_of n)) (clocks_of n)
-  pub standings : t.standings.items ≡ map first n.links
-  pub marks : AreMarked t

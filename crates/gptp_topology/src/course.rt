@@ -108,14 +108,7 @@ fn change_cable(change: &Change, cable: &mut Cable)
                 cable.bounds.loss = loss;
             }
         }
-        Change::Fail { clock: _ } => {}
-        Change::Recover { clock: _ } => {}
-        Change::Priority1 { clock: _, value: _ } => {}
-        Change::Inject {
-            clock: _,
-            port: _,
-            octets: _,
-        } => {}
+        _ => {}
     }
 }
 
@@ -125,11 +118,7 @@ fn act_on_cable(act: &Act, cable: &mut Cable)
 {
     match act {
         Act::Change(change) => change_cable(change, cable),
-        Act::Deliver {
-            link: _,
-            direction: _,
-        } => {}
-        Act::Expire { clock: _, timer: _ } => {}
+        _ => {}
     }
 }
 
@@ -140,35 +129,17 @@ fn lives_changed(change: &Change, own: ClockId, lives: bool) -> bool
     match *change {
         Change::Fail { clock } => lives && clock != own,
         Change::Recover { clock } => lives || clock == own,
-        Change::LinkDown { clock: _, port: _ } => lives,
-        Change::LinkUp { clock: _, port: _ } => lives,
-        Change::LinkSet {
-            clock: _,
-            port: _,
-            min: _,
-            max: _,
-            loss: _,
-        } => lives,
-        Change::Priority1 { clock: _, value: _ } => lives,
-        Change::Inject {
-            clock: _,
-            port: _,
-            octets: _,
-        } => lives,
+        _ => lives,
     }
 }
 
 /// Whether the system with this clock lives after an act.
-pub fn lives_acted(act: &Act, own: ClockId, lives: bool) -> bool
+fn lives_acted(act: &Act, own: ClockId, lives: bool) -> bool
     ensures { result ≡ lives_acted act.now own lives }
 {
     match act {
         Act::Change(change) => lives_changed(change, own, lives),
-        Act::Deliver {
-            link: _,
-            direction: _,
-        } => lives,
-        Act::Expire { clock: _, timer: _ } => lives,
+        _ => lives,
     }
 }
 
@@ -265,14 +236,12 @@ fn names_link(change: &Change, cable: &Cable) -> bool
             max: _,
             loss: _,
         } => is_at(clock, port, cable),
-        Change::Fail { clock: _ } => false,
-        Change::Recover { clock: _ } => false,
-        Change::Priority1 { clock: _, value: _ } => false,
         Change::Inject {
             clock,
             port,
             octets: _,
         } => is_at(clock, port, cable),
+        _ => false,
     }
 }
 
@@ -282,11 +251,7 @@ pub(crate) fn is_link_named(act: &Act, cable: &Cable) -> bool
 {
     match act {
         Act::Change(change) => names_link(change, cable),
-        Act::Deliver {
-            link: _,
-            direction: _,
-        } => false,
-        Act::Expire { clock: _, timer: _ } => false,
+        _ => false,
     }
 }
 

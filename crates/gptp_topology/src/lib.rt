@@ -9,8 +9,8 @@ mod tables;
 mod times;
 mod trouble;
 
-pub use course::{Cable, Standing, cables_of, course_of, is_used, lives_acted, named, names_of};
-pub use nodes::{Neighbour, Node};
+pub use course::{Cable, Standing, cables_of, course_of, is_used, named, names_of};
+pub use nodes::{Neighbour, Node, System};
 pub use tables::{Mark, Tables};
-pub use times::{CalmTime, bound_among, calm_times};
+pub use times::{CalmTime, calm_times};
 pub use trouble::{is_long, loss_in_use, needed};

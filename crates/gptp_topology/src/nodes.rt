@@ -1,15 +1,22 @@
-//! The systems of a network, with the links at each.
+//! The systems of a network as they stand, with the links at each.
 
 ghost use Rattle.std.specs.Prelude.{◌≡◌, ◌++◌, ◌∷◌, [], ◌<◌, ◌≤◌, ◌+◌, length, map, take, IfOk, OnOk};
-ghost use Rattle.std.specs.List.{count_by};
-ghost use Rattle.gptp_roles.specs.Selection.{clock_of};
-ghost use Rattle.gptp_scenario.specs.declared.network.SystemSpec.{SystemSpec};
-ghost use Rattle.gptp_topology.specs.Tables.{clocks_of, led, neighbours_at, neighbours_of, node_acted, node_of, tables_seen};
+ghost use Rattle.std.specs.List.{count_by, find};
+ghost use Rattle.gptp_topology.specs.After.{node_after};
+ghost use Rattle.gptp_topology.specs.Tables.{acted_system, changed_system, has_clock, led, neighbours_at, neighbours_of, node_acted, node_with, systems_in, tables_seen};
 
-use crate::course::{Cable, lives_acted};
-use gptp_scenario::{Act, Network};
-use gptp_vector::ClockId;
+use crate::course::Cable;
+use gptp_scenario::{Act, Change, Network};
+use gptp_vector::{ClockId, Identity};
 use std::alloc::{AllocError, Global};
+
+/// A system: its clock, its identity, and whether it lives.
+#[derive(Clone, Copy)]
+pub struct System {
+    pub clock: ClockId,
+    pub identity: Identity,
+    pub lives: bool,
+}
 
 /// A link at a system, by its place, and the system at its other end.
 #[derive(Clone, Copy)]
@@ -18,11 +25,10 @@ pub struct Neighbour {
     pub clock: ClockId,
 }
 
-/// A system: its clock, whether it lives, and the links at it.
+/// A system, and the links at it.
 #[derive(Drop)]
 pub struct Node {
-    pub clock: ClockId,
-    pub lives: bool,
+    pub system: System,
     pub neighbours: Vec<Neighbour>,
 }
 
@@ -63,81 +69,63 @@ fn neighbours_of(
     Ok(neighbours)
 }
 
-/// Puts the system with this clock after others.
+/// Puts a system after others, with those of these links that are at it.
 fn push_node(
     alloc: Global,
     nodes: &mut Vec<Node>,
-    clock: ClockId,
+    system: System,
     cables: &[Cable],
 ) -> Result<(), AllocError>
-    ensures { OnOk result (map tables_seen nodes.new.items ≡ map tables_seen nodes.old.items ++ node_of cables.now clock ∷ []) }
+    ensures { OnOk result (map tables_seen nodes.new.items
+        ≡ map tables_seen nodes.old.items ++ node_with cables.now system ∷ []) }
 {
-    let neighbours = neighbours_of(alloc, clock, cables)?;
-    nodes.push(Node {
-        clock,
-        lives: true,
-        neighbours,
-    })?;
+    let neighbours = neighbours_of(alloc, system.clock, cables)?;
+    nodes.push(Node { system, neighbours })?;
     Ok(())
 }
 
-/// Puts a clock after others.
-fn push_clock(clocks: &mut Vec<ClockId>, clock: ClockId) -> Result<(), AllocError>
-    ensures { OnOk result (clocks.new.items ≡ clocks.old.items ++ clock ∷ []) }
-{
-    clocks.push(clock)?;
-    Ok(())
-}
-
-/// Puts the clock of the system at a place after those of the systems before.
-fn push_clock_at(
-    clocks: &mut Vec<ClockId>,
+/// Puts the system at a place, as it stands before all events, after those before.
+fn push_node_at(
+    alloc: Global,
+    nodes: &mut Vec<Node>,
     network: &Network,
+    cables: &[Cable],
     place: usize,
 ) -> Result<(), AllocError>
     requires place { place < length network.now.systems }
-    requires before { clocks.old.items ≡ map (λ (m : SystemSpec). clock_of m.identity) (take place network.now.systems) }
-    ensures { OnOk result (clocks.new.items
-        ≡ map (λ (m : SystemSpec). clock_of m.identity) (take (place + 1) network.now.systems)) }
+    requires before { map tables_seen nodes.old.items
+        ≡ map (node_after cables.now []) (take place network.now.systems) }
+    ensures { OnOk result (map tables_seen nodes.new.items
+        ≡ map (node_after cables.now []) (take (place + 1) network.now.systems)) }
 {
     match network.system_at(place) {
-        Some(system) => push_clock(clocks, system.0.clock()),
+        Some(system) => push_node(
+            alloc,
+            nodes,
+            System {
+                clock: system.0.clock(),
+                identity: system.0,
+                lives: true,
+            },
+            cables,
+        ),
         None => Ok(()),
     }
 }
 
-/// The clocks of the systems of a network, in its order.
-fn clocks_of(alloc: Global, network: &Network) -> Result<Vec<ClockId>, AllocError>
-    ensures { IfOk result (λ clocks. clocks.items ≡ clocks_of network.now) }
-{
-    let mut clocks = Vec::new(alloc);
-    for place in 0..network.systems() {
-        push_clock_at(&mut clocks, network, place)?;
-    }
-    Ok(clocks)
-}
-
-/// The systems with these clocks, which all live, with those of the links that are at them.
-fn nodes_with(alloc: Global, clocks: &[ClockId], cables: &[Cable]) -> Result<Vec<Node>, AllocError>
-    ensures { IfOk result (λ nodes. map tables_seen nodes.items ≡ map (node_of cables.now) clocks.now) }
-{
-    let mut nodes = Vec::new(alloc);
-    for clock in clocks {
-        push_node(alloc, &mut nodes, *clock, cables)?;
-    }
-    Ok(nodes)
-}
-
-/// The systems of a network with these links, in its order; all live.
+/// The systems of a network with these links, in its order, as they stand before all events.
 pub(crate) fn nodes_of(
     alloc: Global,
     network: &Network,
     cables: &[Cable],
 ) -> Result<Vec<Node>, AllocError>
-    ensures { IfOk result (λ nodes. map tables_seen nodes.items ≡ map (node_of cables.now) (clocks_of network.now)) }
+    ensures { IfOk result (λ nodes. map tables_seen nodes.items ≡ map (node_after cables.now []) network.now.systems) }
 {
-    let clocks = clocks_of(alloc, network)?;
-    nodes_with(alloc, &clocks, cables)
+    let mut nodes = Vec::new(alloc);
+    for place in 0..network.systems() {
+        push_node_at(alloc, &mut nodes, network, cables, place)?;
+    }
+    Ok(nodes)
 }
 
 /// The links at the system with a clock.
@@ -145,11 +133,57 @@ pub(crate) fn neighbours_at(clock: ClockId, nodes: &[Node]) -> &[Neighbour]
     ensures { result.now ≡ neighbours_at clock nodes.now }
 {
     for node in nodes {
-        if node.clock == clock {
+        if node.system.clock == clock {
             return &node.neighbours;
         }
     }
     &[]
+}
+
+/// The system with a clock.
+pub(crate) fn system_at(clock: ClockId, nodes: &[Node]) -> Option<System>
+    ensures { result ≡ find (has_clock clock) (systems_in nodes.now) }
+{
+    for node in nodes {
+        if node.system.clock == clock {
+            return Some(node.system);
+        }
+    }
+    None
+}
+
+/// Does to a system what a change does.
+fn change_system(change: &Change, system: &mut System)
+    ensures { system.new ≡ changed_system change.now system.old }
+{
+    match *change {
+        Change::Fail { clock } => {
+            if clock == system.clock {
+                system.lives = false;
+            }
+        }
+        Change::Recover { clock } => {
+            if clock == system.clock {
+                system.lives = true;
+            }
+        }
+        Change::Priority1 { clock, value } => {
+            if clock == system.clock {
+                system.identity = system.identity.with_priority1(value);
+            }
+        }
+        _ => {}
+    }
+}
+
+/// Does to a system what an act does.
+fn act_on_system(act: &Act, system: &mut System)
+    ensures { system.new ≡ acted_system act.now system.old }
+{
+    match act {
+        Act::Change(change) => change_system(change, system),
+        _ => {}
+    }
 }
 
 /// Does to each system what an act does.
@@ -157,18 +191,18 @@ pub(crate) fn act_on_nodes(nodes: &mut [Node], act: &Act)
     ensures { nodes.new ≡ map (node_acted act.now) nodes.old }
 {
     for node in nodes.iter_mut() {
-        node.lives = lives_acted(act, node.clock, node.lives);
+        act_on_system(act, &mut node.system);
     }
 }
 
 /// How many systems live.
 pub(crate) fn live_nodes(nodes: &[Node]) -> usize
-    ensures count { result ≡ count_by (λ (o : Node). o.lives) nodes.now }
+    ensures count { result ≡ count_by (λ (o : Node). o.system.lives) nodes.now }
     ensures bound { result ≤ length nodes.now }
 {
     let mut count = 0;
     for node in nodes {
-        count += usize::from(node.lives);
+        count += usize::from(node.system.lives);
     }
     count
 }

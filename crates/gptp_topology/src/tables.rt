@@ -1,14 +1,17 @@
 //! How the systems and the links of a network stand, by place, as its events come, and what bounds its settling then.
 
-ghost use Rattle.std.specs.Prelude.{◌≡◌, ◌≤◌, ◌+◌, map, length, IfOk};
-ghost use Rattle.std.specs.List.{count_by, list_any};
+ghost use Rattle.std.specs.Prelude.{◌≡◌, ◌≤◌, ◌+◌, [], map, length, IfOk};
+ghost use Rattle.std.specs.List.{count_by, find, list_any};
+ghost use Rattle.gptp_topology.specs.After.{Stand};
 ghost use Rattle.gptp_topology.specs.Course.{first, cable_wire, named};
-ghost use Rattle.gptp_topology.specs.Tables.{TablesActed, AreFirstTables, AreMarked, acted_along, acted_at, are_calm, bound_of, cables_of, delay_in_use, crossing_delay, first_used, greatest_used, late_of, link_named, marked_elsewhere, leads_to_two, marked_between, mark_of, may_lapse, marked_path_bound, marked_paths, named_there, neighbours_at, paths_of, used_at};
+ghost use Rattle.gptp_topology.specs.Tables.{TablesActed, AreMarked, acted_along, acted_at, are_calm, bound_of, delay_in_use, first_used, greatest_used, has_clock, late_of, link_named, marked_elsewhere, leads_to_two, marked_between, mark_of, may_lapse, marked_path_bound, marked_paths, named_there, neighbours_at, systems_in, used_at};
 
-use crate::course::{Cable, Standing, act, first, is_link_named, is_used, named};
-use crate::nodes::{Neighbour, Node, act_on_nodes, live_nodes, neighbours_at, nodes_of};
-use crate::trouble::{is_long, loss_in_use};
-use gptp_scenario::{Act, Network, Params, SyncPaths};
+use crate::course::{Cable, Standing, act, cables_of, first, is_link_named, is_used, named};
+use crate::nodes::{
+    Neighbour, Node, System, act_on_nodes, live_nodes, neighbours_at, nodes_of, system_at,
+};
+use crate::trouble::is_troubled;
+use gptp_scenario::{Act, Network, Params, SyncPaths, Timed};
 use gptp_setup::lapse_span;
 use gptp_vector::ClockId;
 use std::alloc::{AllocError, Global};
@@ -48,7 +51,7 @@ fn mark_of(params: &Params, standing: &Standing) -> Mark
 {
     Mark {
         used: is_used(standing),
-        troubled: is_long(params, standing) || loss_in_use(standing) != 0,
+        troubled: is_troubled(params, standing),
         delay: delay_in_use(standing),
     }
 }
@@ -118,7 +121,7 @@ fn leads_to_two(marks: &[Mark], neighbours: &[Neighbour]) -> bool
 fn lives_between(marks: &[Mark], node: &Node) -> bool
     ensures { result ≡ marked_between marks.now node.now }
 {
-    node.lives && leads_to_two(marks, &node.neighbours)
+    node.system.lives && leads_to_two(marks, &node.neighbours)
 }
 
 /// How many systems do.
@@ -154,19 +157,8 @@ fn greatest_used(marks: &[Mark]) -> u64
     greatest
 }
 
-/// What counts of it: nothing where nothing may lapse for want of Sync.
-fn delay_of(params: &Params, marks: &[Mark]) -> u64
-    ensures { result ≡ crossing_delay params.now marks.now }
-{
-    if may_lapse(params) {
-        greatest_used(marks)
-    } else {
-        0
-    }
-}
-
 /// Whether some link in use isn't good, or loses frames.
-fn is_troubled(marks: &[Mark]) -> bool
+fn any_troubled(marks: &[Mark]) -> bool
     ensures { result ≡ list_any (λ (m : Mark). m.troubled) marks.now }
 {
     marks.iter().any(|mark| mark.troubled)
@@ -263,12 +255,14 @@ fn link_named(standings: &[Standing], done: &Act, neighbours: &[Neighbour]) -> O
 }
 
 impl Tables {
-    /// The tables of a network with these links, before all events. Refused for want of memory alone.
-    pub fn first(alloc: Global, network: &Network, cables: &[Cable]) -> Result<Self, AllocError>
-        requires { cables.now ≡ cables_of network.now }
-        ensures { IfOk result (AreFirstTables network.now) }
+    /// The tables of a network before all events. Refused for want of memory alone.
+    pub fn first(alloc: Global, network: &Network) -> Result<Self, AllocError>
+        ensures { IfOk result (Stand network.now []) }
     {
+        network.well_formed();
         let params = network.params();
+        let cables = cables_of(alloc, network)?;
+        let cables = cables.as_slice();
         let nodes = nodes_of(alloc, network, cables)?;
         let standings = first_standings(alloc, cables)?;
         let marks = marks_of(alloc, &params, &standings)?;
@@ -278,6 +272,18 @@ impl Tables {
             standings,
             marks,
         })
+    }
+
+    /// The tables of a network after these events. Refused for want of memory alone.
+    pub fn after(alloc: Global, network: &Network, events: &[Timed]) -> Result<Self, AllocError>
+        ensures { IfOk result (Stand network.now events.now) }
+    {
+        network.well_formed();
+        let mut tables = Tables::first(alloc, network)?;
+        for event in events {
+            tables.act(&event.act);
+        }
+        Ok(tables)
     }
 
     /// Does what an act does.
@@ -307,6 +313,13 @@ impl Tables {
         )
     }
 
+    /// The system that an act names.
+    pub fn system_named(&self, done: &Act) -> Option<System>
+        ensures { result ≡ find (has_clock (named done.now)) (systems_in self.now.nodes.items) }
+    {
+        system_at(named(done), &self.nodes)
+    }
+
     /// How many systems a path has at most, and the greatest delay of a link in use.
     pub fn sync_paths(&self) -> SyncPaths
         requires { length self.now.nodes.items ≤ 512 }
@@ -326,32 +339,19 @@ impl Tables {
         requires short { paths.delay ≤ 16000000000 }
         ensures { result ≡ are_calm network.now.params paths self.now.marks.items }
     {
-        late_of(network, paths).is_none() && !is_troubled(&self.marks)
+        late_of(network, paths).is_none() && !any_troubled(&self.marks)
     }
 
-    /// What Sync has to cross; where nothing may lapse for want of it delays don't count.
-    pub(crate) fn paths(&self, params: &Params) -> SyncPaths
-        requires { length self.now.nodes.items ≤ 512 }
-        ensures is { result ≡ paths_of params.now self.now.marks.items self.now.nodes.items }
-        ensures few { result.systems ≤ 512 }
-    {
-        SyncPaths {
-            systems: path_bound(&self.marks, &self.nodes),
-            delay: delay_of(params, &self.marks),
-        }
-    }
-
-    /// How long the network takes at most to settle where Sync has these paths to cross, in ns, where it isn't late and
-    /// no link in use is too long or loses frames.
+    /// How long the network takes at most to settle where Sync has these paths to cross, in ns, where it is calm then.
     pub(crate) fn bound(&self, network: &Network, paths: SyncPaths) -> Option<u64>
         requires few { paths.systems ≤ 512 }
         requires short { paths.delay ≤ 16000000000 }
         ensures { result ≡ bound_of network.now paths self.now.marks.items }
     {
-        if late_of(network, paths).is_some() || is_troubled(&self.marks) {
-            None
-        } else {
+        if self.is_calm(network, paths) {
             Some(network.settling_span_with(paths))
+        } else {
+            None
         }
     }
 }

@@ -1,11 +1,9 @@
 //! Each time of a document, with how long its network then takes at most to settle.
 
 ghost use Rattle.std.specs.Prelude.{◌≡◌, ◌≤◌, IfOk, OnOk, length};
-ghost use Rattle.gptp_network.specs.Span.{IsBound};
-ghost use Rattle.gptp_topology.specs.Tables.{cables_of, greatest_used, time_of, told_times};
+ghost use Rattle.gptp_topology.specs.Tables.{greatest_used, time_of, told_times};
 ghost use Rattle.gptp_topology.specs.Times.{AreCalmTimes};
 
-use crate::course::{Cable, cables_of};
 use crate::tables::{Tables, late_of};
 use gptp_network::Document;
 use gptp_scenario::Network;
@@ -28,7 +26,7 @@ fn time_of(tables: &Tables, network: &Network, at: u64) -> CalmTime
     requires short { greatest_used tables.now.marks.items ≤ 16000000000 }
     ensures { result ≡ time_of network.now tables.now.marks.items tables.now.nodes.items at }
 {
-    let paths = tables.paths(&network.params());
+    let paths = tables.sync_paths();
     CalmTime {
         at,
         bound: tables.bound(network, paths),
@@ -55,20 +53,15 @@ fn tell(
     Ok(())
 }
 
-/// Each time of a document whose links are these.
-fn calm_times_over(
-    alloc: Global,
-    document: &Document,
-    cables: &[Cable],
-) -> Result<Vec<CalmTime>, AllocError>
-    requires { cables.now ≡ cables_of document.now.network }
+/// Each time of a document: 0, and those of its events, each once, in their order. Refused for want of memory alone.
+pub fn calm_times(alloc: Global, document: &Document) -> Result<Vec<CalmTime>, AllocError>
     ensures { IfOk result (λ times. AreCalmTimes document.now times.items) }
 {
     document.network().well_formed();
     document.well_formed();
     let network = document.network();
     let events = document.events();
-    let mut tables = Tables::first(alloc, network, cables)?;
+    let mut tables = Tables::first(alloc, network)?;
     let mut calm = Vec::new(alloc);
     let mut at = 0;
     for event in events {
@@ -78,33 +71,4 @@ fn calm_times_over(
     }
     calm.push(time_of(&tables, network, at))?;
     Ok(calm)
-}
-
-/// Each time of a document: 0, and those of its events, each once, in their order. Refused for want of memory alone.
-pub fn calm_times(alloc: Global, document: &Document) -> Result<Vec<CalmTime>, AllocError>
-    ensures { IfOk result (λ times. AreCalmTimes document.now times.items) }
-{
-    let cables = cables_of(alloc, document.network())?;
-    calm_times_over(alloc, document, &cables)
-}
-
-/// How long the network of a document, whose times these are, takes at most to settle from a time on, in ns, where it
-/// is calm then: as they tell, or, of a time that isn't among them, as the document is asked. Refused for want of
-/// memory alone.
-pub fn bound_among(
-    alloc: Global,
-    document: &Document,
-    times: &[CalmTime],
-    at: u64,
-) -> Result<Option<u64>, AllocError>
-    requires { AreCalmTimes document.now times.now }
-    ensures { IfOk result (IsBound document.now at) }
-{
-    if let Ok(place) = times.binary_search_by_key(&at, |time| time.at) {
-        let time = times[place];
-        if time.at == at {
-            return Ok(time.bound);
-        }
-    }
-    document.bound_at(alloc, at)
 }

@@ -1,7 +1,7 @@
 //! Whether a link in use is good, and how many frames it loses.
 
 ghost use Rattle.std.specs.Prelude.{◌≡◌};
-ghost use Rattle.gptp_topology.specs.Trouble.{is_long, loss_in_use, needed};
+ghost use Rattle.gptp_topology.specs.Trouble.{is_long, is_troubled, loss_in_use, needed};
 
 use crate::course::{Standing, is_used};
 use gptp_scenario::Params;
@@ -32,4 +32,11 @@ pub fn loss_in_use(standing: &Standing) -> u16
     } else {
         0
     }
+}
+
+/// Whether a link is in use, and then isn't good or loses frames.
+pub(crate) fn is_troubled(params: &Params, standing: &Standing) -> bool
+    ensures { result ≡ is_troubled params.now standing.now }
+{
+    is_long(params, standing) || loss_in_use(standing) != 0
 }

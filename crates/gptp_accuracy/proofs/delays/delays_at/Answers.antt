@@ -3,7 +3,7 @@ use native.Mathlib.Decide.{dec_lt}
 use Rattle.std.proofs.lemmas.List.{length-map}
 use Rattle.std.proofs.lemmas.Option.{slice_get_read, slice_get_within}
 use Rattle.gptp_lists.proofs.SystemSpecLemmas.{slice_get-In}
-use Rattle.gptp_how_soon.specs.Links.{standing_then}
+use Rattle.gptp_topology.specs.After.{standing_then}
 use Rattle.gptp_accuracy.proofs.DelayLemmas.{delays_found, not_there}
 use Rattle.gptp_accuracy.proofs.delays.delays_at.Goals as goal
 

@@ -1,8 +1,7 @@
-use Rattle.std.proofs.Common.{Some, ap, ◌∙◌, slice_get, subst, sym, ◌≡◌}
+use Rattle.std.proofs.Common.{Some, slice_get, subst, sym, ◌≡◌}
 use native.Mathlib.Decide.{dec_lt}
 use Rattle.std.proofs.Common.{arith}
 use Rattle.std.proofs.lemmas.Option.{slice_get_within}
-use Rattle.gptp_network.specs.Snapshot.{events_by}
 use Rattle.gptp_scenario.specs.Network.{NetworkState}
 use Rattle.gptp_explain.proofs.PortLemmas.{known_there, none_known}
 use Rattle.gptp_explain.proofs.disabled.known_of.Goals as goal
@@ -13,9 +12,8 @@ returns-in-Some c =
     let (w, here, leads) = c.in-Some.ensures.some in
     let there =
     subst (λ (n : NetworkState). slice_get n.links c.loop-place.place ≡ Some w) c.network-network.ensures here in
-    let events = c.events_by-events.ensures ∙ ap (events_by c.args.at) c.events.ensures in
     known_there d c.args.at c.args.port.now w c.in-Some.there c.known_at.result c.loop-place.place there leads
-    c.events_by-events.result.now events (c.known_at.ensures w here)
+    c.events_by-events.result.now c.events_by-events.ensures.events (c.known_at.ensures w here)
 
 pub returns : goal.returns
 returns c =

@@ -11,7 +11,7 @@ loop-node-preserved c =
     let d = c.node-item.result in
     let f = node_acted c.args.act.now in
     let one : Node = get_or c.loop-node.nodes i d in
-    ap (λ lives. slice_set c.loop-node.nodes i
-    (record { clock = one.clock; lives = lives; neighbours = one.neighbours })) c.lives_acted-node.ensures
+    ap (λ system. slice_set c.loop-node.nodes i (record { system = system; neighbours = one.neighbours }))
+    c.act_on_system.ensures
     ∙ ap (λ os. slice_set os i (f (get_or os i d))) c.loop-node.invariant
     ∙ mapped_set f c.args.nodes.now i d c.loop-node-test.true

@@ -6,6 +6,6 @@ use Rattle.gptp_topology.proofs.nodes.live_nodes.Given as goal
 
 abbrev pub invariant-loop-node : goal.invariant-loop-node
 invariant-loop-node l =
-    (l.count + count_by (λ (o : Node). o.lives) (drop l.node-index l.nodes)
-    ≡ count_by (λ (o : Node). o.lives) l.nodes)
+    (l.count + count_by (λ (o : Node). o.system.lives) (drop l.node-index l.nodes)
+    ≡ count_by (λ (o : Node). o.system.lives) l.nodes)
     × (l.count ≤ l.node-index)
