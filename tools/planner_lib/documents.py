@@ -25,6 +25,9 @@ RANGES: dict[str, dict[str, tuple[int, int]]] = {
         "turnaround": (1, 10**9),
         "residence": (1, 10**9),
         "sync_timeout": (0, 10),
+        "granularity": (0, 0),
+        "noise": (0, 0),
+        "window": (1, 1),
     },
     "system": {
         "priority1": (0, 255),
@@ -42,7 +45,7 @@ MOST_SYSTEMS, MOST_LINKS, MOST_PORTS, MOST_EVENTS = 512, 2048, 16, 4096
 LAST_EVENT = 8 * 10**14  # ns
 LF = b"\n"
 # the keys that are times in ns
-TIMES = ("threshold", "turnaround", "residence", "phase", "min", "max")
+TIMES = ("threshold", "turnaround", "residence", "granularity", "noise", "phase", "min", "max")
 
 
 @dataclass(frozen=True, order=True)

@@ -1,7 +1,7 @@
 -- What the machine numbers of src/sums.rt come to.
 use Rattle.std.proofs.Common.{◌≡◌, ℕ, suc, ◌+◌, ◌-◌, ◌*◌, ◌<◌, ◌≤◌, ℤ, pos, neg_ℤ, ◌+ℤ◌, ◌-ℤ◌, ◌*ℤ◌, ◌≤ℤ◌, unsigned_abs, to_z, of_z, refl, sym, ap, subst, ◌∙◌, arith}
 use Rattle.std.specs.Prelude.{min}
-use Rattle.std.specs.Int.{Width, w8, w32, w64, w128, div_ceil, int_div_euclid}
+use Rattle.std.specs.Int.{Width, w32, w64, w128, div_ceil, int_div_euclid}
 use Rattle.std.proofs.lemmas.Grind.{div_ceil_times}
 use Rattle.std.proofs.lemmas.Int.{ints, to_z-of_z}
 use Rattle.std.proofs.Math.Nat.{div-eq_of_lt-le}
@@ -12,12 +12,13 @@ use Rattle.gptp_pdelay.specs.Clock.{IsDrift}
 use Rattle.gptp_pdelay.specs.GoodLink.{ceil_div}
 use Rattle.gptp_pdelay.specs.Measured.{clock_rate}
 use Rattle.gptp_pdelay.proofs.MeasurementLemmas.{clock_counts}
-use Rattle.gptp_setup.specs.Intervals.{IsLog, interval_of}
+use Rattle.gptp_setup.specs.Intervals.{AreParams}
+use Rattle.gptp_setup.specs.Stamping.{blur_of, rate_interval}
 use Rattle.gptp_setup.specs.declared.setup.Params.{Params}
 use Rattle.gptp_error_laws.specs.TimeError.{WayLink, hop_error}
 use Rattle.gptp_accuracy.specs.Sums.{SumsAreWithin, IsLinkWithin, rates_error_of}
 use Rattle.gptp_accuracy.specs.declared.sums.Sums.{Sums}
-use Rattle.gptp_accuracy.proofs.SumLemmas.{IsBehind, gain_high, gain_low, stay_within}
+use Rattle.gptp_accuracy.proofs.SumLemmas.{IsBehind, blur_little, gain_high, gain_low, stay_within}
 
 -- a number that went to bits and is read again
 abbrev pub back : Width → ℤ → ℤ
@@ -25,9 +26,6 @@ back w z = to_z w (of_z w z)
 
 pub drift_back : (drift : ℤ) → IsDrift drift → back w32 drift ≡ drift
 drift_back drift is = to_z-of_z w32 drift (omega (arith, ints, is.low, is.high))
-
-pub log_back : (log : ℤ) → IsLog log → back w8 log ≡ log
-log_back log is = to_z-of_z w8 log (omega (arith, ints, is.low, is.high))
 
 -- what a clock counts
 pub count_back : (drift count wide : ℤ) → IsDrift drift → count ≡ pos (clock_rate (back w32 drift))
@@ -89,24 +87,25 @@ unlike_back s rate true unlike within e f low high g =
 pub record IsMade (p : Params) (s : Sums) (l : WayLink) (interval rate_error hop rates wait : ℕ)
     (steady rate : ℤ) : Type 0
   where
-    pub interval_is : interval ≡ interval_of (back w8 p.pdelay)
-    pub rate_error_is : rate_error ≡ min (ceil_div (2202000000000 * (l.most - l.least)) interval) 879609302 + 4
+    pub interval_is : interval ≡ rate_interval p
+    pub rate_error_is : rate_error
+        ≡ min (ceil_div (2202000000000 * (l.most - l.least + 2 * blur_of p)) interval) 879609302 + 4
     pub steady_is : steady ≡ rate_of (pos (clock_rate (back w32 s.drift))) (pos (clock_rate (back w32 l.drift)))
     pub near : IsNeighborRate steady
     pub rate_is : rate ≡ back w32 steady
-    pub hop_is : hop ≡ hop_error (l.most - l.least) l.most p.turnaround
+    pub hop_is : hop ≡ hop_error (l.most - l.least + 2 * blur_of p) (l.most + blur_of p) p.turnaround
     pub rates_is : rates ≡ rates_error_of s
-    pub wait_is : wait ≡ ceil_div ((p.residence + s.jitter + l.most) * rates) 33550000
+    pub wait_is : wait ≡ ceil_div ((p.residence + s.jitter + (l.most + blur_of p)) * rates) 33550000
 
 module _ (p : Params) (s : Sums) (l : WayLink) (interval rate_error hop rates wait : ℕ) (steady rate : ℤ)
-    (log : IsLog p.pdelay) (within : SumsAreWithin 511 s) (link : IsLinkWithin l)
+    (ranges : AreParams p) (within : SumsAreWithin 511 s) (link : IsLinkWithin l)
     (made : IsMade p s l interval rate_error hop rates wait steady rate) where
   -- the sums that it gives
   abbrev pub given : Sums
   given = record {
     root_drift = back w32 s.root_drift;
     drift = back w32 l.drift;
-    jitter = l.most - l.least;
+    jitter = l.most - l.least + 2 * blur_of p;
     rate_error = s.rate_error + rate_error;
     rate = back w64 (back w64 s.rate +ℤ back w64 rate);
     error = s.error + hop + wait;
@@ -128,8 +127,6 @@ module _ (p : Params) (s : Sums) (l : WayLink) (interval rate_error hop rates wa
 
   pub is_behind : IsBehind p s l given
   is_behind =
-      let interval_back : interval ≡ interval_of p.pdelay =
-      made.interval_is ∙ ap interval_of (log_back p.pdelay log) in
       let own = drift_back s.drift within.drift in
       let next = drift_back l.drift link.drift in
       record {
@@ -138,16 +135,19 @@ module _ (p : Params) (s : Sums) (l : WayLink) (interval rate_error hop rates wa
         jitter = refl;
         rate_error =
             ap (λ n. s.rate_error + n) (made.rate_error_is
-            ∙ ap (λ n. min (ceil_div (2202000000000 * (l.most - l.least)) n) 879609302 + 4) interval_back);
+            ∙ ap (λ n. min (ceil_div (2202000000000 * (l.most - l.least + 2 * blur_of p)) n) 879609302 + 4)
+            made.interval_is);
         rate = rate_back ∙ ap (λ z. s.rate +ℤ z) (rw (own, next) at made.steady_is);
         error = ap (λ n. s.error + n + wait) made.hop_is
-            ∙ ap (λ n. s.error + hop_error (l.most - l.least) l.most p.turnaround + n) (made.wait_is
-            ∙ ap (λ n. ceil_div ((p.residence + s.jitter + l.most) * n) 33550000) made.rates_is);
+            ∙ ap (λ n. s.error + hop_error (l.most - l.least + 2 * blur_of p) (l.most + blur_of p) p.turnaround + n)
+            (made.wait_is
+            ∙ ap (λ n. ceil_div ((p.residence + s.jitter + (l.most + blur_of p)) * n) 33550000) made.rates_is);
       }
 
   pub given_within : (links : ℕ) → SumsAreWithin links s → rate_error ≤ 879609306 → hop ≤ 2000000000000000
       → wait ≤ 3000000000000 → SumsAreWithin (suc links) given
   given_within links so_far most few long =
       stay_within links s given so_far rate_error hop wait steady (drift_back s.root_drift within.root_drift)
-      (subst IsDrift (sym (drift_back l.drift link.drift)) link.drift) (omega (arith, link.short)) refl most rate_back
+      (subst IsDrift (sym (drift_back l.drift link.drift)) link.drift)
+      (omega (arith, link.short, blur_little p ranges)) refl most rate_back
       made.near refl few long

@@ -1,13 +1,13 @@
 -- What the error of a reading follows from, by the sums of a way.
-use Rattle.std.proofs.Common.{◌≡◌, ℕ, zero, suc, ◌*◌, ◌+◌, ◌-◌, pos, length, Option, Some, None, option_map, refl, sym, ap, ◌∙◌, List, arith}
+use Rattle.std.proofs.Common.{◌≡◌, ℕ, zero, suc, ◌*◌, ◌+◌, pos, length, Option, Some, None, option_map, refl, sym, ap, ◌∙◌, List, arith}
 use Rattle.gptp_pdelay.specs.GoodLink.{ceil_div}
 use Rattle.gptp_setup.specs.declared.setup.Params.{Params}
 use Rattle.gptp_graph.specs.Snapshot.{Snapshot}
 use Rattle.gptp_scenario.specs.Network.{NetworkState}
 use Rattle.gptp_scenario.specs.declared.change.Timed.{Timed}
-use Rattle.gptp_error_laws.specs.TimeError.{WayLink, Way, jitter_at, rates_error_at, reading_error, reading_error_after, reading_error_at, time_error_at}
+use Rattle.gptp_error_laws.specs.TimeError.{WayLink, Way, reading_error, reading_error_after, time_error_at}
 use Rattle.gptp_accuracy.specs.Laws.{ReadingErrorsAreOfWays}
-use Rattle.gptp_accuracy.specs.Readings.{ReadingTerms, error_after, rates_error_after, reading_terms}
+use Rattle.gptp_accuracy.specs.Readings.{ReadingTerms, error_after, jitter_after, rates_error_after, reading_terms}
 use Rattle.gptp_accuracy.specs.Sums.{AreSummed, rates_error_of, terms_of}
 use Rattle.gptp_accuracy.specs.TimeErrors.{HasByWay}
 use Rattle.gptp_accuracy.specs.declared.errors.SystemError.{SystemError}
@@ -33,18 +33,15 @@ terms_are p w s links summed =
 
 -- and these the error of a reading
 after_is : (w : Way) (h later : ℕ) → length w.links ≡ h → error_after (reading_terms w) later ≡ reading_error w later
-after_is w zero later e =
-    let terms : ℕ → ℕ = λ h. time_error_at w h + ceil_div ((later + jitter_at w (h - 1)) * rates_error_after w h)
-    33550000 in
-    let none : terms 0 ≡ 0 = omega arith in
-    ap terms e ∙ none ∙ sym (ap (λ h. reading_error_after w h later) e)
-after_is w (suc i) later e =
-    let terms : ℕ → ℕ = λ h. time_error_at w h + ceil_div ((later + jitter_at w (h - 1)) * rates_error_after w h)
-    33550000 in
-    let last : suc i - 1 ≡ i = omega arith in
-    let there : terms (suc i) ≡ reading_error_at w i later =
-    ap (λ k. time_error_at w (suc i) + ceil_div ((later + jitter_at w k) * rates_error_at w i) 33550000) last in
-    ap terms e ∙ there ∙ sym (ap (λ h. reading_error_after w h later) e)
+after_is w h later e =
+    let terms : ℕ → ℕ = λ h. time_error_at w h
+    + ceil_div ((later + jitter_after w h) * rates_error_after w h) 33550000 in
+    ap terms e ∙ there h ∙ sym (ap (λ h. reading_error_after w h later) e)
+  where
+    there : (h : ℕ) → time_error_at w h + ceil_div ((later + jitter_after w h) * rates_error_after w h) 33550000
+        ≡ reading_error_after w h later
+    there zero = omega arith
+    there (suc i) = refl
 
 by_terms : (n : NetworkState) (events : List Timed) (g : Snapshot) (s : SystemError) (later : ℕ)
     (reading : Option ReadingTerms) → HasByWay n events g s reading_terms reading

@@ -21,7 +21,7 @@ use Rattle.gptp_error_laws.proofs.LongerLemmas.{documented_longer, longer_length
 use Rattle.gptp_accuracy.specs.Laws.{OneWay, WaysAreDocumented}
 use Rattle.gptp_accuracy.specs.Ways.{HasDelays, HasDrift, IsLinkTo, IsWay, root_way}
 use Rattle.gptp_accuracy.proofs.StandingLemmas.{drift_within}
-use Rattle.gptp_accuracy.proofs.SumLemmas.{interval_long}
+use Rattle.gptp_accuracy.proofs.SumLemmas.{blur_little, window_long}
 
 -- the way to a system has as many links as its distance is
 pub way_distance : (n : NetworkState) (events : List Timed) (g : Snapshot) (h clock : ℕ) (w : Way) → IsWellFormed g
@@ -109,7 +109,8 @@ pub ways_are_documented : WaysAreDocumented
 ways_are_documented n events g clock zero w network (distance, (drift, has, is)) =
     let within = drift_within n network clock drift has in
     subst IsDocumented (sym is) (record {
-      long = interval_long n.params.pdelay network.params.ranges.params.pdelay;
+      little = blur_little n.params network.params.ranges.params;
+      long = window_long n.params network.params.ranges.params;
       waits = network.params.ranges.params.turnaround-least;
       drifts = λ i none. drift_at_root i none within;
     })

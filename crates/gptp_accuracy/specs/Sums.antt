@@ -5,10 +5,10 @@ use Rattle.gptp_scaled.specs.Rate.{unit}
 use Rattle.gptp_pdelay.specs.Clock.{IsDrift}
 use Rattle.gptp_pdelay.specs.Measured.{clock_rate}
 use Rattle.gptp_correction.specs.Sum.{sum_below}
-use Rattle.gptp_setup.specs.Intervals.{interval_of}
+use Rattle.gptp_setup.specs.Stamping.{blur_of, rate_interval}
 use Rattle.gptp_setup.specs.declared.setup.Params.{Params}
-use Rattle.gptp_error_laws.specs.TimeError.{WayLink, Way, drift_at, jitter_at, rate_error_at, steady_rate_at, time_error, total_below}
-use Rattle.gptp_accuracy.specs.Readings.{ReadingTerms}
+use Rattle.gptp_error_laws.specs.TimeError.{WayLink, Way, drift_at, rate_error_at, steady_rate_at, time_error, total_below}
+use Rattle.gptp_accuracy.specs.Readings.{ReadingTerms, jitter_after}
 use Rattle.gptp_accuracy.specs.declared.sums.Link.{Link as SummedLink}
 use Rattle.gptp_accuracy.specs.declared.sums.Sums.{Sums}
 
@@ -20,14 +20,15 @@ way_link l = record { least = l.least; most = l.most; drift = l.drift }
 pub record AreSumsOf (w : Way) (s : Sums) : Type 0 where
   pub root_drift : s.root_drift ≡ w.drift
   pub drift : s.drift ≡ drift_at w (length w.links)
-  pub jitter : s.jitter ≡ jitter_at w (length w.links - 1)
+  pub jitter : s.jitter ≡ jitter_after w (length w.links)
   pub rate_error : s.rate_error ≡ total_below (length w.links) (rate_error_at w)
   pub rate : s.rate ≡ sum_below (length w.links) (steady_rate_at w)
   pub error : s.error ≡ time_error w
 
 -- the times of a way are those of a network
 pub record IsTimedBy (p : Params) (w : Way) : Type 0 where
-  pub interval : w.interval ≡ interval_of p.pdelay
+  pub blur : w.blur ≡ blur_of p
+  pub interval : w.interval ≡ rate_interval p
   pub turnaround : w.turnaround ≡ p.turnaround
   pub residence : w.residence ≡ p.residence
 
@@ -48,12 +49,12 @@ rates_error_of s =
 abbrev pub terms_of : Sums → ReadingTerms
 terms_of s = record { error = s.error; jitter = s.jitter; rates_error = rates_error_of s }
 
--- Sums over so many links within the limits: each has a rate error of 879609306 at most, a neighbour rate within 200
--- parts in a million and a time error of 3 * 10^15 at most.
+-- Sums over so many links within the limits: each has a jitter of 16 s and two blurs at most, a rate error of 879609306
+-- at most, a neighbour rate within 200 parts in a million and a time error of 3 * 10^15 at most.
 pub record SumsAreWithin (links : ℕ) (s : Sums) : Type 0 where
   pub root_drift : IsDrift s.root_drift
   pub drift : IsDrift s.drift
-  pub jitter : s.jitter ≤ 16000000000
+  pub jitter : s.jitter ≤ 16000006000
   pub rate_error : s.rate_error ≤ links * 879609306
   pub rate_low : neg_ℤ (pos (links * 439804651)) ≤ℤ s.rate
   pub rate_high : s.rate ≤ℤ pos (links * 439804651)

@@ -5,7 +5,8 @@ use Rattle.gptp_graph.specs.Distance.{IsDistance}
 use Rattle.gptp_graph.specs.Parent.{ParentLink, IsParent}
 use Rattle.gptp_graph.specs.Snapshot.{Snapshot}
 use Rattle.gptp_roles.specs.Selection.{clock_of}
-use Rattle.gptp_setup.specs.Intervals.{interval_of}
+use Rattle.gptp_links.specs.declared.bounds.Bounds.{Bounds}
+use Rattle.gptp_setup.specs.Stamping.{blur_of, rate_interval}
 use Rattle.gptp_setup.specs.declared.setup.Params.{Params}
 use Rattle.gptp_scenario.specs.Change.{link_after}
 use Rattle.gptp_scenario.specs.Network.{NetworkState, IsEnd}
@@ -36,12 +37,14 @@ pub record IsLinkTo (n : NetworkState) (events : List Timed) (clock : ℕ) (pare
   pub delays : HasDelays n events clock parent.own_port l.least l.most
   pub drift : HasDrift n clock l.drift
 
--- the way to a root whose clock has this drift: no link; requests, turnaround and residence are those of the network
+-- the way to a root whose clock has this drift: no link; time stamps, the window, turnaround and residence are those of
+-- the network
 abbrev pub root_way : Params → ℤ → Way
 root_way p drift = record {
   drift = drift;
   links = [];
-  interval = interval_of p.pdelay;
+  blur = blur_of p;
+  interval = rate_interval p;
   turnaround = p.turnaround;
   residence = p.residence;
 }

@@ -1,6 +1,7 @@
 //! The time errors of all systems of a document.
 
 ghost use Rattle.std.specs.Prelude.{◌≡◌, ◌+◌, ◌≤◌, ◌<◌, false, length, IfOk, OnOk};
+ghost use Rattle.gptp_setup.specs.Intervals.{IsMoment};
 ghost use Rattle.gptp_scenario.specs.Allowed.{AreAllowed};
 ghost use Rattle.gptp_scenario.specs.Calm.{last_change};
 ghost use Rattle.gptp_certificate_text.specs.Certificate.{line_of};
@@ -75,7 +76,7 @@ pub struct TimeErrors {
 fn last_change(events: &[Timed]) -> u64
     requires { AreAllowed events.now }
     ensures time { result ≡ last_change events.now }
-    ensures early { result ≤ 1000000000000000 }
+    ensures early { IsMoment result }
 {
     match events.last() {
         Some(event) => event.at,

@@ -13,7 +13,8 @@ use std::marker::Model;
 pub struct ReadingError {
     /// The time error, in units of 2^-16 ns.
     error: u128,
-    /// The jitter of the last link, in ns: a Follow_Up may come that much later than its Sync.
+    /// The jitter of the last link as it is measured, in ns: a Follow_Up may come so much later than its Sync, or the
+    /// time stamp of that may be off.
     jitter: u64,
     /// The error of the rate, in units of 2^-41.
     rates_error: u128,

@@ -10,7 +10,7 @@ ghost use Rattle.gptp_error_laws.specs.TimeError.{hop_error};
 
 use gptp_scaled::{Interval, Rate, ScaledNs};
 use gptp_scenario::Params;
-use gptp_setup::interval_of;
+use gptp_setup::{blur_of, rate_interval};
 
 /// What stands for 1 in a rate, 2^41.
 const UNIT: i64 = 1 << 41;
@@ -37,7 +37,7 @@ pub(crate) struct Sums {
     pub root_drift: i32,
     /// The drift of the clock at the end of the way, in units of 2^-41.
     pub drift: i32,
-    /// The jitter of the last link, in ns; 0 at the root.
+    /// The jitter of the last link as it is measured, in ns; 0 at the root.
     pub jitter: u64,
     /// What the jitter of the links makes of their neighbour rates, in units of 2^-41.
     pub rate_error: u128,
@@ -88,9 +88,9 @@ fn true_rate(clock: i32, own: i32) -> i128
     (gain * i128::from(UNIT)).div_euclid(count)
 }
 
-/// What the jitter of a link makes of the neighbour rate that is measured there, in units of 2^-41.
+/// What the jitter of a link makes of the neighbour rate that is measured there over an interval, in units of 2^-41.
 fn rate_error(jitter: u64, interval: u64) -> u128
-    requires jitter { jitter ≤ 16000000000 }
+    requires jitter { jitter ≤ 16000006000 }
     requires interval { 62500000 ≤ interval }
     ensures error { result ≡ min (ceil_div (2202000000000 * jitter) interval) 879609302 + 4 }
     ensures bound { result ≤ 879609306 }
@@ -101,8 +101,8 @@ fn rate_error(jitter: u64, interval: u64) -> u128
 
 /// What a link adds to the time error, in units of 2^-16 ns.
 fn link_error(jitter: u64, most: u64, turnaround: u64) -> u128
-    requires jitter { jitter ≤ 16000000000 }
-    requires most { most ≤ 16000000000 }
+    requires jitter { jitter ≤ 16000006000 }
+    requires most { most ≤ 16000003000 }
     requires turnaround { turnaround ≤ 1000000000 }
     ensures error { result ≡ hop_error jitter most turnaround }
     ensures bound { result ≤ 2000000000000000 }
@@ -112,7 +112,7 @@ fn link_error(jitter: u64, most: u64, turnaround: u64) -> u128
 
 /// What a time adds in which the rate has this error, in units of 2^-16 ns.
 fn wait_error(time: u64, rates_error: u128) -> u128
-    requires time { time ≤ 33000000000 }
+    requires time { time ≤ 34000000000 }
     requires rates_error { rates_error ≤ 2587332284 }
     ensures error { result ≡ ceil_div (time * rates_error) 33550000 }
     ensures bound { result ≤ 3000000000000 }
@@ -162,16 +162,18 @@ impl Sums {
         ensures { (w : Way) (links : ℕ) → AreSummed links params.now w self.now
             → AreSummed (suc links) params.now (longer w (way_link link.now)) result }
     {
-        let jitter = link.most - link.least;
-        let waited = params.residence + self.jitter + link.most;
+        let blur = blur_of(params);
+        let jitter = link.most - link.least + 2 * blur;
+        let most = link.most + blur;
+        let waited = params.residence + self.jitter + most;
         Sums {
             root_drift: self.root_drift,
             drift: link.drift,
             jitter,
-            rate_error: self.rate_error + rate_error(jitter, interval_of(params.pdelay)),
+            rate_error: self.rate_error + rate_error(jitter, rate_interval(params)),
             rate: self.rate + i64::from(steady_rate(self.drift, link.drift)),
             error: self.error
-                + link_error(jitter, link.most, params.turnaround)
+                + link_error(jitter, most, params.turnaround)
                 + wait_error(waited, self.rates_error()),
         }
     }

@@ -9,11 +9,13 @@ use Rattle.byteorder.specs.Endian.{big_bytes}
 use Rattle.byteorder.specs.Numbers.{length-bytes_high_first}
 use Rattle.hex.specs.Hex.{encode_lower, lower_digits}
 use Rattle.hex.proofs.HexLemmas.{length-encode_with}
+use Rattle.gptp_setup.specs.declared.limits.TheConstants.{MOST_PORTS}
 use Rattle.gptp_graph.specs.Labelling.{PortLine, SystemLine}
 use Rattle.gptp_graph.specs.Parent.{ParentLink}
 use Rattle.gptp_graph.specs.SettledRole.{Role, Disabled, Master, Slave, Passive}
 use Rattle.gptp_lists.specs.Members.{In}
 use Rattle.gptp_words.specs.Digits.{clock_text, identity_text}
+use Rattle.gptp_certificate_text.specs.declared.certificate.TheConstants.{CERTIFICATE_LIMIT}
 use Rattle.gptp_certificate_text.specs.CertificateText.{certificate_text, end_text, entry_text, far_words, head_text, parent_words, port_words, system_words}
 use Rattle.gptp_certificate_text.specs.Entries.{LineKey, SystemEntry, PortEntry, IsReadable, IsReadableEntry, IsReadableParent, entries_of}
 use Rattle.gptp_certificate_text.specs.Forms.{far_text, parent_text, port_text, role_word, system_text}
@@ -117,9 +119,9 @@ entries_length version (entry ∷ rest) all =
     (entries_length version rest all.1) in
     omega (arith, whole)
 
--- a line for each system, and at most sixteen for its ports
-entries_count : (lines : List SystemLine) → ((line : SystemLine) → In line lines → length line.ports ≤ 16)
-    → length (entries_of lines) ≤ 17 * length lines
+-- a line for each system, and one for each of its ports
+entries_count : (lines : List SystemLine) → ((line : SystemLine) → In line lines → length line.ports ≤ MOST_PORTS)
+    → length (entries_of lines) ≤ (MOST_PORTS + 1) * length lines
 entries_count [] few = omega arith
 entries_count (line ∷ rest) few =
     let here = few line (inl refl) in
@@ -128,10 +130,10 @@ entries_count (line ∷ rest) few =
     let all = length-append (map (PortEntry line.clock) line.ports) (entries_of rest) in
     omega (arith, here, ports, later, all)
 
--- a certificate of 512 systems of sixteen ports is within the size that is read
+-- a certificate of 512 systems with the most ports is within the size that is read
 pub certificate_length : (version : ℕ) (lines : List SystemLine) → version ≤ 65535 → IsReadable version lines
-    → length lines ≤ 512 → ((line : SystemLine) → In line lines → length line.ports ≤ 16)
-    → length (certificate_text version lines) ≤ 1048576
+    → length lines ≤ 512 → ((line : SystemLine) → In line lines → length line.ports ≤ MOST_PORTS)
+    → length (certificate_text version lines) ≤ CERTIFICATE_LIMIT
 certificate_length version lines small readable systems ports =
     let count = entries_count lines ports in
     let body = entries_length version (entries_of lines) readable in

@@ -4,6 +4,9 @@ use gptp_roles::Role;
 use gptp_vector::{ClockId, Identity, PortId};
 use std::marker::Model;
 
+/// How many octets the text of a certificate may have. That of 512 systems with the most ports fits.
+pub const CERTIFICATE_LIMIT: usize = 1_048_576;
+
 /// What one system says: the root that it follows, how many steps away that is (stepsRemoved), the number of its Slave
 /// port with the port at the other end that it follows, if it has one, and the role of each port, by rising number. A
 /// far line is that of a system 255 or more steps from the best of its component: it has no parent and no ports.

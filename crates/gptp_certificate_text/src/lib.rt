@@ -18,7 +18,7 @@ mod spelling;
 mod text;
 mod words;
 
-pub use certificate::{Certificate, SystemLine};
+pub use certificate::{CERTIFICATE_LIMIT, Certificate, SystemLine};
 pub use fault::CertificateFault;
 pub use reading::{parse, parse_located};
 pub use text::{print, print_line, print_lines};

@@ -5,6 +5,7 @@ use Rattle.std.specs.List.{AllByRecursion, range_with_len}
 use Rattle.std.proofs.lemmas.List.{length-map}
 use Rattle.std.proofs.lemmas.List.FromFn.{length-range_with_len}
 use Rattle.std.proofs.lemmas.Nat.{mod_below}
+use Rattle.gptp_setup.specs.declared.limits.TheConstants.{MOST_PORTS}
 use Rattle.gptp_lists.specs.Members.{In}
 use Rattle.gptp_lists.proofs.SystemSpecLemmas.{In-map, from_map, pigeonhole}
 use Rattle.gptp_graph.specs.Labelling.{PortLine, SystemLine, line_clocks}
@@ -15,6 +16,7 @@ use Rattle.gptp_graph.proofs.DistanceLemmas.{IsDistance-bounded}
 use Rattle.gptp_graph.proofs.LinkLemmas.{Joins-sym}
 use Rattle.gptp_graph.proofs.StatementLemmas.{line_clock}
 use Rattle.gptp_network.specs.Snapshot.{IsWithinLimits}
+use Rattle.gptp_certificate_text.specs.declared.certificate.TheConstants.{CERTIFICATE_LIMIT}
 use Rattle.gptp_certificate_text.specs.Certificate.{IsVersion}
 use Rattle.gptp_certificate_text.specs.CertificateText.{certificate_text}
 use Rattle.gptp_certificate_text.specs.Entries.{LineKey, PortEntry, IsPortNumber, IsReadable, IsReadableChoice, IsReadableEntry, IsReadableParent, entries_of}
@@ -93,9 +95,9 @@ module _ (version : ℕ) (g : Snapshot) (lines : List SystemLine) (is_version : 
   choice_fits line member true e = ((is.choice.systems.bare line member e).parent, second line member e is_version)
   choice_fits line member false e = parent_fits line member e line.parent refl
 
-  -- the ports are those of the system, of which there are sixteen at most, or none
+  -- the ports are those of the system, or none
   ports_fit : (line : SystemLine) → In line lines → (far : Bool) → line.far ≡ far
-      → ((port : PortLine) → In port line.ports → IsPortNumber port.number) × (length line.ports ≤ 16)
+      → ((port : PortLine) → In port line.ports → IsPortNumber port.number) × (length line.ports ≤ MOST_PORTS)
   ports_fit line member true e =
       let none = (is.choice.systems.bare line member e).ports in (
         (λ port k. absurd (subst (In port) none k)),
@@ -132,7 +134,7 @@ module _ (version : ℕ) (g : Snapshot) (lines : List SystemLine) (is_version : 
   small_version (inr e) = omega (arith, e)
 
   -- and its text is within the size that is read
-  pub accepted_length : length (certificate_text version lines) ≤ 1048576
+  pub accepted_length : length (certificate_text version lines) ≤ CERTIFICATE_LIMIT
   accepted_length =
       let fits = pigeonhole (line_clocks lines) (clocks g) is.choice.systems.different
       (λ v k. let (line, member, same) = from_map (λ (l : SystemLine). l.clock) v lines k in

@@ -5,6 +5,7 @@ ghost use Rattle.gptp_graph.specs.Labelling.{SystemLine, line_clocks};
 ghost use Rattle.gptp_graph.specs.Order.{IsRising};
 ghost use Rattle.gptp_graph.specs.Snapshot.{IsWellFormed, Snapshot, clocks};
 ghost use Rattle.gptp_network.specs.Snapshot.{IsWithinLimits};
+ghost use Rattle.gptp_certificate_text.specs.declared.certificate.TheConstants.{CERTIFICATE_LIMIT};
 ghost use Rattle.gptp_certificate_text.specs.Certificate.{IsCertificate, IsVersion};
 ghost use Rattle.gptp_certificate_text.specs.CertificateText.{certificate_text};
 ghost use Rattle.gptp_certificate_text.specs.Entries.{IsReadable};
@@ -45,7 +46,7 @@ pub fn what_is_accepted_can_be_read()
     ensures readable { (version : ℕ) (g : Snapshot) (lines : List SystemLine) → IsVersion version → IsWellFormed g
         → IsWithinLimits g → IsAccepted version g lines → IsReadable version lines }
     ensures short { (version : ℕ) (g : Snapshot) (lines : List SystemLine) → IsVersion version → IsWellFormed g
-        → IsWithinLimits g → IsAccepted version g lines → length (certificate_text version lines) ≤ 1048576 }
+        → IsWithinLimits g → IsAccepted version g lines → length (certificate_text version lines) ≤ CERTIFICATE_LIMIT }
 {}
 
 /// Whatever lines are stated of a network, in whichever version, they are accepted or have a first fault.

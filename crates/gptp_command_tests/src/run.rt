@@ -1,6 +1,7 @@
 //! Runs over memory that are compared, or of which a part is looked for.
 
-ghost use Rattle.std.specs.Prelude.{◌≤◌, ◌≢◌, IfSome};
+ghost use Rattle.std.specs.Prelude.{◌≢◌, IfSome};
+ghost use Rattle.gptp_setup.specs.Intervals.{IsMoment};
 
 use crate::same::{same, same_at};
 use gptp_commands::failure::{SimError, Status};
@@ -23,7 +24,7 @@ pub fn ran(
     document: &[u8],
     options: &RunOptions,
 ) -> Result<(Vec<u8>, Status), SimError>
-    requires { IfSome options.now.until (λ until. until ≤ 1000000000000000) }
+    requires { IfSome options.now.until (λ until. IsMoment until) }
     ensures { result ≢ Err SimError.Read }
 {
     let mut written = Vec::new(alloc);

@@ -9,6 +9,7 @@ use Rattle.gptp_network.proofs.ExistenceLemmas.{snapshot_exists}
 use Rattle.gptp_network.proofs.LawLemmas.{never_both, one_meaning, within_limits}
 use Rattle.gptp_network.proofs.MeantLemmas.{meant_document, meant_well}
 use Rattle.gptp_words.specs.Lines.{text_of}
+use Rattle.gptp_certificate_text.specs.declared.certificate.TheConstants.{CERTIFICATE_LIMIT}
 use Rattle.gptp_certificate_text.specs.CertificateText.{certificate_text}
 use Rattle.gptp_certificate_text.specs.declared.fault.CertificateFault.TheVariants.{Line}
 use Rattle.gptp_certificate_text.proofs.PrintedLemmas.{text_of_lines}
@@ -19,7 +20,7 @@ use Rattle.gptp_commands.specs.declared.failure.Status.TheVariants.{Done}
 use Rattle.gptp_commands.specs.declared.question.Question.TheVariants.{Choice}
 use Rattle.gptp_commands.specs.declared.run.RunOptions.{RunOptions}
 use Rattle.gptp_commands.specs.Certified.{AsksAtRest, AsksTheSame, EndsAccepted}
-use Rattle.gptp_commands.specs.CheckText.{certificate_limit, AnswersBoth, AnswersCertificate, CheckText, RefusesCertificate}
+use Rattle.gptp_commands.specs.CheckText.{AnswersBoth, AnswersCertificate, CheckText, RefusesCertificate}
 use Rattle.gptp_commands.specs.Documents.{document_limit, RefusesFault}
 use Rattle.gptp_commands.specs.QuestionText as questions
 use Rattle.gptp_commands.specs.QuestionText.{QuestionText}
@@ -43,15 +44,15 @@ module _ (options : RunOptions) (input : List ℕ) (d : DocumentState) (at : Opt
         let limits = within_limits d (until_of options d) g network stands in
         let text : text_of certificate
         ≡ certificate_text 2 stated = ap text_of lines ∙ sym (text_of_lines 2 stated) in
-        let short : length (text_of certificate) ≤ certificate_limit =
-        subst (λ t. length t ≤ certificate_limit) (sym text)
+        let short : length (text_of certificate) ≤ CERTIFICATE_LIMIT =
+        subst (λ t. length t ≤ CERTIFICATE_LIMIT) (sym text)
         (accepted_length 2 g stated (inr refl) well limits is) in
         in_size document_limit (AnswersBoth at (text_of certificate)) (RefusesFault TooMany) input
         (codes "accepted" ∷ []) Done asks.size
         (inl (
           d,
           asks.means,
-          in_size certificate_limit (AnswersCertificate d at) (RefusesCertificate Line) (text_of certificate)
+          in_size CERTIFICATE_LIMIT (AnswersCertificate d at) (RefusesCertificate Line) (text_of certificate)
               (codes "accepted" ∷ []) Done short
               (inl (
                 record { version = 2; lines = stated },

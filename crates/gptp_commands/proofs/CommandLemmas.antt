@@ -8,6 +8,7 @@ use Rattle.clap.specs.declared.error.kind.ErrorKind.TheVariants.{OutOfMemory}
 use Rattle.clap.specs.declared.parser.matches.ArgMatches.{ArgMatches}
 use Rattle.clap.specs.declared.parser.matches.ArgMatches.TheViews.{out-ArgMatches, out-SubCommand}
 use Rattle.clap.specs.declared.parser.matches.SubCommand.{SubCommand}
+use Rattle.gptp_setup.specs.declared.limits.TheConstants.{LAST_MOMENT}
 use Rattle.gptp_timeline.specs.Limits.{most_of, option_name}
 use Rattle.gptp_commands.specs.Command.{AsksFor, BeginsWith, Enters, IsCompare, IsEndInRange, IsNoOther, IsRightOrder, IsRead, LacksClock, LacksKind, LacksPart, WordsMean, MeansNothing, MemoryOr, OrderIsInRange, QuestionIsInRange, ReadsQuestion, Wrong, WrongCases, name_of}
 use Rattle.gptp_commands.specs.Options.{option_number}
@@ -129,10 +130,10 @@ upper None least most within = tt
 upper (Some n) least most within = within.1
 
 end_in_range : (name : Text) (least : ℕ) (rows : List Row) (end : Option ℕ)
-    → end ≡ option_number (name, Number least 1000000000000000, []) rows → IsEndInRange end
+    → end ≡ option_number (name, Number least LAST_MOMENT, []) rows → IsEndInRange end
 end_in_range name least rows end is =
     subst IsEndInRange (sym is)
-    (upper _ least 1000000000000000 (number_within name [] least 1000000000000000 rows))
+    (upper _ least LAST_MOMENT (number_within name [] least LAST_MOMENT rows))
 
 lower : (found : Option ℕ) (least most : ℕ) → IfSome found (λ n. (least ≤ n) × (n ≤ most))
     → IfSome found (λ n. least ≤ n)
@@ -143,7 +144,7 @@ delay_in_range : (rows : List Row) (delay : Option ℕ) → delay ≡ option_num
     → IfSome delay (λ n. 1 ≤ n)
 delay_in_range rows delay is =
     subst (λ d. IfSome d (λ n. 1 ≤ n)) (sym is)
-    (lower _ 1 1000000000000000 (number_within (codes "detect") [] 1 1000000000000000 rows))
+    (lower _ 1 LAST_MOMENT (number_within (codes "detect") [] 1 LAST_MOMENT rows))
 
 seed_in_range : (rows : List Row) (seed : ℕ) → seed ≡ unwrap_or (option_number (the SEED) rows) 1 → seed < 2 ^ 32
 seed_in_range rows seed is =

@@ -7,6 +7,7 @@ use Rattle.gptp_network.specs.declared.fault.DocumentFault.TheVariants.{TooMany}
 use Rattle.gptp_network.proofs.ExistenceLemmas.{snapshot_exists}
 use Rattle.gptp_network.proofs.LawLemmas.{MeansOrFails, means_or_fails}
 use Rattle.gptp_network.proofs.MeantLemmas.{meant_document, meant_well}
+use Rattle.gptp_certificate_text.specs.declared.certificate.TheConstants.{CERTIFICATE_LIMIT}
 use Rattle.gptp_certificate_text.specs.Certificate.{CertificateContent}
 use Rattle.gptp_certificate_text.specs.Faults as certificates
 use Rattle.gptp_certificate_text.specs.declared.fault.CertificateFault.{CertificateFault}
@@ -16,7 +17,7 @@ use Rattle.gptp_checker.specs.declared.fault.Fault.{Fault}
 use Rattle.gptp_checker.specs.Faults.{IsAccepted, IsFirstFault, check_fault_text}
 use Rattle.gptp_checker.proofs.EveryLemmas.{accepted_or_faulty}
 use Rattle.gptp_commands.specs.declared.failure.Status.TheVariants.{Done, Refused}
-use Rattle.gptp_commands.specs.CheckText.{AnswersBoth, AnswersCertificate, CheckText, Judges, JudgesAt, RefusesCertificate, certificate_limit, moment_of}
+use Rattle.gptp_commands.specs.CheckText.{AnswersBoth, AnswersCertificate, CheckText, Judges, JudgesAt, RefusesCertificate, moment_of}
 use Rattle.gptp_commands.specs.Documents.{RefusesFault, document_limit}
 use Rattle.gptp_commands.specs.Every.{HasText, HaveText}
 use Rattle.gptp_commands.proofs.EveryQuestionLemmas.{refused_so}
@@ -69,7 +70,7 @@ module _ (until : Option ℕ) (certificate document : List ℕ) where
   both_answered : MeansOrFails document → HaveText (AnswersBoth until certificate document)
   both_answered (inl (d, means)) =
       let (output, status, answers) =
-      certificate_by_size document d means until certificate (nat_le (length certificate) certificate_limit) in
+      certificate_by_size document d means until certificate (nat_le (length certificate) CERTIFICATE_LIMIT) in
       (output, status, inl (d, means, answers))
   both_answered (inr (fault, fails)) =
       let (output, status, refuses) = refused_so fault in (output, status, inr (fault, fails, refuses))

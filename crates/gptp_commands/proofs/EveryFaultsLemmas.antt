@@ -1,6 +1,7 @@
 -- Each input has a text of its faults, where a fault stays for some time.
 use Rattle.std.proofs.Common.{◌≡◌, ◌≤◌, ◌+◌, ℕ, Bool, false, List, [], ◌∷◌, ◌++◌, None, IfSome, refl, inl, inr}
 use Rattle.rand_pcg.specs.Lcg.{Lcg}
+use Rattle.gptp_setup.specs.Intervals.{IsMoment}
 use Rattle.gptp_model.specs.Views.{rising_clocks}
 use Rattle.gptp_network.specs.Adding.{with_event}
 use Rattle.gptp_network.specs.Document.{DocumentState, Means}
@@ -61,7 +62,7 @@ case_injects at hold e d all =
 -- ---- runs
 
 has_ends : (asked : Bool) (aside : AsideState) (d : DocumentState) (until : ℕ) (fate : Lcg) → IsPlayable d
-    → AllInject d.events → until ≤ 1000000000000000 → HasEnds asked aside d until fate
+    → AllInject d.events → IsMoment until → HasEnds asked aside d until fate
 has_ends asked aside d until fate playable injects early =
     let (start, ts, w, run, goes_on) =
     documents_unfold draws draws_answer_all d until fate playable injects early in

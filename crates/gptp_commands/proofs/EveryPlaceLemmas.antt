@@ -8,6 +8,7 @@ use Rattle.gptp_network.specs.Snapshot.{IsSnapshot}
 use Rattle.gptp_network.proofs.ExistenceLemmas.{snapshot_exists}
 use Rattle.gptp_network.proofs.LawLemmas.{MeansOrFails, means_or_fails}
 use Rattle.gptp_network.proofs.MeantLemmas.{meant_document, meant_well}
+use Rattle.gptp_certificate_text.specs.declared.certificate.TheConstants.{CERTIFICATE_LIMIT}
 use Rattle.gptp_certificate_text.specs.Certificate.{CertificateContent, IsCertificate}
 use Rattle.gptp_certificate_text.specs.declared.fault.CertificateFault.{CertificateFault}
 use Rattle.gptp_certificate_text.specs.Parsing.{FailsToParse}
@@ -17,7 +18,7 @@ use Rattle.gptp_checker.specs.declared.fault.Fault.{Fault}
 use Rattle.gptp_checker.specs.Faults.{IsAccepted, IsFirstFault}
 use Rattle.gptp_checker.proofs.EveryLemmas.{accepted_or_faulty}
 use Rattle.gptp_checker.proofs.PlacedLemmas.{place_exists}
-use Rattle.gptp_commands.specs.CheckText.{certificate_limit, moment_of}
+use Rattle.gptp_commands.specs.CheckText.{moment_of}
 use Rattle.gptp_commands.specs.Documents.{document_limit}
 use Rattle.gptp_commands.specs.Every.{HasText}
 use Rattle.gptp_commands.specs.WhereText.{LocatesAt, LocatesCertificate, LocatesDocument, LocatesEnd, LocatesFault, LocatesLine, WhereText, line_behind, place_text}
@@ -70,7 +71,7 @@ module _ (document : List ℕ) (d : DocumentState) (means : Means document d) (u
       → HaveLines (λ lines. MatchBool fits (LocatesCertificate d until input lines) (LocatesEnd input lines))
   limited_located input true = certificate_located input (read_or_faulty input)
   limited_located input false =
-      ((codes "at " ++ (codes "line " ++ decimal (line_behind (take certificate_limit input)))) ∷ [], refl)
+      ((codes "at " ++ (codes "line " ++ decimal (line_behind (take CERTIFICATE_LIMIT input)))) ∷ [], refl)
 
 -- ---- both inputs
 
@@ -78,7 +79,7 @@ module _ (until : Option ℕ) (certificate document : List ℕ) where
   document_located : MeansOrFails document → HaveLines (LocatesDocument until certificate document)
   document_located (inl (d, means)) =
       let (lines, are) =
-      limited_located document d means until certificate (nat_le (length certificate) certificate_limit) in
+      limited_located document d means until certificate (nat_le (length certificate) CERTIFICATE_LIMIT) in
       (lines, inl (d, means, are))
   document_located (inr (fault, fails)) = ([], inr (fault, fails, refl))
 

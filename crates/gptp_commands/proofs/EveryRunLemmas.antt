@@ -1,6 +1,7 @@
 -- Each input has a text of its run.
 use Rattle.std.proofs.Common.{◌≤◌, ℕ, Bool, true, false, cond, List, [], ◌∷◌, ◌++◌, length, Option, Some, None, IfSome, refl, arith}
 use Rattle.std.specs.Prelude.{unwrap_or}
+use Rattle.gptp_setup.specs.Intervals.{IsMoment}
 use Rattle.gptp_scenario.specs.Change.{system_after}
 use Rattle.gptp_scenario.specs.InUse.{count_live}
 use Rattle.gptp_scenario.specs.Network.{IsNetwork, pace_of}
@@ -47,7 +48,7 @@ live_few events (m ∷ members) =
     by false = omega arith
 
 settled_in_time : (d : DocumentState) → IsNetwork d.network → AreEvents d.network d.events
-    → settles d.network d.events ≤ 1000000000000000
+    → IsMoment (settles d.network d.events)
 settled_in_time d network events =
     let n = d.network in
     let allowed = events_allowed n d.events (smallest_log n network) events in
@@ -59,8 +60,8 @@ settled_in_time d network events =
     (largest_log n network) live (short_delay n d.events network allowed) in
     omega (arith, early, span)
 
-ends_in_time : (asked : Option ℕ) (settled : ℕ) → IfSome asked (λ until. until ≤ 1000000000000000)
-    → settled ≤ 1000000000000000 → unwrap_or asked settled ≤ 1000000000000000
+ends_in_time : (asked : Option ℕ) (settled : ℕ) → IfSome asked (λ until. IsMoment until)
+    → IsMoment settled → IsMoment (unwrap_or asked settled)
 ends_in_time None settled moment in_time = in_time
 ends_in_time (Some until) settled moment in_time = moment
 
@@ -73,7 +74,7 @@ certificate_exists true w claimed =
 certificate_exists false w claimed = ([], refl)
 
 module _ (options : RunOptions)
-    (asked : IfSome options.until (λ until. until ≤ 1000000000000000)) (input : List ℕ) where
+    (asked : IfSome options.until (λ until. IsMoment until)) (input : List ℕ) where
   run_exists : (d : DocumentState) → Means input d → HaveText (RunsDocument options d)
   run_exists d means =
       let (network, events) = meant_document input d means in

@@ -2,6 +2,7 @@
 use Rattle.std.proofs.Common.{◌≡◌, ◌≤◌, ℕ, Bool, true, false, List, [], ◌∷◌, ◌++◌, Option, Some, None, IfSome, refl, sym, subst, ◌∙◌, arith}
 use Rattle.std.proofs.lemmas.Option.{none-some, same_Some}
 use native.Mathlib.Decide.{dec_le}
+use Rattle.gptp_setup.specs.Intervals.{IsMoment}
 use Rattle.gptp_model.specs.Views.{rising_clocks}
 use Rattle.gptp_network.specs.Document.{DocumentState, Means}
 use Rattle.gptp_network.specs.Events.{AreEvents}
@@ -69,8 +70,8 @@ module _ (d : DocumentState) (network : IsNetwork d.network) (at to : ℕ) where
 
 -- the one that is asked for, or that by default, which is in time
 end_exists : (d : DocumentState) (asked : Option ℕ) → IsNetwork d.network → AreEvents d.network d.events
-    → IfSome asked (λ until. until ≤ 1000000000000000)
-    → (until : ℕ) × EndsAt asked d until × (until ≤ 1000000000000000)
+    → IfSome asked (λ until. IsMoment until)
+    → (until : ℕ) × EndsAt asked d until × IsMoment until
 end_exists d (Some asked) network events early = (asked, refl, early)
 end_exists d None network events early =
     (default_end d, refl, end_in_time (settling_times d) (watched_shortly d network events))
@@ -96,7 +97,7 @@ module _ (input : List ℕ) (d : DocumentState) (means : Means input d) where
       let (lines, exceeded, text) = each_is_exact input d at nothing means in
       errors_by d network at to text.errors text.are (holds_dec to text.errors)
 
-  timeline_exists : (until seed : ℕ) (options : TimelineOptions) → until ≤ 1000000000000000
+  timeline_exists : (until seed : ℕ) (options : TimelineOptions) → IsMoment until
       → (lines : List (List ℕ)) × (exceeded : Bool) × TimelineOf draws d until options (generator seed) lines exceeded
   timeline_exists until seed options early =
       let (start, ts, w, run, goes_on) =
@@ -127,7 +128,7 @@ module _ (input : List ℕ) (d : DocumentState) (means : Means input d) where
         },
       )
 
-  timeline_told : (order : TimelineOrder) → IfSome order.until (λ until. until ≤ 1000000000000000)
+  timeline_told : (order : TimelineOrder) → IfSome order.until (λ until. IsMoment until)
       → HaveText (TellsTimeline order d)
   timeline_told order asked =
       let (until, ends, early) = end_exists d order.until network events asked in
@@ -148,6 +149,6 @@ module _ (input : List ℕ) (d : DocumentState) (means : Means input d) where
       )
 
 pub each_has_timeline : (order : TimelineOrder) (input : List ℕ)
-    → IfSome order.until (λ until. until ≤ 1000000000000000) → HasText (TimelineText order) input
+    → IfSome order.until (λ until. IsMoment until) → HasText (TimelineText order) input
 each_has_timeline order input asked =
     each_has_text (TellsTimeline order) input (λ d means. timeline_told input d means order asked)

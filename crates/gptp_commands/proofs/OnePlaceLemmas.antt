@@ -10,6 +10,7 @@ use Rattle.gptp_network.specs.Document.{DocumentState, Fails as FailsDocument, M
 use Rattle.gptp_network.specs.declared.fault.DocumentFault.{DocumentFault}
 use Rattle.gptp_network.specs.declared.fault.DocumentFault.TheVariants.{TooMany}
 use Rattle.gptp_network.proofs.LawLemmas as network_laws
+use Rattle.gptp_certificate_text.specs.declared.certificate.TheConstants.{CERTIFICATE_LIMIT}
 use Rattle.gptp_certificate_text.specs.Certificate.{CertificateContent, IsCertificate}
 use Rattle.gptp_certificate_text.specs.CertificateText.{certificate_text}
 use Rattle.gptp_certificate_text.specs.Entries.{IsReadable}
@@ -23,7 +24,7 @@ use Rattle.gptp_checker.specs.declared.location.Location.{Location}
 use Rattle.gptp_checker.proofs.LawLemmas as checker_laws
 use Rattle.gptp_checker.proofs.OneLocationLemmas.{one_location}
 use Rattle.gptp_commands.specs.declared.failure.Status.{Status}
-use Rattle.gptp_commands.specs.CheckText.{AnswersBoth, AnswersCertificate, JudgesAt, RefusesCertificate, certificate_limit, moment_of}
+use Rattle.gptp_commands.specs.CheckText.{AnswersBoth, AnswersCertificate, JudgesAt, RefusesCertificate, moment_of}
 use Rattle.gptp_commands.specs.Documents.{document_limit, RefusesFault}
 use Rattle.gptp_commands.specs.WhereText.{LocatesAt, LocatesCertificate, LocatesDocument, LocatesEnd, LocatesFault, LocatesLimited, LocatesLine, WhereText, line_behind, place_text}
 use Rattle.gptp_commands.proofs.VerdictLemmas.{AreSame, one_check, same_content}
@@ -122,7 +123,7 @@ one_document_place : (until : Option ℕ) (certificate document : List ℕ) (sai
     → AnswersBoth until certificate document said s → LocatesDocument until certificate document xs
     → LocatesDocument until certificate document ys → xs ≡ ys
 one_document_place until certificate document said xs ys s (inl (d, means, k)) x y =
-    certificate_by_size d until certificate said xs ys s (nat_le (length certificate) certificate_limit) k
+    certificate_by_size d until certificate said xs ys s (nat_le (length certificate) CERTIFICATE_LIMIT) k
     (of_document until certificate document d xs means x) (of_document until certificate document d ys means y)
 one_document_place until certificate document said xs ys s (inr (fault, fails, _)) x y =
     of_refused until certificate document fault xs fails x

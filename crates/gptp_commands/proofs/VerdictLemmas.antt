@@ -8,6 +8,7 @@ use Rattle.gptp_network.specs.Faults as documents
 use Rattle.gptp_network.specs.declared.fault.DocumentFault.{DocumentFault}
 use Rattle.gptp_network.specs.declared.fault.DocumentFault.TheVariants.{TooMany}
 use Rattle.gptp_network.proofs.LawLemmas as network_laws
+use Rattle.gptp_certificate_text.specs.declared.certificate.TheConstants.{CERTIFICATE_LIMIT}
 use Rattle.gptp_certificate_text.specs.Certificate.{CertificateContent}
 use Rattle.gptp_certificate_text.specs.Faults as certificates
 use Rattle.gptp_certificate_text.specs.declared.fault.CertificateFault.TheVariants.{Line}
@@ -15,7 +16,7 @@ use Rattle.gptp_certificate_text.proofs.LawLemmas as certificate_laws
 use Rattle.gptp_checker.specs.Faults.{check_fault_text}
 use Rattle.gptp_checker.proofs.LawLemmas as checker_laws
 use Rattle.gptp_commands.specs.declared.failure.Status.{Status}
-use Rattle.gptp_commands.specs.CheckText.{certificate_limit, moment_of, AnswersBoth, AnswersCertificate, CheckText, Judges, JudgesAt, RefusesCertificate, Says}
+use Rattle.gptp_commands.specs.CheckText.{moment_of, AnswersBoth, AnswersCertificate, CheckText, Judges, JudgesAt, RefusesCertificate, Says}
 use Rattle.gptp_commands.specs.Limited.{Limited}
 use Rattle.gptp_commands.specs.Documents.{document_limit, RefusesFault}
 
@@ -93,8 +94,8 @@ one_document : (until : Option ℕ) (certificate document : List ℕ) (a b : Lis
 one_document until certificate document a b s t (inl (d, d-means, x)) (inl (e, e-means, y)) =
     let same = network_laws.one_meaning document e d e-means d-means in
     let So : DocumentState → Type 0 =
-    λ k. Limited certificate_limit (AnswersCertificate k until) (RefusesCertificate Line) certificate b t in
-    certificate_by_size d until certificate a b s t (nat_le (length certificate) certificate_limit) x
+    λ k. Limited CERTIFICATE_LIMIT (AnswersCertificate k until) (RefusesCertificate Line) certificate b t in
+    certificate_by_size d until certificate a b s t (nat_le (length certificate) CERTIFICATE_LIMIT) x
     (subst So same y)
 one_document until certificate document a b s t (inl (d, means, _)) (inr (fault, fails, _)) =
     absurd (network_laws.never_both document d fault means fails)

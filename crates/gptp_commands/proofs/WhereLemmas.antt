@@ -7,8 +7,9 @@ use Rattle.std.specs.Bool.{MatchBool}
 use Rattle.gptp_network.specs.Document.{DocumentState}
 use Rattle.gptp_world.proofs.FollowLemmas.{text_append}
 use Rattle.gptp_words.specs.Lines.{text_of}
+use Rattle.gptp_certificate_text.specs.declared.certificate.TheConstants.{CERTIFICATE_LIMIT}
 use Rattle.gptp_commands.specs.declared.failure.Status.{Status}
-use Rattle.gptp_commands.specs.CheckText.{CheckText, certificate_limit}
+use Rattle.gptp_commands.specs.CheckText.{CheckText}
 use Rattle.gptp_commands.specs.Documents.{document_limit}
 use Rattle.gptp_commands.specs.Source.{ReadsWhole}
 use Rattle.gptp_commands.specs.WhereText.{PlaceIsLine, LocatesBoth, LocatesCertificate, LocatesDocument, LocatesEnd, LocatesLimited, WhereText, line_behind}
@@ -17,23 +18,23 @@ use Rattle.gptp_commands.proofs.LimitedLemmas.{same_size}
 
 -- the octet past the size is in the line in which it is in the front
 same_end : (all octets rest : List ℕ) (lines : List (List ℕ)) → all ≡ octets ++ rest
-    → certificate_limit < length octets → LocatesEnd octets lines → LocatesEnd all lines
+    → CERTIFICATE_LIMIT < length octets → LocatesEnd octets lines → LocatesEnd all lines
 same_end all octets rest lines split long at =
-    let front : take certificate_limit octets ≡ take certificate_limit all =
-    sym (take-append-le certificate_limit octets rest (omega arith)) ∙ ap (take certificate_limit) (sym split) in
+    let front : take CERTIFICATE_LIMIT octets ≡ take CERTIFICATE_LIMIT all =
+    sym (take-append-le CERTIFICATE_LIMIT octets rest (omega arith)) ∙ ap (take CERTIFICATE_LIMIT) (sym split) in
     subst (λ xs. PlaceIsLine (line_behind xs) lines) front at
 
 -- with the certificate as it was read
 same_certificate : (d : DocumentState) (until : Option ℕ) (all : List ℕ) (known : Option (List ℕ)) (octets : List ℕ)
-    (lines : List (List ℕ)) → ReadsWhole certificate_limit (Some all) known octets
+    (lines : List (List ℕ)) → ReadsWhole CERTIFICATE_LIMIT (Some all) known octets
     → LocatesLimited d until octets lines → LocatesLimited d until all lines
 same_certificate d until all None octets lines reads located = absurd reads.taken
 same_certificate d until all (Some rest) octets lines reads located =
-    same_size certificate_limit (λ xs. LocatesCertificate d until xs lines) (λ xs. LocatesEnd xs lines) all octets rest
+    same_size CERTIFICATE_LIMIT (λ xs. LocatesCertificate d until xs lines) (λ xs. LocatesEnd xs lines) all octets rest
     reads.taken reads.whole (same_end all octets rest lines reads.taken) located
 
 same_document : (until : Option ℕ) (all : List ℕ) (known : Option (List ℕ)) (octets document : List ℕ)
-    (lines : List (List ℕ)) → ReadsWhole certificate_limit (Some all) known octets
+    (lines : List (List ℕ)) → ReadsWhole CERTIFICATE_LIMIT (Some all) known octets
     → LocatesDocument until octets document lines → LocatesDocument until all document lines
 same_document until all known octets document lines reads (inl (d, means, located)) =
     inl (d, means, same_certificate d until all known octets lines reads located)
@@ -41,7 +42,7 @@ same_document until all known octets document lines reads (inr refused) = inr re
 
 -- and with the document
 same_places : (until : Option ℕ) (all input : List ℕ) (known rest : Option (List ℕ)) (octets document : List ℕ)
-    (lines : List (List ℕ)) → ReadsWhole certificate_limit (Some all) known octets
+    (lines : List (List ℕ)) → ReadsWhole CERTIFICATE_LIMIT (Some all) known octets
     → ReadsWhole document_limit (Some input) rest document → LocatesBoth until octets document lines
     → LocatesBoth until all input lines
 same_places until all input known None octets document lines reads_certificate reads_document located =
@@ -58,7 +59,7 @@ same_places until all input known (Some rest) octets document lines reads_certif
 
 -- so is the text
 pub same_where : (until : Option ℕ) (all input : List ℕ) (known rest : Option (List ℕ)) (octets document : List ℕ)
-    (output : List (List ℕ)) (status : Status) → ReadsWhole certificate_limit (Some all) known octets
+    (output : List (List ℕ)) (status : Status) → ReadsWhole CERTIFICATE_LIMIT (Some all) known octets
     → ReadsWhole document_limit (Some input) rest document → WhereText until octets document output status
     → WhereText until all input output status
 same_where until all input known rest octets document output status reads_certificate reads_document
@@ -84,10 +85,10 @@ with_place until certificate document old place new status (said, shows, is_old)
 
 -- past the size the place is the line of the end
 pub located_end : (d : DocumentState) (until : Option ℕ) (input : List ℕ) (lines : List (List ℕ))
-    → certificate_limit < length input → LocatesEnd input lines → LocatesLimited d until input lines
+    → CERTIFICATE_LIMIT < length input → LocatesEnd input lines → LocatesLimited d until input lines
 located_end d until input lines long at =
     subst (λ fits. MatchBool fits (LocatesCertificate d until input lines) (LocatesEnd input lines))
-    (sym (lt-leb (length input) certificate_limit long)) at
+    (sym (lt-leb (length input) CERTIFICATE_LIMIT long)) at
 
 -- what is written for the same octets
 pub of_same : (until : Option ℕ) (status : Status) (text certificate document : List ℕ) (octets input : List ℕ)

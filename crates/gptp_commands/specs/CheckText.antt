@@ -6,6 +6,7 @@ use Rattle.gptp_network.specs.declared.fault.DocumentFault.TheVariants.{TooMany}
 use Rattle.gptp_network.specs.Document.{DocumentState, Fails as FailsDocument, Means}
 use Rattle.gptp_network.specs.Snapshot.{IsSnapshot}
 use Rattle.gptp_scenario.specs.Calm.{last_change}
+use Rattle.gptp_certificate_text.specs.declared.certificate.TheConstants.{CERTIFICATE_LIMIT}
 use Rattle.gptp_certificate_text.specs.declared.fault.CertificateFault.{CertificateFault}
 use Rattle.gptp_certificate_text.specs.declared.fault.CertificateFault.TheVariants.{Line}
 use Rattle.gptp_certificate_text.specs.Certificate.{CertificateContent, IsCertificate}
@@ -19,10 +20,6 @@ use Rattle.gptp_commands.specs.declared.failure.Status.{Status}
 use Rattle.gptp_commands.specs.declared.failure.Status.TheVariants.{Done, Refused}
 use Rattle.gptp_commands.specs.Limited.{Limited}
 use Rattle.gptp_commands.specs.Documents.{document_limit, RefusesFault}
-
--- how many octets a certificate may have
-abbrev pub certificate_limit : ℕ
-certificate_limit = 1048576
 
 -- the time of the network that is meant: after all events, where none is asked for
 abbrev pub moment_of : Option ℕ → DocumentState → ℕ
@@ -60,7 +57,7 @@ AnswersCertificate d until input output status =
 abbrev pub AnswersBoth : Option ℕ → List ℕ → List ℕ → List (List ℕ) → Status → Type 0
 AnswersBoth until certificate document output status =
     ((d : DocumentState) × Means document d
-    × Limited certificate_limit (AnswersCertificate d until) (RefusesCertificate Line) certificate output status)
+    × Limited CERTIFICATE_LIMIT (AnswersCertificate d until) (RefusesCertificate Line) certificate output status)
     ⊎ ((fault : DocumentFault) × FailsDocument document fault × RefusesFault fault output status)
 
 abbrev pub CheckText : Option ℕ → List ℕ → List ℕ → List (List ℕ) → Status → Type 0

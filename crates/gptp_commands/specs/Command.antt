@@ -5,6 +5,8 @@ use Rattle.std.specs.List.{AllByRecursion}
 use Rattle.clap.specs.Words.{IsAmong, Row, Text, fault_of, kind_of, subcommand_of}
 use Rattle.clap.specs.Lexer.{strip_byte}
 use Rattle.clap.specs.declared.error.Error.{Error}
+use Rattle.gptp_setup.specs.Intervals.{IsMoment}
+use Rattle.gptp_setup.specs.declared.limits.TheConstants.{LAST_MOMENT}
 use Rattle.gptp_accuracy.specs.declared.options.AccuracyOptions.{AccuracyOptions}
 use Rattle.gptp_faults.specs.Times.{AreOptions}
 use Rattle.gptp_faults.specs.declared.options.FaultsOptions.{FaultsOptions}
@@ -41,7 +43,7 @@ pub record ReadsRun (rows : List Row) (options : RunOptions) : Type 0 where
 
 -- the limits of `timeline` or `faults`, each by the name of its option
 abbrev pub limit_argument : Limit → Argument
-limit_argument limit = (option_name limit, Number 0 1000000000000000, [])
+limit_argument limit = (option_name limit, Number 0 LAST_MOMENT, [])
 
 abbrev pub ReadsLimits : List Row → Limits → Type 0
 ReadsLimits rows limits = (limit : Limit) → most_of limits limit ≡ option_number (limit_argument limit) rows
@@ -267,7 +269,7 @@ IsPlain words =
 
 -- a time, an error, or how many systems
 abbrev pub IsEndInRange : Option ℕ → Type 0
-IsEndInRange until = IfSome until (λ until. until ≤ 1000000000000000)
+IsEndInRange until = IfSome until (λ until. IsMoment until)
 
 -- the numbers of the options of `run` are in their ranges
 abbrev pub RunOptionsAreInRange : RunOptions → Type 0

@@ -9,6 +9,7 @@ use Rattle.gptp_network.specs.Document.{DocumentState, Fails as FailsDocument, M
 use Rattle.gptp_network.specs.Snapshot.{IsSnapshot}
 use Rattle.gptp_vector.specs.declared.port.PortId.{PortId}
 use Rattle.gptp_words.specs.Digits.{clock_text}
+use Rattle.gptp_certificate_text.specs.declared.certificate.TheConstants.{CERTIFICATE_LIMIT}
 use Rattle.gptp_certificate_text.specs.declared.fault.CertificateFault.{CertificateFault}
 use Rattle.gptp_certificate_text.specs.Certificate.{CertificateContent, IsCertificate}
 use Rattle.gptp_certificate_text.specs.CertificateText.{certificate_text}
@@ -20,7 +21,7 @@ use Rattle.gptp_checker.specs.declared.location.Location.TheVariants.{System, Li
 use Rattle.gptp_checker.specs.Faults.{IsAccepted, IsFirstFault}
 use Rattle.gptp_checker.specs.Located.{IsLocation}
 use Rattle.gptp_commands.specs.declared.failure.Status.{Status}
-use Rattle.gptp_commands.specs.CheckText.{certificate_limit, moment_of, CheckText}
+use Rattle.gptp_commands.specs.CheckText.{moment_of, CheckText}
 use Rattle.gptp_commands.specs.Documents.{document_limit}
 
 -- ---- the place of a fault
@@ -63,7 +64,7 @@ LocatesLine input lines = (fault : CertificateFault) × (part : List ℕ) × (n 
 
 -- past the size it is the line of the first octet past it
 abbrev pub LocatesEnd : List ℕ → List (List ℕ) → Type 0
-LocatesEnd input lines = PlaceIsLine (line_behind (take certificate_limit input)) lines
+LocatesEnd input lines = PlaceIsLine (line_behind (take CERTIFICATE_LIMIT input)) lines
 
 -- ---- both inputs
 
@@ -79,7 +80,7 @@ LocatesCertificate d until input lines =
 -- within its size, and past it
 abbrev pub LocatesLimited : DocumentState → Option ℕ → List ℕ → List (List ℕ) → Type 0
 LocatesLimited d until input lines =
-    MatchBool (nat_le (length input) certificate_limit) (LocatesCertificate d until input lines)
+    MatchBool (nat_le (length input) CERTIFICATE_LIMIT) (LocatesCertificate d until input lines)
     (LocatesEnd input lines)
 
 -- nothing is located where the document is refused

@@ -5,7 +5,7 @@ ghost use Rattle.std.specs.Io.KnownBytes.{Keeps};
 ghost use Rattle.gptp_network.specs.Snapshot.{IsSnapshot};
 ghost use Rattle.gptp_words.specs.Lines.{text_of};
 ghost use Rattle.gptp_checker.specs.Faults.{check_fault_text};
-ghost use Rattle.gptp_commands.specs.CheckText.{certificate_limit, moment_of, AnswersBoth, AnswersCertificate, CheckText, Judges, JudgesAt, RefusesCertificate, Says};
+ghost use Rattle.gptp_commands.specs.CheckText.{moment_of, AnswersBoth, AnswersCertificate, CheckText, Judges, JudgesAt, RefusesCertificate, Says};
 ghost use Rattle.gptp_certificate_text.specs.declared.fault.CertificateFault.TheVariants.{Line};
 ghost use Rattle.gptp_commands.specs.declared.failure.Status.TheVariants.{Done, Refused};
 ghost use Rattle.gptp_commands.specs.Limited.{Limited};
@@ -21,14 +21,12 @@ use crate::place::place_of_both;
 use crate::reading::read_whole;
 use crate::source::Source;
 use gptp_certificate::{Certificate, CertificateFault, parse};
+use gptp_certificate_text::CERTIFICATE_LIMIT;
 use gptp_checker::{Fault, accepts};
 use gptp_network::{Document, DocumentFault, Snapshot};
 use gptp_report::sink::Sink;
 use gptp_report::write_whole;
 use std::alloc::Global;
-
-/// How many octets a certificate may have.
-pub(crate) const CERTIFICATE_LIMIT: usize = 1_048_576;
 
 /// The time of the network that is meant.
 pub(crate) fn moment_of(document: &Document, until: Option<u64>) -> u64
@@ -124,7 +122,7 @@ fn limit_certificate(
     until: Option<u64>,
     input: &[u8],
 ) -> Result<Output, SimError>
-    ensures answers { IfOk result (λ o. (output : List (List ℕ)) × Limited certificate_limit (AnswersCertificate document.now until) (RefusesCertificate Line) input.now output o.status × (o.text.items ≡ text_of output)) }
+    ensures answers { IfOk result (λ o. (output : List (List ℕ)) × Limited CERTIFICATE_LIMIT (AnswersCertificate document.now until) (RefusesCertificate Line) input.now output o.status × (o.text.items ≡ text_of output)) }
     ensures memory { IfErr result (λ e. e ≡ SimError.Memory) }
 {
     if input.len() <= CERTIFICATE_LIMIT {
@@ -188,9 +186,9 @@ pub fn check<S: Source, C: Source, K: Sink>(
 ) -> Result<Status, SimError>
     ensures done { IfOk result (λ status. IfSome (C.left certificate.old) (λ octets. Writes (CheckText until octets) (S.left document.old) (K.written sink.old) (K.written sink.new) status)) }
     ensures whole { OnOk result ((octets : List ℕ) × ReadsWhole document_limit (S.left document.old) (S.left document.new) octets) }
-    ensures certificate_whole { OnOk result ((octets : List ℕ) × ReadsWhole certificate_limit (C.left certificate.old) (C.left certificate.new) octets) }
+    ensures certificate_whole { OnOk result ((octets : List ℕ) × ReadsWhole CERTIFICATE_LIMIT (C.left certificate.old) (C.left certificate.new) octets) }
     ensures no_further { TakesAtMost (document_limit + 1) (S.left document.old) (S.left document.new) }
-    ensures certificate_no_further { TakesAtMost (certificate_limit + 1) (C.left certificate.old) (C.left certificate.new) }
+    ensures certificate_no_further { TakesAtMost (CERTIFICATE_LIMIT + 1) (C.left certificate.old) (C.left certificate.new) }
 
     // every failure of a device is told as such, and none is made up
     ensures document_works { result ≢ Err SimError.Read → S.failures document.new ≡ S.failures document.old }
@@ -239,9 +237,9 @@ pub fn check_where<S: Source, C: Source, K: Sink>(
 ) -> Result<Status, SimError>
     ensures done { IfOk result (λ status. IfSome (C.left certificate.old) (λ octets. Writes (WhereText until octets) (S.left document.old) (K.written sink.old) (K.written sink.new) status)) }
     ensures whole { OnOk result ((octets : List ℕ) × ReadsWhole document_limit (S.left document.old) (S.left document.new) octets) }
-    ensures certificate_whole { OnOk result ((octets : List ℕ) × ReadsWhole certificate_limit (C.left certificate.old) (C.left certificate.new) octets) }
+    ensures certificate_whole { OnOk result ((octets : List ℕ) × ReadsWhole CERTIFICATE_LIMIT (C.left certificate.old) (C.left certificate.new) octets) }
     ensures no_further { TakesAtMost (document_limit + 1) (S.left document.old) (S.left document.new) }
-    ensures certificate_no_further { TakesAtMost (certificate_limit + 1) (C.left certificate.old) (C.left certificate.new) }
+    ensures certificate_no_further { TakesAtMost (CERTIFICATE_LIMIT + 1) (C.left certificate.old) (C.left certificate.new) }
 
     // every failure of a device is told as such, and none is made up
     ensures document_works { result ≢ Err SimError.Read → S.failures document.new ≡ S.failures document.old }

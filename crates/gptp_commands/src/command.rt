@@ -53,7 +53,7 @@ const BLOCK: usize = 65_536;
 pub struct CheckOptions {
     /// The path of the file that holds the certificate.
     pub file: String,
-    /// The time of the network that is meant, in ns, at most 10^15; `None` where it is the network after all
+    /// The time of the network that is meant, in ns, at most `LAST_MOMENT`; `None` where it is the network after all
     /// events.
     pub until: Option<u64>,
     /// Whether the place is told at which a certificate that isn't accepted first fails.

@@ -1,6 +1,7 @@
 //! What the texts promise beyond single calls.
 
 ghost use Rattle.std.specs.Prelude.{◌≡◌, ◌≤◌, ◌++◌, ℕ, Bool, IfSome, List, Option};
+ghost use Rattle.gptp_setup.specs.Intervals.{IsMoment};
 ghost use Rattle.gptp_commands.specs.declared.failure.Status.{Status};
 ghost use Rattle.gptp_network.specs.Document.{DocumentState};
 ghost use Rattle.gptp_commands.specs.declared.run.RunOptions.{RunOptions};
@@ -140,16 +141,16 @@ pub fn every_input_has_findings()
     ensures { (strict : Bool) (input : List ℕ) → HasText (QuestionText (questions.Lint strict)) input }
 {}
 
-/// Every input has a text of its run, with each seed, where its end is asked for at no later than 10^15 ns.
+/// Every input has a text of its run, with each seed, where its end is asked for at no later than `LAST_MOMENT`.
 pub fn every_input_has_a_run()
     ensures { (options : RunOptions) (input : List ℕ)
-        → IfSome options.until (λ until. until ≤ 1000000000000000) → HasText (RunText options) input }
+        → IfSome options.until (λ until. IsMoment until) → HasText (RunText options) input }
 {}
 
-/// Every input has a text of its timeline, with each seed, where its end is asked for at no later than 10^15 ns.
+/// Every input has a text of its timeline, with each seed, where its end is asked for at no later than `LAST_MOMENT`.
 pub fn every_input_has_a_timeline()
     ensures { (order : TimelineOrder) (input : List ℕ)
-        → IfSome order.until (λ until. until ≤ 1000000000000000) → HasText (TimelineText order) input }
+        → IfSome order.until (λ until. IsMoment until) → HasText (TimelineText order) input }
 {}
 
 /// Every input has a text of its faults, with all that may be asked of them, where a fault stays for 1 ns at least.

@@ -7,10 +7,10 @@ ghost use Rattle.gptp_checker.specs.Faults.{IsFirstFault};
 ghost use Rattle.gptp_commands.specs.WhereText.{BeginsInLine, IsAt, PlaceIsLine, LocatesAt, LocatesBoth, LocatesCertificate};
 ghost use Rattle.gptp_commands.specs.WhereText.{LocatesDocument, LocatesFault, LocatesLimited, LocatesLine, line_behind, place_text};
 
-use crate::check::{CERTIFICATE_LIMIT, moment_of};
+use crate::check::moment_of;
 use crate::documents::DOCUMENT_LIMIT;
 use crate::failure::SimError;
-use gptp_certificate_text::{Certificate, CertificateFault, parse_located};
+use gptp_certificate_text::{CERTIFICATE_LIMIT, Certificate, CertificateFault, parse_located};
 use gptp_checker::{Fault, Location, accepts, locate};
 use gptp_network::{Document, DocumentFault, Snapshot};
 use gptp_vector::PortId;

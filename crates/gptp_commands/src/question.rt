@@ -24,8 +24,8 @@ use gptp_report::write_whole;
 use gptp_vector::ClockId;
 use std::alloc::Global;
 
-/// What is asked of a document. Each has the time of the network that is meant, in ns, at most 10^15: the network as it
-/// stands after all events with time up to it, or after all where there is none.
+/// What is asked of a document. Each has the time of the network that is meant, in ns, at most `LAST_MOMENT`: the
+/// network as it stands after all events with time up to it, or after all where there is none.
 #[derive(Clone, Copy, Debug, PartialEq, Eq)]
 pub enum Question {
     /// `choice`: which choice the network settles at. The answer is its certificate, in version 2: which root each live
@@ -33,9 +33,9 @@ pub enum Question {
     Choice {
         until: Option<u64>,
     },
-    /// `accuracy`: how exact the time is that each system gets, in ns; by its options, at most 10^15 ns each, also how
-    /// exact what it reads is some time after it got that, or at every moment, and whether each is at most a greatest
-    /// error.
+    /// `accuracy`: how exact the time is that each system gets, in ns; by its options, at most `LAST_MOMENT` each, also
+    /// how exact what it reads is some time after it got that, or at every moment, and whether each is at most a
+    /// greatest error.
     Accuracy {
         until: Option<u64>,
         options: AccuracyOptions,

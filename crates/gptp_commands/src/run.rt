@@ -1,7 +1,8 @@
 //! The command `run`: what becomes of the network of a document.
 
-ghost use Rattle.std.specs.Prelude.{◌≡◌, ◌≢◌, ◌⊎◌, ◌≤◌, ◌+◌, [], true, List, ℕ, IfOk, OnErr, OnOk, IfErr, IfSome, unwrap_or};
+ghost use Rattle.std.specs.Prelude.{◌≡◌, ◌≢◌, ◌⊎◌, ◌+◌, [], true, List, ℕ, IfOk, OnErr, OnOk, IfErr, IfSome, unwrap_or};
 ghost use Rattle.std.specs.Io.KnownBytes.{Appends, Keeps};
+ghost use Rattle.gptp_setup.specs.Intervals.{IsMoment};
 ghost use Rattle.gptp_certificate_text.specs.CertificateText.{certificate_lines};
 ghost use Rattle.gptp_report.specs.Report.{Reports};
 ghost use Rattle.gptp_sink.specs.Sink.{AppendsSome};
@@ -27,8 +28,8 @@ use std::alloc::Global;
 /// What is asked of a run.
 #[derive(Clone, Copy, Debug, PartialEq, Eq)]
 pub struct RunOptions {
-    /// The time at which it ends, in ns, at most 10^15; `None` where it ends when the network has settled after the
-    /// last change, or would have if it were calm.
+    /// The time at which it ends, in ns, at most `LAST_MOMENT`; `None` where it ends when the network has settled after
+    /// the last change, or would have if it were calm.
     pub until: Option<u64>,
     /// The seed of the generator that draws delays and losses.
     pub seed: u64,
@@ -40,9 +41,9 @@ pub struct RunOptions {
 
 /// When the run of a document ends.
 fn until_of(document: &Document, options: &RunOptions) -> u64
-    requires { IfSome options.now.until (λ until. until ≤ 1000000000000000) }
+    requires { IfSome options.now.until (λ until. IsMoment until) }
     ensures is { result ≡ until_of options.now document.now }
-    ensures bound { result ≤ 1000000000000000 }
+    ensures bound { IsMoment result }
 {
     match options.until {
         Some(until) => until,
@@ -144,7 +145,7 @@ fn play_document<K: Sink>(
     options: &RunOptions,
     sink: &mut K,
 ) -> Result<(), Cut>
-    requires { IfSome options.now.until (λ until. until ≤ 1000000000000000) }
+    requires { IfSome options.now.until (λ until. IsMoment until) }
     ensures some { OnErr result ((lines : List (List ℕ)) × PlaysSome document.now options.now lines
         × AppendsSome (K.written sink.old) (K.written sink.new) (text_of lines)) }
     ensures whole { OnOk result ((lines : List (List ℕ)) × PlaysDocument document.now options.now lines Status.Done
@@ -159,10 +160,11 @@ fn play_document<K: Sink>(
 }
 
 impl DocumentCommand for RunOptions {
-    ghost use Rattle.std.specs.Prelude.{◌≤◌, IfSome};
+    ghost use Rattle.std.specs.Prelude.{IfSome};
+    ghost use Rattle.gptp_setup.specs.Intervals.{IsMoment};
     ghost use Rattle.gptp_commands.specs.RunText.{LeadsDocument, RunsDocument};
 
-    ghost can_tell = { λ options. IfSome options.until (λ until. until ≤ 1000000000000000) };
+    ghost can_tell = { λ options. IfSome options.until (λ until. IsMoment until) };
 
     ghost tells = { RunsDocument };
 
@@ -203,7 +205,7 @@ pub fn run<S: Source, K: Sink>(
     sink: &mut K,
     options: &RunOptions,
 ) -> Result<Status, SimError>
-    requires { IfSome options.now.until (λ until. until ≤ 1000000000000000) }
+    requires { IfSome options.now.until (λ until. IsMoment until) }
     ensures done { IfOk result (Writes (RunText options.now) (S.left source.old) (K.written sink.old) (K.written sink.new)) }
     ensures whole { OnOk result ((octets : List ℕ) × ReadsWhole document_limit (S.left source.old) (S.left source.new) octets) }
     ensures no_further { TakesAtMost (document_limit + 1) (S.left source.old) (S.left source.new) }

@@ -26,12 +26,13 @@ pub(crate) type CommandRow = (&'static str, &'static str, &'static [Row]);
 #[rattlefmt::skip]
 pub(crate) mod rows {
     use super::{CommandRow, Form, Kind, Row};
+    use gptp_setup::LAST_MOMENT;
 
     const FLAG: Kind = (Form::Flag, &[], "");
     /// A time, or how far off one is.
-    pub(crate) const NANOSECONDS: Kind = (Form::Number(0, 1_000_000_000_000_000), &[], "NS");
+    pub(crate) const NANOSECONDS: Kind = (Form::Number(0, LAST_MOMENT), &[], "NS");
     /// How many systems or roots.
-    const MANY: Kind = (Form::Number(0, 1_000_000_000_000_000), &[], "N");
+    const MANY: Kind = (Form::Number(0, LAST_MOMENT), &[], "N");
     const PARTED: Kind = (Form::Number(1, 10_000), &["1"], "N");
 
     pub(crate) const RUN_UNTIL: Row = ("until", NANOSECONDS,
@@ -66,13 +67,13 @@ pub(crate) mod rows {
         "At how many moments each case is tried, within an announce and a Sync interval");
     pub(crate) const AT: Row = ("at", NANOSECONDS,
         "The first moment, in ns; by default when the network rests behind the last event");
-    pub(crate) const HOLD: Row = ("hold", (Form::Number(1, 1_000_000_000_000_000), &[], "NS"),
+    pub(crate) const HOLD: Row = ("hold", (Form::Number(1, LAST_MOMENT), &[], "NS"),
         "How long a fault stays, and each run goes on behind it, in ns; by default until the network rests");
     pub(crate) const ONLY: Row = ("only", (Form::Word, &[], "KIND"),
         "Try nothing but 'links', 'systems' that hang, or 'power' that systems lose");
     pub(crate) const POWER: Row = ("power", FLAG,
         "Let each system also lose its power: its links go down, which its neighbours see");
-    pub(crate) const DETECT: Row = ("detect", (Form::Number(1, 1_000_000_000_000_000), &[], "NS"),
+    pub(crate) const DETECT: Row = ("detect", (Form::Number(1, LAST_MOMENT), &[], "NS"),
         "How long it takes until a broken link, or one at a system without power, is seen to be down, in ns");
     pub(crate) const PARTS: Row = ("parts", PARTED, "In how many parts the cases are dealt out, one after another");
     pub(crate) const PART: Row = ("part", PARTED, "The part that is tried");

@@ -1,7 +1,8 @@
 //! The command `timeline`: what changes at which system when, while the network of a document runs.
 
-ghost use Rattle.std.specs.Prelude.{◌≡◌, ◌≢◌, ◌≤◌, ◌+◌, List, ℕ, IfOk, OnOk, IfErr, IfSome};
+ghost use Rattle.std.specs.Prelude.{◌≡◌, ◌≢◌, ◌+◌, List, ℕ, IfOk, OnOk, IfErr, IfSome};
 ghost use Rattle.std.specs.Io.KnownBytes.{Keeps};
+ghost use Rattle.gptp_setup.specs.Intervals.{IsMoment};
 ghost use Rattle.gptp_commands.specs.Documents.{document_limit};
 ghost use Rattle.gptp_commands.specs.Source.{ReadsWhole, TakesAtMost};
 ghost use Rattle.gptp_commands.specs.TimelineText.{BeginsText, EndsAt, TimelineText};
@@ -20,8 +21,8 @@ use std::alloc::{AllocError, Global};
 /// What is asked of a timeline.
 #[derive(Clone, Copy, Debug, PartialEq, Eq)]
 pub struct TimelineOrder {
-    /// The time at which it ends, in ns, at most 10^15; `None` where it ends as much after the last event as is watched
-    /// then: a calm network has come to rest by then and is exact, and some Syncs more were sent.
+    /// The time at which it ends, in ns, at most `LAST_MOMENT`; `None` where it ends as much after the last event as is
+    /// watched then: a calm network has come to rest by then and is exact, and some Syncs more were sent.
     pub until: Option<u64>,
     /// The seed of the generator that draws delays and losses.
     pub seed: u64,
@@ -31,9 +32,9 @@ pub struct TimelineOrder {
 
 /// When the timeline of a document ends.
 fn until_of(alloc: Global, document: &Document, order: &TimelineOrder) -> Result<u64, AllocError>
-    requires { IfSome order.now.until (λ until. until ≤ 1000000000000000) }
+    requires { IfSome order.now.until (λ until. IsMoment until) }
     ensures end { IfOk result (EndsAt order.now.until document.now) }
-    ensures bound { IfOk result (λ until. until ≤ 1000000000000000) }
+    ensures bound { IfOk result (λ until. IsMoment until) }
 {
     match order.until {
         Some(until) => Ok(until),
@@ -42,10 +43,11 @@ fn until_of(alloc: Global, document: &Document, order: &TimelineOrder) -> Result
 }
 
 impl DocumentCommand for TimelineOrder {
-    ghost use Rattle.std.specs.Prelude.{◌≤◌, IfSome};
+    ghost use Rattle.std.specs.Prelude.{IfSome};
+    ghost use Rattle.gptp_setup.specs.Intervals.{IsMoment};
     ghost use Rattle.gptp_commands.specs.TimelineText.{TellsSoFar, TellsTimeline};
 
-    ghost can_tell = { λ order. IfSome order.until (λ until. until ≤ 1000000000000000) };
+    ghost can_tell = { λ order. IfSome order.until (λ until. IsMoment until) };
 
     ghost tells = { TellsTimeline };
 
@@ -89,7 +91,7 @@ pub fn timeline<S: Source, K: Sink>(
     sink: &mut K,
     order: &TimelineOrder,
 ) -> Result<Status, SimError>
-    requires { IfSome order.now.until (λ until. until ≤ 1000000000000000) }
+    requires { IfSome order.now.until (λ until. IsMoment until) }
     ensures done { IfOk result (Writes (TimelineText order.now) (S.left source.old) (K.written sink.old) (K.written sink.new)) }
     ensures whole { OnOk result ((octets : List ℕ) × ReadsWhole document_limit (S.left source.old) (S.left source.new) octets) }
     ensures no_further { TakesAtMost (document_limit + 1) (S.left source.old) (S.left source.new) }

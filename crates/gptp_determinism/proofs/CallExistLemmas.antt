@@ -8,6 +8,7 @@ use Rattle.gptp_lists.proofs.PlaceLemmas.{get-set_all, get-set_same, member_ther
 use Rattle.gptp_links.specs.declared.bounds.Bounds.{Bounds}
 use Rattle.gptp_links.specs.Fate.{Draw}
 use Rattle.gptp_pdelay.specs.Clock.{IsDrift}
+use Rattle.gptp_setup.specs.declared.limits.TheConstants.{MOST_PORTS}
 use Rattle.gptp_setup.specs.declared.setup.Setup.{Setup}
 use Rattle.gptp_setup.specs.Intervals.{AreIntervals, AreParams}
 use Rattle.gptp_system.specs.declared.answer.Answer.{Answer}
@@ -48,7 +49,7 @@ called_there place input w draws answer v call =
     ∙ get-set_same w.stations place call.station (in_state call.after call.station) call.here
 
 -- a system that starts is a system
-pub started_system : (setup : Setup) (now : ℕ) → setup.ports ≤ 16 → AreParams setup.params → AreIntervals setup
+pub started_system : (setup : Setup) (now : ℕ) → setup.ports ≤ MOST_PORTS → AreParams setup.params → AreIntervals setup
     → setup.phase ≤ 1000000000000000000 → IsDrift setup.drift → IsSystem (started setup now)
 started_system setup now few params intervals phase drift =
     starts_system setup now (started_ready setup now few params intervals phase drift)

@@ -7,7 +7,7 @@ use Rattle.std.proofs.Math.Nat.{mul-le-mul_left}
 use Rattle.gptp_scaled.specs.Rate.{IsNeighborRate}
 use Rattle.gptp_scaled.specs.Counts.{AreWithin, IsClockRate}
 use Rattle.gptp_pdelay.specs.GoodLink.{ceil_div}
-use Rattle.gptp_error_laws.specs.TimeError.{Way, jitter_at, link_at, rate_error_at, rates_error_at, total_below, wait_error_at}
+use Rattle.gptp_error_laws.specs.TimeError.{Way, measured_jitter_at, measured_most_at, rate_error_at, rates_error_at, total_below, wait_error_at}
 use Rattle.gptp_error_laws.specs.HopLaws.{IsRateWithin}
 use Rattle.gptp_error_laws.specs.WayLaws.{CutsAreNoMore, uncut_rates_error_at}
 
@@ -53,12 +53,12 @@ ceil_grows x y less = omega (arith, less)
 rates_cut : (w : Way) (i : ℕ) → rates_error_at w i ≤ uncut_rates_error_at w i
 rates_cut w i =
     let total = total_grows (suc i) (rate_error_at w)
-    (λ j. ceil_div (2202000000000 * jitter_at w j) w.interval + 4) (λ j. omega arith) in
+    (λ j. ceil_div (2202000000000 * measured_jitter_at w j) w.interval + 4) (λ j. omega arith) in
     omega (arith, total)
 
 pub cuts_are_no_more : CutsAreNoMore
 cuts_are_no_more w h =
-    let time : ℕ → ℕ = λ i. w.residence + jitter_at w i + (link_at w (suc i)).most in
+    let time : ℕ → ℕ = λ i. w.residence + measured_jitter_at w i + measured_most_at w (suc i) in
     let waits = total_grows (h - 1) (wait_error_at w) (λ i. ceil_div (time i * uncut_rates_error_at w i) 33550000)
     (λ i. ceil_grows (time i * rates_error_at w i) (time i * uncut_rates_error_at w i)
     (mul-le-mul_left (time i) (rates_cut w i))) in

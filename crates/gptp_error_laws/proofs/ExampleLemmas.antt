@@ -1,6 +1,7 @@
-use Rattle.std.proofs.Common.{◌≡◌, ℕ, zero, suc, ◌+◌, ◌<◌, ◌≤◌, refl, rules, arith}
+use Rattle.std.proofs.Common.{◌≡◌, ℕ, zero, suc, ◌*◌, ◌+◌, ◌<◌, ◌≤◌, refl, rules, arith}
 use Rattle.std.proofs.lemmas.Int.{ints}
 use Rattle.gptp_pdelay.specs.Clock.{IsDrift}
+use Rattle.gptp_pdelay.proofs.ClockLemmas.{clock_is_read}
 use Rattle.gptp_pdelay.specs.Measured.{AreMeasured, IsCarried, Moments}
 use Rattle.gptp_correction.specs.Carry.{hop_at, neighbour_at, BridgeFitsAt, SlaveFitsAt}
 use Rattle.gptp_error_laws.specs.TimeError.{drift_at, jitter_at, link_at}
@@ -88,6 +89,12 @@ measured (suc zero) h = record {
 }
 measured (suc (suc i)) h = absurd (omega (arith, h))
 
+rested : (i : ℕ) (h : i < 2) → (measured i h).earlier.came + 12 * 0 ≤ (measured i h).later.asked
+unfolding measured
+rested zero h = omega arith
+rested (suc zero) h = omega arith
+rested (suc (suc i)) h = absurd (omega (arith, h))
+
 bridge_fits : (i : ℕ) → suc i < 2 → BridgeFitsAt two_hops i
 bridge_fits zero h = search rules
 bridge_fits (suc i) h = absurd (omega (arith, h))
@@ -100,7 +107,8 @@ slave_fits (suc (suc i)) h = absurd (omega (arith, h))
 pub goes_over_two_links : GoesOverTwoLinks
 goes_over_two_links =
     record {
-      documented = record { long = omega arith; waits = omega arith; drifts = drifts };
+      documented = record { little = omega arith; long = omega arith; waits = omega arith; drifts = drifts };
+      read = λ i h. clock_is_read 0 0 (phases i) (drift_at two_links_way i) (omega arith);
       goes = record {
         as_long = refl;
         carried_long = long;
@@ -110,6 +118,7 @@ goes_over_two_links =
         ingress = ingress;
         egress = egress;
         measured = measured;
+        rested = rested;
       };
       fits = record { bridges = bridge_fits; slave = slave_fits };
       carried = refl;

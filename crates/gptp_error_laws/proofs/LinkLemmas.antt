@@ -57,19 +57,25 @@ deviates e root up rate x r u w a = go a (cases_lt x (e + 439850001))
         let c : (rate + x) * up ≡ 2199023255552 * up = ap (λ n. n * up) k in
         absurd (omega (arith, w.low, r.low, u.high, b, c))
 
+-- a rate is at most so far above 1
+apart_high : (rate x : ℕ) → IsApart rate x → rate ≤ 2199023255552 + x
+apart_high rate x (inl h) = omega (arith, h)
+apart_high rate x (inr h) = omega (arith, h)
+
 -- what the delay at the greatest rate comes to, where x is how far the rate from above is from 1
-delay_high : (most turnaround up e delay x : ℕ) → IsClockRate up → IsDelayBelow most turnaround up delay →
-    x < e + 439850001 → x ≤ 2147483648 →
-    1525 * 2199023255552 * (delay * x) ≤ 1525 * 65536 * 2199243157877 * (most * x)
-    + 2199023255552 * 2147483648 * (6100 + 2 * most + turnaround)
-delay_high most turnaround up e delay x u below dev small =
+delay_high : (w most turnaround up delay x : ℕ) → IsClockRate up → IsDelayBelow w most turnaround up delay →
+    x ≤ 2147483648 →
+    1525 * 2199023255552 * (delay * x) ≤
+    1525 * 65536 * (2199243157877 * (most * x) + 2199360000000 * (w * x))
+    + 2199023255552 * 2147483648 * (6100 + 2 * (most + w) + turnaround)
+delay_high w most turnaround up delay x u below small =
     let a : x * (1525 * 2199023255552 * delay)
-    ≤ x * (1525 * 65536 * most * up + 2199023255552 * (6100 + 2 * most + turnaround)) =
+    ≤ x * (1525 * 65536 * (most * up + 2199360000000 * w) + 2199023255552 * (6100 + 2 * (most + w) + turnaround)) =
     mul-le-mul_left x below in
     let b : most * x * up ≤ most * x * 2199243157877 = mul-le-mul_left (most * x) (omega (arith, u.high)) in
-    let c : most * x ≤ most * 2147483648 = mul-le-mul_left most small in
+    let c : (most + w) * x ≤ (most + w) * 2147483648 = mul-le-mul_left (most + w) small in
     let d : turnaround * x ≤ turnaround * 2147483648 = mul-le-mul_left turnaround small in
-    omega arith
+    omega (arith, a, b, c, d, small)
 
 -- the neighbour's rate cancels out of the link time, but for the delay times the product of two distances from 1
 time_high : (delay before neighbour after time x y : ℕ) → IsProduct before neighbour after x y →
@@ -107,76 +113,89 @@ above_small before neighbour after x rates (inl h) = omega (arith, h, rates.befo
 above_small before neighbour after x rates (inr h) = omega (arith, h, rates.before_low)
 
 -- the delay at the rate from above
-rate_high : (most turnaround root up e delay before : ℕ) → IsClockRate up → IsRateWithin e root up before →
-    before ≤ 2201170739200 → IsDelayBelow most turnaround up delay →
+rate_high : (w most turnaround root up e delay before : ℕ) → IsClockRate up → IsRateWithin e root up before →
+    before ≤ 2201170739200 → IsDelayBelow w most turnaround up delay →
     1525 * 2199023255552 * (delay * before) ≤
-    1525 * 65536 * (2199023255552 * (most * root) + 2199243157877 * (most * e))
-    + 2199023255552 * 2201170739200 * (6100 + 2 * most + turnaround)
-rate_high most turnaround root up e delay before u w small below =
+    1525 * 65536 * (2199023255552 * (most * root) + 2199243157877 * (most * e) + 2199360000000 * (w * before))
+    + 2199023255552 * 2201170739200 * (6100 + 2 * (most + w) + turnaround)
+rate_high w most turnaround root up e delay before u within small below =
     let a : before * (1525 * 2199023255552 * delay)
-    ≤ before * (1525 * 65536 * most * up + 2199023255552 * (6100 + 2 * most + turnaround)) = mul-le-mul_left before
-    below in
-    let b : most * (before * up) ≤ most * (2199023255552 * root + e * up) = mul-le-mul_left most w.high in
+    ≤ before * (1525 * 65536 * (most * up + 2199360000000 * w) + 2199023255552 * (6100 + 2 * (most + w)
+    + turnaround)) =
+    mul-le-mul_left before below in
+    let b : most * (before * up) ≤ most * (2199023255552 * root + e * up) = mul-le-mul_left most within.high in
     let c : most * e * up ≤ most * e * 2199243157877 = mul-le-mul_left (most * e) (omega (arith, u.high)) in
-    let d : most * before ≤ most * 2201170739200 = mul-le-mul_left most small in
+    let d : (most + w) * before ≤ (most + w) * 2201170739200 = mul-le-mul_left (most + w) small in
     let f : turnaround * before ≤ turnaround * 2201170739200 = mul-le-mul_left turnaround small in
     omega (arith, a, b, c, d, f, small)
 
-rate_low : (least most turnaround root up e delay before : ℕ) → least ≤ most → IsClockRate up →
-    IsRateWithin e root up before → before ≤ 2201170739200 → IsDelayAbove least most turnaround up delay →
+rate_low : (w least most turnaround root up e delay before : ℕ) → least ≤ most → IsClockRate up →
+    IsRateWithin e root up before → before ≤ 2201170739200 → IsDelayAbove w least most turnaround up delay →
     1525 * 65536 * 2199023255552 * (least * root) ≤
-    1525 * 2199023255552 * (delay * before) + 1525 * 65536 * 2199243157877 * (most * e)
-    + 2199023255552 * 2201170739200 * (6100 + 2 * most + turnaround)
-rate_low least most turnaround root up e delay before order u w small above =
+    1525 * 2199023255552 * (delay * before)
+    + 1525 * 65536 * (2199243157877 * (most * e) + 2199360000000 * (w * before))
+    + 2199023255552 * 2201170739200 * (6100 + 2 * (most + w) + turnaround)
+rate_low w least most turnaround root up e delay before order u within small above =
     let a : before * (1525 * 65536 * least * up)
-    ≤ before * (2199023255552 * (1525 * delay + 6100 + 2 * most + turnaround)) = mul-le-mul_left before above in
-    let b : least * (2199023255552 * root) ≤ least * ((before + e) * up) = mul-le-mul_left least w.low in
+    ≤ before * (2199023255552 * (1525 * delay + 6100 + 2 * (most + w) + turnaround)
+    + 1525 * 65536 * 2199360000000 * w) =
+    mul-le-mul_left before above in
+    let b : least * (2199023255552 * root) ≤ least * ((before + e) * up) = mul-le-mul_left least within.low in
     let c : least * e * up ≤ least * e * 2199243157877 = mul-le-mul_left (least * e) (omega (arith, u.high)) in
-    let d : most * before ≤ most * 2201170739200 = mul-le-mul_left most small in
+    let d : (most + w) * before ≤ (most + w) * 2201170739200 = mul-le-mul_left (most + w) small in
     let f : turnaround * before ≤ turnaround * 2201170739200 = mul-le-mul_left turnaround small in
     let g : e * least ≤ e * most = mul-le-mul_left e order in
     omega (arith, a, b, c, d, f, g, small)
 
 pub link_time_is_below : LinkTimeIsBelow
-link_time_is_below most turnaround root up e delay before neighbour after time r u within rates time_is below =
+link_time_is_below w most turnaround root up e delay before neighbour after time r u within rates time_is below =
     go (apart_of before) (apart_of neighbour)
   where
     go : (x : ℕ) × IsApart before x → (y : ℕ) × IsApart neighbour y →
         50325000000 * time * after ≤
-        50325000000 * 65536 * most * root + 2 ^ 41 * (1500 * e * most + 33550000 * (20 * most + turnaround + 7530))
+        50325000000 * 65536 * (most * root + 2199810000000 * w)
+        + 2 ^ 41 * (1500 * e * (most + w) + 33550000 * (20 * (most + w) + turnaround + 7530))
     go (x, ax) (y, ay) =
         let dev = deviates e root up before x r u within ax in
         let small = above_small before neighbour after x rates ax in
         let p = product_is before neighbour after x y ax ay rates.after_is in
         let a = time_high delay before neighbour after time x y p (far_small before neighbour after y rates ay)
         (omega (arith, rates.neighbour_low)) (omega (arith, time_is)) in
-        let b = rate_high most turnaround root up e delay before u within (omega (arith, rates.before_high)) below in
-        let c = delay_high most turnaround up e delay x u below dev small in
-        let d : most * x ≤ most * (e + 439850000) = mul-le-mul_left most (omega (arith, dev)) in
+        let b = rate_high w most turnaround root up e delay before u within (omega (arith, rates.before_high)) below in
+        let c = delay_high w most turnaround up delay x u below small in
+        let d : (most + w) * x ≤ (most + w) * (e + 439850000) = mul-le-mul_left (most + w) (omega (arith, dev)) in
+        let d' : w * x ≤ w * (e + 439850000) = mul-le-mul_left w (omega (arith, dev)) in
         let f : most * x ≤ most * 2147483648 = mul-le-mul_left most small in
-        omega (arith, a, b, c, d, f)
+        let f' : w * x ≤ w * 2147483648 = mul-le-mul_left w small in
+        let g : w * before ≤ w * (2199023255552 + x) = mul-le-mul_left w (apart_high before x ax) in
+        omega (arith, a, b, c, d, d', f, f', g)
 
 pub link_time_is_above : LinkTimeIsAbove
-link_time_is_above least most turnaround root up e delay before neighbour after time order r u within rates time_is
-    below above =
+link_time_is_above w least most turnaround root up e delay before neighbour after time order r u within rates
+    time_is below above =
     go (apart_of before) (apart_of neighbour)
   where
     go : (x : ℕ) × IsApart before x → (y : ℕ) × IsApart neighbour y →
         50325000000 * 65536 * least * root ≤
-        50325000000 * time * after + 2 ^ 41 * (1500 * e * most + 33550000 * (20 * most + turnaround + 7530))
+        50325000000 * time * after
+        + 2 ^ 41 * (1500 * e * (most + w) + 33550000 * (20 * (most + w) + turnaround + 7530))
+        + 50325000000 * 65536 * 2199810000000 * w
     go (x, ax) (y, ay) =
         let dev = deviates e root up before x r u within ax in
         let small = above_small before neighbour after x rates ax in
         let p = product_is before neighbour after x y ax ay rates.after_is in
         let a = time_low delay before neighbour after time x y p (far_small before neighbour after y rates ay)
         (omega (arith, rates.neighbour_low)) (omega (arith, time_is)) in
-        let b = rate_low least most turnaround root up e delay before order u within (omega (arith, rates.before_high))
-        above in
-        let c = delay_high most turnaround up e delay x u below dev small in
-        let d : most * x ≤ most * (e + 439850000) = mul-le-mul_left most (omega (arith, dev)) in
+        let b = rate_low w least most turnaround root up e delay before order u within
+        (omega (arith, rates.before_high)) above in
+        let c = delay_high w most turnaround up delay x u below small in
+        let d : (most + w) * x ≤ (most + w) * (e + 439850000) = mul-le-mul_left (most + w) (omega (arith, dev)) in
+        let d' : w * x ≤ w * (e + 439850000) = mul-le-mul_left w (omega (arith, dev)) in
         let f : most * x ≤ most * 2147483648 = mul-le-mul_left most small in
-        let g : after ≤ 2201610543851 = omega (arith, rates.after_is, rates.before_high, rates.neighbour_high) in
-        omega (arith, a, b, c, d, f, g)
+        let f' : w * x ≤ w * 2147483648 = mul-le-mul_left w small in
+        let g : w * before ≤ w * (2199023255552 + x) = mul-le-mul_left w (apart_high before x ax) in
+        let h : after ≤ 2201610543851 = omega (arith, rates.after_is, rates.before_high, rates.neighbour_high) in
+        omega (arith, a, b, c, d, d', f, f', g, h)
 
 pub stay_is_below : StayIsBelow
 stay_is_below stay root own e rate count w n =

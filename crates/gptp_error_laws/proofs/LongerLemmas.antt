@@ -9,7 +9,7 @@ use Rattle.gptp_scaled.specs.Rate.{unit, rate_of}
 use Rattle.gptp_pdelay.specs.GoodLink.{ceil_div}
 use Rattle.gptp_pdelay.specs.Measured.{clock_rate}
 use Rattle.gptp_correction.specs.Sum.{sum_below}
-use Rattle.gptp_error_laws.specs.TimeError.{WayLink, Way, clock_at, drift_at, hop_error, hop_error_at, jitter_at, link_at, rate_error_at, rates_error_at, steady_rate_at, total_below, unlike_at, wait_error_at}
+use Rattle.gptp_error_laws.specs.TimeError.{WayLink, Way, clock_at, drift_at, hop_error, hop_error_at, link_at, measured_jitter_at, measured_most_at, rate_error_at, rates_error_at, steady_rate_at, total_below, unlike_at, wait_error_at}
 use Rattle.gptp_error_laws.specs.WayLaws.{IsDocumented, ParentsErrorStays, longer}
 
 -- sums of the same numbers are the same
@@ -44,11 +44,12 @@ steady_same w l i h =
 pub rate_error_same : (w : Way) (l : WayLink) (i : ℕ) → i < length w.links
     → rate_error_at (longer w l) i ≡ rate_error_at w i
 rate_error_same w l i h =
-    ap (λ (k : WayLink). min (ceil_div (2202000000000 * (k.most - k.least)) w.interval) 879609302 + 4)
+    ap (λ (k : WayLink). min (ceil_div (2202000000000 * (k.most - k.least + 2 * w.blur)) w.interval) 879609302 + 4)
     (link_same w l i h)
 
 hop_same : (w : Way) (l : WayLink) (i : ℕ) → i < length w.links → hop_error_at (longer w l) i ≡ hop_error_at w i
-hop_same w l i h = ap (λ (k : WayLink). hop_error (k.most - k.least) k.most w.turnaround) (link_same w l i h)
+hop_same w l i h =
+    ap (λ (k : WayLink). hop_error (k.most - k.least + 2 * w.blur) (k.most + w.blur) w.turnaround) (link_same w l i h)
 
 unlike_same : (w : Way) (l : WayLink) (i : ℕ) → i < length w.links → unlike_at (longer w l) i ≡ unlike_at w i
 unlike_same w l i h =
@@ -74,11 +75,12 @@ rates_same w l i h =
 
 wait_same : (w : Way) (l : WayLink) (i : ℕ) → suc i < length w.links → wait_error_at (longer w l) i ≡ wait_error_at w i
 wait_same w l i h =
-    ap (λ (k : WayLink). ceil_div ((w.residence + (k.most - k.least) + (link_at (longer w l) (suc i)).most)
-    * rates_error_at (longer w l) i) 33550000) (link_same w l i (omega (arith, h)))
-    ∙ ap (λ (k : WayLink). ceil_div ((w.residence + jitter_at w i + k.most) * rates_error_at (longer w l) i) 33550000)
-    (link_same w l (suc i) h)
-    ∙ ap (λ n. ceil_div ((w.residence + jitter_at w i + (link_at w (suc i)).most) * n) 33550000)
+    ap (λ (k : WayLink). ceil_div ((w.residence + (k.most - k.least + 2 * w.blur)
+    + measured_most_at (longer w l) (suc i)) * rates_error_at (longer w l) i) 33550000)
+    (link_same w l i (omega (arith, h)))
+    ∙ ap (λ (k : WayLink). ceil_div ((w.residence + measured_jitter_at w i + (k.most + w.blur))
+    * rates_error_at (longer w l) i) 33550000) (link_same w l (suc i) h)
+    ∙ ap (λ n. ceil_div ((w.residence + measured_jitter_at w i + measured_most_at w (suc i)) * n) 33550000)
     (rates_same w l i (omega (arith, h)))
 
 -- the errors of the systems on it stay
@@ -111,6 +113,7 @@ drift_last w l i e =
 -- a way that goes on to a clock within its limits is one of a document
 pub documented_longer : (w : Way) (l : WayLink) → IsDocumented w → IsDrift l.drift → IsDocumented (longer w l)
 documented_longer w l documented drift = record {
+  little = documented.little;
   long = documented.long;
   waits = documented.waits;
   drifts = λ i within. elim (cases_lt i (suc (length w.links))) [

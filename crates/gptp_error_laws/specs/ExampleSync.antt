@@ -4,7 +4,7 @@ use Rattle.gptp_correction.specs.declared.correction.Hop.{Hop}
 use Rattle.gptp_correction.specs.Carry.{carry_of, CarryFits}
 use Rattle.gptp_error_laws.specs.TimeError.{time_error}
 use Rattle.gptp_error_laws.specs.Examples.{two_links_way}
-use Rattle.gptp_error_laws.specs.WayLaws.{GoesOver, IsDocumented, shown_at}
+use Rattle.gptp_error_laws.specs.WayLaws.{AreRead, GoesOver, IsDocumented, shown_at}
 
 -- The Sync is sent at 2 s and is 390 ns, the least delay, on each link. Its Follow_Up comes to the bridge 20 ns
 -- after it, and the bridge sends on 1,000 ns later.
@@ -32,7 +32,8 @@ phases i = 0
 -- link seems to be 10 ns longer than it was. The time error of the way is 2622278 units.
 pub record GoesOverTwoLinks : Type 0 where
   pub documented : IsDocumented two_links_way
-  pub goes : GoesOver two_links_way two_hops phases sent sync_came
+  pub read : AreRead 0 two_links_way phases (shown_at two_links_way phases)
+  pub goes : GoesOver two_links_way two_hops (shown_at two_links_way phases) sent sync_came
   pub fits : CarryFits (shown_at two_links_way phases 0 (sent 0)) two_hops
   pub carried : carry_of (shown_at two_links_way phases 0 (sent 0)) two_hops ≡ pos (131072117964800 + 1310722)
   pub shown : shown_at two_links_way phases 0 (sync_came 1) ≡ pos 131072117964800

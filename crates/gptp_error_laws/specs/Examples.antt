@@ -1,17 +1,19 @@
 -- Ways whose time error is worked out by hand.
 use Rattle.std.specs.Prelude.{ℕ, ℤ, pos, neg_ℤ, List, [], ◌∷◌}
+use Rattle.gptp_scaled.specs.TimeStamp.{stamp_blur}
 use Rattle.gptp_error_laws.specs.TimeError.{WayLink, Way}
 
 -- a link between two delays, to a clock with this drift
 abbrev example_way_link : ℕ → ℕ → ℤ → WayLink
 example_way_link least most drift = record { least = least; most = most; drift = drift }
 
--- a way with a request each second, a turnaround of 1,000 ns and this residence
+-- a way by exact clocks with a request each second, a turnaround of 1,000 ns and this residence
 abbrev way : ℤ → List WayLink → ℕ → Way
 way drift links residence =
     record {
       drift = drift;
       links = links;
+      blur = 0;
       interval = 1000000000;
       turnaround = 1000;
       residence = residence;
@@ -56,3 +58,14 @@ limit_way = way (pos 219902325) (example_way_link 500 500 (neg_ℤ (pos 21990232
 abbrev pub jittery_way : Way
 jittery_way = way (pos 0) (example_way_link 1000 1001000 (pos 0) ∷ example_way_link 1000 1001000
     (pos 0) ∷ example_way_link 1000 1001000 (pos 0) ∷ example_way_link 1000 1001000 (pos 0) ∷ []) 1000
+
+-- The first of these ways by time stamps of 8 ns with 4 ns of noise, of which two are off by 16 ns together. Its link
+-- costs 65556 * 32 + 7 + 12, as one of 484 to 516 ns does by exact clocks.
+abbrev pub stamped_way : Way
+stamped_way = record plain_way { blur = stamp_blur 8 4 }
+
+-- The ring of examples/ring.toml whole, by such time stamps: three links of 390 to 410 ns. Each link costs 65556 * 52 +
+-- 6 + 12 = 3408930, and its rate is right within 114504 + 4. The first bridge costs 1478 * 114508 / 33550000, rounded
+-- up, which is 6, and the second 1478 * 229016 / 33550000, which is 11.
+abbrev pub stamped_ring_way : Way
+stamped_ring_way = record ring_way { blur = stamp_blur 8 4 }

@@ -12,11 +12,13 @@ pub record WayLink : Type 0 where
   pub most : ℕ
   pub drift : ℤ
 
--- The way to a system: the drift of the root's clock, and the links, the root's first; for all of them the interval
--- between two requests, the turnaround and the residence, in ns.
+-- The way to a system: the drift of the root's clock, and the links, the root's first; for all of them by how much two
+-- time stamps of a clock are off together, over which interval a rate is measured, the turnaround and the residence, in
+-- ns.
 pub record Way : Type 0 where
   pub drift : ℤ
   pub links : List WayLink
+  pub blur : ℕ
   pub interval : ℕ
   pub turnaround : ℕ
   pub residence : ℕ
@@ -43,10 +45,18 @@ total_below (suc n) f = total_below n f + f n
 abbrev pub jitter_at : Way → ℕ → ℕ
 jitter_at w i = (link_at w i).most - (link_at w i).least
 
+-- By time stamps a link costs what one costs by exact clocks that takes the blur less at least and the blur more at
+-- most: its jitter and its greatest delay as they are measured.
+abbrev pub measured_jitter_at : Way → ℕ → ℕ
+measured_jitter_at w i = jitter_at w i + 2 * w.blur
+
+abbrev pub measured_most_at : Way → ℕ → ℕ
+measured_most_at w i = (link_at w i).most + w.blur
+
 -- What the jitter makes of the neighbour rate that is measured on a link. Both are held at 200 parts in a million, so
 -- no jitter makes more of it than that twice.
 abbrev pub rate_error_at : Way → ℕ → ℕ
-rate_error_at w i = min (ceil_div (2202000000000 * jitter_at w i) w.interval) 879609302 + 4
+rate_error_at w i = min (ceil_div (2202000000000 * measured_jitter_at w i) w.interval) 879609302 + 4
 
 -- the neighbour rate that is measured there without jitter
 abbrev pub steady_rate_at : Way → ℕ → ℤ
@@ -69,12 +79,12 @@ hop_error jitter most turnaround = 65556 * jitter + (20 * most + turnaround) / 1
 
 -- what the link at a place adds
 abbrev pub hop_error_at : Way → ℕ → ℕ
-hop_error_at w i = hop_error (jitter_at w i) (link_at w i).most w.turnaround
+hop_error_at w i = hop_error (measured_jitter_at w i) (measured_most_at w i) w.turnaround
 
 -- what the bridge after it adds, and the link after that: the time that passes there, times the error of the rate
 abbrev pub wait_error_at : Way → ℕ → ℕ
 wait_error_at w i =
-    ceil_div ((w.residence + jitter_at w i + (link_at w (suc i)).most) * rates_error_at w i) 33550000
+    ceil_div ((w.residence + measured_jitter_at w i + measured_most_at w (suc i)) * rates_error_at w i) 33550000
 
 -- The time error of a system so many links from the root, in units of 2^-16 ns: each link costs its jitter; each bridge
 -- costs its residence times the error of the rate so far, to which each link above adds its jitter over the interval.
@@ -86,10 +96,11 @@ abbrev pub time_error : Way → ℕ
 time_error w = time_error_at w (length w.links)
 
 -- The error of what is read after the link at a place, so long after the Follow_Up: the time error there; and what the
--- error of the rate makes of that span, and of the link's jitter, by which the Follow_Up may come after its Sync.
+-- error of the rate makes of that span, and of the link's jitter, by which the Follow_Up may come after its Sync, and
+-- of what the time stamp of its ingress is off.
 abbrev pub reading_error_at : Way → ℕ → ℕ → ℕ
 reading_error_at w i later =
-    time_error_at w (suc i) + ceil_div ((later + jitter_at w i) * rates_error_at w i) 33550000
+    time_error_at w (suc i) + ceil_div ((later + measured_jitter_at w i) * rates_error_at w i) 33550000
 
 -- the error of what a system reads so many links from the root, so long after the Follow_Up; 0 at the root itself
 abbrev pub reading_error_after : Way → ℕ → ℕ → ℕ

@@ -2,8 +2,9 @@
 
 ghost use Rattle.std.specs.Prelude.{◌≡◌};
 ghost use Rattle.gptp_error_laws.specs.ExampleSync.{GoesOverTwoLinks};
-ghost use Rattle.gptp_error_laws.specs.Examples.{jittery_way, limit_way, plain_way, ring_way, unequal_way};
-ghost use Rattle.gptp_error_laws.specs.TimeError.{time_error, time_error_at};
+ghost use Rattle.gptp_error_laws.specs.Examples.{jittery_way, limit_way, plain_way, ring_way, stamped_ring_way};
+ghost use Rattle.gptp_error_laws.specs.Examples.{stamped_way, unequal_way};
+ghost use Rattle.gptp_error_laws.specs.TimeError.{reading_error, time_error, time_error_at};
 
 /// One link without jitter between two clocks without drift: rounding alone. The root itself has no error.
 pub fn rounding_alone()
@@ -38,6 +39,20 @@ pub fn limits_of_rates()
     ensures two { time_error_at jittery_way 2 ≡ 131164514880 }
     ensures three { time_error_at jittery_way 3 ≡ 196825504563 }
     ensures four { time_error jittery_way ≡ 262535909554 }
+{}
+
+/// A link without jitter between two clocks without drift, by time stamps of 8 ns with 4 ns of noise: 32 ns, and a
+/// little. What is read 1 s after the Follow_Up is off by as much again.
+pub fn time_stamps()
+    ensures system { time_error stamped_way ≡ 2097811 }
+    ensures reads { reading_error stamped_way 1000000000 ≡ 4198199 }
+{}
+
+/// The three bridges of the ring by such time stamps: 52, 104 and 156 ns, and a little.
+pub fn ring_by_time_stamps()
+    ensures one { time_error_at stamped_ring_way 1 ≡ 3408930 }
+    ensures two { time_error_at stamped_ring_way 2 ≡ 6817866 }
+    ensures three { time_error stamped_ring_way ≡ 10226807 }
 {}
 
 /// A Sync over two links of the ring meets all premises of the law of a whole way: it takes the least delay on each,

@@ -55,10 +55,11 @@ pub fn parents_error_stays()
     ensures { ParentsErrorStays }
 {}
 
-/// The time that is carried over a whole way, from the root over any number of bridges, is within the time error of
-/// the root's clock as the Sync comes to the last system: whatever the phases of the clocks, their drifts within 100
-/// parts in a million, the delays within the bounds of each link and the exchanges by which each port has measured
-/// its link. `carry_keeps_time` of gptp_correction is the case without jitter, drift and rounding.
+/// The time that is carried over a whole way, from the root over any number of bridges, is within the time error of the
+/// root's clock as the Sync comes to the last system: whatever the phases of the clocks, their drifts within 100 parts
+/// in a million, the delays within the bounds of each link, what each reading of a clock is off, and the exchanges by
+/// which each port has measured its link. `carry_keeps_time` of gptp_correction is the case without jitter, drift and
+/// rounding.
 pub fn carry_is_within()
     ensures { CarryIsWithin }
 {}

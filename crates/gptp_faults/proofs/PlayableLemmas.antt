@@ -3,6 +3,8 @@ use Rattle.std.proofs.Common.{◌≡◌, ◌≤◌, ◌+◌, ◌||◌, ◌&&◌,
 use Rattle.std.specs.List.{AllByRecursion, list_any, range_with_len}
 use Rattle.std.proofs.lemmas.Bool.Decides.{nat_tests}
 use Rattle.std.proofs.lemmas.Option.{same_Some}
+use Rattle.gptp_network.specs.declared.keys.TheConstants.{LATEST_EVENT}
+use Rattle.gptp_setup.specs.declared.limits.TheConstants.{MOST_PORTS}
 use Rattle.gptp_graph.specs.Snapshot.{Snapshot}
 use Rattle.gptp_invariants.specs.WorldEncodableLaws.{SetsAnOctet}
 use Rattle.gptp_links.specs.declared.bounds.Bounds.{Bounds}
@@ -149,7 +151,7 @@ module _ (d : DocumentState) (playable : IsPlayable d) (detect : Option ℕ) whe
 
   up_taken : (clock : ℕ) (p : PortId) → In p (up_ports cables clock) → is_taken d.network.links p ≡ true
   up_taken clock p member =
-      let kept = from_filter (is_up_at cables) p (map (port_after clock) (range_with_len 0 16)) member in
+      let kept = from_filter (is_up_at cables) p (map (port_after clock) (range_with_len 0 MOST_PORTS)) member in
       taken_by p kept.1
 
   -- a system that lives is one of the network
@@ -224,7 +226,7 @@ sets_no_octet (Recover clock) = tt
 
 -- one event more can be played
 more_playable : (d : DocumentState) (at : ℕ) (change : Change) → IsPlayable d → IsPossibleChange d.network change
-    → SetsAnOctet (acts.Change change) → last_change d.events ≤ at → at ≤ 800000000000000
+    → SetsAnOctet (acts.Change change) → last_change d.events ≤ at → at ≤ LATEST_EVENT
     → IsPlayable (with_event at change d)
 more_playable d at change playable fits octet later early = record {
   network = playable.network;
@@ -237,7 +239,7 @@ more_playable d at change playable fits octet later early = record {
 
 -- several at one time, and the last of them is then
 changes_playable : (at : ℕ) (cs : List CaseChange) (d : DocumentState) → IsPlayable d → AllPossible d.network cs
-    → last_change d.events ≤ at → at ≤ 800000000000000 → IsPlayable (with_changes at cs d)
+    → last_change d.events ≤ at → at ≤ LATEST_EVENT → IsPlayable (with_changes at cs d)
 changes_playable at [] d playable can later early = playable
 changes_playable at (c ∷ cs) d playable can later early =
     let last = last_behind d.events (record { at = at; act = acts.Change (change_of c) }) in
@@ -258,7 +260,7 @@ module _ (d : DocumentState) (e : EventsState) (playable : IsPlayable d) (can : 
   pub network_failed : (at : ℕ) → (failed_document at e d).network ≡ d.network
   network_failed at = ap (λ (x : DocumentState). x.network) (failed_are at e d)
 
-  pub failed_playable : (at : ℕ) → last_change d.events ≤ at → at + e.delay ≤ 800000000000000
+  pub failed_playable : (at : ℕ) → last_change d.events ≤ at → at + e.delay ≤ LATEST_EVENT
       → IsPlayable (failed_document at e d)
   failed_playable at later early =
       let last = changes_last at e.at d later in
@@ -271,7 +273,7 @@ module _ (d : DocumentState) (e : EventsState) (playable : IsPlayable d) (can : 
       let last = changes_last at e.at d later in
       changes_last (at + e.delay) e.seen (with_changes at e.at d) (omega (arith, last))
 
-  pub case_playable : (at hold : ℕ) → last_change d.events ≤ at → back_at at e hold ≤ 800000000000000
+  pub case_playable : (at hold : ℕ) → last_change d.events ≤ at → back_at at e hold ≤ LATEST_EVENT
       → IsPlayable (with_case at hold e d)
   case_playable at hold later early =
       let last = failed_last at later in

@@ -2,11 +2,13 @@
 use Rattle.std.proofs.Common.{◌≡◌, ◌≤◌, ◌<◌, ◌+◌, ◌-◌, ◌||◌, ℕ, zero, suc, Bool, true, false, nat_lt, List, [], ◌∷◌, length, map, Option, Some, None, slice_get, refl, sym, ap, ◌∙◌, arith}
 use Rattle.std.specs.List.{list_any, range_with_len}
 use Rattle.std.proofs.lemmas.Bool.Decides.{nat_tests}
+use Rattle.gptp_network.specs.declared.keys.TheConstants.{LATEST_EVENT}
+use Rattle.gptp_setup.specs.Intervals.{IsMoment}
 use Rattle.gptp_network.specs.Document.{DocumentState}
 use Rattle.gptp_network.specs.declared.fault.DocumentFault.{DocumentFault}
 use Rattle.gptp_scenario.specs.Calm.{last_change}
 use Rattle.gptp_faults.specs.CaseEvents.{count_events, EventsState}
-use Rattle.gptp_faults.specs.Refusals.{any_late, case_events, fault_before, first_some, is_late, is_late_at, latest_end, latest_event, refusal_at, refusal_of}
+use Rattle.gptp_faults.specs.Refusals.{any_late, case_events, fault_before, first_some, is_late, is_late_at, refusal_at, refusal_of}
 use Rattle.gptp_faults.specs.Stays.{end_at, return_at}
 use Rattle.gptp_faults.specs.Times.{moment}
 use Rattle.gptp_faults.specs.declared.cases.Case.{Case}
@@ -130,18 +132,18 @@ module _ (refuses : ℕ → Option DocumentFault) where
 
 -- a case that fails at a moment at which the document isn't refused
 pub record IsInTime (d : DocumentState) (asked : Option ℕ) (e : EventsState) (at : ℕ) : Type 0 where
-  pub early : at ≤ latest_event
+  pub early : at ≤ LATEST_EVENT
   pub behind_last : last_change d.events ≤ at
-  pub returns : return_at d asked e at ≤ latest_event
+  pub returns : return_at d asked e at ≤ LATEST_EVENT
 
 module _ (d : DocumentState) (asked : Option ℕ) where
   pub in_time_at : (e : EventsState) (at : ℕ) → refusal_at d asked e at ≡ None → IsInTime d asked e at
   in_time_at e at none =
-      by (nat_lt latest_event at) refl (nat_lt at (last_change d.events)) refl
-      (nat_lt latest_event (return_at d asked e at)) refl
+      by (nat_lt LATEST_EVENT at) refl (nat_lt at (last_change d.events)) refl
+      (nat_lt LATEST_EVENT (return_at d asked e at)) refl
     where
-      by : (a : Bool) → nat_lt latest_event at ≡ a → (b : Bool) → nat_lt at (last_change d.events) ≡ b → (c : Bool)
-          → nat_lt latest_event (return_at d asked e at) ≡ c → IsInTime d asked e at
+      by : (a : Bool) → nat_lt LATEST_EVENT at ≡ a → (b : Bool) → nat_lt at (last_change d.events) ≡ b → (c : Bool)
+          → nat_lt LATEST_EVENT (return_at d asked e at) ≡ c → IsInTime d asked e at
       by true a b k c l = absurd (let no = rw a at none in cc)
       by false a true k c l = absurd (let no = rw (a, k) at none in cc)
       by false a false k true l = absurd (let no = rw (a, k, l) at none in cc)
@@ -165,7 +167,7 @@ module _ (d : DocumentState) (asked : Option ℕ) where
           (none_at (λ n. refusal_at d asked e (moment t n)) t.moments 0 number rest (omega arith)
           (omega (arith, below)))
 
-  pub ends_early : (e : EventsState) (at : ℕ) → is_late_at d asked e at ≡ false → end_at d asked e at ≤ latest_end
+  pub ends_early : (e : EventsState) (at : ℕ) → is_late_at d asked e at ≡ false → IsMoment (end_at d asked e at)
   ends_early e at none = grind (arith, nat_tests)
 
   -- a case that is late at no moment isn't at this one

@@ -1,6 +1,7 @@
 -- Moments are within their bounds, and the last is the latest.
 use Rattle.std.proofs.Common.{◌≤◌, ◌<◌, ◌-◌, ◌*◌, ◌/◌, ℕ, arith}
 use Rattle.std.proofs.lemmas.Nat.{div-add-mod', le-div, mul-le}
+use Rattle.gptp_setup.specs.declared.limits.TheConstants.{LAST_MOMENT}
 use Rattle.gptp_faults.specs.Times.{TimesAreBounded, last_moment, moment}
 use Rattle.gptp_faults.specs.declared.times.Times.{Times}
 
@@ -20,7 +21,7 @@ module _ (t : Times) (bounded : TimesAreBounded t) where
       let moments = bounded.moments in
       mul-le number t.spread 1000 32000000000 (omega (arith, below, moments)) bounded.spread
 
-  pub moment_most : (number : ℕ) → number < t.moments → moment t number ≤ 2000000000000000
+  pub moment_most : (number : ℕ) → number < t.moments → moment t number ≤ 2 * LAST_MOMENT
   moment_most number below =
       let product = product_most number below in let quotient = div_most (number * t.spread) t.moments in
       let from = bounded.from in omega (arith, product, quotient, from)

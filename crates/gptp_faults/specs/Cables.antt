@@ -1,6 +1,7 @@
 -- Links as they stand after all events (profile).
 use Rattle.std.specs.Prelude.{◌≤◌, ◌+◌, ◌&&◌, ◌||◌, ℕ, Bool, if◌then◌else◌, List, [], ◌∷◌, filter, map, Option, Some, None}
 use Rattle.std.specs.List.{list_any, range_with_len}
+use Rattle.gptp_setup.specs.declared.limits.TheConstants.{MOST_PORTS}
 use Rattle.gptp_links.specs.declared.bounds.Bounds.{Bounds}
 use Rattle.gptp_network.specs.Document.{DocumentState}
 use Rattle.gptp_scenario.specs.Change.{link_after}
@@ -40,4 +41,4 @@ abbrev pub port_after : ℕ → ℕ → PortId
 port_after clock index = record { clock = clock; port = index + 1 }
 
 abbrev pub up_ports : List Cable → ℕ → List PortId
-up_ports cs clock = filter (is_up_at cs) (map (port_after clock) (range_with_len 0 16))
+up_ports cs clock = filter (is_up_at cs) (map (port_after clock) (range_with_len 0 MOST_PORTS))

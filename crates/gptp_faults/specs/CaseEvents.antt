@@ -1,6 +1,7 @@
 -- What happens to the network of a document in a case (profile).
 use Rattle.std.specs.Prelude.{◌≤◌, ⊤, ℕ, ◌+◌, List, [], ◌∷◌, map, length, Option, Some, None}
 use Rattle.std.specs.List.{AllByRecursion}
+use Rattle.gptp_setup.specs.declared.limits.TheConstants.{LAST_MOMENT}
 use Rattle.gptp_links.specs.declared.bounds.Bounds.{Bounds}
 use Rattle.gptp_network.specs.Adding.{with_event}
 use Rattle.gptp_network.specs.Document.{DocumentState}
@@ -104,5 +105,5 @@ IsChangeInRange change = ⊤
 pub record AreEventsInRange (e : EventsState) : Type 0 where
   pub at : AllByRecursion IsChangeInRange e.at
   pub seen : AllByRecursion IsChangeInRange e.seen
-  pub delay : e.delay ≤ 1000000000000000
+  pub delay : e.delay ≤ LAST_MOMENT
   pub back : AllByRecursion IsChangeInRange e.back

@@ -1,6 +1,7 @@
 -- That each document has a table of its faults, or is refused.
 use Rattle.std.specs.Prelude.{◌≤◌, ◌⊎◌, ℕ, Bool, List, IfSome}
 use Rattle.rand_pcg.specs.Lcg.{Lcg}
+use Rattle.gptp_setup.specs.Intervals.{IsMoment}
 use Rattle.gptp_network.specs.Document.{DocumentState}
 use Rattle.gptp_network.specs.declared.fault.DocumentFault.{DocumentFault}
 use Rattle.gptp_theorem.specs.PlayedLaws.{IsPlayable}
@@ -23,7 +24,7 @@ HasEnds asked aside d until fate = (last : LastStretches) × EndsOf draws asked 
 -- So do those of each run of the document with the events of a case, where that can be played.
 abbrev pub RunsEnd : DocumentState → Type 0
 RunsEnd d = (asked : Bool) (aside : AsideState) (e : EventsState) (at hold until : ℕ) (fate : Lcg)
-    → IsPlayable (with_case at hold e d) → until ≤ 1000000000000000
+    → IsPlayable (with_case at hold e d) → IsMoment until
     → HasEnds asked aside (with_case at hold e d) until fate
 
 -- a table whose lines hold, or a refusal

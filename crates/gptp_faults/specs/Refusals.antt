@@ -1,6 +1,8 @@
 -- Why no case is run (profile).
 use Rattle.std.specs.Prelude.{◌≡◌, ◌⊎◌, ℕ, ◌+◌, ◌||◌, nat_lt, if◌then◌else◌, Bool, true, List, [], ◌∷◌, length, map, Option, Some, None}
 use Rattle.std.specs.List.{list_any, range_with_len}
+use Rattle.gptp_network.specs.declared.keys.TheConstants.{LATEST_EVENT}
+use Rattle.gptp_setup.specs.declared.limits.TheConstants.{LAST_MOMENT}
 use Rattle.gptp_network.specs.Document.{DocumentState}
 use Rattle.gptp_network.specs.declared.fault.DocumentFault.{DocumentFault}
 use Rattle.gptp_network.specs.declared.fault.DocumentFault.TheVariants.{EventOrder, OutOfRange, TooMany}
@@ -14,13 +16,6 @@ use Rattle.gptp_faults.specs.declared.cases.Case.{Case}
 use Rattle.gptp_faults.specs.declared.options.FaultsOptions.{FaultsOptions}
 use Rattle.gptp_faults.specs.declared.times.Times.{Times}
 
--- the latest time that an event may have, and at which a run may end
-abbrev pub latest_event : ℕ
-latest_event = 800000000000000
-
-abbrev pub latest_end : ℕ
-latest_end = 1000000000000000
-
 -- the events of a case of a document
 abbrev pub case_events : DocumentState → FaultsOptions → Case → EventsState
 case_events d options c = events_of (cables_after d) options.detect c
@@ -29,9 +24,9 @@ case_events d options c = events_of (cables_after d) options.detect c
 -- the last, or the return is later than one may be.
 abbrev pub refusal_at : DocumentState → Option ℕ → EventsState → ℕ → Option DocumentFault
 refusal_at d asked e at =
-    if nat_lt latest_event at then Some OutOfRange
+    if nat_lt LATEST_EVENT at then Some OutOfRange
     else if nat_lt at (last_change d.events) then Some EventOrder
-    else if nat_lt latest_event (return_at d asked e at) then Some OutOfRange
+    else if nat_lt LATEST_EVENT (return_at d asked e at) then Some OutOfRange
     else None
 
 -- the first of these
@@ -53,7 +48,7 @@ fault_before d options t cases = first_some (map (λ c. refusal_of d options.hol
 -- the run of a case would end later than one may: that in which it fails at a moment, at one of its moments, or of one
 -- of several cases
 abbrev pub is_late_at : DocumentState → Option ℕ → EventsState → ℕ → Bool
-is_late_at d asked e at = nat_lt latest_end (end_at d asked e at)
+is_late_at d asked e at = nat_lt LAST_MOMENT (end_at d asked e at)
 
 abbrev pub is_late : DocumentState → Option ℕ → Times → EventsState → Bool
 is_late d asked t e = list_any (λ number. is_late_at d asked e (moment t number)) (range_with_len 0 t.moments)

@@ -4,7 +4,8 @@ use Rattle.gptp_network.specs.Document.{DocumentState}
 use Rattle.gptp_network.specs.Span.{IsSpan}
 use Rattle.gptp_scenario.specs.Calm.{last_change}
 use Rattle.gptp_scenario.specs.Network.{largest_of}
-use Rattle.gptp_setup.specs.Intervals.{interval_of}
+use Rattle.gptp_setup.specs.declared.limits.TheConstants.{LAST_MOMENT}
+use Rattle.gptp_setup.specs.Intervals.{interval_of, IsMoment}
 use Rattle.gptp_faults.specs.Stays.{watch_of}
 use Rattle.gptp_faults.specs.declared.options.FaultsOptions.{FaultsOptions}
 use Rattle.gptp_faults.specs.declared.times.Times.{Times}
@@ -15,10 +16,10 @@ pub record AreOptions (o : FaultsOptions) : Type 0 where
   pub seeds : o.seeds ≤ 1000
   pub some_moment : 1 ≤ o.moments
   pub moments : o.moments ≤ 1000
-  pub at : IfSome o.at (λ at. at ≤ 1000000000000000)
-  pub hold : IfSome o.hold (λ hold. hold ≤ 1000000000000000)
+  pub at : IfSome o.at (λ at. IsMoment at)
+  pub hold : IfSome o.hold (λ hold. hold ≤ LAST_MOMENT)
   pub some_detect : IfSome o.detect (λ delay. 1 ≤ delay)
-  pub detect : IfSome o.detect (λ delay. delay ≤ 1000000000000000)
+  pub detect : IfSome o.detect (λ delay. delay ≤ LAST_MOMENT)
   pub some_part : 1 ≤ o.part
   pub part : o.part ≤ o.parts
   pub parts : o.parts ≤ 10000
@@ -36,7 +37,7 @@ pub record AreTimes (d : DocumentState) (options : FaultsOptions) (t : Times) : 
 
 -- the first moment and the spread, in ns, and the numbers of moments and seeds are bounded
 pub record TimesAreBounded (t : Times) : Type 0 where
-  pub from : t.from ≤ 1000000000000000
+  pub from : IsMoment t.from
   pub spread : t.spread ≤ 32000000000
   pub some_moment : 1 ≤ t.moments
   pub moments : t.moments ≤ 1000

@@ -6,6 +6,7 @@ ghost use Rattle.gptp_faults.specs.Cables.{HasBounds, bounds_at, cables_after, i
 
 use gptp_links::Bounds;
 use gptp_network::Document;
+use gptp_setup::MOST_PORTS;
 use gptp_topology::{Cable, Tables};
 use gptp_vector::{ClockId, PortId};
 use std::alloc::{AllocError, Global};
@@ -73,7 +74,7 @@ pub(crate) fn up_ports(
     ensures { IfOk result (λ ports. ports.items ≡ up_ports cables.now clock) }
 {
     let mut ports = Vec::new(alloc);
-    for number in 0..16u16 {
+    for number in 0..MOST_PORTS as u16 {
         let port = PortId {
             clock,
             port: number + 1,

@@ -2,6 +2,7 @@
 
 ghost use Rattle.std.specs.Prelude.{◌≡◌, ◌≤◌, ◌++◌, ◌∷◌, [], IfErr, IfOk, IfSome, OnOk, map};
 ghost use Rattle.std.specs.List.{AllByRecursion};
+ghost use Rattle.gptp_setup.specs.declared.limits.TheConstants.{LAST_MOMENT};
 ghost use Rattle.gptp_network.specs.Adding.{with_event};
 ghost use Rattle.gptp_network.specs.Events.{IsInRange};
 ghost use Rattle.gptp_faults.specs.Cables.{HasBounds};
@@ -107,7 +108,7 @@ impl CaseEvents {
     /// How much later than the moment it is seen, in ns; 0 where nothing is.
     pub(crate) fn delay(&self) -> u64
         ensures is { result ≡ self.now.delay }
-        ensures bound { result ≤ 1000000000000000 }
+        ensures bound { result ≤ LAST_MOMENT }
     {
         self.delay
     }
@@ -167,7 +168,7 @@ fn seen_link(
     bounds: Bounds,
     delay: u64,
 ) -> Result<CaseEvents, AllocError>
-    requires delay { delay ≤ 1000000000000000 }
+    requires delay { delay ≤ LAST_MOMENT }
     requires least { 1 ≤ bounds.min }
     requires share { bounds.loss ≤ 1000 }
     ensures { IfOk result (λ e. e ≡ seen_link port bounds delay) }
@@ -190,7 +191,7 @@ fn link_events(
     port: PortId,
 ) -> Result<CaseEvents, AllocError>
     requires bounds { AllByRecursion HasBounds cables.now }
-    requires detect { IfSome detect (λ delay. delay ≤ 1000000000000000) }
+    requires detect { IfSome detect (λ delay. delay ≤ LAST_MOMENT) }
     ensures { IfOk result (λ e. e ≡ link_events cables.now detect port) }
 {
     match (detect, bounds_at(cables, &port)) {
@@ -265,7 +266,7 @@ fn power_seen(
     ports: &[PortId],
     delay: u64,
 ) -> Result<CaseEvents, AllocError>
-    requires { delay ≤ 1000000000000000 }
+    requires { delay ≤ LAST_MOMENT }
     ensures { IfOk result (λ e. e ≡ power_seen clock ports.now delay) }
 {
     let mut seen = Vec::new(alloc);
@@ -285,7 +286,7 @@ fn power_events(
     clock: ClockId,
     ports: &[PortId],
 ) -> Result<CaseEvents, AllocError>
-    requires { IfSome detect (λ delay. delay ≤ 1000000000000000) }
+    requires { IfSome detect (λ delay. delay ≤ LAST_MOMENT) }
     ensures { IfOk result (λ e. e ≡ power_if detect clock ports.now) }
 {
     match detect {
@@ -302,7 +303,7 @@ pub(crate) fn events_of(
     failing: &Case,
 ) -> Result<CaseEvents, AllocError>
     requires bounds { AllByRecursion HasBounds cables.now }
-    requires detect { IfSome detect (λ delay. delay ≤ 1000000000000000) }
+    requires detect { IfSome detect (λ delay. delay ≤ LAST_MOMENT) }
     ensures { IfOk result (λ e. e ≡ events_of cables.now detect failing.now) }
 {
     match *failing {

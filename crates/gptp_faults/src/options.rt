@@ -20,18 +20,18 @@ pub struct FaultsOptions {
     pub seeds: u64,
     /// At how many moments; at least 1, at most 1,000.
     pub moments: u64,
-    /// The first moment, in ns, at most 10^15; `None` where that is the time by which the network has settled after
-    /// its last event and was watched.
+    /// The first moment, in ns, at most `LAST_MOMENT`; `None` where that is the time by which the network has settled
+    /// after its last event and was watched.
     pub at: Option<u64>,
-    /// How long a fault stays and how long each run goes on after it, in ns, at most 10^15; `None` where that is as
-    /// long as the network is watched after the fault, and after the return.
+    /// How long a fault stays and how long each run goes on after it, in ns, at most `LAST_MOMENT`; `None` where that
+    /// is as long as the network is watched after the fault, and after the return.
     pub hold: Option<u64>,
     /// Which kind is left.
     pub only: Option<Only>,
     /// Whether systems that lose their power are cases too, whichever kind is left.
     pub power: bool,
     /// After how long a broken link, or one at a system without power, is seen to be down, in ns; at least 1, at most
-    /// 10^15; `None` where that is at once.
+    /// `LAST_MOMENT`; `None` where that is at once.
     pub detect: Option<u64>,
     /// In how many parts the cases are dealt out, one after another; at least 1, at most 10,000.
     pub parts: u64,

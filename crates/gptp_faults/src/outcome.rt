@@ -1,6 +1,7 @@
 //! What becomes of a case.
 
 ghost use Rattle.std.specs.Prelude.{◌≡◌, ◌≤◌, ◌++◌, ◌∷◌, [], IfErr, IfOk, IfSome, OnOk, false};
+ghost use Rattle.gptp_setup.specs.declared.limits.TheConstants.{LAST_MOMENT};
 ghost use Rattle.gptp_faults.specs.Outcomes.{IsCasePlan, IsOutcome, aside_of, back_in, down_in};
 ghost use Rattle.gptp_faults.specs.Parts.{AreFew};
 ghost use Rattle.gptp_faults.specs.Refusals.{case_events, is_late};
@@ -155,7 +156,7 @@ fn plan_of(
     times: &Times,
     failing: &Case,
 ) -> Result<CasePlan, Cut>
-    requires detect { IfSome detect (λ delay. delay ≤ 1000000000000000) }
+    requires detect { IfSome detect (λ delay. delay ≤ LAST_MOMENT) }
     requires times { TimesAreBounded times.now }
     ensures plan { IfOk result (IsCasePlan document.old whole.now detect times.now.from failing.now) }
     ensures same { OnOk result (document.new ≡ document.old) }

@@ -1,6 +1,7 @@
 //! What a fault leaves of the components of a network: who is cut off, and the main parts.
 
-ghost use Rattle.std.specs.Prelude.{◌≡◌, ◌≤◌, ◌+◌, ◌++◌, ◌∷◌, [], if◌then◌else◌, IfErr, IfOk, OnOk, length};
+ghost use Rattle.std.specs.Prelude.{◌≡◌, ◌≤◌, ◌*◌, ◌+◌, ◌++◌, ◌∷◌, [], if◌then◌else◌, IfErr, IfOk, OnOk, length};
+ghost use Rattle.gptp_setup.specs.declared.limits.TheConstants.{LAST_MOMENT};
 ghost use Rattle.gptp_network.specs.Snapshot.{IsSnapshot};
 ghost use Rattle.gptp_scenario.specs.Calm.{last_change};
 ghost use Rattle.gptp_faults.specs.Parts.{AreCaseParts, AreFew, ArePlaced, ArePlacedBy, AreWhole, IsLeft, IsPlaced, clock_in, clock_of_placed, cut_off, is_cut, is_heavier, is_kept, is_of, kept, leads, part_among, part_of, parts_of, placed_in, size_in, weighed};
@@ -364,7 +365,7 @@ fn failed(
     events: &CaseEvents,
     at: u64,
 ) -> Result<Components, Cut>
-    requires { at ≤ 2000000000000000 }
+    requires { at ≤ 2 * LAST_MOMENT }
     ensures failed { IfOk result (IsSnapshot (failed_document at events.now document.old) (last_change (failed_document at events.now document.old).events)) }
     ensures same { OnOk result (document.new ≡ document.old) }
     ensures memory { IfErr result (λ e. e ≡ Cut.Memory) }
@@ -384,7 +385,7 @@ pub(crate) fn case_parts(
     events: &CaseEvents,
     at: u64,
 ) -> Result<CaseParts, Cut>
-    requires { at ≤ 2000000000000000 }
+    requires { at ≤ 2 * LAST_MOMENT }
     ensures parts { IfOk result (λ p. AreCaseParts document.old before.now events.now at p.cut.items p.main.items) }
     ensures few { IfOk result (λ p. AreFew p.main.items) }
     ensures same { OnOk result (document.new ≡ document.old) }

@@ -1,6 +1,6 @@
 //! Why no case is run.
 
-ghost use Rattle.std.specs.Prelude.{◌≡◌, ◌≤◌, IfErr, IfOk, IfSome, OnOk};
+ghost use Rattle.std.specs.Prelude.{◌≡◌, ◌≤◌, ◌*◌, IfErr, IfOk, IfSome, OnOk};
 ghost use Rattle.std.specs.List.{AllByRecursion};
 ghost use Rattle.gptp_faults.specs.Cables.{HasBounds, cables_after};
 ghost use Rattle.gptp_faults.specs.Refusals.{any_late, fault_before, is_late, is_late_at, refusal_at, refusal_of};
@@ -11,16 +11,11 @@ use crate::cases::Case;
 use crate::options::FaultsOptions;
 use crate::stays::{behind_of, hold_of};
 use crate::times::{Times, moment};
-use gptp_network::{Document, DocumentFault};
+use gptp_network::{Document, DocumentFault, LATEST_EVENT};
 use gptp_report::Cut;
+use gptp_setup::LAST_MOMENT;
 use gptp_topology::Cable;
 use std::alloc::Global;
-
-/// The latest time that an event may have, in ns.
-const LATEST_EVENT: u64 = 800_000_000_000_000;
-
-/// The latest time at which a run may end, in ns.
-const LATEST_END: u64 = 1_000_000_000_000_000;
 
 /// How many events a document may have.
 const MOST_EVENTS: u128 = 4096;
@@ -33,8 +28,8 @@ fn refusal_at(
     events: &CaseEvents,
     at: u64,
 ) -> Result<Option<DocumentFault>, Cut>
-    requires asked { IfSome asked (λ hold. hold ≤ 1000000000000000) }
-    requires at { at ≤ 2000000000000000 }
+    requires asked { IfSome asked (λ hold. hold ≤ LAST_MOMENT) }
+    requires at { at ≤ 2 * LAST_MOMENT }
     ensures refusal { IfOk result (λ fault. fault ≡ refusal_at document.old asked events.now at) }
     ensures same { OnOk result (document.new ≡ document.old) }
     ensures memory { IfErr result (λ e. e ≡ Cut.Memory) }
@@ -60,7 +55,7 @@ fn refusal_of(
     times: &Times,
     events: &CaseEvents,
 ) -> Result<Option<DocumentFault>, Cut>
-    requires asked { IfSome asked (λ hold. hold ≤ 1000000000000000) }
+    requires asked { IfSome asked (λ hold. hold ≤ LAST_MOMENT) }
     requires times { TimesAreBounded times.now }
     ensures refusal { IfOk result (λ fault. fault ≡ refusal_of document.old asked times.now events.now) }
     ensures same { OnOk result (document.new ≡ document.old) }
@@ -113,15 +108,15 @@ fn is_late_at(
     events: &CaseEvents,
     at: u64,
 ) -> Result<bool, Cut>
-    requires asked { IfSome asked (λ hold. hold ≤ 1000000000000000) }
-    requires at { at ≤ 2000000000000000 }
+    requires asked { IfSome asked (λ hold. hold ≤ LAST_MOMENT) }
+    requires at { at ≤ 2 * LAST_MOMENT }
     ensures late { IfOk result (λ late. late ≡ is_late_at document.old asked events.now at) }
     ensures same { OnOk result (document.new ≡ document.old) }
     ensures memory { IfErr result (λ e. e ≡ Cut.Memory) }
 {
     let hold = hold_of(alloc, document, asked, events, at)?;
     let behind = behind_of(alloc, document, asked, events, at, hold)?;
-    Ok(LATEST_END < at + events.delay() + hold + behind)
+    Ok(LAST_MOMENT < at + events.delay() + hold + behind)
 }
 
 /// Whether it would at one of its moments.
@@ -132,7 +127,7 @@ fn is_late(
     times: &Times,
     events: &CaseEvents,
 ) -> Result<bool, Cut>
-    requires asked { IfSome asked (λ hold. hold ≤ 1000000000000000) }
+    requires asked { IfSome asked (λ hold. hold ≤ LAST_MOMENT) }
     requires times { TimesAreBounded times.now }
     ensures late { IfOk result (λ late. late ≡ is_late document.old asked times.now events.now) }
     ensures same { OnOk result (document.new ≡ document.old) }

@@ -1,6 +1,7 @@
 //! The runs of a case.
 
-ghost use Rattle.std.specs.Prelude.{◌≡◌, ◌≤◌, ◌<◌, IfErr, IfOk, OnOk, false};
+ghost use Rattle.std.specs.Prelude.{◌≡◌, ◌≤◌, ◌*◌, ◌<◌, IfErr, IfOk, OnOk, false};
+ghost use Rattle.gptp_setup.specs.declared.limits.TheConstants.{LAST_MOMENT};
 ghost use Rattle.gptp_faults.specs.Refusals.{is_late};
 ghost use Rattle.gptp_faults.specs.Runs.{AreRunEnds, CaseRunEnds, run_moment, runs_of, seed_of};
 ghost use Rattle.gptp_faults.specs.Times.{AreOptions, TimesAreBounded, last_moment};
@@ -31,7 +32,7 @@ fn moment_of(times: &Times, run: u64) -> u64
     requires run { run < runs_of times.now }
     ensures is { result ≡ run_moment times.now run }
     ensures last { result ≤ last_moment times.now }
-    ensures bound { result ≤ 2000000000000000 }
+    ensures bound { result ≤ 2 * LAST_MOMENT }
 {
     moment(times, run / times.seeds)
 }

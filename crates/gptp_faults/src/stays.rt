@@ -1,7 +1,8 @@
 //! How long faults stay, and how long runs go on after that.
 
-ghost use Rattle.std.specs.Prelude.{◌≡◌, ◌≤◌, IfErr, IfOk, IfSome, None, OnOk};
+ghost use Rattle.std.specs.Prelude.{◌≡◌, ◌≤◌, ◌*◌, IfErr, IfOk, IfSome, None, OnOk};
 ghost use Rattle.std.specs.List.{AllByRecursion};
+ghost use Rattle.gptp_setup.specs.declared.limits.TheConstants.{LAST_MOMENT};
 ghost use Rattle.gptp_how_soon.specs.Times.{AreRising, IsWatchedShortly};
 ghost use Rattle.gptp_faults.specs.CaseEvents.{with_changes};
 ghost use Rattle.gptp_faults.specs.Stays.{back_at, behind_of, failed_document, hold_of, watch_among, watch_of};
@@ -36,7 +37,7 @@ pub(crate) fn watch_at(alloc: Global, document: &Document, at: u64) -> Result<u6
 
 /// Puts what happens in a case after the events of a document, where it fails at a moment and that is seen.
 pub(crate) fn fail_at(document: &mut Document, at: u64, events: &CaseEvents) -> Result<(), Cut>
-    requires { at ≤ 2000000000000000 }
+    requires { at ≤ 2 * LAST_MOMENT }
     ensures added { OnOk result (document.new ≡ failed_document at events.now document.old) }
     ensures memory { IfErr result (λ e. e ≡ Cut.Memory) }
 {
@@ -51,8 +52,8 @@ pub(crate) fn return_after(
     events: &CaseEvents,
     hold: u64,
 ) -> Result<(), Cut>
-    requires at { at ≤ 2000000000000000 }
-    requires hold { hold ≤ 1000000000000000 }
+    requires at { at ≤ 2 * LAST_MOMENT }
+    requires hold { hold ≤ LAST_MOMENT }
     ensures added { OnOk result (document.new ≡ with_changes (back_at at events.now hold) events.now.back document.old) }
     ensures memory { IfErr result (λ e. e ≡ Cut.Memory) }
 {
@@ -66,7 +67,7 @@ fn watch_after_fault(
     events: &CaseEvents,
     at: u64,
 ) -> Result<u64, Cut>
-    requires { at ≤ 2000000000000000 }
+    requires { at ≤ 2 * LAST_MOMENT }
     ensures hold { IfOk result (λ hold. hold ≡ hold_of document.old None events.now at) }
     ensures bound { IfOk result (λ hold. hold ≤ 200000000000000) }
     ensures same { OnOk result (document.new ≡ document.old) }
@@ -88,10 +89,10 @@ pub(crate) fn hold_of(
     events: &CaseEvents,
     at: u64,
 ) -> Result<u64, Cut>
-    requires asked { IfSome asked (λ hold. hold ≤ 1000000000000000) }
-    requires at { at ≤ 2000000000000000 }
+    requires asked { IfSome asked (λ hold. hold ≤ LAST_MOMENT) }
+    requires at { at ≤ 2 * LAST_MOMENT }
     ensures hold { IfOk result (λ hold. hold ≡ hold_of document.old asked events.now at) }
-    ensures bound { IfOk result (λ hold. hold ≤ 1000000000000000) }
+    ensures bound { IfOk result (λ hold. hold ≤ LAST_MOMENT) }
     ensures same { OnOk result (document.new ≡ document.old) }
     ensures memory { IfErr result (λ e. e ≡ Cut.Memory) }
 {
@@ -110,8 +111,8 @@ fn watch_after_return(
     at: u64,
     hold: u64,
 ) -> Result<u64, Cut>
-    requires at { at ≤ 2000000000000000 }
-    requires hold { hold ≤ 1000000000000000 }
+    requires at { at ≤ 2 * LAST_MOMENT }
+    requires hold { hold ≤ LAST_MOMENT }
     ensures behind { IfOk result (λ behind. behind ≡ behind_of document.old None events.now at hold) }
     ensures bound { IfOk result (λ behind. behind ≤ 200000000000000) }
     ensures same { OnOk result (document.new ≡ document.old) }
@@ -135,11 +136,11 @@ pub(crate) fn behind_of(
     at: u64,
     hold: u64,
 ) -> Result<u64, Cut>
-    requires asked { IfSome asked (λ behind. behind ≤ 1000000000000000) }
-    requires at { at ≤ 2000000000000000 }
-    requires hold { hold ≤ 1000000000000000 }
+    requires asked { IfSome asked (λ behind. behind ≤ LAST_MOMENT) }
+    requires at { at ≤ 2 * LAST_MOMENT }
+    requires hold { hold ≤ LAST_MOMENT }
     ensures behind { IfOk result (λ behind. behind ≡ behind_of document.old asked events.now at hold) }
-    ensures bound { IfOk result (λ behind. behind ≤ 1000000000000000) }
+    ensures bound { IfOk result (λ behind. behind ≤ LAST_MOMENT) }
     ensures same { OnOk result (document.new ≡ document.old) }
     ensures memory { IfErr result (λ e. e ≡ Cut.Memory) }
 {

@@ -1,6 +1,8 @@
 //! When faults come.
 
-ghost use Rattle.std.specs.Prelude.{◌≡◌, ◌≤◌, ◌<◌, IfOk, IfSome, unwrap_or};
+ghost use Rattle.std.specs.Prelude.{◌≡◌, ◌≤◌, ◌*◌, ◌<◌, IfOk, IfSome, unwrap_or};
+ghost use Rattle.gptp_setup.specs.declared.limits.TheConstants.{LAST_MOMENT};
+ghost use Rattle.gptp_setup.specs.Intervals.{IsMoment};
 ghost use Rattle.gptp_faults.specs.Times.{TimesAreBounded, AreOptions, AreTimes, last_moment, moment};
 
 use crate::options::FaultsOptions;
@@ -24,10 +26,10 @@ pub(crate) struct Times {
 
 /// What is asked, or a default.
 fn asked_or(asked: Option<u64>, default: u64) -> u64
-    requires asked { IfSome asked (λ time. time ≤ 1000000000000000) }
-    requires default { default ≤ 1000000000000000 }
+    requires asked { IfSome asked (λ time. IsMoment time) }
+    requires default { IsMoment default }
     ensures is { result ≡ unwrap_or asked default }
-    ensures bound { result ≤ 1000000000000000 }
+    ensures bound { IsMoment result }
 {
     match asked {
         Some(asked) => asked,
@@ -66,7 +68,7 @@ pub(crate) fn moment(times: &Times, number: u64) -> u64
     requires number { number < times.now.moments }
     ensures is { result ≡ moment times.now number }
     ensures last { result ≤ last_moment times.now }
-    ensures bound { result ≤ 2000000000000000 }
+    ensures bound { result ≤ 2 * LAST_MOMENT }
 {
     times.from + number * times.spread / times.moments
 }
@@ -75,7 +77,7 @@ pub(crate) fn moment(times: &Times, number: u64) -> u64
 pub(crate) fn last_moment(times: &Times) -> u64
     requires { TimesAreBounded times.now }
     ensures is { result ≡ last_moment times.now }
-    ensures bound { result ≤ 2000000000000000 }
+    ensures bound { result ≤ 2 * LAST_MOMENT }
 {
     moment(times, times.moments - 1)
 }

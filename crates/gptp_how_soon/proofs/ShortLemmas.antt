@@ -1,5 +1,5 @@
 -- Each time of a document is watched shortly.
-use Rattle.std.proofs.Common.{◌≡◌, ◌≤◌, ◌+◌, ◌*◌, ◌++◌, ◌==◌, not, pred, ℕ, zero, suc, Bool, true, false, if◌then◌else◌, List, [], ◌∷◌, length, nat_le, filter, Option, Some, None, IfSome, refl, inl, inr, arith}
+use Rattle.std.proofs.Common.{◌≡◌, ◌≤◌, ◌+◌, ◌-◌, ◌*◌, ◌++◌, ◌==◌, not, pred, ℕ, zero, suc, Bool, true, false, if◌then◌else◌, List, [], ◌∷◌, length, nat_le, filter, Option, Some, None, IfSome, refl, inl, inr, arith}
 use Rattle.std.specs.Prelude.{⊤}
 use Rattle.std.specs.List.{AllByRecursion, list_any}
 use Rattle.std.proofs.lemmas.Bool.Decides.{nat_tests}
@@ -26,6 +26,7 @@ use Rattle.gptp_scenario.proofs.InUseLemmas.{short_delay}
 use Rattle.gptp_scenario.proofs.LogLemmas.{largest_log, smallest_log}
 use Rattle.gptp_scenario.proofs.SpanLemmas.{few_spans, few_steps}
 use Rattle.gptp_scenario.proofs.SyncWaitLemmas.{short_time}
+use Rattle.gptp_network.specs.declared.keys.TheConstants.{LATEST_EVENT}
 use Rattle.gptp_setup.specs.Intervals.{interval_of}
 use Rattle.gptp_setup.specs.SettlingParams.{largest_interval, longest_span}
 use Rattle.gptp_setup.proofs.IntervalLemmas.{interval_most}
@@ -104,11 +105,15 @@ module _ (n : NetworkState) (network : IsNetwork n) (paths : SyncPaths) (few : p
   set_most : (sets : Bool) → set_span n.params paths sets ≤ 65000000000
   set_most sets = either_most sets (asked_again n.params paths) 0 65000000000 again (omega arith)
 
-  exact_most : exact_span n.params paths ≤ 1024000000000
+  exact_most : exact_span n.params paths ≤ 1264000000000
   exact_most =
       let ranges = network.params.ranges.params in
-      let t = ranges.threshold in let r = ranges.residence in
-      mul-le paths.systems (n.params.threshold + n.params.residence) 512 2000000000 few (omega (arith, t, r))
+      let t = ranges.threshold in let r = ranges.residence in let v = ranges.window in
+      let tree : paths.systems * (n.params.threshold + n.params.residence) ≤ 1024000000000 =
+      mul-le paths.systems (n.params.threshold + n.params.residence) 512 2000000000 few (omega (arith, t, r)) in
+      let window : (n.params.window - 1) * interval_of n.params.pdelay ≤ 240000000000 =
+      mul-le (n.params.window - 1) (interval_of n.params.pdelay) 15 16000000000 (omega (arith, v)) pdelay in
+      omega (arith, tree, window)
 
   needed_most : (at set : ℕ) (calm sets : Bool) (row : Row) (gained : ℕ) → set ≤ at → gained ≤ 195000000000000
       → needed_watch n at paths (settling_by n at set paths calm sets row gained) ≤ 197000000000000
@@ -209,7 +214,7 @@ module _ (d : DocumentState) (network : IsNetwork d.network) (events : AreEvents
       (there_then before at t is (In-slice_get t (all_then before at) place there)).0 in
       allowed other t stands
 
-  shortly_at : (before : Option SettlingTime) (at : ℕ) → IsBefore at before → at ≤ 800000000000000
+  shortly_at : (before : Option SettlingTime) (at : ℕ) → IsBefore at before → at ≤ LATEST_EVENT
       → IsWatchedShortly (time_at d before at)
   shortly_at before at is early =
       let n = d.network in
@@ -232,7 +237,7 @@ module _ (d : DocumentState) (network : IsNetwork d.network) (events : AreEvents
       record { span = most; until = omega (arith, most, early) }
 
   all_shortly : (before : Option SettlingTime) (last : ℕ) (ats : List ℕ) → IsBefore last before → InTurn last ats
-      → AllByRecursion (λ at. at ≤ 800000000000000) ats
+      → AllByRecursion (λ at. at ≤ LATEST_EVENT) ats
       → AllByRecursion IsWatchedShortly (settling_times_from d before ats)
   all_shortly before last [] is turn early = tt
   all_shortly before last (at ∷ ats) is turn early = (
@@ -240,14 +245,14 @@ module _ (d : DocumentState) (network : IsNetwork d.network) (events : AreEvents
     all_shortly (Some (time_at d before at)) at ats (omega arith) turn.1 early.1,
   )
 
-either_early : (test : Bool) (xs ys : List ℕ) → AllByRecursion (λ time. time ≤ 800000000000000) xs
-    → AllByRecursion (λ time. time ≤ 800000000000000) ys
-    → AllByRecursion (λ time. time ≤ 800000000000000) (if test then xs else ys)
+either_early : (test : Bool) (xs ys : List ℕ) → AllByRecursion (λ time. time ≤ LATEST_EVENT) xs
+    → AllByRecursion (λ time. time ≤ LATEST_EVENT) ys
+    → AllByRecursion (λ time. time ≤ LATEST_EVENT) (if test then xs else ys)
 either_early true xs ys a b = a
 either_early false xs ys a b = b
 
-early_from : (n : NetworkState) (at : ℕ) (ts : List Timed) → at ≤ 800000000000000 → AllByRecursion (IsEvent n) ts
-    → AllByRecursion (λ time. time ≤ 800000000000000) (times_from at ts)
+early_from : (n : NetworkState) (at : ℕ) (ts : List Timed) → at ≤ LATEST_EVENT → AllByRecursion (IsEvent n) ts
+    → AllByRecursion (λ time. time ≤ LATEST_EVENT) (times_from at ts)
 early_from n at [] early each = (early, tt)
 early_from n at (t ∷ ts) early each =
     either_early (t.at == at) (times_from at ts) (at ∷ times_from t.at ts) (early_from n at ts early each.1)

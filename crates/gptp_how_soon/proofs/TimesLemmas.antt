@@ -3,6 +3,7 @@ use Rattle.std.proofs.Common.{◌≡◌, ◌≤◌, ◌<◌, ℕ, Bool, true, fa
 use Rattle.std.specs.List.{AllByRecursion}
 use Rattle.std.proofs.lemmas.Bool.{eq-eqb, eqb-true, eqb-false, ne_eqb}
 use Rattle.std.proofs.lemmas.List.{append-nil}
+use Rattle.gptp_network.specs.declared.keys.TheConstants.{LATEST_EVENT}
 use Rattle.gptp_scenario.specs.Network.{IsNetwork}
 use Rattle.gptp_scenario.specs.declared.change.Timed.{Timed}
 use Rattle.gptp_network.specs.Document.{DocumentState}
@@ -165,7 +166,7 @@ pub record Walked (d : DocumentState) (left : List Timed) (w : Walk) (at : ℕ) 
   pub told : Told d made now left w.before at times
   pub stands : WalkStands d.network made now w
   pub possible : AllByRecursion (IsEvent d.network) left
-  pub early : at ≤ 800000000000000
+  pub early : at ≤ LATEST_EVENT
   pub set : w.last_set ≤ at
   pub watched : AllByRecursion IsWatchedShortly times
   pub rising : AreRising times
@@ -181,7 +182,7 @@ set_by : (test : Bool) (was at now : ℕ) → was ≤ at → now ≡ cond test a
 set_by true was at now early is = omega (arith, is)
 set_by false was at now early is = omega (arith, early, is)
 
-shortly : (time : SettlingTime) (at : ℕ) → time.at ≡ at → at ≤ 800000000000000 → time.watch ≤ 200000000000000
+shortly : (time : SettlingTime) (at : ℕ) → time.at ≡ at → at ≤ LATEST_EVENT → time.watch ≤ 200000000000000
     → IsWatchedShortly time
 shortly time at is early short = record { span = short; until = omega (arith, is, early, short) }
 

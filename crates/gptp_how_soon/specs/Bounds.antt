@@ -74,9 +74,10 @@ set_span p paths sets = if sets then asked_again p paths else 0
 abbrev pub rest_by : Params → SyncPaths → Bool → ℕ → ℕ
 rest_by p paths sets choice = max (choice + paths.delay) (set_span p paths sets)
 
--- What a system uses comes down the settled tree: a threshold and a residence for each system of a path.
+-- A rate is measured over a whole window: it has one interval between two requests already. Then what a system uses
+-- comes down the settled tree: a threshold and a residence for each system of a path.
 abbrev pub exact_span : Params → SyncPaths → ℕ
-exact_span p paths = paths.systems * (p.threshold + p.residence)
+exact_span p paths = (p.window - 1) * interval_of p.pdelay + paths.systems * (p.threshold + p.residence)
 
 -- From when on offsets are exact: the choice stands, links are measured, and an announce interval has passed since the
 -- network began and since a link was last set; then what each system uses comes down the tree.

@@ -5,6 +5,7 @@
 use Rattle.std.specs.Prelude.{ℕ, ◌+◌, ◌≤◌, ◌<◌, ⊤, ◌==◌, not, Bool, List, [], ◌∷◌, ◌++◌, filter, Option, Some, None}
 use Rattle.std.specs.List.{AllByRecursion, find}
 use Rattle.std.specs.Option.{is_some}
+use Rattle.gptp_setup.specs.Intervals.{IsMoment}
 use Rattle.gptp_scenario.specs.Calm.{last_change}
 use Rattle.gptp_scenario.specs.Network.{NetworkState}
 use Rattle.gptp_scenario.specs.SyncWait.{sync_paths}
@@ -130,7 +131,7 @@ AreRising (t ∷ ts) = AllByRecursion (λ (u : SettlingTime). t.at < u.at) ts ×
 abbrev pub is_time_at : ℕ → SettlingTime → Bool
 is_time_at at t = t.at == at
 
--- it is watched for at most 2 * 10^14 ns, and not beyond 10^15
+-- it is watched for at most 2 * 10^14 ns, and not beyond the last moment
 pub record IsWatchedShortly (t : SettlingTime) : Type 0 where
   pub span : t.watch ≤ 200000000000000
-  pub until : t.at + t.watch ≤ 1000000000000000
+  pub until : IsMoment (t.at + t.watch)

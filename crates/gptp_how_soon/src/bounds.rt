@@ -2,6 +2,7 @@
 
 ghost use Rattle.std.specs.Prelude.{◌≡◌, ◌≤◌, ◌+◌, IfSome};
 ghost use Rattle.std.specs.List.{list_any};
+ghost use Rattle.gptp_network.specs.declared.keys.TheConstants.{LATEST_EVENT};
 ghost use Rattle.gptp_scenario.specs.Network.{pace_of};
 ghost use Rattle.gptp_scenario.specs.SettlingAtOnce.{settling_span_at_once};
 ghost use Rattle.gptp_how_soon.specs.Bounds.{asked_again, choice_by, exact_from, exact_span, heard_by, is_again, is_hard_to_hear, ready, rest_by, set_span, settled, settling_by, times_by, two_exchanges, watch, way_span};
@@ -179,15 +180,16 @@ fn set_span(network: &Network, paths: SyncPaths, sets: bool) -> u64
     if sets { asked_again(network, paths) } else { 0 }
 }
 
-/// How long what a system uses takes to come down the settled tree, in ns.
+/// How long rates over a whole window and what a system uses take to come down the settled tree, in ns.
 fn exact_span(network: &Network, paths: SyncPaths) -> u64
     requires { paths.systems ≤ 512 }
     ensures is { result ≡ exact_span network.now.params paths }
-    ensures bound { result ≤ 1024000000000 }
+    ensures bound { result ≤ 1264000000000 }
 {
     network.well_formed();
     let params = network.params();
-    paths.systems as u64 * (params.threshold + params.residence)
+    let window = u64::from(params.window - 1) * interval_of(params.pdelay);
+    window + paths.systems as u64 * (params.threshold + params.residence)
 }
 
 /// The bounds at a time, by that of the choice, where a link was last set at another.
@@ -201,12 +203,12 @@ fn settled(
 ) -> Settling
     requires few { paths.systems ≤ 512 }
     requires short { paths.delay ≤ 16000000000 }
-    requires early { at ≤ 800000000000000 }
+    requires early { at ≤ LATEST_EVENT }
     requires set { last_set ≤ at }
     requires choice { choice ≤ 195000000000000 }
     ensures is { result ≡ settled network.now at last_set paths sets choice }
     ensures rest { result.rest ≤ 195016000000000 }
-    ensures exact { result.exact_from ≤ at + 196024000000000 }
+    ensures exact { result.exact_from ≤ at + 196264000000000 }
 {
     network.well_formed();
     let set = set_span(network, paths, sets);
@@ -224,7 +226,7 @@ fn watch(network: &Network, at: u64, paths: SyncPaths, settling: Option<Settling
     requires few { paths.systems ≤ 512 }
     requires short { paths.delay ≤ 16000000000 }
     requires rest { IfSome settling (λ s. s.rest ≤ 195016000000000) }
-    requires exact { IfSome settling (λ s. s.exact_from ≤ at + 196024000000000) }
+    requires exact { IfSome settling (λ s. s.exact_from ≤ at + 196264000000000) }
     ensures is { result ≡ watch network.now at paths settling }
     ensures bound { result ≤ 200000000000000 }
 {
@@ -249,7 +251,7 @@ pub(crate) fn times_by(
 ) -> SettlingTime
     requires few { paths.systems ≤ 512 }
     requires short { paths.delay ≤ 16000000000 }
-    requires early { at ≤ 800000000000000 }
+    requires early { at ≤ LATEST_EVENT }
     requires set { last_set ≤ at }
     requires gained { gained ≤ 195000000000000 }
     ensures is { result ≡ times_by network.now at last_set paths calm sets row gained }

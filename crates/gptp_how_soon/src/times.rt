@@ -2,6 +2,7 @@
 
 ghost use Rattle.std.specs.Prelude.{◌≡◌, ◌≤◌, IfOk, OnOk, IfSome, length};
 ghost use Rattle.std.specs.List.{AllByRecursion, find};
+ghost use Rattle.gptp_network.specs.declared.keys.TheConstants.{LATEST_EVENT};
 ghost use Rattle.gptp_topology.specs.Tables.{greatest_used};
 ghost use Rattle.gptp_how_soon.specs.Times.{AreRising, IsWatchedShortly, is_time_at, settling_times};
 ghost use Rattle.gptp_how_soon.specs.Walk.{WalkTells};
@@ -23,7 +24,7 @@ fn tell(
 ) -> Result<(), AllocError>
     requires few { length walk.old.tables.nodes.items ≤ 512 }
     requires short { greatest_used walk.old.tables.marks.items ≤ 16000000000 }
-    requires early { at ≤ 800000000000000 }
+    requires early { at ≤ LATEST_EVENT }
     requires set { walk.old.last_set ≤ at }
     ensures { OnOk result (WalkTells network.now at next walk.old walk.new times.old.items times.new.items) }
 {

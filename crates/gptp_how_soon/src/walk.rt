@@ -1,6 +1,7 @@
 //! How a document stands at each time, as its events come.
 
 ghost use Rattle.std.specs.Prelude.{◌≡◌, ◌≤◌, IfOk, OnOk, [], map};
+ghost use Rattle.gptp_network.specs.declared.keys.TheConstants.{LATEST_EVENT};
 ghost use Rattle.gptp_scenario.specs.Network.{NetworkState};
 ghost use Rattle.gptp_topology.specs.Tables.{AreMarked, marked_paths};
 ghost use Rattle.gptp_how_soon.specs.Times.{settling_time};
@@ -92,7 +93,7 @@ impl Walk {
         requires paths { paths ≡ marked_paths self.now.tables.marks.items self.now.tables.nodes.items }
         requires few { paths.systems ≤ 512 }
         requires short { paths.delay ≤ 16000000000 }
-        requires early { at ≤ 800000000000000 }
+        requires early { at ≤ LATEST_EVENT }
         requires set { self.now.last_set ≤ at }
         ensures is { IfOk result (λ time. time ≡ settling_time network.now (view_seen network.now self.now at)) }
         ensures bound { IfOk result (λ time. time.watch ≤ 200000000000000) }

@@ -1,6 +1,7 @@
 -- A call of one system is a call of the machine.
 use Rattle.std.proofs.Common.{◌≡◌, ◌≢◌, ◌⊎◌, ◌≤◌, ℕ, List, length, map, Some, slice_get, slice_set, refl, sym, ap, subst, ◌∙◌, inl, inr, arith}
 use Rattle.std.proofs.lemmas.Option.{same_Some}
+use Rattle.gptp_setup.specs.declared.limits.TheConstants.{MOST_PORTS}
 use Rattle.gptp_lists.specs.Members.{In}
 use Rattle.gptp_links.specs.Fate.{Draw}
 use Rattle.gptp_system.specs.declared.answer.Answer.{Answer}
@@ -65,7 +66,7 @@ module _ (place : ℕ) (input : Input) (w : WorldState) (draws : List Draw) (ans
       (heard_fits s input answers.touch input-fits answers.seen) answers.reacts
       (identity_fits input w.time s k.after k.sends answer input-fits fits k.steps) after_steady.shown
 
-  few_ports : length k.after.ports ≤ 16
+  few_ports : length k.after.ports ≤ MOST_PORTS
   few_ports =
       let kept = same_ports input w.time s k.after k.sends answer k.steps in
       let count = its.ports in

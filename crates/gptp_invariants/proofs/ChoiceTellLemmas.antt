@@ -2,6 +2,7 @@
 use Rattle.std.proofs.Common.{◌≡◌, ◌≤◌, ◌<◌, ◌^◌, ℕ, suc, Bool, List, length, refl, sym, ap, subst, ◌∙◌, arith, ℤ, Some, slice_get, FitsSigned, w8}
 use Rattle.std.proofs.lemmas.Option.{slice_get_within}
 use Rattle.std.proofs.lemmas.Int.{ints}
+use Rattle.gptp_setup.specs.declared.limits.TheConstants.{MOST_PORTS}
 use Rattle.gptp_setup.specs.Intervals.{IsLog}
 use Rattle.gptp_lists.specs.Members.{In}
 use Rattle.gptp_graph.specs.Snapshot.{port_of}
@@ -58,7 +59,7 @@ own_announce s n log = record {
   path = trace s;
 }
 
-module _ (s : SystemState) (fits : TellsWhatFits s) (few : length s.ports ≤ 16) (shown : AreShown s)
+module _ (s : SystemState) (fits : TellsWhatFits s) (few : length s.ports ≤ MOST_PORTS) (shown : AreShown s)
     (logs : (i : ℕ) (q : Port) → slice_get s.ports i ≡ Some q → IsLog q.log_interval) where
   -- an own Announce is of one of the ports
   own_within : (x : Sending) (k : IsOwnAnnounce s x) → k.place < length s.ports

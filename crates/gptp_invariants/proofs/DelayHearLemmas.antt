@@ -1,5 +1,5 @@
 -- What a port makes of octets that it hears, as one that asks and as one that answers.
-use Rattle.std.proofs.Common.{◌≡◌, ◌≢◌, ◌⊎◌, ◌*◌, ℕ, ℤ, ◌-ℤ◌, pos, int_le, Bool, true, List, Some, None, refl, sym, ap, subst, ◌∙◌, inl, inr, eq-eqb, rules}
+use Rattle.std.proofs.Common.{◌≡◌, ◌≢◌, ◌⊎◌, ◌*◌, ℕ, ℤ, ◌-ℤ◌, pos, int_le, Bool, true, List, Some, None, refl, sym, ap, subst, ◌∙◌, inl, inr, arith, eq-eqb, rules}
 use Rattle.std.specs.Prelude.{if◌then◌else◌, ◌==◌}
 use Rattle.std.specs.Option.{option_map_or}
 use Rattle.gptp_graph.specs.Snapshot.{PortIdentity}
@@ -25,7 +25,7 @@ use Rattle.gptp_system.specs.Measures.{Part, part_heard}
 use Rattle.gptp_system.specs.State.{SystemState, local_time}
 use Rattle.gptp_pdelay_machine.specs.Asker.{Asked, Answered, TakesReply, own_request, asker_completed as completes}
 use Rattle.gptp_pdelay_machine.specs.Answerer.{Notes}
-use Rattle.gptp_pdelay_machine.specs.ExchangeLaws.{HasLocalClocks}
+use Rattle.gptp_pdelay_machine.specs.ExchangeLaws.{ReadsClocks}
 use Rattle.gptp_pdelay_machine.specs.Messages.{Request as SeenRequest, Reply, Response as SaidResponse, FollowUp as SaidFollowUp}
 use Rattle.gptp_pdelay_machine.specs.Meter.{Measures, TakesMeasure}
 use Rattle.gptp_pdelay_machine.specs.Setting.{Setting, IsExchange}
@@ -130,7 +130,7 @@ module _ (k : Setting) (s : SystemState) (now period : ℕ) (octets : List ℕ) 
     (hears : Hears s now octets x x') (own answering : PortId) (asking_is : k.asking ≡ link_identity own)
     (answering_is : k.answering ≡ link_identity answering) (clock_is : k.asking_clock now ≡ local_time s now)
     (named : x.peer.own ≡ own) (apart : own.clock ≢ answering.clock)
-    (good : IsGoodLink k.most k.turnaround x.peer.threshold) (clocks : HasLocalClocks k) where
+    (good : IsGoodLink k.most k.turnaround x.peer.threshold) (clocks : ReadsClocks 0 k) where
   -- octets that are no reply leave what the port asked and measured
   nothing : ((r : Reply) → reads_as_reply octets r → ⊥) → AsksAsBefore period x x'
   nothing none = go hears
@@ -225,8 +225,9 @@ module _ (k : Setting) (s : SystemState) (now period : ℕ) (octets : List ℕ) 
         (
           int_le one.delay (pos (65536 * x.peer.threshold)),
           λ exchange. is_at_most x.peer.threshold one.delay
-              (exchanges_are_good k x.peer.threshold (neighbor_rate x.peer.last third response.t4) request.t1
-              response.t2 third response.t4 good clocks (neighbor_rate_is_within x.peer.last third response.t4)
+              (exchanges_are_good 0 k x.peer.threshold (neighbor_rate x.peer.last third response.t4) request.t1
+              response.t2 third response.t4 (omega (arith, good)) clocks
+              (neighbor_rate_is_within x.peer.last third response.t4)
               (subst (λ t. IsExchange k request.t1 response.t2 t response.t4) (sym time)
               (subst (λ t. IsExchange k request.t1 response.t2 t3 t) (sym fourth)
               (subst (λ t. IsExchange k request.t1 t t3 t4) (sym second)

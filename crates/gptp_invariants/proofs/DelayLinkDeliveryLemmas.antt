@@ -1,5 +1,5 @@
 -- A delivery, seen at a link: the port that asks hears, the port that answers hears, or others send.
-use Rattle.std.proofs.Common.{◌≡◌, ◌≢◌, ◌+◌, ◌≤◌, ℕ, Bool, true, false, List, [], ◌∷◌, ◌++◌, map, Option, Some, None, slice_get, slice_set, refl, sym, ap, subst, ◌∙◌, inl, inr, eq-eqb, eqb-true}
+use Rattle.std.proofs.Common.{◌≡◌, ◌≢◌, ◌+◌, ◌≤◌, ℕ, Bool, true, false, List, [], ◌∷◌, ◌++◌, map, Option, Some, None, slice_get, slice_set, refl, sym, ap, subst, ◌∙◌, inl, inr, arith, eq-eqb, eqb-true}
 use Rattle.std.specs.Prelude.{if◌then◌else◌, ◌==◌}
 use Rattle.std.proofs.lemmas.List.{append-nil, map-append}
 use Rattle.gptp_lists.specs.Members.{In}
@@ -26,7 +26,8 @@ use Rattle.gptp_model.proofs.StayLemmas.{carry_join, takes_carry}
 use Rattle.gptp_pdelay_machine.specs.Acts.{AskerHears, AnswererHears}
 use Rattle.gptp_pdelay_machine.specs.Answerer.{Notes}
 use Rattle.gptp_pdelay_machine.specs.Asker.{TakesReply}
-use Rattle.gptp_pdelay_machine.specs.ExchangeLaws.{HasLocalClocks}
+use Rattle.gptp_pdelay_machine.specs.ExchangeLaws.{ReadsClocks}
+use Rattle.gptp_pdelay.proofs.ClockLemmas.{clock_is_read}
 use Rattle.gptp_pdelay_machine.specs.Facts.{IsSentInTime, IsSentLate}
 use Rattle.gptp_pdelay_machine.specs.Lanes.{LaneFrame as SeenFrame}
 use Rattle.gptp_pdelay_machine.specs.Meter.{MeterActs, TakesMeasure, meter_heard, meter_hears, meter_rests}
@@ -347,16 +348,17 @@ module _ (link : ℕ) (direction : Direction) (octets : List ℕ) (w : WorldStat
             | inr left ↦ ap waits_view left.1
           ]
 
-          local_clocks : HasLocalClocks (link_setting at w l)
-          local_clocks = record {
+          clocks_read : ReadsClocks 0 (link_setting at w l)
+          clocks_read = record {
+            behind = 0;
             asking_phase = l.asking.station.setup.phase;
             asking_drift = l.asking.station.setup.drift;
             answering_phase = l.answering.station.setup.phase;
             answering_drift = l.answering.station.setup.drift;
             asking_limit = (sound.wired.setups at.asking l.asking.station l.asking.here).drift;
             answering_limit = (sound.wired.setups at.answering l.answering.station l.answering.here).drift;
-            asking = λ t. refl;
-            answering = λ t. refl;
+            asking = clock_is_read 0 0 l.asking.station.setup.phase l.asking.station.setup.drift (omega arith);
+            answering = clock_is_read 0 0 l.answering.station.setup.phase l.answering.station.setup.drift (omega arith);
           }
 
           asker_hears : PartHears l.asking.station.system w.time octets (measure_at l.asking.state)
@@ -385,7 +387,7 @@ module _ (link : ℕ) (direction : Direction) (octets : List ℕ) (w : WorldStat
               (measure_at step.after.asking.state) asker_hears (sender at.direction l.channel)
               (receiver at.direction l.channel) refl refl
               (clock_is at.asking (sender at.direction l.channel) w l.asking w.time) l.asking.measures.own
-              (clocks_apart at w l sound.wired.clocks) good_here local_clocks
+              (clocks_apart at w l sound.wired.clocks) good_here clocks_read
 
           reply_measured : TakesMeasure (link_setting at w l) reads_as_reply octets
               (asker_view period (measure_at l.asking.state))
@@ -396,7 +398,7 @@ module _ (link : ℕ) (direction : Direction) (octets : List ℕ) (w : WorldStat
               (measure_at step.after.asking.state) asker_hears (sender at.direction l.channel)
               (receiver at.direction l.channel) refl refl
               (clock_is at.asking (sender at.direction l.channel) w l.asking w.time) l.asking.measures.own
-              (clocks_apart at w l sound.wired.clocks) good_here local_clocks
+              (clocks_apart at w l sound.wired.clocks) good_here clocks_read
 
           other_way : at.direction ≡ other_direction direction
           other_way = sym (opposite_twice at.direction) ∙ ap other_direction (sym way)

@@ -90,6 +90,7 @@ module _ (p : SettlingParams) (settled longest : ℕ) (w : WorldState) (is : IsS
   long = way_leads_to.long x g (suc steps) (follower_clock at w f) h.way h.phase h.is
 
   common : (h.way.interval ≡ x.interval) × (h.way.turnaround ≡ x.turnaround) × (h.way.residence ≡ x.residence)
+      × (h.way.blur ≡ 0)
   common = way_ends_at_parent.common x g (suc steps) (follower_clock at w f) h.way h.phase h.is
 
   pub documented : IsDocumented h.way
@@ -111,10 +112,10 @@ module _ (p : SettlingParams) (settled longest : ℕ) (w : WorldState) (is : IsS
       let residence : h.way.residence ≤ 1000000000 = omega (arith, most_residence, common.2) in
       let limit = is.limit in
       let less = few in
-      let each : 131072 * (2 * longest + h.way.turnaround + h.way.residence + 1) ≤ 524288131072000 =
-      omega (arith, turnaround, residence, limit) in
+      let each : 131072 * (2 * longest + h.way.blur + h.way.turnaround + h.way.residence + 1) ≤ 524288131072000 =
+      omega (arith, turnaround, residence, limit, common.3) in
       let most_steps : suc steps ≤ 255 = omega (arith, less) in
-      let product : suc steps * (131072 * (2 * longest + h.way.turnaround + h.way.residence + 1))
+      let product : suc steps * (131072 * (2 * longest + h.way.blur + h.way.turnaround + h.way.residence + 1))
       ≤ 255 * 524288131072000 = mul-le-mul most_steps each in
       omega (arith, within, product)
 

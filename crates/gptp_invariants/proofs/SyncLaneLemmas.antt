@@ -3,6 +3,7 @@ use Rattle.std.proofs.Common.{◌≡◌, ◌≤◌, ◌^◌, ℕ, suc, Bool, tru
 use Rattle.std.proofs.lemmas.List.{map-append}
 use Rattle.std.proofs.lemmas.Nat.{mod_below}
 use Rattle.std.proofs.lemmas.Option.{slice_get_within}
+use Rattle.gptp_setup.specs.declared.limits.TheConstants.{MOST_PORTS}
 use Rattle.gptp_graph.specs.Snapshot.{PortIdentity, port_of}
 use Rattle.gptp_lists.proofs.MappedLemmas.{same_there}
 use Rattle.gptp_lists.proofs.PlaceLemmas.{member_there}
@@ -84,14 +85,14 @@ alone_seen net apart link channel here = record {
 -- ---- what enters
 
 -- the port of this number of a system with few ports fits its octets
-pub own_fits : (s : SystemState) (n : ℕ) → n ≤ 16 → PortFits (own s n)
+pub own_fits : (s : SystemState) (n : ℕ) → n ≤ MOST_PORTS → PortFits (own s n)
 own_fits s n few = record { clock = mod_below s.identity (2 ^ 64) (omega arith); port = omega arith }
 
 -- where each Master port tells time, pairs enter the lanes that begin there
 module _ (now : ℕ) (s after : SystemState) (sends : List Sending) (draws : List Draw) (net net' : Net)
     (sent : SendsAll now after sends draws net net') (apart : BeginApart (lanes_view net.channels))
     (tells : TellsTime s after sends) (same_clock : clock after ≡ clock s) (held : after.held ≡ s.held)
-    (places : length after.held ≡ length s.ports) (few : length s.ports ≤ 16) where
+    (places : length after.held ≡ length s.ports) (few : length s.ports ≤ MOST_PORTS) where
   pub pairs_enter : (live : Bool) (i j : ℕ) (q : SeenPort) (l l' : Lane) (root steps : ℕ)
       → slice_get (system_view live after).ports i ≡ Some q → q.held ≡ Mine root steps
       → slice_get (lanes_view net.channels) j ≡ Some l → slice_get (lanes_view net'.channels) j ≡ Some l'

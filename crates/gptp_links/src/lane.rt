@@ -1,8 +1,9 @@
 //! One direction of a link.
 
-ghost use Rattle.std.specs.Prelude.{◌≡◌, ℕ, ◌+◌, ◌-◌, ◌^◌, ◌<◌, ◌≤◌, ◌↔◌, [], ◌∷◌, ◌++◌, IsOk, IfOk, OnErr, option_copied};
+ghost use Rattle.std.specs.Prelude.{◌≡◌, ℕ, ◌+◌, ◌-◌, ◌<◌, ◌≤◌, ◌↔◌, [], ◌∷◌, ◌++◌, IsOk, IfOk, OnErr, option_copied};
 ghost use Rattle.std.specs.Option.{option_map};
 ghost use Rattle.slab.specs.Slab.{get, slab_len, HasRoomFor};
+ghost use Rattle.gptp_setup.specs.Intervals.{IsMoment};
 ghost use Rattle.gptp_links.specs.Bounds.{Fit};
 ghost use Rattle.gptp_links.specs.Flights.{due_of_first, frames_in, no_flights, with_last_flight, with_limit, without_first_flight, ChangesOneDirection, DirectionIsChained, JoinsFlight, SameRoom};
 ghost use Rattle.gptp_links.specs.Queue.{frame, first_frame, newest_due, FrameIsDue, IsSent, IsTaken};
@@ -91,7 +92,7 @@ impl Lane {
         fate: &mut F,
     ) -> Option<u64>
         requires fit { Fit bounds.now }
-        requires early { now ≤ 10 ^ 15 }
+        requires early { IsMoment now }
         requires chained { DirectionIsChained (get flights.old) self.old }
         requires few { self.old.count < self.old.limit }
         requires room { HasRoomFor flights.old 1 }

@@ -1,7 +1,8 @@
 //! Links that join two ports.
 
-ghost use Rattle.std.specs.Prelude.{◌≡◌, ℕ, ◌+◌, ◌^◌, ◌<◌, ◌≤◌, ◌↔◌, [], Option, true, false, IsOk, IfOk, OnOk, OnErr, option_copied};
+ghost use Rattle.std.specs.Prelude.{◌≡◌, ℕ, ◌+◌, ◌<◌, ◌≤◌, ◌↔◌, [], Option, true, false, IsOk, IfOk, OnOk, OnErr, option_copied};
 ghost use Rattle.std.specs.Option.{option_map};
+ghost use Rattle.gptp_setup.specs.Intervals.{IsMoment};
 ghost use Rattle.gptp_links.specs.Bounds.{Fit};
 ghost use Rattle.gptp_links.specs.Queue.{first_frame, AreDueInOrder, FrameIsDue, IsSent, IsTaken};
 ghost use Rattle.gptp_links.specs.State.{queue, ChangesOnly, HasRoom, KeepsRoom, SameFrames};
@@ -105,7 +106,7 @@ impl Link {
         fate: &mut F,
     ) -> Result<Option<u64>, AllocError>
         requires up { self.old.up ≡ true }
-        requires early { now ≤ 10 ^ 15 }
+        requires early { IsMoment now }
         ensures sent { IfOk result
             (IsSent F.answers self.old.bounds now fate.old fate.new (queue direction self.old).frames octets.items
             (queue direction self.new).frames) }

@@ -15,7 +15,8 @@ top_keys = codes "version" ∷ codes "network" ∷ codes "system" ∷ codes "lin
 abbrev pub network_keys : List (List ℕ)
 network_keys =
     codes "announce" ∷ codes "sync" ∷ codes "pdelay" ∷ codes "timeout" ∷ codes "lost" ∷ codes "threshold"
-    ∷ codes "turnaround" ∷ codes "residence" ∷ codes "sync_timeout" ∷ []
+    ∷ codes "turnaround" ∷ codes "residence" ∷ codes "sync_timeout" ∷ codes "granularity"
+    ∷ codes "noise" ∷ codes "window" ∷ []
 
 -- in a system, of a document of version 1 and of version 2
 abbrev pub system_keys_1 : List (List ℕ)

@@ -24,6 +24,9 @@ const NETWORK: &[&str] = &[
     "turnaround",
     "residence",
     "sync_timeout",
+    "granularity",
+    "noise",
+    "window",
 ];
 
 /// Those of a system.

@@ -1,6 +1,7 @@
 -- What is pending: a plain list in order of putting (profile).
 use Rattle.std.specs.Prelude.{◌≡◌, ℕ, ◌+◌, ◌*◌, slice_index_or, ◌==◌, ◌&&◌, ◌<◌, ◌≤◌, not, Bool, true, false, if◌then◌else◌, List, [], ◌∷◌, ◌++◌, map, Option, Some, None}
 use Rattle.std.specs.List.{All, filter}
+use Rattle.gptp_setup.specs.declared.limits.TheConstants.{MOST_PORTS}
 use Rattle.gptp_scheduler.specs.Pending.{AgendaEntry as Numbered}
 use Rattle.gptp_links.specs.declared.link.Direction.{Direction}
 use Rattle.gptp_links.specs.declared.link.Direction.TheVariants.{FromA, FromB}
@@ -71,9 +72,9 @@ NothingBefore time = All (λ (e : Entry). time ≤ e.time)
 
 -- ---- what is pending in a world, and room for more
 
--- an item of a world of so many systems and links, whose ports are numbered up to 16
+-- an item of a world of so many systems and links
 abbrev pub IsKnownItem : ℕ → ℕ → Item → Type 0
-IsKnownItem systems links (Expiry place timer) = (place < systems) × (timer_port timer ≤ 16)
+IsKnownItem systems links (Expiry place timer) = (place < systems) × (timer_port timer ≤ MOST_PORTS)
 IsKnownItem systems links (Arrival link direction) = link < links
 
 -- How many systems and links there are, what is pending of them, and how many more can be put without being refused:

@@ -4,6 +4,7 @@ use Rattle.gptp_links.specs.declared.link.Direction.{Direction}
 use Rattle.gptp_links.specs.Queue.{AreDueInOrder}
 use Rattle.gptp_pdelay.specs.Clock.{IsDrift}
 use Rattle.gptp_roles.specs.Selection.{clock_of}
+use Rattle.gptp_setup.specs.declared.limits.TheConstants.{MOST_PORTS}
 use Rattle.gptp_setup.specs.Intervals.{AreIntervals}
 use Rattle.gptp_system.specs.State.{clock}
 use Rattle.gptp_system.specs.Steps.{HasPortNumber, IsUp}
@@ -15,7 +16,7 @@ use Rattle.gptp_model.specs.World.{Channel, WorldState, sender, world_queue}
 -- what a system starts with keeps the limits, and is its own
 pub record IsItsSetup (station : Station) : Type 0 where
   pub ports : length station.system.ports ≡ station.setup.ports
-  pub few : station.setup.ports ≤ 16
+  pub few : station.setup.ports ≤ MOST_PORTS
   pub phase : station.setup.phase ≤ 10 ^ 18
   pub drift : IsDrift station.setup.drift
   pub intervals : AreIntervals station.setup

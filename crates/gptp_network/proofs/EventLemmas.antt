@@ -5,6 +5,7 @@ use Rattle.gptp_setup.specs.Intervals.{interval_of, IsLog}
 use Rattle.gptp_setup.proofs.IntervalLemmas.{interval_most}
 use Rattle.gptp_scenario.specs.Allowed.{IsFitAct}
 use Rattle.gptp_scenario.specs.Calm.{last_change}
+use Rattle.gptp_network.specs.declared.keys.TheConstants.{LATEST_EVENT}
 use Rattle.gptp_network.specs.Events.{timed, AreInOrder, AreEvents, IsEvent, IsPossibleChange}
 use Rattle.gptp_network.specs.declared.events.Event.{Event}
 use Rattle.gptp_scenario.specs.Network.{NetworkState, smallest_of}
@@ -37,7 +38,7 @@ each_behind n [] t h k = (k, tt)
 each_behind n (e ∷ es) t h k = (h.0, each_behind n es t h.1 k)
 
 pub event_added : (n : NetworkState) (es : List Timed) (e : Event) → AreEvents n es → last_change es ≤ e.at
-    → e.at ≤ 800000000000000 → IsPossibleChange n e.change → AreEvents n (es ++ timed e ∷ [])
+    → e.at ≤ LATEST_EVENT → IsPossibleChange n e.change → AreEvents n (es ++ timed e ∷ [])
 event_added n es e h later early fits = record {
   in_order = in_order_behind es (timed e) h.in_order later;
   each = each_behind n es (timed e) h.each (record { early = early; change = e.change; act = refl; fits = fits });
@@ -70,9 +71,9 @@ first_are n k es h = record {
 }
 
 -- the last change is early
-pub early_from : (n : NetworkState) (es : List Timed) → AreEvents n es → last_change es ≤ 800000000000000
+pub early_from : (n : NetworkState) (es : List Timed) → AreEvents n es → last_change es ≤ LATEST_EVENT
 early_from n es h = from_each es h.each where
-  from_each : (es : List Timed) → AllByRecursion (IsEvent n) es → last_change es ≤ 800000000000000
+  from_each : (es : List Timed) → AllByRecursion (IsEvent n) es → last_change es ≤ LATEST_EVENT
   from_each [] h = omega arith
   from_each (e ∷ []) h = h.0.early
   from_each (e ∷ f ∷ es) h = from_each (f ∷ es) h.1

@@ -12,7 +12,7 @@ use Rattle.gptp_roles.specs.Selection.{clock_of}
 use Rattle.gptp_setup.specs.Intervals.{interval_of, IsLog}
 use Rattle.gptp_setup.specs.declared.setup.Params.{Params}
 use Rattle.gptp_scenario.specs.Network.{members_have_clock, has_port, is_any_slower, is_member_in_range, is_member_timed, is_taken, is_wire_in_range, link_fault, same_port, smallest_of, system_fault, CanAddLink, CanAddSystem, IsFree, IsNewClock, IsMember, IsPort, NetworkState}
-use Rattle.gptp_scenario.specs.Params.{are_counts_in_range, are_in_range, are_intervals_in_range, are_times_in_range, is_log, is_timed, params_fault, AreInRange, KeepParams}
+use Rattle.gptp_scenario.specs.Params.{are_counts_in_range, are_in_range, are_intervals_in_range, are_stamps_in_range, are_times_in_range, is_log, is_timed, params_fault, AreInRange, KeepParams}
 use Rattle.gptp_scenario.specs.declared.change.Change.{Change}
 use Rattle.gptp_scenario.specs.declared.change.Change.TheVariants as changes
 use Rattle.gptp_scenario.specs.declared.fault.NetworkFault.{NetworkFault}
@@ -189,12 +189,20 @@ link_fits n w number none =
 
 in_range : (p : Params) → are_in_range p ≡ true → AreInRange p
 in_range p is =
-    let counted = and_parts (are_intervals_in_range p && are_counts_in_range p) (are_times_in_range p) is in
+    let whole = and_parts (are_intervals_in_range p && are_counts_in_range p && are_times_in_range p)
+    (are_stamps_in_range p) is in
+    let counted = and_parts (are_intervals_in_range p && are_counts_in_range p) (are_times_in_range p) whole.0 in
     let intervals = and_parts (are_intervals_in_range p) (are_counts_in_range p) counted.0 in
     let front = and_parts (is_log p.announce && is_log p.sync) (is_log p.pdelay) intervals.0 in
     let first = and_parts (is_log p.announce) (is_log p.sync) front.0 in
     let counts : are_counts_in_range p ≡ true = intervals.1 in
     let times : are_times_in_range p ≡ true = counted.1 in
+    let stamps : are_stamps_in_range p ≡ true = whole.1 in
+    let granularity : p.granularity ≤ 0 = grind (arith, nat_tests) in
+    let noise : p.noise ≤ 0 = grind (arith, nat_tests) in
+    let most : p.window ≤ 1 = grind (arith, nat_tests) in
+    let least : 1 ≤ p.window = grind (arith, nat_tests) in
+    let window : p.window ≡ 1 = omega (arith, most, least) in
     record {
       params = record {
         announce = is_log_so p.announce first.0;
@@ -211,11 +219,17 @@ in_range p is =
         residence-least = grind (arith, nat_tests);
         residence = grind (arith, nat_tests);
         sync-timeout = grind (arith, nat_tests);
+        granularity = omega (arith, granularity);
+        noise = omega (arith, noise);
+        window-least = omega (arith, window);
+        window = omega (arith, window);
       };
       timeout = grind (arith, nat_tests);
       lost-least = grind (arith, nat_tests);
       threshold-least = grind (arith, nat_tests);
       threshold = grind (arith, nat_tests);
+      exact = omega (arith, granularity, noise);
+      one_exchange = window;
     }
 
 go_together : (p : Params) → AreInRange p → is_timed p ≡ true → KeepParams p

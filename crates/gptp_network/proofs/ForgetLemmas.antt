@@ -5,6 +5,7 @@ use Rattle.hex.specs.Hex.{decode_of, decode_sized}
 use Rattle.hex.specs.declared.error.FromHexError.{FromHexError}
 use Rattle.toml.specs.Data.{Data, Items, Members, item, no_items, as_array, as_bool, as_integer, as_str, as_table, get_member, no_members}
 use Rattle.gptp_roles.specs.Selection.{clock_of}
+use Rattle.gptp_setup.specs.declared.limits.TheConstants.{MOST_PORTS}
 use Rattle.gptp_scenario.specs.Calm.{last_change}
 use Rattle.gptp_scenario.specs.Network.{NetworkState, link_fault, system_fault, with_link, with_system, without_members}
 use Rattle.gptp_scenario.specs.Params.{is_between, params_fault}
@@ -34,7 +35,7 @@ use Rattle.gptp_network.specs.declared.fault.DocumentFault.{DocumentFault}
 use Rattle.gptp_network.specs.declared.fault.DocumentFault.TheVariants as faults
 use Rattle.gptp_network.specs.declared.keys.Name.{Name}
 use Rattle.gptp_network.specs.declared.keys.Name.TheVariants as names
-use Rattle.gptp_network.specs.declared.keys.TheConstants.{ACCURACY, ANNOUNCE, AT, A_PORT, B_PORT, CLASS, DRIFT, LOSS, LOST, MAX, MIN, PDELAY, PHASE, PORT, PORTS, PRIORITY1, PRIORITY2, RESIDENCE, SET_LOSS, SYNC, SYNC_TIMEOUT, THRESHOLD, TIMEOUT, TURNAROUND, VALUE, VARIANCE, VERSION}
+use Rattle.gptp_network.specs.declared.keys.TheConstants.{ACCURACY, ANNOUNCE, AT, A_PORT, B_PORT, CLASS, DRIFT, GRANULARITY, LOSS, LOST, MAX, MIN, NOISE, PDELAY, PHASE, PORT, PORTS, PRIORITY1, PRIORITY2, RESIDENCE, SET_LOSS, SYNC, SYNC_TIMEOUT, THRESHOLD, TIMEOUT, TURNAROUND, VALUE, VARIANCE, VERSION, WINDOW, LATEST_EVENT}
 use Rattle.gptp_network.specs.declared.place.Place.{Place}
 use Rattle.gptp_network.specs.declared.place.Place.TheVariants as places
 use Rattle.gptp_network.specs.declared.place.Section.{Section}
@@ -211,7 +212,12 @@ params_is t =
     step (natural_at RESIDENCE t) (natural (codes "residence") 1 1000000000 (Some 1000) t) _ _
     (natural_is RESIDENCE t) (λ residence.
     step (natural_at SYNC_TIMEOUT t) (natural (codes "sync_timeout") 0 10 (Some 0) t) _ _
-    (natural_is SYNC_TIMEOUT t) (λ sync_timeout. refl)))))))))
+    (natural_is SYNC_TIMEOUT t) (λ sync_timeout.
+    step (natural_at GRANULARITY t) (natural (codes "granularity") 0 0 (Some 0) t) _ _ (natural_is GRANULARITY t)
+    (λ granularity.
+    step (natural_at NOISE t) (natural (codes "noise") 0 0 (Some 0) t) _ _ (natural_is NOISE t) (λ noise.
+    step (natural_at WINDOW t) (natural (codes "window") 1 1 (Some 1) t) _ _ (natural_is WINDOW t) (λ window.
+    refl))))))))))))
 
 network_in_is : (t : Members) → forget (read_section t) ≡ network_of_section t
 unfolding read_section network_of_section
@@ -259,7 +265,7 @@ system_is version announce t =
     (whole_is DRIFT t) (λ drift.
     step (flag_at names.Continues false t) (flag (codes "continues") false t) _ _
     (flag_is names.Continues false t) (λ continues.
-    step (natural_at PORTS t) (natural (codes "ports") 0 16 (Some 1) t) _ _ (natural_is PORTS t) (λ ports.
+    step (natural_at PORTS t) (natural (codes "ports") 0 MOST_PORTS (Some 1) t) _ _ (natural_is PORTS t) (λ ports.
     step (read_intervals version ports announce t) (intervals version ports announce t) _ _
     (intervals_are version ports announce t) (λ logs. refl)))))))))))
 
@@ -293,9 +299,9 @@ link_is : (t : Members) → forget (read_link t) ≡ link_of t
 unfolding read_link link_of
 link_is t =
     step (clock_at names.A t) (clock (codes "a") t) _ _ (clock_is names.A t) (λ a.
-    step (natural_at A_PORT t) (natural (codes "a_port") 1 16 None t) _ _ (natural_is A_PORT t) (λ a_port.
+    step (natural_at A_PORT t) (natural (codes "a_port") 1 MOST_PORTS None t) _ _ (natural_is A_PORT t) (λ a_port.
     step (clock_at names.B t) (clock (codes "b") t) _ _ (clock_is names.B t) (λ b.
-    step (natural_at B_PORT t) (natural (codes "b_port") 1 16 None t) _ _ (natural_is B_PORT t) (λ b_port.
+    step (natural_at B_PORT t) (natural (codes "b_port") 1 MOST_PORTS None t) _ _ (natural_is B_PORT t) (λ b_port.
     step (natural_at MIN t) (natural (codes "min") 1 16000000000 None t) _ _ (natural_is MIN t) (λ least.
     step (natural_at MAX t) (natural (codes "max") 1 16000000000 None t) _ _ (natural_is MAX t) (λ greatest.
     step (natural_at LOSS t) (natural (codes "loss") 0 1000 (Some 0) t) _ _ (natural_is LOSS t) (λ loss.
@@ -322,19 +328,19 @@ link_down_is : (t : Members) → forget (read_link_down t) ≡ link_down_of t
 unfolding read_link_down link_down_of
 link_down_is t =
     step (clock_at names.Clock t) (clock (codes "clock") t) _ _ (clock_is names.Clock t) (λ name.
-    step (natural_at PORT t) (natural (codes "port") 1 16 None t) _ _ (natural_is PORT t) (λ port. refl))
+    step (natural_at PORT t) (natural (codes "port") 1 MOST_PORTS None t) _ _ (natural_is PORT t) (λ port. refl))
 
 link_up_is : (t : Members) → forget (read_link_up t) ≡ link_up_of t
 unfolding read_link_up link_up_of
 link_up_is t =
     step (clock_at names.Clock t) (clock (codes "clock") t) _ _ (clock_is names.Clock t) (λ name.
-    step (natural_at PORT t) (natural (codes "port") 1 16 None t) _ _ (natural_is PORT t) (λ port. refl))
+    step (natural_at PORT t) (natural (codes "port") 1 MOST_PORTS None t) _ _ (natural_is PORT t) (λ port. refl))
 
 link_set_is : (t : Members) → forget (read_link_set t) ≡ link_set_of t
 unfolding read_link_set link_set_of
 link_set_is t =
     step (clock_at names.Clock t) (clock (codes "clock") t) _ _ (clock_is names.Clock t) (λ name.
-    step (natural_at PORT t) (natural (codes "port") 1 16 None t) _ _ (natural_is PORT t) (λ port.
+    step (natural_at PORT t) (natural (codes "port") 1 MOST_PORTS None t) _ _ (natural_is PORT t) (λ port.
     step (natural_at MIN t) (natural (codes "min") 1 16000000000 None t) _ _ (natural_is MIN t) (λ least.
     step (natural_at MAX t) (natural (codes "max") 1 16000000000 None t) _ _ (natural_is MAX t) (λ greatest.
     step (natural_at SET_LOSS t) (natural (codes "loss") 0 1000 None t) _ _ (natural_is SET_LOSS t) (λ loss. refl)))))
@@ -357,7 +363,7 @@ inject_is : (t : Members) → forget (read_inject t) ≡ inject_of t
 unfolding read_inject inject_of
 inject_is t =
     step (clock_at names.Clock t) (clock (codes "clock") t) _ _ (clock_is names.Clock t) (λ name.
-    step (natural_at PORT t) (natural (codes "port") 1 16 None t) _ _ (natural_is PORT t) (λ port.
+    step (natural_at PORT t) (natural (codes "port") 1 MOST_PORTS None t) _ _ (natural_is PORT t) (λ port.
     step (octets_at names.Octets t) (octets (codes "octets") t) _ _ (octets_is names.Octets t) (λ frame. refl)))
 
 change_is : (kind : List ℕ) (t : Members) → forget (read_change kind t) ≡ change_of kind t
@@ -374,7 +380,7 @@ change_is kind t =
 event_is : (t : Members) → forget (read_event t) ≡ event_of t
 unfolding read_event event_of
 event_is t =
-    step (natural_at AT t) (natural (codes "at") 0 800000000000000 None t) _ _ (natural_is AT t) (λ at.
+    step (natural_at AT t) (natural (codes "at") 0 LATEST_EVENT None t) _ _ (natural_is AT t) (λ at.
     step (text_at names.Kind t) (text (codes "kind") t) _ _ (text_is names.Kind t) (λ kind.
     step (read_change kind t) (change_of kind t) _ _ (change_is kind t) (λ change. refl)))
 

@@ -15,6 +15,7 @@ use Rattle.gptp_lists.specs.Members.{In}
 use Rattle.gptp_lists.proofs.SystemSpecLemmas.{slice_get-In}
 use Rattle.gptp_graph.specs.Snapshot.{IsWellFormed, Snapshot, System as LiveSystem}
 use Rattle.gptp_roles.specs.Selection.{clock_of}
+use Rattle.gptp_setup.specs.declared.limits.TheConstants.{MOST_PORTS}
 use Rattle.gptp_scenario.specs.Calm.{last_change}
 use Rattle.gptp_scenario.specs.Change.{standing, system_acted, system_stands, with_live, with_priority1}
 use Rattle.gptp_scenario.specs.Network.{link_fault, logs_of, system_fault, with_link, with_system, without_members, IsKeptNetwork, IsNetwork, NetworkState}
@@ -26,6 +27,7 @@ use Rattle.gptp_scenario.specs.declared.change.Change.TheVariants as changes
 use Rattle.gptp_scenario.specs.declared.change.Timed.{Timed}
 use Rattle.gptp_scenario.proofs.NetworkLemmas.{link_added, none_yet, system_added}
 use Rattle.gptp_scenario.proofs.OctetLemmas.{each_below}
+use Rattle.gptp_network.specs.declared.keys.TheConstants.{LATEST_EVENT}
 use Rattle.gptp_network.specs.Document.{document_of, whole_network_of, DocumentState, Means}
 use Rattle.gptp_network.specs.Events.{change_fault, change_of, event_of, events_of, fail_of, inject_of, link_down_of, link_set_of, link_up_of, not_before, priority1_of, recover_of, timed, with_event_of, AreEvents, IsInRange}
 use Rattle.gptp_network.specs.Intervals.{intervals}
@@ -141,7 +143,7 @@ system_read version announce t =
     next HasIdentity (natural (codes "phase") 0 1000000000000000000 (Some 0) t) _ (λ phase of_phase.
     next HasIdentity (whole (codes "drift") _ _ _ t) _ (λ drift of_drift.
     next HasIdentity (flag (codes "continues") false t) _ (λ continues of_continues.
-    next HasIdentity (natural (codes "ports") 0 16 (Some 1) t) _ (λ ports of_ports.
+    next HasIdentity (natural (codes "ports") 0 MOST_PORTS (Some 1) t) _ (λ ports of_ports.
     next HasIdentity (intervals version ports announce t) _ (λ logs of_logs.
     given HasIdentity _ (identity_below priority1 class accuracy variance priority2 name
     (octet_read (codes "priority1") 246 t (omega arith) priority1 of_priority1)
@@ -224,21 +226,21 @@ link_down_read : (t : Members) → Gives IsReadChange (link_down_of t)
 unfolding link_down_of
 link_down_read t =
     next IsReadChange (clock (codes "clock") t) _ (λ name of_name.
-    next IsReadChange (natural (codes "port") 1 16 None t) _ (λ port of_port.
+    next IsReadChange (natural (codes "port") 1 MOST_PORTS None t) _ (λ port of_port.
     given IsReadChange (changes.LinkDown name port) (record { range = tt; octets = tt })))
 
 link_up_read : (t : Members) → Gives IsReadChange (link_up_of t)
 unfolding link_up_of
 link_up_read t =
     next IsReadChange (clock (codes "clock") t) _ (λ name of_name.
-    next IsReadChange (natural (codes "port") 1 16 None t) _ (λ port of_port.
+    next IsReadChange (natural (codes "port") 1 MOST_PORTS None t) _ (λ port of_port.
     given IsReadChange (changes.LinkUp name port) (record { range = tt; octets = tt })))
 
 link_set_read : (t : Members) → Gives IsReadChange (link_set_of t)
 unfolding link_set_of
 link_set_read t =
     next IsReadChange (clock (codes "clock") t) _ (λ name of_name.
-    next IsReadChange (natural (codes "port") 1 16 None t) _ (λ port of_port.
+    next IsReadChange (natural (codes "port") 1 MOST_PORTS None t) _ (λ port of_port.
     next IsReadChange (natural (codes "min") 1 16000000000 None t) _ (λ least of_least.
     next IsReadChange (natural (codes "max") 1 16000000000 None t) _ (λ greatest of_greatest.
     next IsReadChange (natural (codes "loss") 0 1000 None t) _ (λ loss of_loss.
@@ -274,7 +276,7 @@ inject_read : (t : Members) → Gives IsReadChange (inject_of t)
 unfolding inject_of
 inject_read t =
     next IsReadChange (clock (codes "clock") t) _ (λ name of_name.
-    next IsReadChange (natural (codes "port") 1 16 None t) _ (λ port of_port.
+    next IsReadChange (natural (codes "port") 1 MOST_PORTS None t) _ (λ port of_port.
     next IsReadChange (octets (codes "octets") t) _ (λ frame of_frame.
     given IsReadChange (changes.Inject name port frame)
     (record { range = tt; octets = octets_read (codes "octets") t frame of_frame }))))
@@ -292,17 +294,17 @@ change_read kind t =
 
 -- what is read of an event
 record IsRead (e : Event) : Type 0 where
-  early : e.at ≤ 800000000000000
+  early : e.at ≤ LATEST_EVENT
   change : IsReadChange e.change
 
 event_read : (t : Members) → Gives IsRead (event_of t)
 unfolding event_of
 event_read t =
-    next IsRead (natural (codes "at") 0 800000000000000 None t) _ (λ at of_at.
+    next IsRead (natural (codes "at") 0 LATEST_EVENT None t) _ (λ at of_at.
     next IsRead (text (codes "kind") t) _ (λ kind of_kind.
     next IsRead (change_of kind t) _ (λ change of_change.
     given IsRead (record { at = at; change = change }) (record {
-      early = (value_within (codes "at") 0 800000000000000 None t tt at of_at).1;
+      early = (value_within (codes "at") 0 LATEST_EVENT None t tt at of_at).1;
       change = change_read kind t change of_change;
     }))))
 

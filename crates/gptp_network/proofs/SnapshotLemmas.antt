@@ -14,6 +14,7 @@ use Rattle.gptp_graph.proofs.RisingLemmas.{Different-rising}
 use Rattle.gptp_graph.proofs.Sure.{and_true}
 use Rattle.gptp_roles.specs.Selection.{clock_of}
 use Rattle.gptp_vector.specs.declared.port.PortId.{PortId}
+use Rattle.gptp_setup.specs.declared.limits.TheConstants.{MOST_PORTS}
 use Rattle.gptp_scenario.specs.Change.{joined_after, live_after, link_after, standing, system_acted, system_after, system_changed, system_stands, with_live, with_priority1}
 use Rattle.gptp_scenario.specs.Network.{NetworkState, IsEnd, IsNetwork, IsPort}
 use Rattle.gptp_scenario.specs.declared.change.Act.{Act}
@@ -293,5 +294,5 @@ module _ (n : NetworkState) (network : IsNetwork n) (events : List Timed) (g : S
     ports = λ s live.
         let (m, at, is) = member_of s live in
         let (i, there) = slice_get-In m n.systems at in
-        subst (λ k. k ≤ 16) (ap (λ (t : System). t.ports) is) (network.systems i m there).ports;
+        subst (λ k. k ≤ MOST_PORTS) (ap (λ (t : System). t.ports) is) (network.systems i m there).ports;
   }

@@ -4,6 +4,7 @@ use Rattle.std.specs.Option.{option_map}
 use Rattle.gptp_scenario.specs.Calm.{last_change}
 use Rattle.gptp_scenario.specs.declared.change.Act.TheVariants as acts
 use Rattle.gptp_scenario.specs.declared.change.Change.{Change}
+use Rattle.gptp_network.specs.declared.keys.TheConstants.{LATEST_EVENT}
 use Rattle.gptp_network.specs.Document.{DocumentState}
 use Rattle.gptp_network.specs.Events.{change_fault}
 use Rattle.gptp_network.specs.Faults.{document_fault}
@@ -15,7 +16,7 @@ use Rattle.gptp_network.specs.declared.fault.DocumentFault.TheVariants.{EventOrd
 abbrev pub adding_fault : DocumentState → ℕ → Change → Option DocumentFault
 adding_fault d at change =
     if nat_le 4096 (length d.events) then Some TooMany
-    else if nat_lt 800000000000000 at then Some OutOfRange
+    else if nat_lt LATEST_EVENT at then Some OutOfRange
     else if nat_lt at (last_change d.events) then Some EventOrder
     else option_map document_fault (change_fault d.network change)
 

@@ -2,6 +2,7 @@
 use Rattle.std.specs.Prelude.{◌≡◌, ◌≤◌, ⊤, true, ℕ, codes, not, nat_lt, if◌then◌else◌, bytes_eq, List, [], ◌∷◌, ◌++◌, Option, None, Result, Ok, Err}
 use Rattle.std.specs.List.{AllByRecursion}
 use Rattle.toml.specs.Data.{Data, Members, as_table}
+use Rattle.gptp_setup.specs.declared.limits.TheConstants.{MOST_PORTS}
 use Rattle.gptp_setup.specs.Intervals.{interval_of}
 use Rattle.gptp_scenario.specs.Calm.{last_change}
 use Rattle.gptp_scenario.specs.Faults.{first_fault}
@@ -12,6 +13,7 @@ use Rattle.gptp_scenario.specs.declared.change.Change.TheVariants as changes
 use Rattle.gptp_scenario.specs.declared.change.Timed.{Timed}
 use Rattle.gptp_scenario.specs.declared.fault.NetworkFault.{NetworkFault}
 use Rattle.gptp_scenario.specs.declared.fault.NetworkFault.TheVariants as networks
+use Rattle.gptp_network.specs.declared.keys.TheConstants.{LATEST_EVENT}
 use Rattle.gptp_network.specs.Faults.{◌>>=◌, tested}
 use Rattle.gptp_network.specs.Links.{port_numbered}
 use Rattle.gptp_network.specs.Members.{limited, each_of}
@@ -24,19 +26,19 @@ use Rattle.gptp_network.specs.declared.fault.DocumentFault.TheVariants.{OutOfRan
 unfoldable pub link_down_of : Members → Result Change DocumentFault
 link_down_of t = do
   name ← clock (codes "clock") t
-  port ← natural (codes "port") 1 16 None t
+  port ← natural (codes "port") 1 MOST_PORTS None t
   Ok (changes.LinkDown name port)
 
 unfoldable pub link_up_of : Members → Result Change DocumentFault
 link_up_of t = do
   name ← clock (codes "clock") t
-  port ← natural (codes "port") 1 16 None t
+  port ← natural (codes "port") 1 MOST_PORTS None t
   Ok (changes.LinkUp name port)
 
 unfoldable pub link_set_of : Members → Result Change DocumentFault
 link_set_of t = do
   name ← clock (codes "clock") t
-  port ← natural (codes "port") 1 16 None t
+  port ← natural (codes "port") 1 MOST_PORTS None t
   least ← natural (codes "min") 1 16000000000 None t
   greatest ← natural (codes "max") 1 16000000000 None t
   loss ← natural (codes "loss") 0 1000 None t
@@ -61,7 +63,7 @@ priority1_of t = do
 unfoldable pub inject_of : Members → Result Change DocumentFault
 inject_of t = do
   name ← clock (codes "clock") t
-  port ← natural (codes "port") 1 16 None t
+  port ← natural (codes "port") 1 MOST_PORTS None t
   frame ← octets (codes "octets") t
   Ok (changes.Inject name port frame)
 
@@ -80,7 +82,7 @@ change_of kind t =
 -- the keys of an event: its time, its kind, and those of its kind
 unfoldable pub event_of : Members → Result Event DocumentFault
 event_of t = do
-  at ← natural (codes "at") 0 800000000000000 None t
+  at ← natural (codes "at") 0 LATEST_EVENT None t
   kind ← text (codes "kind") t
   change ← change_of kind t
   Ok (record { at = at; change = change })
@@ -152,7 +154,7 @@ IsPossibleChange n (changes.Inject name port frame) = is_taken n.links (port_num
 
 -- an event of the network
 pub record IsEvent (n : NetworkState) (t : Timed) : Type 0 where
-  pub early : t.at ≤ 800000000000000
+  pub early : t.at ≤ LATEST_EVENT
   pub change : Change
   pub act : t.act ≡ acts.Change change
   pub fits : IsPossibleChange n change

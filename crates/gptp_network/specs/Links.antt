@@ -2,6 +2,7 @@
 use Rattle.std.specs.Prelude.{ℕ, codes, true, length, Some, None, Result, Ok}
 use Rattle.toml.specs.Data.{Data, Members, as_table}
 use Rattle.gptp_vector.specs.declared.port.PortId.{PortId}
+use Rattle.gptp_setup.specs.declared.limits.TheConstants.{MOST_PORTS}
 use Rattle.gptp_scenario.specs.Network.{NetworkState, wire, with_link, link_fault}
 use Rattle.gptp_scenario.specs.declared.network.LinkSpec.{LinkSpec}
 use Rattle.gptp_network.specs.Faults.{◌>>=◌, tested}
@@ -18,9 +19,9 @@ port_numbered name number = record { clock = name; port = number }
 unfoldable pub link_of : Members → Result Link DocumentFault
 link_of t = do
   a ← clock (codes "a") t
-  a_port ← natural (codes "a_port") 1 16 None t
+  a_port ← natural (codes "a_port") 1 MOST_PORTS None t
   b ← clock (codes "b") t
-  b_port ← natural (codes "b_port") 1 16 None t
+  b_port ← natural (codes "b_port") 1 MOST_PORTS None t
   least ← natural (codes "min") 1 16000000000 None t
   greatest ← natural (codes "max") 1 16000000000 None t
   loss ← natural (codes "loss") 0 1000 (Some 0) t

@@ -10,7 +10,7 @@ use Rattle.gptp_network.specs.Faults.{◌>>=◌}
 use Rattle.gptp_network.specs.Reading.{natural_at, table_in, whole_at}
 use Rattle.gptp_network.specs.Why.{at_place, told}
 use Rattle.gptp_network.specs.declared.keys.Name.TheVariants as names
-use Rattle.gptp_network.specs.declared.keys.TheConstants.{ANNOUNCE, LOST, PDELAY, RESIDENCE, SYNC, SYNC_TIMEOUT, THRESHOLD, TIMEOUT, TURNAROUND}
+use Rattle.gptp_network.specs.declared.keys.TheConstants.{ANNOUNCE, GRANULARITY, LOST, NOISE, PDELAY, RESIDENCE, SYNC, SYNC_TIMEOUT, THRESHOLD, TIMEOUT, TURNAROUND, WINDOW}
 use Rattle.gptp_network.specs.declared.place.Place.TheVariants as places
 use Rattle.gptp_network.specs.declared.why.Refusal.{Refusal}
 use Rattle.gptp_network.specs.declared.why.Why.{Why}
@@ -28,6 +28,9 @@ read_params t = do
   turnaround ← natural_at TURNAROUND t
   residence ← natural_at RESIDENCE t
   sync_timeout ← natural_at SYNC_TIMEOUT t
+  granularity ← natural_at GRANULARITY t
+  noise ← natural_at NOISE t
+  window ← natural_at WINDOW t
   Ok (record {
     announce = announce;
     sync = sync;
@@ -38,6 +41,9 @@ read_params t = do
     turnaround = turnaround;
     residence = residence;
     sync_timeout = sync_timeout;
+    granularity = granularity;
+    noise = noise;
+    window = window;
   })
 
 -- why a network can't have these values

@@ -8,6 +8,7 @@ use Rattle.gptp_graph.specs.Order.{IsRising}
 use Rattle.gptp_graph.specs.Snapshot.{System, PortIdentity, Link, Snapshot, clocks}
 use Rattle.gptp_roles.specs.Selection.{clock_of}
 use Rattle.gptp_vector.specs.declared.port.PortId.{PortId}
+use Rattle.gptp_setup.specs.declared.limits.TheConstants.{MOST_PORTS}
 use Rattle.gptp_scenario.specs.Change.{joined_after, live_after}
 use Rattle.gptp_scenario.specs.Network.{NetworkState}
 use Rattle.gptp_scenario.specs.declared.change.Timed.{Timed}
@@ -54,7 +55,7 @@ pub record StandsAfter (n : NetworkState) (events : List Timed) (g : Snapshot) :
 abbrev pub IsSnapshot : DocumentState → ℕ → Snapshot → Type 0
 IsSnapshot d at = StandsAfter d.network (events_by at d.events)
 
--- what the snapshot of every network keeps to: 512 systems at most, with sixteen ports at most
+-- the limits that the snapshot of every network keeps: 512 systems at most, and the ports of each
 pub record IsWithinLimits (g : Snapshot) : Type 0 where
   pub systems : length g.systems ≤ 512
-  pub ports : (s : System) → In s g.systems → s.ports ≤ 16
+  pub ports : (s : System) → In s g.systems → s.ports ≤ MOST_PORTS

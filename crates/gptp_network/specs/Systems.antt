@@ -2,6 +2,7 @@
 use Rattle.std.specs.Prelude.{ℕ, ℤ, pos, neg_ℤ, false, codes, ◌∷◌, ◌++◌, Some, Result, Ok}
 use Rattle.byteorder.specs.Endian.{big_bytes, big_number}
 use Rattle.toml.specs.Data.{Data, Members, as_table}
+use Rattle.gptp_setup.specs.declared.limits.TheConstants.{MOST_PORTS}
 use Rattle.gptp_scenario.specs.Network.{NetworkState, member, with_system, system_fault}
 use Rattle.gptp_scenario.specs.declared.network.SystemSpec.{SystemSpec}
 use Rattle.gptp_network.specs.Faults.{◌>>=◌, tested}
@@ -29,7 +30,7 @@ system_of version announce t = do
   phase ← natural (codes "phase") 0 1000000000000000000 (Some 0) t
   drift ← whole (codes "drift") (neg_ℤ (pos 219902325)) (pos 219902325) (Some (pos 0)) t
   continues ← flag (codes "continues") false t
-  ports ← natural (codes "ports") 0 16 (Some 1) t
+  ports ← natural (codes "ports") 0 MOST_PORTS (Some 1) t
   logs ← intervals version ports announce t
   Ok (record {
     identity = identity_of priority1 class accuracy variance priority2 name;

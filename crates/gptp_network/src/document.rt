@@ -1,10 +1,10 @@
 //! Documents.
 
-ghost use Rattle.std.specs.Prelude.{◌≡◌, ◌≤◌, ◌⊎◌, ◌↔◌, IsTrue, None, Ok, Some, IfOk, IfErr, OnErr, OnOk};
+ghost use Rattle.std.specs.Prelude.{◌≡◌, ◌⊎◌, ◌↔◌, IsTrue, None, Ok, Some, IfOk, IfErr, OnErr, OnOk};
 ghost use Rattle.toml.specs.View.{table_view};
 ghost use Rattle.gptp_scenario.specs.Calm.{last_change, IsCalm};
 ghost use Rattle.gptp_scenario.specs.Network.{smallest_of};
-ghost use Rattle.gptp_setup.specs.Intervals.{interval_of};
+ghost use Rattle.gptp_setup.specs.Intervals.{interval_of, IsMoment};
 ghost use Rattle.gptp_scenario.specs.Allowed.{AreAllowed};
 ghost use Rattle.gptp_scenario.specs.Prompt.{ArePromptActs};
 ghost use Rattle.gptp_scenario.specs.SettlingTime.{settles};
@@ -127,18 +127,18 @@ impl Document {
         self.network.is_calm(&self.events)
     }
 
-    /// The time by which the network has settled, in ns, if it is calm: at most 10^15.
+    /// The time by which the network has settled, in ns, if it is calm: at most `LAST_MOMENT`.
     #[tactic(auto, using(crate::proofs::EventLemmas::early_from))]
     pub fn settles(&self) -> u64
         ensures time { result ≡ settles self.now.network self.now.events }
-        ensures bound { result ≤ 1000000000000000 }
+        ensures bound { IsMoment result }
     {
         self.well_formed();
         last_change(&self.events) + self.network.settling_span(&self.events)
     }
 
-    /// The events are in order, at most at 8 * 10^14, and each can be made in the network: what it names is there, and
-    /// the bounds that it sets can be those of a link: its greatest delay is at most the announce interval of each
+    /// The events are in order, at most at `LATEST_EVENT`, and each can be made in the network: what it names is there,
+    /// and the bounds that it sets can be those of a link: its greatest delay is at most the announce interval of each
     /// port. So a world can be asked for each of them.
     pub fn well_formed(&self)
         ensures events { AreEvents self.now.network self.now.events }
@@ -149,7 +149,7 @@ impl Document {
     }
 
     /// Puts an event after the others. Refused by the first test that it fails, as if it were the last of the text:
-    /// 4,096 events are there, it is later than 8 * 10^14, earlier than the last, or what its kind asks isn't so.
+    /// 4,096 events are there, it is later than `LATEST_EVENT`, earlier than the last, or what its kind asks isn't so.
     /// `OutOfMemory` can come after them. A refusal changes nothing.
     pub fn add(&mut self, at: u64, change: Change) -> Result<(), DocumentFault>
         requires { IsInRange change }

@@ -11,7 +11,7 @@ ghost use Rattle.gptp_network.specs.Snapshot.{events_by};
 ghost use Rattle.gptp_network.specs.Why.{Stops, StopsAt};
 
 use crate::fault::DocumentFault;
-use crate::keys::{AT, MAX, MIN, Name, PORT, SET_LOSS, VALUE};
+use crate::keys::{AT, LATEST_EVENT, MAX, MIN, Name, PORT, SET_LOSS, VALUE};
 use crate::links::{is_there, no_port, port_number};
 use crate::members::{limited_in, section_in};
 use crate::place::{Place, Section};
@@ -150,7 +150,7 @@ fn change_of(alloc: Global, kind: &str, table: &Table) -> Result<Change, Why>
 fn event_of(alloc: Global, table: &Table) -> Result<Event, Why>
     ensures event { IfOk result (λ e. read_event (table_view table.now) ≡ Ok e) }
     ensures refused { Stops (read_event (table_view table.now)) result }
-    ensures early { IfOk result (λ e. e.at ≤ 800000000000000) }
+    ensures early { IfOk result (λ e. e.at ≤ LATEST_EVENT) }
     ensures range { IfOk result (λ e. IsInRange e.change) }
 {
     let at = natural(table, AT)?;
@@ -226,12 +226,12 @@ pub(crate) fn adding_fault(
 ) -> Option<DocumentFault>
     ensures is { result ≡ adding_fault (record { network = network.now; events = events.now }) at change.now }
     ensures later { result ≡ None → last_change events.now ≤ at }
-    ensures early { result ≡ None → at ≤ 800000000000000 }
+    ensures early { result ≡ None → at ≤ LATEST_EVENT }
     ensures fits { result ≡ None → IsInRange change.now → IsPossibleChange network.now change.now }
 {
     if 4096 <= events.len() {
         Some(DocumentFault::TooMany)
-    } else if 800_000_000_000_000 < at {
+    } else if LATEST_EVENT < at {
         Some(DocumentFault::OutOfRange)
     } else if at < last_change(events) {
         Some(DocumentFault::EventOrder)
@@ -272,7 +272,7 @@ pub(crate) fn push_event(
 ) -> Result<(), DocumentFault>
     requires are_events { AreEvents network.now events.old.items }
     requires later { last_change events.old.items ≤ event.at }
-    requires early { event.at ≤ 800000000000000 }
+    requires early { event.at ≤ LATEST_EVENT }
     requires fits { IsPossibleChange network.now event.change }
     ensures are_events { OnOk result (AreEvents network.now events.new.items) }
     ensures events { OnOk result (events.new.items ≡ events.old.items ++ timed event ∷ []) }
@@ -363,7 +363,7 @@ fn change_why(network: &Network, change: &Change, fault: NetworkFault) -> Why
 /// Puts an event after the others, where it can be made.
 fn put_event(events: &mut Vec<Timed>, network: &Network, event: Event) -> Result<(), Why>
     requires are_events { AreEvents network.now events.old.items }
-    requires early { event.at ≤ 800000000000000 }
+    requires early { event.at ≤ LATEST_EVENT }
     requires range { IsInRange event.change }
     ensures are_events { OnOk result (AreEvents network.now events.new.items) }
     ensures events { OnOk result (put_event network.now event events.old.items ≡ Ok events.new.items) }

@@ -12,6 +12,7 @@ use crate::keys::{ANNOUNCE, Name};
 use crate::values::value_at;
 use crate::why::{Why, other_kind};
 use arrayvec::ArrayVec;
+use gptp_setup::MOST_PORTS;
 use toml::{Table, Value};
 
 /// The whole number that a member of an array is.
@@ -47,8 +48,8 @@ fn whole_of(least: i64, greatest: i64, number: i64) -> Result<i64, DocumentFault
 
 /// The intervals that whole numbers are, of which there are as many as ports.
 #[tactic(auto, unfolding(crate::specs::Intervals::intervals_in))]
-fn each_interval(values: &[Value]) -> Result<ArrayVec<i8, 16>, DocumentFault>
-    requires few { length values.now ≤ 16 }
+fn each_interval(values: &[Value]) -> Result<ArrayVec<i8, MOST_PORTS>, DocumentFault>
+    requires few { length values.now ≤ MOST_PORTS }
     requires numbers { IsOk (whole_numbers (items_view values.now)) }
     ensures intervals { IfOk result (λ v. intervals_in (length values.now) (items_view values.now) ≡ Ok v.items) }
     ensures refused { IfErr result (λ e. intervals_in (length values.now) (items_view values.now) ≡ Err e) }
@@ -63,8 +64,8 @@ fn each_interval(values: &[Value]) -> Result<ArrayVec<i8, 16>, DocumentFault>
 
 /// The intervals of an array: one for each port. First each member is tested for its kind.
 #[tactic(auto, unfolding(crate::specs::Intervals::intervals_in))]
-fn intervals_in(ports: u8, values: &[Value]) -> Result<ArrayVec<i8, 16>, DocumentFault>
-    requires { ports ≤ 16 }
+fn intervals_in(ports: u8, values: &[Value]) -> Result<ArrayVec<i8, MOST_PORTS>, DocumentFault>
+    requires { ports ≤ MOST_PORTS }
     ensures intervals { IfOk result (λ v. intervals_in ports (items_view values.now) ≡ Ok v.items) }
     ensures refused { IfErr result (λ e. intervals_in ports (items_view values.now) ≡ Err e) }
 {
@@ -77,8 +78,8 @@ fn intervals_in(ports: u8, values: &[Value]) -> Result<ArrayVec<i8, 16>, Documen
 }
 
 /// The intervals of the ports, where each port has this one.
-fn alike(ports: u8, interval: i8) -> ArrayVec<i8, 16>
-    requires { ports ≤ 16 }
+fn alike(ports: u8, interval: i8) -> ArrayVec<i8, MOST_PORTS>
+    requires { ports ≤ MOST_PORTS }
     ensures { result.items ≡ replicate ports interval }
 {
     let mut intervals = ArrayVec::new();
@@ -166,8 +167,8 @@ fn intervals_why(ports: u8, values: &[Value]) -> Why
 }
 
 /// The intervals of an array, or why it doesn't hold them.
-fn read_array(ports: u8, values: &[Value]) -> Result<ArrayVec<i8, 16>, Why>
-    requires { ports ≤ 16 }
+fn read_array(ports: u8, values: &[Value]) -> Result<ArrayVec<i8, MOST_PORTS>, Why>
+    requires { ports ≤ MOST_PORTS }
     ensures intervals { IfOk result (λ v. read_array ports (items_view values.now) ≡ Ok v.items) }
     ensures refused { IfErr result (λ e. read_array ports (items_view values.now) ≡ Err e) }
 {
@@ -185,8 +186,8 @@ pub(crate) fn intervals(
     ports: u8,
     default: i8,
     table: &Table,
-) -> Result<ArrayVec<i8, 16>, Why>
-    requires { ports ≤ 16 }
+) -> Result<ArrayVec<i8, MOST_PORTS>, Why>
+    requires { ports ≤ MOST_PORTS }
     ensures intervals { IfOk result (λ v. read_intervals version ports default (table_view table.now) ≡ Ok v.items) }
     ensures refused { IfErr result (λ e. read_intervals version ports default (table_view table.now) ≡ Err e) }
 {

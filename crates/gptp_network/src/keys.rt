@@ -4,6 +4,11 @@
 ghost use Rattle.std.specs.Prelude.{◌≡◌};
 ghost use Rattle.gptp_network.specs.Keys.{name_text};
 
+use gptp_setup::MOST_PORTS;
+
+/// The latest time that an event of a document may have, in ns.
+pub const LATEST_EVENT: u64 = 800_000_000_000_000;
+
 /// The name of a key.
 #[derive(Clone, Copy, Debug)]
 pub enum Name {
@@ -21,6 +26,9 @@ pub enum Name {
     Turnaround,
     Residence,
     SyncTimeout,
+    Granularity,
+    Noise,
+    Window,
     Clock,
     Priority1,
     Class,
@@ -66,6 +74,9 @@ impl Name {
             Name::Turnaround => "turnaround",
             Name::Residence => "residence",
             Name::SyncTimeout => "sync_timeout",
+            Name::Granularity => "granularity",
+            Name::Noise => "noise",
+            Name::Window => "window",
             Name::Clock => "clock",
             Name::Priority1 => "priority1",
             Name::Class => "class",
@@ -121,6 +132,14 @@ pub(crate) const RESIDENCE: Natural = (Name::Residence, 1, 1_000_000_000, Some(1
 
 pub(crate) const SYNC_TIMEOUT: Natural = (Name::SyncTimeout, 0, 10, Some(0));
 
+// Systems take no time stamps yet, nor measure a rate over more than one exchange: the three have their defaults alone.
+
+pub(crate) const GRANULARITY: Natural = (Name::Granularity, 0, 0, Some(0));
+
+pub(crate) const NOISE: Natural = (Name::Noise, 0, 0, Some(0));
+
+pub(crate) const WINDOW: Natural = (Name::Window, 1, 1, Some(1));
+
 // ---- `[[system]]`, whose `announce` is an array of the numbers that are the network's
 
 pub(crate) const PRIORITY1: Natural = (Name::Priority1, 0, 255, Some(246));
@@ -137,13 +156,13 @@ pub(crate) const PHASE: Natural = (Name::Phase, 0, 1_000_000_000_000_000_000, So
 
 pub(crate) const DRIFT: Whole = (Name::Drift, -219_902_325, 219_902_325, 0);
 
-pub(crate) const PORTS: Natural = (Name::Ports, 0, 16, Some(1));
+pub(crate) const PORTS: Natural = (Name::Ports, 0, MOST_PORTS as u64, Some(1));
 
 // ---- `[[link]]`
 
-pub(crate) const A_PORT: Natural = (Name::APort, 1, 16, None);
+pub(crate) const A_PORT: Natural = (Name::APort, 1, MOST_PORTS as u64, None);
 
-pub(crate) const B_PORT: Natural = (Name::BPort, 1, 16, None);
+pub(crate) const B_PORT: Natural = (Name::BPort, 1, MOST_PORTS as u64, None);
 
 pub(crate) const MIN: Natural = (Name::Min, 1, 16_000_000_000, None);
 
@@ -153,9 +172,9 @@ pub(crate) const LOSS: Natural = (Name::Loss, 0, 1000, Some(0));
 
 // ---- `[[event]]`, whose `min` and `max` are those of a link
 
-pub(crate) const AT: Natural = (Name::At, 0, 800_000_000_000_000, None);
+pub(crate) const AT: Natural = (Name::At, 0, LATEST_EVENT, None);
 
-pub(crate) const PORT: Natural = (Name::Port, 1, 16, None);
+pub(crate) const PORT: Natural = (Name::Port, 1, MOST_PORTS as u64, None);
 
 pub(crate) const SET_LOSS: Natural = (Name::Loss, 0, 1000, None);
 

@@ -28,7 +28,7 @@ mod why;
 
 pub use document::Document;
 pub use fault::DocumentFault;
-pub use keys::Name;
+pub use keys::{LATEST_EVENT, Name};
 pub use place::{Place, Section};
 pub use snapshot::Snapshot;
 pub use why::{Front, Refusal, Shape, Why};

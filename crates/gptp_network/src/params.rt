@@ -7,8 +7,8 @@ ghost use Rattle.gptp_network.specs.ReadParams.{params_why, read_network, read_n
 ghost use Rattle.gptp_network.specs.Why.{Stops, StopsAt};
 
 use crate::keys::{
-    ANNOUNCE, LOST, Name, PDELAY, RESIDENCE, SYNC, SYNC_TIMEOUT, THRESHOLD, TIMEOUT, TURNAROUND,
-    Whole,
+    ANNOUNCE, GRANULARITY, LOST, NOISE, Name, PDELAY, RESIDENCE, SYNC, SYNC_TIMEOUT, THRESHOLD,
+    TIMEOUT, TURNAROUND, WINDOW, Whole,
 };
 use crate::place::Place;
 use crate::values::{natural, table_in, whole};
@@ -43,6 +43,9 @@ fn params_of(section: &Table) -> Result<Params, Why>
     let turnaround = natural(section, TURNAROUND)?;
     let residence = natural(section, RESIDENCE)?;
     let sync_timeout = natural(section, SYNC_TIMEOUT)? as u8;
+    let granularity = natural(section, GRANULARITY)? as u16;
+    let noise = natural(section, NOISE)? as u16;
+    let window = natural(section, WINDOW)? as u8;
     Ok(Params {
         announce,
         sync,
@@ -53,6 +56,9 @@ fn params_of(section: &Table) -> Result<Params, Why>
         turnaround,
         residence,
         sync_timeout,
+        granularity,
+        noise,
+        window,
     })
 }
 

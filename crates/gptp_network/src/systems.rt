@@ -23,6 +23,7 @@ use crate::values::{clock, flag, natural, whole};
 use crate::why::{Refusal, Why, other_kind};
 use arrayvec::ArrayVec;
 use gptp_scenario::{Network, NetworkFault};
+use gptp_setup::MOST_PORTS;
 use gptp_vector::{ClockId, Identity};
 use toml::{Table, Value};
 
@@ -34,7 +35,7 @@ pub(crate) struct System {
     pub phase: u64,
     pub drift: i32,
     pub continues: bool,
-    pub intervals: ArrayVec<i8, 16>,
+    pub intervals: ArrayVec<i8, MOST_PORTS>,
 }
 
 /// What is told of a system that can't be added: its clock, and what a port of it announces at.

@@ -77,6 +77,7 @@ abbrev pub short_way : Way
 short_way = record {
   drift = pos 0;
   links = record { least = 500; most = 500; drift = pos 0 } ∷ [];
+  blur = 0;
   interval = 1000000000;
   turnaround = 1000;
   residence = 1000;
@@ -223,6 +224,7 @@ module _ (w : WorldState) (time : ℕ) (k : IsPairSince 27000000000 w) (sound : 
       λ i. record {
         drift = root i;
         links = record { least = least i; most = most i; drift = own i } ∷ [];
+        blur = 0;
         interval = 1000000000;
         turnaround = 1000;
         residence = 1000;

@@ -2,6 +2,7 @@
 -- long enough.
 use Rattle.std.specs.Prelude.{◌≡◌, ◌≤◌, ℕ, ℤ, pos, negsuc, true, false, List, [], ◌∷◌, Option, Some, None}
 use Rattle.arrayvec.specs.ArrayVec.{ArrayVec}
+use Rattle.gptp_setup.specs.Intervals.{IsMoment}
 use Rattle.gptp_setup.specs.SettlingParams.{SettlingParams}
 use Rattle.gptp_setup.specs.declared.setup.Params.{Params}
 use Rattle.gptp_links.specs.declared.bounds.Bounds.{Bounds}
@@ -46,6 +47,9 @@ params = record {
   turnaround = 1000;
   residence = 1000;
   sync_timeout = 0;
+  granularity = 0;
+  noise = 0;
+  window = 1;
 }
 
 -- priority1 246, clockClass 248, clockAccuracy 254, offsetScaledLogVariance 436a, priority2 248, and clock 1
@@ -160,7 +164,7 @@ HearsAnnounce number m (Heard clock port answer frame) =
 abbrev pub WorldsOfTwoAreExact : {F : Type 0} → (Bounds → ℕ → F → Option ℕ → F → Type 0) → Type 0
 WorldsOfTwoAreExact {F} answers = (timed : Timed) (fate fate_after : F) (w w' : WorldState) (done : Done) (offset : ℤ)
     → IsPairSince 27000000000 w → WorldInvariant w → WasDone answers timed fate fate_after w w' done
-    → timed.at ≤ 1000000000000000 → LeavesOffset 2 offset w' done
+    → IsMoment timed.at → LeavesOffset 2 offset w' done
     → AreWithin 19 offset (pos 0)
 
 -- each act of a run of their document, from 27 s on, leaves the second an offset that is exact but for rounding, if it
@@ -168,7 +172,7 @@ WorldsOfTwoAreExact {F} answers = (timed : Timed) (fate fate_after : F) (w w' : 
 abbrev pub RunsOfTwoAreExact : {F : Type 0} → (Bounds → ℕ → F → Option ℕ → F → Type 0) → Type 0
 RunsOfTwoAreExact {F} answers = (until : ℕ) (fate : F) (start w : WorldState) (ts : List ActTrace) (t : ActTrace)
     (offset : ℤ)
-    → until ≤ 1000000000000000 → Unfolds answers pair_document until fate start ts w → In t ts
+    → IsMoment until → Unfolds answers pair_document until fate start ts w → In t ts
     → IsPairSince 27000000000 t.before → WorldInvariant t.before
     → t.before.time ≤ t.told.timed.at
     → LeavesOffset 2 offset t.after t.told.done

@@ -1,5 +1,6 @@
 -- What the second of two systems reads 100 ms after a Follow_Up that it uses.
 use Rattle.std.specs.Prelude.{◌≤◌, ◌+◌, ℕ, ℤ, pos, List, Option}
+use Rattle.gptp_setup.specs.Intervals.{IsMoment}
 use Rattle.gptp_lists.specs.Members.{In}
 use Rattle.gptp_links.specs.declared.bounds.Bounds.{Bounds}
 use Rattle.gptp_scaled.specs.Counts.{AreWithin}
@@ -18,7 +19,7 @@ use Rattle.gptp_network_tests.specs.Pair.{IsPairSince, pair_document}
 abbrev pub WorldsOfTwoReadExactly : {F : Type 0} → (Bounds → ℕ → F → Option ℕ → F → Type 0) → Type 0
 WorldsOfTwoReadExactly {F} answers = (timed : Timed) (fate fate_after : F) (w w' : WorldState) (done : Done) (read : ℤ)
     → IsPairSince 27000000000 w → WorldInvariant w → WasDone answers timed fate fate_after w w' done
-    → timed.at ≤ 1000000000000000 → LeavesReading 2 w' done (timed.at + 100000000) read
+    → IsMoment timed.at → LeavesReading 2 w' done (timed.at + 100000000) read
     → AreWithin 31 read (local_clock 0 (pos 0) (timed.at + 100000000))
 
 -- By each act of a run of their document, from 27 s on: what the second reads 100 ms later is what a clock shows that
@@ -26,7 +27,7 @@ WorldsOfTwoReadExactly {F} answers = (timed : Timed) (fate fate_after : F) (w w'
 abbrev pub RunsOfTwoReadExactly : {F : Type 0} → (Bounds → ℕ → F → Option ℕ → F → Type 0) → Type 0
 RunsOfTwoReadExactly {F} answers = (until : ℕ) (fate : F) (start w : WorldState) (ts : List ActTrace) (t : ActTrace)
     (read : ℤ)
-    → until ≤ 1000000000000000 → Unfolds answers pair_document until fate start ts w → In t ts
+    → IsMoment until → Unfolds answers pair_document until fate start ts w → In t ts
     → IsPairSince 27000000000 t.before → WorldInvariant t.before
     → t.before.time ≤ t.told.timed.at
     → LeavesReading 2 t.after t.told.done (t.told.timed.at + 100000000) read

@@ -1,6 +1,6 @@
 //! A world whose acts of one moment are done in the order that `next` would take last. Times are in ns.
 
-ghost use Rattle.std.specs.Prelude.{◌≤◌};
+ghost use Rattle.gptp_setup.specs.Intervals.{IsMoment};
 
 use crate::ring::{
     FAILS, FOLLOWED_BEFORE, ROLES_BEFORE, SETTLED, begun, clock, document, fail, follow,
@@ -74,7 +74,7 @@ fn deliver(
     link: usize,
     direction: Direction,
 ) -> Result<(), Refused>
-    requires moment { at ≤ 1000000000000000 }
+    requires moment { IsMoment at }
 {
     let answer = world.act(Timed {
         at,
@@ -91,7 +91,7 @@ fn expire(
     number: u8,
     timer: Timer,
 ) -> Result<(), Refused>
-    requires moment { at ≤ 1000000000000000 }
+    requires moment { IsMoment at }
 {
     let answer = world.act(Timed {
         at,
@@ -105,7 +105,7 @@ fn expire(
 
 /// Of each link, the last first, a frame arrives each way, where one is due.
 fn deliveries(world: &mut World<PcgFate>, round: &mut Round, at: u64) -> Result<(), Refused>
-    requires moment { at ≤ 1000000000000000 }
+    requires moment { IsMoment at }
 {
     for link in [3, 2, 1, 0] {
         for direction in [Direction::FromB, Direction::FromA] {
@@ -118,7 +118,7 @@ fn deliveries(world: &mut World<PcgFate>, round: &mut Round, at: u64) -> Result<
 /// Of each system, the highest clock first, the timers expire that are due: those of the last port first, and then its
 /// own.
 fn expiries(world: &mut World<PcgFate>, round: &mut Round, at: u64) -> Result<(), Refused>
-    requires moment { at ≤ 1000000000000000 }
+    requires moment { IsMoment at }
 {
     for number in [4, 3, 2, 1] {
         for port in [3, 2, 1] {
@@ -140,7 +140,7 @@ fn expiries(world: &mut World<PcgFate>, round: &mut Round, at: u64) -> Result<()
 
 /// All that is due at a moment is done, over and over. Answers whether nothing is left, and all stood that should.
 fn moment(world: &mut World<PcgFate>, at: u64) -> Result<bool, Refused>
-    requires moment { at ≤ 1000000000000000 }
+    requires moment { IsMoment at }
 {
     for _ in 0..ROUNDS {
         let mut round = Round {
@@ -162,7 +162,7 @@ fn moment(world: &mut World<PcgFate>, at: u64) -> Result<bool, Refused>
 /// It goes on from moment to moment, before a time. Answers whether nothing is left that is due before it, and all
 /// stood that should.
 fn play_before(world: &mut World<PcgFate>, end: u64) -> Result<bool, Refused>
-    requires moment { end ≤ 1000000000000000 }
+    requires moment { IsMoment end }
 {
     for _ in 0..MOMENTS {
         let at = match world.next() {

@@ -1,6 +1,6 @@
 //! What settles by when, tested after each act, with delays that a seed draws. Times are in ns.
 
-ghost use Rattle.std.specs.Prelude.{◌≤◌};
+ghost use Rattle.gptp_setup.specs.Intervals.{IsMoment};
 
 use crate::ring::{
     FAILS, FOLLOWED, FOLLOWED_BEFORE, Followed, Played, ROLES, ROLES_BEFORE, begun, clock, fail,
@@ -295,7 +295,7 @@ fn is_told_clean(live: &Live<'_>, times: &Times, at: u64, done: &Done) -> bool {
 
 /// How wrong the offset of a system is at a time, in units of 2^-16 ns, where its root is another.
 fn error_of(world: &World<PcgFate>, member: ClockId, root: ClockId, at: u64) -> Option<u128>
-    requires moment { at ≤ 1000000000000000 }
+    requires moment { IsMoment at }
 {
     let system = world.system(member)?;
     let leader = world.system(root)?;
@@ -312,7 +312,7 @@ fn bound_of(steps: u16) -> Option<u128> {
 
 /// Whether it is no worse.
 fn is_within(world: &World<PcgFate>, member: ClockId, root: ClockId, steps: u16, at: u64) -> bool
-    requires moment { at ≤ 1000000000000000 }
+    requires moment { IsMoment at }
 {
     match (error_of(world, member, root, at), bound_of(steps)) {
         (Some(error), Some(bound)) => error <= bound,
@@ -328,7 +328,7 @@ fn is_exact(
     at: u64,
     member: ClockId,
 ) -> bool
-    requires moment { times.now.end ≤ 1000000000000000 }
+    requires moment { IsMoment times.now.end }
 {
     if at < times.settled || times.end < at {
         return true;
@@ -359,7 +359,7 @@ fn is_told_exact(
     at: u64,
     done: &Done,
 ) -> bool
-    requires moment { times.now.end ≤ 1000000000000000 }
+    requires moment { IsMoment times.now.end }
 {
     match done {
         Done::Heard {
@@ -380,7 +380,7 @@ fn is_asked(times: &Times, at: u64) -> bool {
 
 /// Whether all holds that should after an act at a time.
 fn holds(world: &World<PcgFate>, live: &Live<'_>, times: &Times, at: u64, done: &Done) -> bool
-    requires moment { times.now.end ≤ 1000000000000000 }
+    requires moment { IsMoment times.now.end }
 {
     (at < times.capable || are_capable(world, live))
         && is_told_clean(live, times, at, done)
@@ -390,7 +390,7 @@ fn holds(world: &World<PcgFate>, live: &Live<'_>, times: &Times, at: u64, done: 
 
 /// The next act, where it comes by a time: when it came, and what it told.
 fn next_act(world: &mut World<PcgFate>, end: u64) -> Result<Option<(u64, Done)>, Refused>
-    requires moment { end ≤ 1000000000000000 }
+    requires moment { IsMoment end }
 {
     let timed = match world.next() {
         Some(timed) => timed,
@@ -410,7 +410,7 @@ fn holds_through(
     live: &Live<'_>,
     times: &Times,
 ) -> Result<bool, Refused>
-    requires moment { times.now.end ≤ 1000000000000000 }
+    requires moment { IsMoment times.now.end }
 {
     for _ in 0..ACTS {
         let (at, done) = match next_act(world, times.end)? {
@@ -426,7 +426,7 @@ fn holds_through(
 
 /// It goes on until clock 1 fails. Answers whether all held after each act, and all follow what they should by then.
 fn holds_before(world: &mut World<PcgFate>, times: &Times) -> Result<bool, Refused>
-    requires moment { times.now.end ≤ 1000000000000000 }
+    requires moment { IsMoment times.now.end }
 {
     Ok(holds_through(world, &BEFORE, times)? && is_settled(world, &BEFORE))
 }
@@ -434,7 +434,7 @@ fn holds_before(world: &mut World<PcgFate>, times: &Times) -> Result<bool, Refus
 /// Clock 1 fails, and it goes on to the end. Answers whether all held after each act, and what should settle had time
 /// to.
 fn holds_after(world: &mut World<PcgFate>, times: &Times) -> Result<bool, Refused>
-    requires moment { times.now.end ≤ 1000000000000000 }
+    requires moment { IsMoment times.now.end }
 {
     fail(world)?;
     Ok(holds_through(world, &AFTER, times)? && times.settled < world.now())
@@ -449,8 +449,8 @@ fn settles_in_time(
     before: &Times,
     after: &Times,
 ) -> Result<bool, Refused>
-    requires before { before.now.end ≤ 1000000000000000 }
-    requires after { after.now.end ≤ 1000000000000000 }
+    requires before { IsMoment before.now.end }
+    requires after { IsMoment after.now.end }
 {
     Ok(holds_before(&mut world, before)? && holds_after(&mut world, after)?)
 }

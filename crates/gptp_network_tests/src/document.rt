@@ -22,6 +22,9 @@ const PARAMS: Params = Params {
     turnaround: 1000,
     residence: 1000,
     sync_timeout: 0,
+    granularity: 0,
+    noise: 0,
+    window: 1,
 };
 
 /// What that document means.

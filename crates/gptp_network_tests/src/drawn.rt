@@ -1,7 +1,8 @@
 //! What two systems show once they have settled, as functions whose contracts follow from those of their world's calls:
 //! from what these say of every world that has been calm for long enough. Times are in ns.
 
-ghost use Rattle.std.specs.Prelude.{◌≡◌, ◌≢◌, ◌≤◌, ◌∷◌, [], true, IfOk, IfSome, None, OnOk, Some, pos};
+ghost use Rattle.std.specs.Prelude.{◌≡◌, ◌≢◌, ◌∷◌, [], true, IfOk, IfSome, None, OnOk, Some, pos};
+ghost use Rattle.gptp_setup.specs.Intervals.{IsMoment};
 ghost use Rattle.gptp_model.specs.Views.{ShowsLive};
 ghost use Rattle.gptp_model.specs.World.{port_id};
 ghost use Rattle.gptp_invariants.specs.WorldShown.{IsCapableInTime};
@@ -22,6 +23,7 @@ use gptp_links::Fate;
 use gptp_messages::{Message, decode};
 use gptp_roles::Role;
 use gptp_scaled::ScaledNs;
+use gptp_setup::MOST_PORTS;
 use gptp_system::{Answer, System};
 use gptp_theorem::{runs_are_exact, worlds_are_exact};
 use gptp_vector::{ClockId, Identity, PortId, Trace};
@@ -39,6 +41,9 @@ pub(crate) const PARAMS: Params = Params {
     turnaround: 1_000,
     residence: 1_000,
     sync_timeout: 0,
+    granularity: 0,
+    noise: 0,
+    window: 1,
 };
 
 /// When their ports are capable: after L + 5 announce intervals, L being 9.
@@ -72,7 +77,7 @@ fn identity(clock: u8) -> Identity
 }
 
 /// The interval of the one port of a system.
-fn intervals() -> ArrayVec<i8, 16>
+fn intervals() -> ArrayVec<i8, MOST_PORTS>
     ensures { result ≡ each_second }
 {
     let mut intervals = ArrayVec::new();
@@ -117,7 +122,7 @@ pub(crate) fn begun<F: Fate + Drop>(alloc: Global, fate: F) -> Result<World<F>, 
 #[tactic(auto, using(crate::proofs::PairLemmas::comes_to))]
 fn go_on<F: Fate + Drop>(world: &mut World<F>, time: u64) -> Result<(), NetworkFault>
     requires begun { HasBegun F.answers world.old.fate world.old.world_core }
-    requires moment { time ≤ 1000000000000000 }
+    requires moment { IsMoment time }
     ensures { OnOk result (IsPairAt time world.new.world_core) }
 {
     match world.advance(time) {
@@ -135,7 +140,7 @@ pub(crate) fn pair_at<F: Fate + Drop>(
     fate: F,
     time: u64,
 ) -> Result<World<F>, NetworkFault>
-    requires moment { time ≤ 1000000000000000 }
+    requires moment { IsMoment time }
     ensures { IfOk result (λ world. IsPairAt time world.world_core) }
 {
     let mut world = begun(alloc, fate)?;

@@ -3,5 +3,6 @@ pub mod ExchangeLemmas
 pub mod GoodLinkLemmas
 pub mod CapabilityLemmas
 pub mod MeanLemmas
+pub mod LateLemmas
 pub mod DelayLemmas
 pub mod MeasurementLemmas

@@ -1,7 +1,9 @@
--- The local clock of a system, which drifts and is never steered.
+-- The local clock of a system, which drifts and is never steered, and how it is read.
 use Rattle.std.specs.Prelude.{ℕ, ◌+◌, ◌*◌, ◌^◌, ◌≤◌, ℤ, pos, neg_ℤ, ◌+ℤ◌, ◌-ℤ◌, ◌*ℤ◌, ◌≤ℤ◌, ◌<ℤ◌}
 use Rattle.gptp_scaled.specs.Floor.{floor_div}
 use Rattle.gptp_scaled.specs.Rate.{unit}
+use Rattle.gptp_scaled.specs.Counts.{AreWithin}
+use Rattle.gptp_scaled.specs.TimeStamp.{IsNoise, stamp_blur, stamp_of}
 
 -- the largest drift, in units of 2^-41: 100 parts in a million (IEEE 802.1AS-2020, B.1.1)
 abbrev pub drift_limit : ℤ
@@ -18,16 +20,33 @@ abbrev pub local_clock : ℕ → ℤ → ℕ → ℤ
 local_clock phase drift t =
     pos (65536 * phase) +ℤ pos (65536 * t) +ℤ floor_div (pos (65536 * t) *ℤ drift) unit
 
--- While a span of time passes, in ns, a clock within the limit counts this much, in units of 2^-16 ns: between what
--- the slowest and the fastest count, within less than one unit of rounding either way.
-pub record IsElapsed (span : ℕ) (elapsed : ℤ) : Type 0 where
-  pub low : (pos (65536 * span) *ℤ (unit -ℤ drift_limit)) <ℤ (unit *ℤ (elapsed +ℤ pos 1))
-  pub high : (unit *ℤ (elapsed -ℤ pos 1)) <ℤ (pos (65536 * span) *ℤ (unit +ℤ drift_limit))
+-- A clock as it is read: what it says is within 32768 w units of what the local clock shows, less a number that is
+-- always the same. So two readings differ by what passed between them, within w ns.
+pub record IsStampClock (w behind phase : ℕ) (drift : ℤ) (says : ℕ → ℤ) : Type 0 where
+  pub near : (t : ℕ) → AreWithin (32768 * w) (says t) (local_clock phase drift t -ℤ pos behind)
+
+-- The local clock itself is one, where half of w covers what it is ahead.
+abbrev pub ClockIsRead : Type 0
+ClockIsRead = (w behind phase : ℕ) (drift : ℤ) → behind ≤ 32768 * w →
+    IsStampClock w behind phase drift (local_clock phase drift)
+
+-- Time stamps are of such a clock, whatever the noise is within its limit at each time.
+abbrev pub StampsMakeClock : Type 0
+StampsMakeClock = (granularity most_noise phase : ℕ) (drift : ℤ) (noise : ℕ → ℤ) → IsDrift drift →
+    ((t : ℕ) → IsNoise most_noise (noise t)) →
+    IsStampClock (stamp_blur granularity most_noise) (32768 * granularity) phase drift
+    (λ t. stamp_of granularity (noise t) (local_clock phase drift t))
+
+-- While a span of time passes, in ns, a clock within the limit is read to count this much, in units of 2^-16 ns:
+-- between what the slowest and the fastest count, within w ns and less than one unit of rounding either way.
+pub record IsElapsed (w span : ℕ) (elapsed : ℤ) : Type 0 where
+  pub low : (pos (65536 * span) *ℤ (unit -ℤ drift_limit)) <ℤ (unit *ℤ (elapsed +ℤ pos (65536 * w + 1)))
+  pub high : (unit *ℤ (elapsed -ℤ pos (65536 * w + 1))) <ℤ (pos (65536 * span) *ℤ (unit +ℤ drift_limit))
 
 -- what passes on such a clock in a span of time, whenever it begins
 abbrev pub ClockElapses : Type 0
-ClockElapses = (phase : ℕ) (drift : ℤ) (t span : ℕ) → IsDrift drift
-    → IsElapsed span (local_clock phase drift (t + span) -ℤ local_clock phase drift t)
+ClockElapses = (w behind phase : ℕ) (drift : ℤ) (says : ℕ → ℤ) (t span : ℕ) → IsDrift drift →
+    IsStampClock w behind phase drift says → IsElapsed w span (says (t + span) -ℤ says t)
 
 -- the times that a local clock can show: below 2^90 units of 2^-16 ns, which is more than 500,000 years
 pub record IsTime (t : ℤ) : Type 0 where

@@ -5,4 +5,5 @@ pub mod Progress
 pub mod Peer
 pub mod PeerFields
 pub mod Capability
+pub mod Late
 pub mod Measured

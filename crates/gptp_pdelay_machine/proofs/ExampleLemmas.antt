@@ -13,7 +13,8 @@ use Rattle.gptp_pdelay_machine.specs.Acts.{RequestTimerExpires, AskerHears, Answ
 use Rattle.gptp_pdelay_machine.specs.Acts.{asks_again, asker_hears, answerer_hears, answers}
 use Rattle.gptp_pdelay_machine.specs.Facts.{Facts, IsDueInTime}
 use Rattle.gptp_pdelay_machine.specs.Invariant.{IsJustChanged}
-use Rattle.gptp_pdelay_machine.specs.ExchangeLaws.{HasLocalClocks}
+use Rattle.gptp_pdelay_machine.specs.ExchangeLaws.{ReadsClocks}
+use Rattle.gptp_pdelay.proofs.ClockLemmas.{clock_is_read}
 use Rattle.gptp_pdelay_machine.specs.Runs.{IsPortRun}
 use Rattle.gptp_pdelay_machine.specs.Example.{second, example_link, request_octets, stamp_octets, spells_request, replies, Start}
 use Rattle.gptp_pdelay_machine.specs.Example.{frame_came, answered_port, home, request, response, follow_up}
@@ -283,16 +284,17 @@ module _ (x : Start) where
   )
 
 -- the clocks are within their limits
-pub link_clocks : HasLocalClocks example_link
+pub link_clocks : ReadsClocks 0 example_link
 link_clocks = record {
+  behind = 0;
   asking_phase = 0;
   asking_drift = pos 0;
   answering_phase = 1000;
   answering_drift = negsuc 99999999;
   asking_limit = record { low = omega (arith, ints); high = omega (arith, ints) };
   answering_limit = record { low = omega (arith, ints); high = omega (arith, ints) };
-  asking = λ t. refl;
-  answering = λ t. refl;
+  asking = clock_is_read 0 0 0 (pos 0) (omega arith);
+  answering = clock_is_read 0 0 1000 (negsuc 99999999) (omega arith);
 }
 
 -- at the first second nothing is pending

@@ -11,7 +11,7 @@ use Rattle.gptp_pdelay_machine.specs.Asker.{Asker, Asked, Answered, own_request,
 use Rattle.gptp_pdelay_machine.specs.Answerer.{Waiting, noted}
 use Rattle.gptp_pdelay_machine.specs.Pair.{Pair, pair_at_time}
 use Rattle.gptp_pdelay_machine.specs.Invariant.{IsJustChanged}
-use Rattle.gptp_pdelay_machine.specs.ExchangeLaws.{HasLocalClocks}
+use Rattle.gptp_pdelay_machine.specs.ExchangeLaws.{ReadsClocks}
 use Rattle.gptp_pdelay_machine.specs.Runs.{IsPortRun}
 
 -- the announce interval and the interval between two requests: a second
@@ -166,7 +166,7 @@ next = record { before = done first_exchange; sent = 2 * second; sequence = 2 }
 -- suppose of a port on a good link is so here, with the last change at 0 and a threshold of 800 ns.
 pub record TwoExchangesMakeCapable : Type 0 where
   pub link_is_good : IsGoodLink example_link.most example_link.turnaround 800
-  pub clocks : HasLocalClocks example_link
+  pub clocks : ReadsClocks 0 example_link
   pub timing : 2 * 800 + example_link.turnaround < example_link.period
   pub fresh : IsJustChanged example_link second (2 * second) (timer_due first_exchange)
   pub run : IsPortRun example_link spells_request replies second (timer_due first_exchange)

@@ -24,7 +24,7 @@ use Rattle.gptp_scenario.specs.SettlingTime.{settling_span_with}
 use Rattle.gptp_scenario.specs.SyncWait.{step_more}
 use Rattle.gptp_system.specs.State.{SystemState, clock, local_time}
 use Rattle.gptp_system.specs.Takeover.{told_time}
-use Rattle.gptp_error_laws.specs.TimeError.{Way, jitter_at, rates_error_at, reading_error_at, time_error_at}
+use Rattle.gptp_error_laws.specs.TimeError.{Way, measured_jitter_at, rates_error_at, reading_error_at, time_error_at}
 use Rattle.gptp_model.specs.Acts.{Acts, at}
 use Rattle.gptp_model.specs.declared.done.Done.{Done}
 use Rattle.gptp_model.specs.declared.station.Station.{Station}
@@ -282,8 +282,8 @@ wider error more x y less within =
 pub error_grows : (way : Way) (steps soon late : ℕ) → soon ≤ late
     → reading_error_at way steps soon ≤ reading_error_at way steps late
 error_grows way steps soon late less =
-    let product : (soon + jitter_at way steps) * rates_error_at way steps
-    ≤ (late + jitter_at way steps) * rates_error_at way steps =
+    let product : (soon + measured_jitter_at way steps) * rates_error_at way steps
+    ≤ (late + measured_jitter_at way steps) * rates_error_at way steps =
     mul-le-mul_right (rates_error_at way steps) (omega (arith, less)) in
     adds (time_error_at way (suc steps)) _ _ (ceil_more _ _ product)
   where

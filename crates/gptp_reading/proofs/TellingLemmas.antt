@@ -13,7 +13,7 @@ use Rattle.gptp_correction.specs.declared.sync_in.SyncInfo.{SyncInfo}
 use Rattle.gptp_correction.specs.Correction.{bridge, link_time, passage}
 use Rattle.gptp_system.specs.Syncing.{OffsetFits}
 use Rattle.gptp_pdelay_machine.specs.Lanes.{LaneFrame}
-use Rattle.gptp_error_laws.specs.TimeError.{jitter_at, rates_error_at, time_error_at}
+use Rattle.gptp_error_laws.specs.TimeError.{measured_jitter_at, rates_error_at, time_error_at}
 use Rattle.gptp_sync_machine.specs.Messages.{Message, Sync, FollowUp, IsOneMessage}
 use Rattle.gptp_sync_machine.specs.Right.{IsHeldAt, IsMeasuredAt, FollowUpIsRight, at_rate, info_of, most_correction_at}
 use Rattle.gptp_sync_machine.specs.RightLaws.{IsOnWay}
@@ -104,7 +104,7 @@ module _ (k : FollowerSetting) (says : List ℕ → Message → Type 0) where
       → IsHeldAt k.way k.place told.rate rate held
       → (ahead : ℤ) × (k.base ≡ Some ahead)
       × AreWithin (33550000 * time_error_at k.way (suc k.place)
-      + rates_error_at k.way k.place * (later + jitter_at k.way k.place))
+      + rates_error_at k.way k.place * (later + measured_jitter_at k.way k.place))
       (pos 33550000
       *ℤ read_after (info_of (at_rate told held) ingress) delay rate (own_clock k (s.time + later) -ℤ ingress))
       (pos 33550000 *ℤ root_told k ahead (s.time + later))
@@ -115,7 +115,7 @@ module _ (k : FollowerSetting) (says : List ℕ → Message → Type 0) where
       let right = reading_is_right k.way k.phase k.base k.place told t.sent t.came (s.time + later) rate delay held
       (on_way k told t.sent t.came s.time is carried t.right) measured held_at (omega (arith, carried.behind)) in
       let wide = later_within (33550000 * time_error_at k.way (suc k.place)) (rates_error_at k.way k.place)
-      (s.time + later - t.came) (later + jitter_at k.way k.place)
+      (s.time + later - t.came + k.way.blur) (later + measured_jitter_at k.way k.place)
       (pos 33550000
       *ℤ read_after (info_of (at_rate told held) (own_clock k t.came)) delay rate
       (own_clock k (s.time + later) -ℤ own_clock k t.came))
@@ -124,7 +124,7 @@ module _ (k : FollowerSetting) (says : List ℕ → Message → Type 0) where
         right.0,
         right.1,
         subst (λ x. AreWithin (33550000 * time_error_at k.way (suc k.place)
-            + rates_error_at k.way k.place * (later + jitter_at k.way k.place))
+            + rates_error_at k.way k.place * (later + measured_jitter_at k.way k.place))
             (pos 33550000
             *ℤ read_after (info_of (at_rate told held) x) delay rate (own_clock k (s.time + later) -ℤ x))
             (pos 33550000 *ℤ root_told k right.0 (s.time + later))) (sym t.ingress_is) wide,

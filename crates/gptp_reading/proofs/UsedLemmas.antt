@@ -29,7 +29,7 @@ use Rattle.gptp_system.specs.State.{SystemState, clock, is_capable_at, lapse_of,
 use Rattle.gptp_system.specs.Reading.{read_at}
 use Rattle.gptp_system.specs.Syncing.{reading_by, HearsFollowUpIf, IsOffset, OffsetFits, KnowsBy, KnowsIf, delay_at, is_slave_at, offset_of, root_rate_at, said_on, slave_delay, slave_rate}
 use Rattle.gptp_system.specs.Takeover.{told_time}
-use Rattle.gptp_error_laws.specs.TimeError.{jitter_at, rates_error_at, reading_error_at, time_error_at}
+use Rattle.gptp_error_laws.specs.TimeError.{measured_jitter_at, rates_error_at, reading_error_at, time_error_at}
 use Rattle.gptp_error_laws.specs.WayLaws.{shown_at}
 use Rattle.gptp_model.specs.declared.station.Station.{Station}
 use Rattle.gptp_model.specs.World.{WorldState, world_queue, receiver}
@@ -300,7 +300,7 @@ module _ (p : SettlingParams) (settled longest : ℕ) (w : WorldState) (is : IsS
 
   exact : (later : ℕ) → (ahead : ℤ) × (k.base ≡ Some ahead)
       × AreWithin (33550000 * time_error_at h.way (suc steps)
-      + rates_error_at h.way steps * (later + jitter_at h.way steps))
+      + rates_error_at h.way steps * (later + measured_jitter_at h.way steps))
       (pos 33550000 *ℤ read_then (w.time + later)) (pos 33550000 *ℤ root_told k ahead (w.time + later))
   exact later =
       reading_is_exact k tells (follower place w f) (link_frame_view (frame w.time octets)) (map link_frame_view rest)
@@ -361,7 +361,7 @@ module _ (p : SettlingParams) (settled longest : ℕ) (w : WorldState) (is : IsS
       let t = w.time + later in
       let said_time = exact later in
       let whole = in_units (time_error_at h.way (suc steps)) (rates_error_at h.way steps)
-      (later + jitter_at h.way steps) (read_then t) (root_told k said_time.0 t) said_time.2 in
+      (later + measured_jitter_at h.way steps) (read_then t) (root_told k said_time.0 t) said_time.2 in
       subst (AreWithin (reading_error_at h.way steps later)
       (read_at (reading_by s' said offset) (local_time s' t))) (root_is t root r said_time.0 said_time.1)
       (subst (λ y. AreWithin (reading_error_at h.way steps later) y (root_told k said_time.0 t))

@@ -48,7 +48,7 @@ read_within : (w : Way) (phase : ℕ → ℕ) (base : Option ℤ) (i : ℕ) (tol
     → IsOnWay w phase base i told sent came → IsMeasuredAt w i rate delay → FitsRate (told.rate +ℤ rate) → came ≤ now
     → let ingress = shown_at w phase (suc i) came in
     (ahead : ℤ) × (base ≡ Some ahead)
-    × AreWithin (33550000 * time_error_at w (suc i) + rates_error_at w i * (now - came))
+    × AreWithin (33550000 * time_error_at w (suc i) + rates_error_at w i * (now - came + w.blur))
     (pos 33550000 *ℤ read_after (info_of told ingress) delay rate (shown_at w phase (suc i) now -ℤ ingress))
     (pos 33550000 *ℤ told_at w phase ahead now)
 read_within w phase base i told sent came now rate delay on measured fits later =
@@ -62,14 +62,19 @@ read_within w phase base i told sent came now rate delay on measured fits later 
     let passed = counts_between (phase 0) (drift_at w 0) sent now (on.documented.drifts 0 (omega arith))
     (omega (arith, on.long, later)) in
     let parts : now - sent ≡ passing + span = omega (arith, on.long, later) in
-    let added = read_after info delay rate (pos count.count) -ℤ (scaled_of told.origin +ℤ told.correction) in
-    let within = reading_is_within l.least l.most w.turnaround (clock_at w 0) (clock_at w i) (clock_at w (suc i))
-    (error_before w i) (rates_error_at w i) passing span count.count passed.count info delay rate
+    let gone : shown_at w phase (suc i) now -ℤ ingress ≡ pos (count.count + 32768 * 0) +ℤ pos 0 =
+    omega (arith, ints, count.is) in
+    let added = read_after info delay rate (pos (count.count + 32768 * 0) +ℤ pos 0)
+    -ℤ (scaled_of told.origin +ℤ told.correction) in
+    let within = reading_is_within w.blur 0 l.least l.most w.turnaround (clock_at w 0) (clock_at w i)
+    (clock_at w (suc i)) (error_before w i) (rates_error_at w i)
+    passing span count.count passed.count (pos 0) info delay rate
     (over_link w phase base i told sent came rate delay on measured)
     (rate_behind w phase base i told sent came rate delay on measured fits)
-    (clock_counts.rate (drift_at w (suc i)) drifts) (omega (arith, on.long)) (omega (arith, on.short, on.long))
-    count.counted (rw parts at passed.counted) in
-    let sum = adds (sent_error_at w i) _ (33550000 * time_error_at w (suc i) + rates_error_at w i * span)
+    (clock_counts.rate (drift_at w (suc i)) drifts) (omega arith) (omega (arith, on.long))
+    (omega (arith, on.short, on.long)) count.counted (record { low = omega (arith, ints); high = omega (arith, ints) })
+    (rw parts at passed.counted) in
+    let sum = adds (sent_error_at w i) _ (33550000 * time_error_at w (suc i) + rates_error_at w i * (span + w.blur))
     (scaled_of told.origin) told.correction added (told_at w phase on.right.ahead sent)
     (told_at w phase on.right.ahead now) passed.count
     (omega (arith, sent_error_is w i, error_behind w i, link_grows w i))
@@ -77,7 +82,7 @@ read_within w phase base i told sent came now rate delay on measured fits later 
     within in (
       on.right.ahead,
       on.right.base_is,
-      rw (count.is) (record { low = omega (arith, ints, sum.low); high = omega (arith, ints, sum.high) }),
+      rw gone (record { low = omega (arith, ints, sum.low); high = omega (arith, ints, sum.high) }),
     )
 
 pub reading_is_right : ReadingIsRight

@@ -7,7 +7,7 @@ use Rattle.gptp_correction.specs.declared.correction.Relayed.{Relayed}
 use Rattle.gptp_correction.specs.declared.sync_in.SyncInfo.{SyncInfo}
 use Rattle.gptp_pdelay_machine.specs.Lanes.{LaneFrame}
 use Rattle.gptp_error_laws.specs.HopLaws.{IsOverLink, IsRateBehind}
-use Rattle.gptp_error_laws.specs.TimeError.{Way, hop_error, jitter_at, rates_error_at, time_error_at}
+use Rattle.gptp_error_laws.specs.TimeError.{Way, hop_error, measured_jitter_at, rates_error_at, time_error_at}
 use Rattle.gptp_error_laws.specs.WayLaws.{shown_at}
 use Rattle.gptp_sync_machine.specs.Acts.{kept_at_ingress}
 use Rattle.gptp_sync_machine.specs.Follower.{Follower, IsSetting, FollowerSetting, from, own_clock, root_told}
@@ -21,20 +21,24 @@ use Rattle.gptp_system.specs.declared.reading.Reading.{Reading}
 use Rattle.gptp_system.specs.Syncing.{held_reading}
 use Rattle.gptp_reading.specs.Reading.{read_after, reading}
 
--- What is read so long after a Sync came over a link is the root's time then: within the link's part of the time error,
--- the error of the rate from above times the greatest delay, and the error of the rate after the link times that span,
+-- What is read so long after a Sync came over a link is the root's time then. What was read of the own clock at the
+-- ingress is of one that is 32768 g units behind the one by which is read, and half of w off: so the root's time is
+-- that of such a clock, too. It is within half of w less than the link's part of the time error, within the error of
+-- the rate from above times the greatest delay and w, and within that of the rate after the link times the span and w,
 -- the last two in parts of 33550000 ns to a unit. The span may be of any length.
 abbrev pub ReadingIsWithin : Type 0
-ReadingIsWithin = (least most turnaround root up own above behind delay span count passed : ℕ) (s : SyncInfo)
-    (link_delay neighbour : ℤ) → IsOverLink least most turnaround root up above s.rate neighbour link_delay
-    → IsRateBehind root own behind (s.rate +ℤ neighbour) → IsClockRate own → least ≤ delay → delay ≤ most
-    → IsCounted own span count → IsCounted root (delay + span) passed
-    → AreWithin (33550000 * hop_error (most - least) most turnaround + above * most + behind * span)
-    (pos 33550000 *ℤ (read_after s link_delay neighbour (pos count) -ℤ (scaled_of s.origin +ℤ s.correction)))
-    (pos (33550000 * passed))
+ReadingIsWithin = (w g least most turnaround root up own above behind delay span count passed : ℕ) (off : ℤ)
+    (s : SyncInfo) (link_delay neighbour : ℤ)
+    → IsOverLink w least most turnaround root up above s.rate neighbour link_delay
+    → IsRateBehind root own behind (s.rate +ℤ neighbour) → IsClockRate own → g ≤ w → least ≤ delay → delay ≤ most
+    → IsCounted own span count → AreWithin (32768 * w) off (pos 0) → IsCounted root (delay + span) passed
+    → AreWithin (33550000 * (hop_error (most - least + 2 * w) (most + w) turnaround - 32768 * w) + above * (most + w)
+    + behind * (span + w))
+    (pos 33550000 *ℤ (read_after s link_delay neighbour (pos (count + 32768 * g) +ℤ off)
+    -ℤ (scaled_of s.origin +ℤ s.correction))) (pos (33550000 * (passed + 32768 * g)))
 
 -- Where what was told on a way was right, what is read so long after the Sync came is within the time error there, and
--- within the error of the rate so far times that span.
+-- within the error of the rate so far times that span and the blur.
 abbrev pub ReadingIsRight : Type 0
 ReadingIsRight = (w : Way) (phase : ℕ → ℕ) (base : Option ℤ) (i : ℕ) (told : Relayed) (sent came now : ℕ)
     (rate delay held : ℤ)
@@ -42,14 +46,14 @@ ReadingIsRight = (w : Way) (phase : ℕ → ℕ) (base : Option ℤ) (i : ℕ) (
     → came ≤ now
     → let ingress = shown_at w phase (suc i) came in
     (ahead : ℤ) × (base ≡ Some ahead)
-    × AreWithin (33550000 * time_error_at w (suc i) + rates_error_at w i * (now - came))
+    × AreWithin (33550000 * time_error_at w (suc i) + rates_error_at w i * (now - came + w.blur))
     (pos 33550000
     *ℤ read_after (info_of (at_rate told held) ingress) delay rate (shown_at w phase (suc i) now -ℤ ingress))
     (pos 33550000 *ℤ told_at w phase ahead now)
 
 -- At each Follow_Up that belongs to the Sync that is kept, from when on what comes is right: what is read from it at
 -- any later time is within the time error, and within the error of the rate so far times the span since, to which the
--- jitter of the link is added.
+-- jitter of the link as it is measured is added.
 abbrev pub ReadingIsExact : (List ℕ → Message → Type 0) → Type 0
 ReadingIsExact says = (k : FollowerSetting) (s : Follower) (front : LaneFrame) (rest : List LaneFrame)
     (source : PortIdentity)
@@ -61,7 +65,7 @@ ReadingIsExact says = (k : FollowerSetting) (s : Follower) (front : LaneFrame) (
     → IsHeldAt k.way k.place told.rate rate held
     → (ahead : ℤ) × (k.base ≡ Some ahead)
     × AreWithin (33550000 * time_error_at k.way (suc k.place)
-    + rates_error_at k.way k.place * (later + jitter_at k.way k.place))
+    + rates_error_at k.way k.place * (later + measured_jitter_at k.way k.place))
     (pos 33550000
     *ℤ read_after (info_of (at_rate told held) ingress) delay rate (own_clock k (s.time + later) -ℤ ingress))
     (pos 33550000 *ℤ root_told k ahead (s.time + later))

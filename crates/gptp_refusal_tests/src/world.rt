@@ -1,6 +1,6 @@
 //! What a world is where memory is refused. Times are in ns.
 
-ghost use Rattle.std.specs.Prelude.{◌≤◌};
+ghost use Rattle.gptp_setup.specs.Intervals.{IsMoment};
 ghost use Rattle.gptp_model.specs.Prompt.{DelaysFitIntervals};
 ghost use Rattle.gptp_scenario.specs.Allowed.{IsFitAct};
 
@@ -25,6 +25,9 @@ const PARAMS: Params = Params {
     turnaround: 1_000,
     residence: 1_000,
     sync_timeout: 0,
+    granularity: 0,
+    noise: 0,
+    window: 1,
 };
 
 /// The interval of a system's only port.
@@ -148,7 +151,7 @@ fn inject_again(
     injection: &Timed,
     before: &Shown,
 ) -> Result<bool, Fail>
-    requires moment { injection.now.at ≤ 1000000000000000 }
+    requires moment { IsMoment injection.now.at }
     requires fit { IsFitAct injection.now.act }
     requires prompt { DelaysFitIntervals world.old.world_core injection.now.act }
 {

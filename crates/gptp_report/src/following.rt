@@ -1,7 +1,8 @@
 //! Worlds that go on, act by act, before an observer.
 
-ghost use Rattle.std.specs.Prelude.{◌≡◌, ◌≢◌, ◌≤◌, IfOk, OnErr, OnOk};
+ghost use Rattle.std.specs.Prelude.{◌≡◌, ◌≢◌, IfOk, OnErr, OnOk};
 ghost use Rattle.std.specs.Io.KnownBytes.{Appends};
+ghost use Rattle.gptp_setup.specs.Intervals.{IsMoment};
 ghost use Rattle.gptp_scenario.specs.Allowed.{IsAllowed};
 ghost use Rattle.gptp_model.specs.Prompt.{DelaysFitIntervals};
 ghost use Rattle.gptp_model.specs.Course.{WasDone};
@@ -33,7 +34,7 @@ pub(crate) fn done_of<F: Fate + Drop>(
     }
 }
 
-/// The world goes on up to a time, at most 10^15 ns, before an observer.
+/// The world goes on up to a time, at most `LAST_MOMENT`, before an observer.
 pub(crate) fn go_on<F: Fate + Drop, O: Observer, K: Sink>(
     alloc: Global,
     world: &mut World<F>,
@@ -41,7 +42,7 @@ pub(crate) fn go_on<F: Fate + Drop, O: Observer, K: Sink>(
     observer: &mut O,
     sink: &mut K,
 ) -> Result<(), Cut>
-    requires moment { until ≤ 1000000000000000 }
+    requires moment { IsMoment until }
     ensures gone { OnOk result (PassesSeen F.answers O.tells until world.old.fate world.new.fate world.old.world_core
         world.new.world_core observer.old observer.new (Appends (K.written sink.old) (K.written sink.new))) }
     ensures broken { OnErr result (BreaksSeen F.answers O.tells until world.old.fate world.old.world_core observer.old

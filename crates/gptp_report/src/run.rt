@@ -1,7 +1,8 @@
 //! Runs of documents.
 
-ghost use Rattle.std.specs.Prelude.{◌≡◌, ◌≢◌, ◌⊎◌, ◌≤◌, [], true, List, ℕ, IfOk, OnErr, OnOk, nat_le};
+ghost use Rattle.std.specs.Prelude.{◌≡◌, ◌≢◌, ◌⊎◌, [], true, List, ℕ, IfOk, OnErr, OnOk, nat_le};
 ghost use Rattle.std.specs.Io.KnownBytes.{Appends};
+ghost use Rattle.gptp_setup.specs.Intervals.{IsMoment};
 ghost use Rattle.gptp_model.specs.Course.{Begun, WasDone};
 ghost use Rattle.gptp_scenario.specs.Allowed.{AreAllowed, IsAllowed};
 ghost use Rattle.gptp_model.specs.Prompt.{AllDelaysFitIntervals, DelaysFitIntervals};
@@ -74,8 +75,8 @@ fn make_if_due<F: Fate + Drop, O: Observer, K: Sink>(
     }
 }
 
-/// The world goes on up to a time, at most 10^15 ns, with the events up to then, before an observer, which sees each
-/// act as it was done: each that is due by the time of an event before that, the event, and what is due by the end
+/// The world goes on up to a time, at most `LAST_MOMENT`, with the events up to then, before an observer, which sees
+/// each act as it was done: each that is due by the time of an event before that, the event, and what is due by the end
 /// after the last.
 ///
 /// Errors: [`Cut::Write`] exactly where a write failed, after which nothing more happens; [`Cut::Memory`] where the
@@ -92,7 +93,7 @@ pub fn play<F: Fate + Drop, O: Observer, K: Sink>(
 ) -> Result<(), Cut>
     requires events { AreAllowed events.now }
     requires prompt { AllDelaysFitIntervals world.old.world_core events.now }
-    requires moment { until ≤ 1000000000000000 }
+    requires moment { IsMoment until }
     ensures played { OnOk result ((ts : List ActTrace) × Courses F.answers until (events_by until events.now) ts
         world.old.fate world.new.fate world.old.world_core world.new.world_core
         × Observed O.tells ts observer.old observer.new (Appends (K.written sink.old) (K.written sink.new))) }
@@ -126,8 +127,8 @@ pub fn begin<F: Fate + Drop>(
     World::new(alloc, network, fate)
 }
 
-/// The world of a document as it is at a time, at most 10^15 ns: it begins at time 0, and goes on with the events of
-/// the document up to then. All that is due by the time of an event happens before it. Where frames are asked for, a
+/// The world of a document as it is at a time, at most `LAST_MOMENT`: it begins at time 0, and goes on with the events
+/// of the document up to then. All that is due by the time of an event happens before it. Where frames are asked for, a
 /// line is written for each frame that reached a port, as it does.
 ///
 /// Errors: [`Cut::Write`] exactly where a write failed, after which nothing more happens; [`Cut::Memory`] where an act
@@ -141,7 +142,7 @@ pub fn run_document<F: Fate + Drop, K: Sink>(
     frames: bool,
     sink: &mut K,
 ) -> Result<World<F>, Cut>
-    requires moment { until ≤ 1000000000000000 }
+    requires moment { IsMoment until }
     ensures led { IfOk result (λ world. (lines : List (List ℕ))
         × LeadsTo F.answers document.now until frames fate world.world_core lines
         × Appends (K.written sink.old) (K.written sink.new) (text_of lines)) }

@@ -10,10 +10,8 @@ ghost use Rattle.gptp_roles.specs.SystemTrace.{SlaveReceived};
 use crate::role::{Role, assign};
 use arrayvec::ArrayVec;
 use gptp_receipt::Held;
+use gptp_setup::MOST_PORTS;
 use gptp_vector::{Identity, Vector};
-
-/// The most ports of a system.
-pub const PORTS: usize = 16;
 
 /// What a system has chosen. The port with number i stands at place i - 1.
 #[derive(Debug, Drop)]
@@ -25,10 +23,10 @@ pub struct Selected {
     /// The number of the Slave port. A system that is its own root has none.
     pub slave: Option<u8>,
     /// The role of each port.
-    pub roles: ArrayVec<Role, PORTS>,
+    pub roles: ArrayVec<Role, MOST_PORTS>,
     /// Which ports are Master ports that have to announce at once, since they weren't before or since
     /// root or steps changed.
-    pub fresh: ArrayVec<bool, PORTS>,
+    pub fresh: ArrayVec<bool, MOST_PORTS>,
 }
 
 /// Chooses among what the ports of a system hold, and leaves each port what it holds in its new role:
@@ -38,7 +36,7 @@ pub struct Selected {
 /// A vector that a port received has that port's number as receiving port, steps below 255 and a path
 /// of at most 255 clocks.
 pub fn select(identity: &Identity, held: &mut [Held]) -> Selected
-    requires ports { length held.old ≤ 16 }
+    requires ports { length held.old ≤ MOST_PORTS }
     requires placed { ArePlaced 1 held.old }
     ensures selection { IsSelection identity.now held.old result held.new }
 
@@ -98,7 +96,7 @@ fn with_port(best: Vector, held: &Held) -> Vector
 
 /// The port that the chosen vector came from, if it came from any.
 fn slave_of(chosen: &Vector) -> Option<u8>
-    requires { chosen.now.receiver ≤ 16 }
+    requires { chosen.now.receiver ≤ MOST_PORTS }
     ensures { result ≡ slave_port chosen.now }
 {
     if chosen.receiver == 0 {

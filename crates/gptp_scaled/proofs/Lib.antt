@@ -4,3 +4,4 @@ mod RateLemmas
 pub mod LawProofs
 mod MachineLemmas
 pub mod CountLemmas
+pub mod TimeStampLemmas

@@ -5,4 +5,5 @@ pub mod Stamp
 pub mod Rate
 pub mod Laws
 pub mod Counts
+pub mod TimeStamp
 pub mod StampError

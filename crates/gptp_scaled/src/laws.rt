@@ -1,7 +1,8 @@
-//! What follows from the definitions alone. Each function does nothing, and its contract is the law; `LawProofs` and
-//! `CountLemmas` of `proofs/` have each law as a lemma for the crates above.
+//! What follows from the definitions alone. Each function does nothing, and its contract is the law; `LawProofs`,
+//! `CountLemmas` and `TimeStampLemmas` of `proofs/` have each law as a lemma for the crates above.
 
 ghost use Rattle.gptp_scaled.specs.Counts.{MeasuredWithin, RateIsWithin};
+ghost use Rattle.gptp_scaled.specs.TimeStamp.{StampIsCentred, StampIsNear};
 ghost use Rattle.gptp_scaled.specs.Laws.{FloorIsExact, FloorIsMonotone, RateRoundsDown, RateZeroIsIdentity, RateIsMonotone, NeighborRateIsNear, SplitIsExact};
 
 /// The quotient rounded down is the one whole number f with d f <= x < d (f + 1), for d above 0.
@@ -46,14 +47,25 @@ pub fn split_is_exact()
     ensures { SplitIsExact }
 {}
 
-/// What two clocks count, over spans that differ by at most a jitter, gives the quotient of their rates, within what
-/// the jitter is of the span and four units of rounding.
+/// What two clocks are read to count, over spans that differ by at most a jitter, gives the quotient of their rates:
+/// within what the jitter is of the span, and one blur of the readings and up / own blurs.
 pub fn rate_is_within()
     ensures { RateIsWithin }
 {}
 
 /// A neighborRateRatio that is measured by two exchanges is that of the two clocks, within what the jitter of the link
-/// is of the interval between two requests and four units of rounding.
+/// and twice the error of two readings are of the interval between two requests, and four units of rounding.
 pub fn measured_within()
     ensures { MeasuredWithin }
+{}
+
+/// A time stamp is not negative, at most the noise above what the clock shows, and at most the granularity and the
+/// noise below it.
+pub fn stamp_is_near()
+    ensures { StampIsNear }
+{}
+
+/// A time stamp is half of the blur from the clock less half of the granularity, at most.
+pub fn stamp_is_centred()
+    ensures { StampIsCentred }
 {}

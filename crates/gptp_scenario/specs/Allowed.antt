@@ -1,5 +1,6 @@
 -- What is asked of acts.
 use Rattle.std.specs.Prelude.{◌≡◌, ◌≤◌, ⊤, ℕ, List, Some, slice_get}
+use Rattle.gptp_setup.specs.Intervals.{IsMoment}
 use Rattle.gptp_scenario.specs.declared.change.Act.{Act}
 use Rattle.gptp_scenario.specs.declared.change.Act.TheVariants.{Change as Changing}
 use Rattle.gptp_scenario.specs.declared.change.Change.TheVariants.{LinkSet}
@@ -18,7 +19,7 @@ IsFitAct act = ⊤
 
 -- what is asked of each act
 pub record IsAllowed (timed : Timed) : Type 0 where
-  pub moment : timed.at ≤ 1000000000000000
+  pub moment : IsMoment timed.at
   pub fit : IsFitAct timed.act
 
 abbrev pub AreAllowed : List Timed → Type 0

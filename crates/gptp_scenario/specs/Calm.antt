@@ -1,10 +1,11 @@
 -- When a network comes to rest after its last change (profile).
-use Rattle.std.specs.Prelude.{◌≡◌, ◌⊎◌, ◌<◌, ℕ, true, List, [], ◌∷◌, Some, slice_get}
+use Rattle.std.specs.Prelude.{◌≡◌, ◌⊎◌, ◌+◌, ◌<◌, ℕ, true, List, [], ◌∷◌, Some, slice_get}
 use Rattle.std.specs.List.{All}
 use Rattle.gptp_roles.specs.Selection.{clock_of}
 use Rattle.gptp_pdelay.specs.GoodLink.{IsGoodLink}
 use Rattle.gptp_setup.specs.declared.setup.Params.{Params}
 use Rattle.gptp_setup.specs.SettlingParams.{lapse_span}
+use Rattle.gptp_setup.specs.Stamping.{blur_of}
 use Rattle.gptp_scenario.specs.Change.{system_after, link_after}
 use Rattle.gptp_scenario.specs.Network.{NetworkState}
 use Rattle.gptp_scenario.specs.SyncWait.{sync_paths, sync_wait}
@@ -33,15 +34,15 @@ pub record IsUsed (systems : List SystemSpec) (events : List Timed) (w : LinkSpe
   pub a : IsLive systems events w.a.clock
   pub b : IsLive systems events w.b.clock
 
--- the link loses nothing, and is short enough for the threshold
-pub record IsQuiet (turnaround threshold : ℕ) (w : LinkSpec) : Type 0 where
+-- the link loses nothing, and is short enough for the threshold, also where time stamps are off
+pub record IsQuiet (p : Params) (w : LinkSpec) : Type 0 where
   pub lossless : w.bounds.loss ≡ 0
-  pub good : IsGoodLink w.bounds.max turnaround threshold
+  pub good : IsGoodLink (w.bounds.max + blur_of p) p.turnaround p.threshold
 
 -- where a link is up between two live systems after the events, it is quiet
 abbrev pub Rests : Params → List SystemSpec → List Timed → LinkSpec → Type 0
 Rests p systems events w =
-    IsUsed systems events (link_after events w) → IsQuiet p.turnaround p.threshold (link_after events w)
+    IsUsed systems events (link_after events w) → IsQuiet p (link_after events w)
 
 abbrev pub AllRest : Params → List SystemSpec → List LinkSpec → List Timed → Type 0
 AllRest p systems links events = All (Rests p systems events) links

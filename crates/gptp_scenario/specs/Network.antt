@@ -12,6 +12,7 @@ use Rattle.gptp_links.specs.declared.bounds.Bounds.{Bounds}
 use Rattle.gptp_pdelay.specs.Clock.{IsDrift}
 use Rattle.gptp_setup.specs.Intervals.{interval_of, IsLog}
 use Rattle.gptp_setup.specs.SettlingParams.{SettlingParams}
+use Rattle.gptp_setup.specs.declared.limits.TheConstants.{MOST_PORTS}
 use Rattle.gptp_setup.specs.declared.setup.Params.{Params}
 use Rattle.gptp_scenario.specs.Faults.{first_fault}
 use Rattle.gptp_scenario.specs.Params.{is_between, is_log, KeepParams}
@@ -75,7 +76,7 @@ pace_of n = record { params = n.params; largest = largest_of n }
 -- each value lies in its range, and there is an interval for each port
 abbrev pub is_member_in_range : SystemSpec → Bool
 is_member_in_range m =
-    nat_le m.ports 16
+    nat_le m.ports MOST_PORTS
     && nat_le m.phase 1000000000000000000
     && nat_le (unsigned_abs m.drift) 219902325
     && (length m.intervals.items == m.ports)
@@ -109,7 +110,7 @@ are_bounds_in_range b =
 
 abbrev pub is_wire_in_range : LinkSpec → Bool
 is_wire_in_range w =
-    is_between 1 16 w.a.port && is_between 1 16 w.b.port && are_bounds_in_range w.bounds
+    is_between 1 MOST_PORTS w.a.port && is_between 1 MOST_PORTS w.b.port && are_bounds_in_range w.bounds
 
 abbrev pub same_port : PortId → PortId → Bool
 same_port p q = (p.clock == q.clock) && (p.port == q.port)
@@ -135,7 +136,7 @@ link_fault n w = first_fault (
 
 -- a system is within the limits
 pub record IsMember (m : SystemSpec) : Type 0 where
-  pub ports : m.ports ≤ 16
+  pub ports : m.ports ≤ MOST_PORTS
   pub phase : m.phase ≤ 10 ^ 18
   pub drift : IsDrift m.drift
   pub many : length m.intervals.items ≡ m.ports

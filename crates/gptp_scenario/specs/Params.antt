@@ -1,7 +1,8 @@
 -- The limits of what is the same for all systems of a network (profile).
-use Rattle.std.specs.Prelude.{◌<◌, ◌≤◌, ℕ, ◌+◌, ◌*◌, ℤ, pos, neg_ℤ, Bool, not, ◌&&◌, nat_lt, nat_le, int_le, [], ◌∷◌, Option}
+use Rattle.std.specs.Prelude.{◌≡◌, ◌<◌, ◌≤◌, ℕ, ◌+◌, ◌*◌, ℤ, pos, neg_ℤ, Bool, not, ◌&&◌, nat_lt, nat_le, int_le, [], ◌∷◌, Option}
 use Rattle.gptp_setup.specs.Intervals.{AreParams, interval_of, IsLog}
 use Rattle.gptp_setup.specs.SettlingParams.{largest_interval, SettlingParams}
+use Rattle.gptp_setup.specs.Stamping.{blur_of}
 use Rattle.gptp_setup.specs.declared.setup.Params.{Params}
 use Rattle.gptp_scenario.specs.Faults.{first_fault}
 use Rattle.gptp_scenario.specs.declared.fault.NetworkFault.{NetworkFault}
@@ -26,8 +27,13 @@ abbrev pub are_times_in_range : Params → Bool
 are_times_in_range p =
     is_between 1 1000000000 p.threshold && is_between 1 1000000000 p.turnaround && is_between 1 1000000000 p.residence
 
+-- No system takes time stamps yet, and none measures a rate over more than one exchange: each key has its default.
+abbrev pub are_stamps_in_range : Params → Bool
+are_stamps_in_range p = is_between 0 0 p.granularity && is_between 0 0 p.noise && is_between 1 1 p.window
+
 abbrev pub are_in_range : Params → Bool
-are_in_range p = are_intervals_in_range p && are_counts_in_range p && are_times_in_range p
+are_in_range p =
+    are_intervals_in_range p && are_counts_in_range p && are_times_in_range p && are_stamps_in_range p
 
 -- A request is answered, and its answer crosses the link, before the next request; requests are no rarer than
 -- announcements; a bridge sends time on before it gets the next.
@@ -48,6 +54,8 @@ pub record AreInRange (p : Params) : Type 0 where
   pub lost-least : 1 ≤ p.lost
   pub threshold-least : 1 ≤ p.threshold
   pub threshold : p.threshold ≤ 1000000000
+  pub exact : blur_of p ≡ 0
+  pub one_exchange : p.window ≡ 1
 
 pub record KeepParams (p : Params) : Type 0 where
   pub ranges : AreInRange p

@@ -1,6 +1,8 @@
 //! Whether a network is calm after changes.
 
 ghost use Rattle.std.specs.Prelude.{◌≡◌, ◌↔◌, ◌≤◌, ◌+◌, ◌*◌, IsTrue, true, length};
+ghost use Rattle.gptp_pdelay.specs.GoodLink.{IsGoodLink};
+ghost use Rattle.gptp_setup.specs.Stamping.{blur_of};
 ghost use Rattle.gptp_scenario.specs.Calm.{IsLive, IsUsed, IsQuiet, Rests, AllRest, SyncsComeInTime, IsCalm};
 ghost use Rattle.gptp_scenario.specs.Change.{is_at, system_changed, link_changed, system_acted, link_acted, system_after, link_after, live_after, joined_after};
 ghost use Rattle.gptp_scenario.specs.Params.{KeepParams};
@@ -11,7 +13,7 @@ use crate::change::{Act, Change, Timed};
 use crate::network::{LinkSpec, Network, SystemSpec};
 use crate::sync_wait::{comes_in_time, sync_paths};
 use gptp_links::Bounds;
-use gptp_setup::Params;
+use gptp_setup::{Params, blur_of};
 use gptp_vector::{ClockId, Identity, PortId};
 
 /// How a system stands: its identity, and whether it lives.
@@ -199,15 +201,22 @@ pub(crate) fn is_used(systems: &[SystemSpec], events: &[Timed], wire: &LinkSpec)
     wire.up && is_live(systems, events, wire.a.clock) && is_live(systems, events, wire.b.clock)
 }
 
-/// Whether a link loses nothing, and is short enough for the threshold.
+/// Whether a link of this greatest delay is short enough for the threshold, also where time stamps are off.
+fn is_good(params: &Params, max: u64) -> bool
+    requires params { KeepParams params.now }
+    requires max { max ≤ 1000000000 }
+    ensures { IsTrue result ↔ IsGoodLink (max + blur_of params.now) params.now.turnaround params.now.threshold }
+{
+    let measured = max + blur_of(params);
+    measured + (measured + 999) / 1000 + (params.turnaround + 1999) / 2000 + 2 <= params.threshold
+}
+
+/// Whether a link loses nothing, and is good.
 fn is_quiet(params: &Params, wire: &LinkSpec) -> bool
     requires { KeepParams params.now }
-    ensures { IsTrue result ↔ IsQuiet params.now.turnaround params.now.threshold wire.now }
+    ensures { IsTrue result ↔ IsQuiet params.now wire.now }
 {
-    let max = wire.bounds.max;
-    wire.bounds.loss == 0
-        && max <= params.threshold
-        && max + (max + 999) / 1000 + (params.turnaround + 1999) / 2000 + 2 <= params.threshold
+    wire.bounds.loss == 0 && wire.bounds.max <= params.threshold && is_good(params, wire.bounds.max)
 }
 
 /// Whether a link that is up between two live systems after these events is quiet.

@@ -5,6 +5,7 @@ ghost use Rattle.std.specs.Int.{int_max, int_min};
 ghost use Rattle.std.specs.List.{cons_option, reduce};
 
 use arrayvec::ArrayVec;
+use gptp_setup::MOST_PORTS;
 
 /// The smallest of what was found so far, if anything, and of these.
 pub(crate) fn smallest_with(found: Option<i8>, intervals: &[i8]) -> Option<i8>
@@ -35,8 +36,8 @@ pub(crate) fn largest_with(found: Option<i8>, intervals: &[i8]) -> Option<i8>
 }
 
 /// A copy of the intervals.
-pub(crate) fn copy_intervals(intervals: &[i8]) -> ArrayVec<i8, 16>
-    requires { length intervals.now ≤ 16 }
+pub(crate) fn copy_intervals(intervals: &[i8]) -> ArrayVec<i8, MOST_PORTS>
+    requires { length intervals.now ≤ MOST_PORTS }
     ensures { result.items ≡ intervals.now }
 {
     let mut copies = ArrayVec::new();

@@ -23,7 +23,7 @@ use crate::params::{is_between, is_log, params_fault};
 use crate::sync_wait::{SyncPaths, greatest_delay, sync_paths};
 use arrayvec::ArrayVec;
 use gptp_links::Bounds;
-use gptp_setup::{Params, interval_of};
+use gptp_setup::{MOST_PORTS, Params, interval_of};
 use gptp_vector::{ClockId, Identity, PortId};
 use std::alloc::Global;
 use std::marker::Model;
@@ -36,7 +36,7 @@ pub(crate) struct SystemSpec {
     pub phase: u64,
     pub drift: i32,
     pub continues: bool,
-    pub intervals: ArrayVec<i8, 16>,
+    pub intervals: ArrayVec<i8, MOST_PORTS>,
 }
 
 /// A link of a network: its ends, its bounds, and whether it is up at first.
@@ -95,10 +95,10 @@ impl Network {
         }
     }
 
-    /// Adds a system with that identity and so many ports, 0 to 16, whose local clock is that phase ahead at time 0, 0
-    /// to 10^18 ns, and runs faster by that drift, -219,902,325 to 219,902,325 in units of 2^-41. It goes on with the
-    /// time that it read where it becomes grandmaster, or doesn't. Its ports announce at these intervals, one for each in
-    /// their order, as logarithms to base 2 of seconds, -4 to 4.
+    /// Adds a system with that identity and so many ports, 0 to [`MOST_PORTS`], whose local clock is that phase ahead
+    /// at time 0, 0 to 10^18 ns, and runs faster by that drift, -219,902,325 to 219,902,325 in units of 2^-41. It goes
+    /// on with the time that it read where it becomes grandmaster, or doesn't. Its ports announce at these intervals,
+    /// one for each in their order, as logarithms to base 2 of seconds, -4 to 4.
     ///
     /// Refused, in this order, with `TooMany` where there are 512 systems, `OutOfRange` also where the intervals aren't
     /// as many as the ports, `Timing` where the interval of requests is above one of them, `DuplicateClock` where
@@ -111,7 +111,7 @@ impl Network {
         phase: u64,
         drift: i32,
         continues: bool,
-        intervals: ArrayVec<i8, 16>,
+        intervals: ArrayVec<i8, MOST_PORTS>,
     ) -> Result<(), NetworkFault>
         ensures passed { OnOk result
             (system_fault self.old (member identity ports phase drift continues intervals) ≡ None) }
@@ -135,8 +135,8 @@ impl Network {
         }
     }
 
-    /// Adds a link that joins two ports, 1 to 16 each: the delays of its frames lie between `min` and `max`, 1 to
-    /// 16 * 10^9 ns each, and of a thousand frames so many are lost, 0 to 1000. It is up or down at first.
+    /// Adds a link that joins two ports, 1 to [`MOST_PORTS`] each: the delays of its frames lie between `min` and
+    /// `max`, 1 to 16 * 10^9 ns each, and of a thousand frames so many are lost, 0 to 1000. It is up or down at first.
     ///
     /// Refused, in this order, with `TooMany` where there are 2,048 links, `OutOfRange` also where `min` is above
     /// `max`, `SelfLink` where both ports are of one clock, `NoSuchPort` where no system has one of them, `PortTaken`
@@ -198,7 +198,7 @@ impl Network {
 
     /// A system by its place from 0: its identity, ports, phase, drift and the intervals of its ports, as they were
     /// given.
-    pub fn system_at(&self, place: usize) -> Option<(Identity, u8, u64, i32, ArrayVec<i8, 16>)>
+    pub fn system_at(&self, place: usize) -> Option<(Identity, u8, u64, i32, ArrayVec<i8, MOST_PORTS>)>
         ensures { result ≡ option_map (λ m. (m.identity, m.ports, m.phase, m.drift, m.intervals))
             (slice_get self.now.systems place) }
     {
@@ -217,8 +217,8 @@ impl Network {
         }
     }
 
-    /// Whether the system at a place, from 0, goes on with the time that it read where it becomes grandmaster, as it was
-    /// given.
+    /// Whether the system at a place, from 0, goes on with the time that it read where it becomes grandmaster, as it
+    /// was given.
     pub fn continues_at(&self, place: usize) -> Option<bool>
         ensures { result ≡ option_map (λ m. m.continues) (slice_get self.now.systems place) }
     {
@@ -421,7 +421,7 @@ fn is_member_in_range(member: &SystemSpec) -> bool
     ensures is { result ≡ is_member_in_range member.now }
     ensures limits { result ≡ true → IsMember member.now }
 {
-    member.ports <= 16
+    usize::from(member.ports) <= MOST_PORTS
         && member.phase <= 1_000_000_000_000_000_000
         && member.drift.unsigned_abs() <= 219_902_325
         && member.intervals.len() == usize::from(member.ports)
@@ -477,8 +477,8 @@ fn is_wire_in_range(wire: &LinkSpec) -> bool
     ensures b { result ≡ true → 1 ≤ wire.now.b.port }
     ensures fit { result ≡ true → Fit wire.now.bounds }
 {
-    is_between(1, 16, u64::from(wire.a.port))
-        && is_between(1, 16, u64::from(wire.b.port))
+    is_between(1, MOST_PORTS as u64, u64::from(wire.a.port))
+        && is_between(1, MOST_PORTS as u64, u64::from(wire.b.port))
         && are_bounds_in_range(&wire.bounds)
 }
 

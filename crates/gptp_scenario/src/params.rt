@@ -2,7 +2,7 @@
 
 ghost use Rattle.std.specs.Prelude.{◌≡◌, true, None};
 ghost use Rattle.gptp_setup.specs.Intervals.{interval_of};
-ghost use Rattle.gptp_scenario.specs.Params.{is_log, are_in_range, are_intervals_in_range, are_counts_in_range, are_times_in_range, is_between, is_timed, AreInRange, KeepParams, params_fault};
+ghost use Rattle.gptp_scenario.specs.Params.{is_log, are_in_range, are_intervals_in_range, are_counts_in_range, are_stamps_in_range, are_times_in_range, is_between, is_timed, AreInRange, KeepParams, params_fault};
 
 use crate::fault::NetworkFault;
 use gptp_setup::{Params, interval_of};
@@ -46,12 +46,24 @@ fn are_times_in_range(params: &Params) -> bool
         && is_between(1, 1_000_000_000, params.residence)
 }
 
+/// Whether time stamps are exact and a rate is measured over one exchange, which is all that systems do yet.
+fn are_stamps_in_range(params: &Params) -> bool
+    ensures { result ≡ are_stamps_in_range params.now }
+{
+    is_between(0, 0, u64::from(params.granularity))
+        && is_between(0, 0, u64::from(params.noise))
+        && is_between(1, 1, u64::from(params.window))
+}
+
 /// Whether each value lies in its range.
 fn are_in_range(params: &Params) -> bool
     ensures is { result ≡ are_in_range params.now }
     ensures ranges { result ≡ true → AreInRange params.now }
 {
-    are_intervals_in_range(params) && are_counts_in_range(params) && are_times_in_range(params)
+    are_intervals_in_range(params)
+        && are_counts_in_range(params)
+        && are_times_in_range(params)
+        && are_stamps_in_range(params)
 }
 
 /// Whether the intervals go together.

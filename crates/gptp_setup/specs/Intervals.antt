@@ -1,6 +1,7 @@
 -- Intervals of messages (IEEE 802.1AS-2020, 10.7.2 and 11.5.2).
 use Rattle.std.specs.Prelude.{◌≡◌, ◌≤◌, ℕ, ◌+◌, ◌*◌, ◌/◌, ◌^◌, ℤ, pos, negsuc, neg_ℤ, ◌≤ℤ◌, length}
 use Rattle.std.specs.List.{AllByRecursion}
+use Rattle.gptp_setup.specs.declared.limits.TheConstants.{LAST_MOMENT}
 use Rattle.gptp_setup.specs.declared.setup.Params.{Params}
 use Rattle.gptp_setup.specs.declared.setup.Setup.{Setup}
 
@@ -41,7 +42,11 @@ pub record AreParams (p : Params) : Type 0 where
   pub residence-least : 1 ≤ p.residence
   pub residence : p.residence ≤ 1000000000
   pub sync-timeout : p.sync_timeout ≤ 10
+  pub granularity : p.granularity ≤ 1000
+  pub noise : p.noise ≤ 1000
+  pub window-least : 1 ≤ p.window
+  pub window : p.window ≤ 16
 
 -- the times of a simulation, in ns
 abbrev pub IsMoment : ℕ → Type 0
-IsMoment t = t ≤ 1000000000000000
+IsMoment t = t ≤ LAST_MOMENT

@@ -2,6 +2,7 @@
 
 ghost use Rattle.std.specs.Prelude.{◌≡◌, ◌≤◌, length};
 
+use crate::limits::MOST_PORTS;
 use arrayvec::ArrayVec;
 use gptp_vector::Identity;
 
@@ -28,6 +29,12 @@ pub struct Params {
     /// syncReceiptTimeout (IEEE 802.1AS-2020, 10.7.3.1): after how many sync intervals without time what the Slave port
     /// holds ages, 0 to 10; 0: never.
     pub sync_timeout: u8,
+    /// Of what a time stamp is a multiple, in ns, 0 to 1000; 0: of one unit of 2^-16 ns.
+    pub granularity: u16,
+    /// By how much a time stamp may be off besides, in ns, 0 to 1000.
+    pub noise: u16,
+    /// Over how many exchanges a neighborRateRatio is measured, 1 to 16.
+    pub window: u8,
 }
 
 /// What one system is set up with.
@@ -35,7 +42,7 @@ pub struct Params {
 pub struct Setup {
     /// Its system identity.
     pub identity: Identity,
-    /// How many ports it has, 0 to 16.
+    /// How many ports it has, 0 to [`MOST_PORTS`].
     pub ports: u8,
     /// What its local clock is ahead of true time at time 0, in ns, 0 to 10^18.
     pub phase: u64,
@@ -44,7 +51,7 @@ pub struct Setup {
     /// Whether it goes on with the time that it read where it becomes grandmaster; otherwise it tells its local clock.
     pub continues: bool,
     /// The announce interval of each of its ports, the first of which has the number 1, -4 to `largest`.
-    pub intervals: ArrayVec<i8, 16>,
+    pub intervals: ArrayVec<i8, MOST_PORTS>,
     /// The largest announce interval of any port of the network, -4 to 4.
     pub largest: i8,
     /// What is the same for all systems.
@@ -52,8 +59,8 @@ pub struct Setup {
 }
 
 /// A copy of the intervals.
-fn copy_intervals(intervals: &[i8]) -> ArrayVec<i8, 16>
-    requires { length intervals.now ≤ 16 }
+fn copy_intervals(intervals: &[i8]) -> ArrayVec<i8, MOST_PORTS>
+    requires { length intervals.now ≤ MOST_PORTS }
     ensures { result.items ≡ intervals.now }
 {
     let mut copies = ArrayVec::new();

@@ -168,14 +168,14 @@ bridge_drifts (suc (suc i)) h = absurd (omega (arith, h))
 
 bridge_is : IsSetting at_bridge
 bridge_is = record {
-  documented = record { long = omega arith; waits = omega arith; drifts = bridge_drifts };
+  documented = record { little = omega arith; long = omega arith; waits = omega arith; drifts = bridge_drifts };
   on_way = omega arith;
   short = omega arith;
 }
 
 slave_is : IsSetting at_slave
 slave_is = record {
-  documented = record { long = omega arith; waits = omega arith; drifts = drifts };
+  documented = record { little = omega arith; long = omega arith; waits = omega arith; drifts = drifts };
   on_way = omega arith;
   short = omega arith;
 }

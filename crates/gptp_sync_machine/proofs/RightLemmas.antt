@@ -8,13 +8,14 @@ use Rattle.gptp_scaled.specs.Counts.{AreWithin}
 use Rattle.gptp_scaled.proofs.CountLemmas.{rate_is_bounded}
 use Rattle.gptp_pdelay.specs.Clock.{IsTime}
 use Rattle.gptp_pdelay.specs.GoodLink.{ceil_div}
+use Rattle.gptp_pdelay.proofs.ClockLemmas.{clock_is_read}
 use Rattle.gptp_pdelay.specs.Measured.{AreMeasured}
 use Rattle.gptp_pdelay.proofs.MeasurementLemmas.{clock_counts, counts_between, measurement_is_within}
 use Rattle.gptp_correction.specs.declared.correction.Relayed.{Relayed}
 use Rattle.gptp_correction.specs.Correction.{bridge, carried, carried_on, sync_received, relayed, BridgeFits}
 use Rattle.gptp_correction.specs.Sum.{sum_below}
 use Rattle.gptp_pdelay_machine.specs.Setting.{IsByMost}
-use Rattle.gptp_error_laws.specs.TimeError.{WayLink, Way, clock_at, drift_at, jitter_at, link_at, rate_error_at, rates_error_at, steady_rate_at, time_error_at, total_below}
+use Rattle.gptp_error_laws.specs.TimeError.{WayLink, Way, clock_at, drift_at, jitter_at, link_at, measured_jitter_at, measured_most_at, rate_error_at, rates_error_at, steady_rate_at, time_error_at, total_below}
 use Rattle.gptp_error_laws.specs.HopLaws.{IsOverLink, IsRateBehind, IsRateWithin}
 use Rattle.gptp_error_laws.specs.WayLaws.{IsDocumented, longer, shown_at}
 use Rattle.gptp_error_laws.proofs.HopLemmas.{hop_keeps, offset_is_within}
@@ -92,7 +93,8 @@ measured_nearer w (suc n) = let before = measured_nearer w n in omega (arith, be
 pub sent_error_is : (w : Way) (i : ℕ) → sent_error_at w i ≡ error_sent w i
 sent_error_is w zero = refl
 sent_error_is w (suc i) =
-    ap (λ e. 33550000 * e + rates_error_at w i * (w.residence + jitter_at w i)) (error_behind w i)
+    ap (λ e. 33550000 * (e + 32768 * w.blur) + rates_error_at w i * (w.residence + measured_jitter_at w i))
+    (error_behind w i)
 
 -- the rate so far, as a natural number within its error
 rate_is : (w : Way) → IsDocumented w → (n : ℕ) → n ≤ length w.links → (sum : ℤ) →
@@ -106,7 +108,7 @@ rate_is w k n h sum near fits rate e =
 -- what is known of the hop over the link
 pub over_link : (w : Way) (phase : ℕ → ℕ) (base : Option ℤ) (i : ℕ) (told : Relayed) (sent came : ℕ) (rate delay : ℤ) →
     IsOnWay w phase base i told sent came → IsMeasuredAt w i rate delay → let l = link_at w i in
-    IsOverLink l.least l.most w.turnaround (clock_at w 0) (clock_at w i) (error_before w i) told.rate rate delay
+    IsOverLink w.blur l.least l.most w.turnaround (clock_at w 0) (clock_at w i) (error_before w i) told.rate rate delay
 over_link w phase base i told sent came rate delay on measured =
     let right = on.right in
     let fits = right.fits in
@@ -171,7 +173,7 @@ added_small : (w : Way) (phase : ℕ → ℕ) (base : Option ℤ) (i : ℕ) (tol
     → IsOnWay w phase base i told sent came → IsMeasuredAt w i rate delay →
     IsByMost came due (w.residence + jitter_at w i) → FitsRate (told.rate +ℤ rate) →
     let info = info_of told (shown_at w phase (suc i) came) in
-    IsSmall ((link_at w i).most + w.turnaround + w.residence + jitter_at w i + 1)
+    IsSmall (measured_most_at w i + w.turnaround + w.residence + jitter_at w i + 1)
     (bridge info delay rate (shown_at w phase (suc i) due)) (told.rate +ℤ rate)
 added_small w phase base i told sent came due rate delay on measured (later, soon) fits =
     let l = link_at w i in
@@ -179,7 +181,7 @@ added_small w phase base i told sent came due rate delay on measured (later, soo
     let hop = bridge info delay rate (shown_at w phase (suc i) due) in
     let drifts = on.documented.drifts (suc i) on.on_way in
     let count = counts_between (phase (suc i)) (drift_at w (suc i)) came due drifts later in
-    passage_small l.least l.most w.turnaround (clock_at w i) (clock_at w (suc i)) (due - came) count.count _ hop
+    passage_small w.blur l.least l.most w.turnaround (clock_at w i) (clock_at w (suc i)) (due - came) count.count _ hop
     (told.rate +ℤ rate) (clock_counts.rate (drift_at w i) (on.documented.drifts i (omega (arith, on.on_way))))
     (clock_counts.rate (drift_at w (suc i)) drifts) measured.limited measured.delay_within fits count.is count.counted
     (omega (arith, soon, later))
@@ -203,12 +205,13 @@ right_behind w phase base i told sent came due rate delay on measured (later, so
     let passed = counts_between (phase 0) (drift_at w 0) sent due (on.documented.drifts 0 (omega arith))
     (omega (arith, on.long, later)) in
     let parts : due - sent ≡ passing + stay = omega (arith, on.long, later) in
-    let added = hop_keeps l.least l.most w.turnaround (clock_at w 0) (clock_at w i) (clock_at w (suc i))
-    (error_before w i) (rates_error_at w i) passing stay count.count passed.count info hop
+    let added = hop_keeps w.blur l.least l.most w.turnaround (clock_at w 0) (clock_at w i) (clock_at w (suc i))
+    (error_before w i) (rates_error_at w i) passing stay count.count passed.count (pos 0) info hop
     (over_link w phase base i told sent came rate delay on measured)
     (rate_behind w phase base i told sent came rate delay on measured fits)
     (clock_counts.rate (drift_at w (suc i)) drifts) (omega (arith, on.long)) (omega (arith, on.short, on.long))
-    count.counted count.is (rw parts at passed.counted) in
+    count.counted (record { low = omega (arith, ints); high = omega (arith, ints) }) (omega (arith, ints, count.is))
+    (rw parts at passed.counted) in
     let sum = adds (sent_error_at w i) _ (sent_error_at w (suc i)) (scaled_of told.origin) told.correction
     ((relayed info hop).correction -ℤ told.correction) (told_at w phase on.right.ahead sent)
     (told_at w phase on.right.ahead due) passed.count
@@ -287,12 +290,13 @@ offset_within w phase base i told sent came now rate delay on measured later soo
     let passed = counts_between (phase 0) (drift_at w 0) sent now (on.documented.drifts 0 (omega arith))
     (omega (arith, on.long, later)) in
     let parts : now - sent ≡ passing + wait = omega (arith, on.long, later) in
-    let added = sync_received info delay rate -ℤ (scaled_of told.origin +ℤ told.correction) +ℤ pos count.count in
-    let within = offset_is_within l.least l.most w.turnaround (clock_at w 0) (clock_at w i) (clock_at w (suc i))
-    (error_before w i) passing wait count.count passed.count info delay rate
+    let added = sync_received info delay rate -ℤ (scaled_of told.origin +ℤ told.correction) +ℤ pos count.count
+    +ℤ pos 0 in
+    let within = offset_is_within w.blur l.least l.most w.turnaround (clock_at w 0) (clock_at w i) (clock_at w (suc i))
+    (error_before w i) passing wait count.count passed.count (pos 0) info delay rate
     (over_link w phase base i told sent came rate delay on measured) (clock_counts.rate (drift_at w (suc i)) drifts)
     (omega (arith, on.long)) (omega (arith, on.short, on.long)) (omega (arith, on.long, soon)) count.counted
-    (rw parts at passed.counted) in
+    (record { low = omega (arith, ints); high = omega (arith, ints) }) (rw parts at passed.counted) in
     let sum = adds (sent_error_at w i) _ (33550000 * time_error_at w (suc i)) (scaled_of told.origin) told.correction
     added (told_at w phase on.right.ahead sent) (told_at w phase on.right.ahead now) passed.count
     (omega (arith, sent_error_is w i, error_behind w i, link_grows w i))
@@ -312,23 +316,24 @@ offset_is_right w phase base i told sent came now rate delay held on measured at
 measured_same : (w : Way) (l : WayLink) (i : ℕ) → i < length w.links →
     measured_error_at (longer w l) i ≡ measured_error_at w i
 measured_same w l i h =
-    ap (λ (k : WayLink). min (ceil_div (2202000000000 * (k.most - k.least)) w.interval) 879609302 + 3)
+    ap (λ (k : WayLink). min (ceil_div (2202000000000 * (k.most - k.least + 2 * w.blur)) w.interval) 879609302 + 3)
     (link_same w l i h)
 
 -- and so does the error of what is sent over them, and over the next one
 sent_same : (w : Way) (l : WayLink) (i : ℕ) → i ≤ length w.links → sent_error_at (longer w l) i ≡ sent_error_at w i
 sent_same w l zero h = refl
 sent_same w l (suc i) h =
-    ap (λ n. 33550000 * n + rates_error_at (longer w l) i * (w.residence + jitter_at (longer w l) i))
+    ap (λ n. 33550000 * (n + 32768 * w.blur)
+    + rates_error_at (longer w l) i * (w.residence + measured_jitter_at (longer w l) i))
     (parents_error_stays w l (suc i) h)
-    ∙ ap (λ n. 33550000 * time_error_at w (suc i) + n * (w.residence + jitter_at (longer w l) i))
-    (rates_same w l i h)
-    ∙ ap (λ (k : WayLink). 33550000 * time_error_at w (suc i) + rates_error_at w i * (w.residence + (k.most - k.least)))
-    (link_same w l i h)
+    ∙ ap (λ n. 33550000 * (time_error_at w (suc i) + 32768 * w.blur)
+    + n * (w.residence + measured_jitter_at (longer w l) i)) (rates_same w l i h)
+    ∙ ap (λ (k : WayLink). 33550000 * (time_error_at w (suc i) + 32768 * w.blur)
+    + rates_error_at w i * (w.residence + (k.most - k.least + 2 * w.blur))) (link_same w l i h)
 
 -- what passes on the link at a place and at the bridge after it
 abbrev passing_at : Way → ℕ → ℕ
-passing_at w j = 131072 * ((link_at w j).most + w.turnaround + w.residence + jitter_at w j + 1)
+passing_at w j = 131072 * (measured_most_at w j + w.turnaround + w.residence + jitter_at w j + 1)
 
 pub right_stays : RightStays
 right_stays w l phase phase' base i told sent h root right =
@@ -337,7 +342,7 @@ right_stays w l phase phase' base i told sent h root right =
     let rates = sum_same i (steady_rate_at (longer w l)) (steady_rate_at w)
     (λ j m. steady_same w l j (omega (arith, h, m))) in
     let most = total_same i (passing_at (longer w l)) (passing_at w)
-    (λ j m. ap (λ (k : WayLink). 131072 * (k.most + w.turnaround + w.residence + (k.most - k.least) + 1))
+    (λ j m. ap (λ (k : WayLink). 131072 * (k.most + w.blur + w.turnaround + w.residence + (k.most - k.least) + 1))
     (link_same w l j (omega (arith, h, m)))) in
     let small = right.small in
     record {
@@ -354,19 +359,24 @@ right_stays w l phase phase' base i told sent h root right =
 -- two exchanges over the link at a place
 measured_right : (w : Way) (phase : ℕ → ℕ) (i : ℕ) (rate delay : ℤ) → IsDocumented w → i < length w.links →
     (link_at w i).least ≤ (link_at w i).most →
+    12 * w.blur ≤ w.interval - (2 * (link_at w i).most + w.turnaround) →
     AreMeasured (link_at w i).least (link_at w i).most w.turnaround w.interval (shown_at w phase (suc i))
     (shown_at w phase i) rate delay → IsMeasuredAt w i rate delay
-measured_right w phase i rate delay k h order a =
+measured_right w phase i rate delay k h order rested a =
     let l = link_at w i in
-    let is = measurement_is_within l.least l.most w.turnaround w.interval
-    (ceil_div (2202000000000 * jitter_at w i) w.interval) (phase (suc i)) (phase i) (drift_at w (suc i)) (drift_at w i)
-    rate delay (k.drifts (suc i) h) (k.drifts i (omega (arith, h))) order k.waits k.long
-    (ceil_reaches (2202000000000 * jitter_at w i) w.interval (omega (arith, k.long))) a in
+    let first = a.earlier_carried in
+    let is = measurement_is_within w.blur 0 l.least l.most w.turnaround w.interval
+    (ceil_div (2202000000000 * measured_jitter_at w i) w.interval) (phase (suc i)) (phase i) (drift_at w (suc i))
+    (drift_at w i) rate delay (shown_at w phase (suc i)) (shown_at w phase i) (k.drifts (suc i) h)
+    (k.drifts i (omega (arith, h))) (clock_is_read w.blur 0 (phase (suc i)) (drift_at w (suc i)) (omega arith))
+    (clock_is_read w.blur 0 (phase i) (drift_at w i) (omega arith)) order k.waits k.little k.long
+    (ceil_reaches (2202000000000 * measured_jitter_at w i) w.interval (omega (arith, k.long))) a
+    (omega (arith, rested, a.apart, a.ended, first.there_short, first.home_short)) in
     let limited = bounded (shown_at w phase (suc i)) (shown_at w phase i) a in
     record {
       limited = limited;
-      rate_within = neighbours_are_near (ceil_div (2202000000000 * jitter_at w i) w.interval) rate (steady_rate_at w i)
-          limited (steady_is_limited w i) is.rate_within;
+      rate_within = neighbours_are_near (ceil_div (2202000000000 * measured_jitter_at w i) w.interval) rate
+          (steady_rate_at w i) limited (steady_is_limited w i) is.rate_within;
       delay_within = is.delay_within;
     }
   where
@@ -394,6 +404,7 @@ exchanges_measure_right k w phase i last on h =
       m,
       h.is,
       measured_right w phase i m.rate m.delay on.documented on.on_way (omega (arith, on.order, on.most))
+          (omega (arith, on.rested, on.most, on.turnaround))
           (same_exchanges l.least k.most l.most k.turnaround w.turnaround k.period w.interval k.asking_clock
           (shown_at w phase (suc i)) k.answering_clock (shown_at w phase i) m.rate m.delay (sym on.most)
           (sym on.turnaround) (sym on.period) (sym mine) (sym yours) h.exchanges),

@@ -5,7 +5,7 @@ use Rattle.std.proofs.Math.Nat.{mul-le-mul_left}
 use Rattle.gptp_scaled.specs.Rate.{FitsRate, IsNeighborRate, unit, scaled_by}
 use Rattle.gptp_scaled.specs.Counts.{IsClockRate, IsCounted}
 use Rattle.gptp_scaled.proofs.CountLemmas.{quotient_is}
-use Rattle.gptp_pdelay.specs.Measured.{IsDelayWithin}
+use Rattle.gptp_pdelay.specs.Measured.{IsDelayBelow, IsDelayWithin}
 use Rattle.gptp_correction.specs.declared.correction.Hop.{Hop}
 use Rattle.gptp_correction.specs.Correction.{link_time, passage}
 use Rattle.gptp_sync_machine.specs.RightLaws.{CorrectionsAreSmall}
@@ -24,11 +24,10 @@ pub record IsSmall (span : ℕ) (h : Hop) (rate : ℤ) : Type 0 where
   pub small : scaled_by rate (passage h) ≤ℤ pos (131072 * span)
 
 -- the time on the link is little more than the greatest delay and the turnaround
-time_small : (most turnaround up value ratio time : ℕ) → IsClockRate up → 2198583450901 ≤ ratio →
-    time * ratio ≤ value * 2199023255552 →
-    1525 * 2199023255552 * value ≤ 1525 * 65536 * most * up + 2199023255552 * (6100 + 2 * most + turnaround) →
-    time ≤ 65600 * (most + turnaround + 1)
-time_small most turnaround up value ratio time u near reached high =
+time_small : (w most turnaround up value ratio time : ℕ) → IsClockRate up → 2198583450901 ≤ ratio →
+    time * ratio ≤ value * 2199023255552 → IsDelayBelow w most turnaround up value →
+    time ≤ 65600 * (most + w + turnaround + 1)
+time_small w most turnaround up value ratio time u near reached high =
     let a : most * up ≤ most * 2199243157877 = mul-le-mul_left most (omega (arith, u.high)) in
     let b : time * 2198583450901 ≤ time * ratio = mul-le-mul_left time near in
     omega (arith, a, b, reached, high)
@@ -39,18 +38,18 @@ count_small own stay count o c =
     let a : stay * own ≤ stay * 2199243157877 = mul-le-mul_left stay (omega (arith, o.high)) in
     omega (arith, a, c.high)
 
-pub passage_small : (least most turnaround up own stay count span : ℕ) (h : Hop) (rate : ℤ) → IsClockRate up →
-    IsClockRate own → IsNeighborRate h.neighbour → IsDelayWithin least most turnaround up h.delay → FitsRate rate →
-    h.egress -ℤ h.ingress ≡ pos count → IsCounted own stay count → most + turnaround + stay + 1 ≤ span →
+pub passage_small : (w least most turnaround up own stay count span : ℕ) (h : Hop) (rate : ℤ) → IsClockRate up →
+    IsClockRate own → IsNeighborRate h.neighbour → IsDelayWithin w least most turnaround up h.delay → FitsRate rate →
+    h.egress -ℤ h.ingress ≡ pos count → IsCounted own stay count → most + w + turnaround + stay + 1 ≤ span →
     IsSmall span h rate
-passage_small least most turnaround up own stay count span h rate u o limited d fits e c room =
+passage_small w least most turnaround up own stay count span h rate u o limited d fits e c room =
     let (ratio, r) = natural (unit +ℤ h.neighbour) (omega (arith, ints, limited.low)) in
     let (after, a) = natural (unit +ℤ rate) (omega (arith, ints, fits)) in
     let near : 2198583450901 ≤ ratio = omega (arith, ints, r, limited.low) in
     let q = quotient_is (d.value * 2199023255552) ratio (omega (arith, near)) in
     let time = d.value * 2199023255552 / ratio in
     let timed = link_time_of h.delay h.neighbour d.value ratio d.is r in
-    let short = time_small most turnaround up d.value ratio time u near q.reached d.high in
+    let short = time_small w most turnaround up d.value ratio time u near q.reached d.high in
     let counted = count_small own stay count o c in
     let whole : passage h ≡ pos (time + count) = omega (arith, ints, e, timed) in
     let scaled = scaled_time rate (passage h) (time + count) after whole a in

@@ -141,14 +141,19 @@ clock_is x g steps clock t parent w phase follows (other, above, follows', way, 
     ∙ ap (λ (p : ParentLink). local_clock (x.phase p.clock) (x.drift p.clock) t) same
 
 common : (x : Parts) (g : Snapshot) (steps clock : ℕ) (w : Way) (phase : ℕ → ℕ) → IsWayTo x g steps clock w phase
-    → (w.interval ≡ x.interval) × (w.turnaround ≡ x.turnaround) × (w.residence ≡ x.residence)
-common x g zero clock w phase (distance, is, first) =
-    (ap (λ (v : Way). v.interval) is, ap (λ (v : Way). v.turnaround) is, ap (λ (v : Way). v.residence) is)
+    → (w.interval ≡ x.interval) × (w.turnaround ≡ x.turnaround) × (w.residence ≡ x.residence) × (w.blur ≡ 0)
+common x g zero clock w phase (distance, is, first) = (
+  ap (λ (v : Way). v.interval) is,
+  ap (λ (v : Way). v.turnaround) is,
+  ap (λ (v : Way). v.residence) is,
+  ap (λ (v : Way). v.blur) is,
+)
 common x g (suc steps) clock w phase (parent, above, follows, way, is, last) =
     let up = common x g steps parent.clock above phase way in (
       ap (λ (v : Way). v.interval) is ∙ up.0,
       ap (λ (v : Way). v.turnaround) is ∙ up.1,
       ap (λ (v : Way). v.residence) is ∙ up.2,
+      ap (λ (v : Way). v.blur) is ∙ up.3,
     )
 
 pub way_ends_at_parent : WayEndsAtParent
@@ -157,6 +162,7 @@ way_ends_at_parent = record { link = end_is; clock = clock_is; common = common }
 documented : (x : Parts) (g : Snapshot) (steps clock longest : ℕ) (w : Way) (phase : ℕ → ℕ) → ArePartsOf x longest
     → IsWayTo x g steps clock w phase → IsDocumented w
 documented x g zero clock longest w phase parts (distance, is, first) = subst IsDocumented (sym is) (record {
+  little = omega arith;
   long = parts.long;
   waits = parts.waits;
   drifts = drifts;
@@ -208,6 +214,7 @@ parents_are_measured x g steps clock longest parent w phase k parts follows way 
       most = m.most ∙ ap (λ (l : WayLink). l.most) (sym end);
       turnaround = m.turnaround ∙ sym all.1;
       period = m.period ∙ sym all.0;
+      rested = omega (arith, all.3);
       asking = λ t. m.asking t ∙ sym (way_leads_to.own x g (suc steps) clock t w phase way);
       answering = λ t. m.answering t ∙ sym (clock_is x g steps clock t parent w phase follows way);
     }

@@ -8,13 +8,13 @@ use Rattle.gptp_pdelay.specs.Measured.{IsDelayWithin}
 use Rattle.gptp_correction.specs.declared.correction.Relayed.{Relayed}
 use Rattle.gptp_correction.specs.declared.sync_in.SyncInfo.{SyncInfo}
 use Rattle.gptp_correction.specs.Sum.{sum_below}
-use Rattle.gptp_error_laws.specs.TimeError.{Way, clock_at, jitter_at, link_at, rates_error_at, steady_rate_at, time_error_at, total_below}
+use Rattle.gptp_error_laws.specs.TimeError.{Way, clock_at, jitter_at, link_at, measured_jitter_at, measured_most_at, rates_error_at, steady_rate_at, time_error_at, total_below}
 use Rattle.gptp_error_laws.specs.WayLaws.{shown_at}
 
 -- How near the neighbour rate of the link at a place is measured, in units of 2^-41. It is held at 200 parts in a
 -- million, and so is the one without jitter.
 abbrev pub measured_error_at : Way → ℕ → ℕ
-measured_error_at w i = min (ceil_div (2202000000000 * jitter_at w i) w.interval) 879609302 + 3
+measured_error_at w i = min (ceil_div (2202000000000 * measured_jitter_at w i) w.interval) 879609302 + 3
 
 -- What a port has measured of the link at a place is right: the neighbour rate is near that of the two clocks, and the
 -- mean link delay lies between the least and the greatest delay of the link (IEEE 802.1AS-2020, 11.2.19.3). Shown by
@@ -22,20 +22,21 @@ measured_error_at w i = min (ceil_div (2202000000000 * jitter_at w i) w.interval
 pub record IsMeasuredAt (w : Way) (i : ℕ) (rate delay : ℤ) : Type 0 where
   pub limited : IsNeighborRate rate
   pub rate_within : AreWithin (measured_error_at w i) rate (steady_rate_at w i)
-  pub delay_within : IsDelayWithin (link_at w i).least (link_at w i).most w.turnaround (clock_at w i) delay
+  pub delay_within : IsDelayWithin w.blur (link_at w i).least (link_at w i).most w.turnaround (clock_at w i) delay
 
--- The error of the time that is sent over the link at a place, in parts of 33550000 to a unit of 2^-16 ns: none at the
--- root; at a bridge its time error, and the error of the rate so far while it keeps the time.
+-- The error of the time that is sent over the link at a place, in parts of 33550000 to a unit of 2^-16 ns: half of the
+-- blur, which is that of its time stamp; at a bridge its time error too, and the error of the rate so far while it
+-- keeps the time.
 abbrev pub sent_error_at : Way → ℕ → ℕ
-sent_error_at w zero = 0
+sent_error_at w zero = 33550000 * (32768 * w.blur)
 sent_error_at w (suc i) =
-    33550000 * time_error_at w (suc i) + rates_error_at w i * (w.residence + jitter_at w i)
+    33550000 * (time_error_at w (suc i) + 32768 * w.blur) + rates_error_at w i * (w.residence + measured_jitter_at w i)
 
 -- The correction that is sent over the link at a place is at most this, in units of 2^-16 ns: a nanosecond from the
 -- root, and for each link and the bridge after it twice the time that passes there at most, with a turnaround.
 abbrev pub most_correction_at : Way → ℕ → ℕ
 most_correction_at w i = 65536
-    + total_below i (λ j. 131072 * ((link_at w j).most + w.turnaround + w.residence + jitter_at w j + 1))
+    + total_below i (λ j. 131072 * (measured_most_at w j + w.turnaround + w.residence + jitter_at w j + 1))
 
 -- what the root tells at a time: what its clock shows, and its base, by which the one is ahead of the other
 abbrev pub told_at : Way → (ℕ → ℕ) → ℤ → ℕ → ℤ

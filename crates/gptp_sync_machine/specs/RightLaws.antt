@@ -1,5 +1,5 @@
 -- Laws on what is told and known on a way, hop by hop.
-use Rattle.std.specs.Prelude.{◌≡◌, ℕ, suc, ◌+◌, ◌*◌, ◌^◌, ◌<◌, ◌≤◌, ℤ, pos, negsuc, ◌+ℤ◌, ◌-ℤ◌, Option, Some, length}
+use Rattle.std.specs.Prelude.{◌≡◌, ℕ, suc, ◌+◌, ◌-◌, ◌*◌, ◌^◌, ◌<◌, ◌≤◌, ℤ, pos, negsuc, ◌+ℤ◌, ◌-ℤ◌, Option, Some, length}
 use Rattle.std.specs.Int.{int_max, int_min}
 use Rattle.gptp_scaled.specs.Rate.{FitsRate, IsNeighborRate}
 use Rattle.gptp_scaled.specs.Stamp.{Timestamp, IsSplit}
@@ -28,7 +28,7 @@ WaysAreModest = (w : Way) (i : ℕ) → IsDocumented w → i ≤ length w.links 
 -- where no link takes longer than a delay, corrections are no larger than that of so many links of it
 abbrev pub CorrectionsAreSmall : Type 0
 CorrectionsAreSmall = (w : Way) (longest i : ℕ) → ((j : ℕ) → j < i → (link_at w j).most ≤ longest)
-    → most_correction_at w i ≤ 65536 + i * (131072 * (2 * longest + w.turnaround + w.residence + 1))
+    → most_correction_at w i ≤ 65536 + i * (131072 * (2 * longest + w.blur + w.turnaround + w.residence + 1))
 
 -- The rate whose sum with the neighbour rate is the nearest number of 32 bits to that of the rate that was told is such
 -- a rate; and so is the rate that was told, where that sum has 32 bits.
@@ -95,7 +95,8 @@ RightStays = (w : Way) (l : WayLink) (phase phase' : ℕ → ℕ) (base : Option
     → i ≤ length w.links → phase' 0 ≡ phase 0 → FollowUpIsRight w phase base i told sent
     → FollowUpIsRight (longer w l) phase' base i told sent
 
--- A port measures the link at a place: delays, parameters and clocks are those of the way.
+-- A port measures the link at a place: delays, parameters and clocks are those of the way. An exchange leaves 12 times
+-- the blur to the next, where there is a blur.
 pub record MeasuresOnWay (k : Setting) (w : Way) (phase : ℕ → ℕ) (i : ℕ) : Type 0 where
   pub documented : IsDocumented w
   pub on_way : i < length w.links
@@ -103,6 +104,7 @@ pub record MeasuresOnWay (k : Setting) (w : Way) (phase : ℕ → ℕ) (i : ℕ)
   pub most : k.most ≡ (link_at w i).most
   pub turnaround : k.turnaround ≡ w.turnaround
   pub period : k.period ≡ w.interval
+  pub rested : 12 * w.blur ≤ w.interval - (2 * k.most + k.turnaround)
   pub asking : (t : ℕ) → k.asking_clock t ≡ shown_at w phase (suc i) t
   pub answering : (t : ℕ) → k.answering_clock t ≡ shown_at w phase i t
 

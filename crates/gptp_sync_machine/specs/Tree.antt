@@ -18,11 +18,12 @@ pub record Parts : Type 0 where
   pub turnaround : ℕ
   pub residence : ℕ
 
--- the way to a root: no link
+-- the way to a root: no link; clocks are read as they are
 abbrev pub tree_root_way : Parts → ℕ → Way
 tree_root_way x clock = record {
   drift = x.drift clock;
   links = [];
+  blur = 0;
   interval = x.interval;
   turnaround = x.turnaround;
   residence = x.residence;

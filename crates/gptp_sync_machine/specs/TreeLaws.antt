@@ -47,7 +47,7 @@ pub record WayEndsAtParent : Type 0 where
       → shown_at w phase steps t ≡ local_clock (x.phase parent.clock) (x.drift parent.clock) t
   pub common : (x : Parts) (g : Snapshot) (steps clock : ℕ) (w : Way) (phase : ℕ → ℕ)
       → IsWayTo x g steps clock w phase
-      → (w.interval ≡ x.interval) × (w.turnaround ≡ x.turnaround) × (w.residence ≡ x.residence)
+      → (w.interval ≡ x.interval) × (w.turnaround ≡ x.turnaround) × (w.residence ≡ x.residence) × (w.blur ≡ 0)
 
 -- the numbers of the parts are those of a document, and no link takes longer than this
 pub record ArePartsOf (x : Parts) (longest : ℕ) : Type 0 where

@@ -16,6 +16,7 @@ use Rattle.gptp_pdelay.specs.declared.exchange.Measurement.{Measurement}
 use Rattle.gptp_system.specs.declared.port.Port.{Port}
 use Rattle.gptp_system.specs.declared.sending.Sending.{Sending}
 use Rattle.gptp_system.specs.declared.state.State.{State}
+use Rattle.gptp_setup.specs.declared.limits.TheConstants.{MOST_PORTS}
 use Rattle.gptp_setup.specs.Intervals.{IsLog}
 use Rattle.gptp_system.specs.Measuring.{down, held_if, held_turned, is_turned, settled, SettlesIf, silenced, turned, Turns, TurnsIf}
 use Rattle.gptp_system.specs.Ready.{IsReady, state_of}
@@ -34,7 +35,7 @@ flags-length now s s' sends selects = length-each_from (is_fresh selects.vector 
 
 -- it sends at most once on a port
 pub selects_few : (now : ℕ) (s s' : SystemState) (sends : List Sending) → IsReady s → Selects now s s' sends
-    → length sends ≤ 16
+    → length sends ≤ MOST_PORTS
 selects_few now s s' sends ready selects =
     let v = selects.vector in
     let most = length-announcements (clock s) v.root v.steps 1 (fresh_ports v s) s.ports in

@@ -26,6 +26,7 @@ use Rattle.gptp_setup.specs.declared.setup.Setup.{Setup}
 use Rattle.gptp_system.specs.Start.{new_ports, started}
 use Rattle.gptp_system.specs.declared.port.Port.{Port}
 use Rattle.gptp_system.specs.declared.sending.Sending.{Sending}
+use Rattle.gptp_setup.specs.declared.limits.TheConstants.{MOST_PORTS}
 use Rattle.gptp_setup.specs.Intervals.{AreIntervals, AreParams, interval_of, IsLogUpTo, IsMoment}
 use Rattle.gptp_receipt.specs.Span.{span_of}
 use Rattle.gptp_system.specs.Announcing.{aged_by}
@@ -267,7 +268,7 @@ disabled_placed : (q a n : ℕ) → ArePlaced q (map (λ p. helds.Disabled) (ran
 disabled_placed q a zero = tt
 disabled_placed q a (suc n) = ((λ r none. absurd cc), disabled_placed (q + 1) (a + 1) n)
 
-pub started_ready : (setup : Setup) (now : ℕ) → setup.ports ≤ 16 → AreParams setup.params → AreIntervals setup
+pub started_ready : (setup : Setup) (now : ℕ) → setup.ports ≤ MOST_PORTS → AreParams setup.params → AreIntervals setup
     → setup.phase ≤ 1000000000000000000 → IsDrift setup.drift
     → IsReady (started setup now)
 started_ready setup now few params intervals phase drift =

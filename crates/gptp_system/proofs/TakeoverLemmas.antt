@@ -5,7 +5,7 @@ use Rattle.std.proofs.lemmas.Bool.Decides.{nat_tests}
 use Rattle.gptp_scaled.specs.Rate.{unit}
 use Rattle.gptp_scaled.specs.Stamp.{FitsStamp}
 use Rattle.gptp_pdelay.specs.Clock.{IsDrift, drift_limit, local_clock}
-use Rattle.gptp_pdelay.proofs.ClockLemmas.{clock_elapses, clock_shows_time}
+use Rattle.gptp_pdelay.proofs.ClockLemmas.{clock_elapses, clock_is_read, clock_shows_time}
 use Rattle.gptp_setup.specs.Intervals.{interval_of, IsMoment}
 use Rattle.gptp_system.specs.Ready.{IsReady}
 use Rattle.gptp_system.specs.State.{SystemState, local_time}
@@ -24,7 +24,8 @@ clock_rises phase drift t u d later =
     let e : t + (u - t) ≡ u = omega arith in
     subst (λ x. local_clock phase drift t ≤ℤ local_clock phase drift x) e
     (passes (local_clock phase drift t) (local_clock phase drift (t + (u - t))) (u - t)
-    (clock_elapses phase drift t (u - t) d).low)
+    (clock_elapses 0 0 phase drift (local_clock phase drift) t (u - t) d
+    (clock_is_read 0 0 phase drift (omega arith))).low)
 
 pub time_rises : (s : SystemState) (t u : ℕ) → IsReady s → t ≤ u → local_time s t ≤ℤ local_time s u
 time_rises s t u ready later = clock_rises s.phase s.drift t u ready.drift later

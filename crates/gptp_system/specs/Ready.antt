@@ -10,6 +10,7 @@ use Rattle.gptp_pdelay.specs.declared.answer.Answer.{Answer}
 use Rattle.gptp_pdelay.specs.Clock.{IsTime, IsDrift}
 use Rattle.gptp_system.specs.declared.port.Port.{Port}
 use Rattle.gptp_system.specs.declared.state.State.{State}
+use Rattle.gptp_setup.specs.declared.limits.TheConstants.{MOST_PORTS}
 use Rattle.gptp_setup.specs.Intervals.{AreParams, IsLog, IsMoment}
 use Rattle.gptp_system.specs.State.{SystemState}
 use Rattle.gptp_system.specs.Takeover.{time_limit, told_time}
@@ -54,7 +55,7 @@ pub record IsReady (s : SystemState) : Type 0 where
   pub phase : s.phase ≤ 1000000000000000000
   pub drift : IsDrift s.drift
   pub places : length s.held ≡ length s.ports
-  pub few : length s.ports ≤ 16
+  pub few : length s.ports ≤ MOST_PORTS
   pub placed : ArePlaced 1 s.held
   pub recent : AllByRecursion IsRecent s.held
   pub ports : AllByRecursion IsReadyPort s.ports

@@ -6,6 +6,7 @@ ghost use Rattle.std.specs.List.{AllByRecursion};
 ghost use Rattle.gptp_receipt.specs.Held.{comparison, held_after, reception};
 ghost use Rattle.gptp_receipt.specs.Qualification.{Qualified};
 ghost use Rattle.gptp_system.specs.Announcing.{aged_by, answer_to_heard, answer_to_why, replaces_held, SaysAgain};
+ghost use Rattle.gptp_setup.specs.declared.limits.TheConstants.{MOST_PORTS};
 ghost use Rattle.gptp_setup.specs.Intervals.{AreParams, IsLog, IsMoment};
 ghost use Rattle.gptp_system.specs.Ready.{IsReadyPort, IsRecent};
 ghost use Rattle.gptp_system.specs.Selection.{announced_again};
@@ -130,7 +131,7 @@ fn announce_at(
 )
     requires least { 1 ≤ own.port }
     requires most { own.port ≤ length ports.old }
-    requires few { length ports.old ≤ 16 }
+    requires few { length ports.old ≤ MOST_PORTS }
     requires ports { AllByRecursion IsReadyPort ports.old }
     requires moment { IsMoment now }
     requires empty { outbox.old.items ≡ [] }

@@ -184,7 +184,9 @@ fn split(time: ScaledNs) -> (Stamp, u16)
 impl State {
     ghost use Rattle.std.specs.Prelude.{◌≡◌, ◌≤◌, ◌<◌, length, []};
     ghost use Rattle.arrayvec.specs.ArrayVec.{array_vec_len};
+    ghost use Rattle.gptp_setup.specs.declared.limits.TheConstants.{MOST_PORTS};
     ghost use Rattle.gptp_setup.specs.Intervals.{IsMoment};
+    ghost use Rattle.gptp_system.specs.declared.sending.TheConstants.{MOST_SENDS};
     ghost use Rattle.gptp_system.specs.Measuring.{ComesUp, GoesDown, PdelayExpires, RespondExpires, Responds, HearsRequest, HearsResponse, HearsResponseFollowUp, SettlesIf, port_asks, is_turned, request_of};
     ghost use Rattle.gptp_system.specs.Reach.{stops_at};
     ghost use Rattle.gptp_system.specs.Ready.{IsReady, state_of};
@@ -199,7 +201,7 @@ impl State {
         requires most { port ≤ length (state_of self.old).ports }
         requires empty { outbox.old.items ≡ [] }
         ensures settled { SettlesIf changed port now (state_of self.old) (state_of self.new) outbox.new.items }
-        ensures few { array_vec_len outbox.new ≤ 16 }
+        ensures few { array_vec_len outbox.new ≤ MOST_PORTS }
         ensures places { length (state_of self.new).ports ≡ length (state_of self.old).ports }
         ensures ready { IsReady (state_of self.new) }
     {
@@ -220,7 +222,7 @@ impl State {
         requires moment { IsMoment now }
         requires least { 1 ≤ port }
         requires most { port ≤ length (state_of self.old).ports }
-        requires room { array_vec_len outbox.old < 64 }
+        requires room { array_vec_len outbox.old < MOST_SENDS }
         ensures state { state_of self.new ≡ port_asks port now (state_of self.old) }
         ensures sends { outbox.new.items ≡ with_send (request_of port (state_of self.old)) outbox.old.items }
         ensures ready { IsReady (state_of self.new) }

@@ -3,7 +3,9 @@
 ghost use Rattle.std.specs.Prelude.{◌≡◌, ◌==◌, ◌&&◌, ◌+◌, ◌*◌, ◌<◌, ◌≤◌, ◌++◌, ◌∷◌, [], length, if◌then◌else◌};
 ghost use Rattle.std.specs.List.{AllByRecursion};
 ghost use Rattle.arrayvec.specs.ArrayVec.{array_vec_len};
+ghost use Rattle.gptp_setup.specs.declared.limits.TheConstants.{MOST_PORTS};
 ghost use Rattle.gptp_setup.specs.Intervals.{IsLog, IsMoment};
+ghost use Rattle.gptp_system.specs.declared.sending.TheConstants.{MOST_SENDS};
 ghost use Rattle.gptp_system.specs.Ready.{IsReadyPort};
 ghost use Rattle.gptp_system.specs.Selection.{all_announced, announced_again, announcements, kept_if, same_number};
 ghost use Rattle.gptp_system.specs.Sends.{announcement};
@@ -59,7 +61,7 @@ pub(crate) fn announce(
     requires log { IsLog port.old.log_interval }
     requires number { own.port ≤ 255 }
     requires moment { IsMoment now }
-    requires room { array_vec_len outbox.old < 64 }
+    requires room { array_vec_len outbox.old < MOST_SENDS }
     ensures port { port.new ≡ announced_again now port.old }
     ensures sends { outbox.new.items ≡ outbox.old.items ++ announcement own root steps port.old ∷ [] }
 {
@@ -81,7 +83,7 @@ fn announce_if(
     requires log { IsLog port.old.log_interval }
     requires number { own.port ≤ 255 }
     requires moment { IsMoment now }
-    requires room { array_vec_len outbox.old < 64 }
+    requires room { array_vec_len outbox.old < MOST_SENDS }
     ensures port { port.new ≡ (if fresh then announced_again now port.old else port.old) }
     ensures sends { outbox.new.items ≡ outbox.old.items
         ++ (if fresh then announcement own root steps port.old ∷ [] else []) }
@@ -102,7 +104,7 @@ fn announce_fresh(
     outbox: &mut Outbox,
 )
     requires flags { length fresh.now ≡ length ports.old }
-    requires few { length ports.old ≤ 16 }
+    requires few { length ports.old ≤ MOST_PORTS }
     requires ports { AllByRecursion IsReadyPort ports.old }
     requires moment { IsMoment now }
     requires empty { outbox.old.items ≡ [] }

@@ -9,6 +9,7 @@ ghost use Rattle.gptp_system.specs.Sends.{with_send};
 use arrayvec::ArrayVec;
 use gptp_messages::{AnnounceBody, Head};
 use gptp_scaled::{Rate, Stamp};
+use gptp_setup::MOST_PORTS;
 use gptp_vector::PortId;
 
 /// A message that a port sends: its header, and what comes after it.
@@ -55,14 +56,17 @@ pub enum Body {
     },
 }
 
+/// The most sends of one call: four for each port.
+pub const MOST_SENDS: usize = 4 * MOST_PORTS;
+
 /// What one call sends, by rising port: on one port an Announce first, each Sync directly before its Follow_Up, each
 /// Pdelay_Resp directly before its Pdelay_Resp_Follow_Up, and a Pdelay_Req last.
-pub type Outbox = ArrayVec<Sending, 64>;
+pub type Outbox = ArrayVec<Sending, MOST_SENDS>;
 
 /// Puts one more send after the others. (Its parts are named since the borrow checker finds the type of a body only
 /// where a function names one.)
 pub(crate) fn push(outbox: &mut Outbox, sending: Sending)
-    requires { array_vec_len outbox.old < 64 }
+    requires { array_vec_len outbox.old < MOST_SENDS }
     ensures { outbox.new.items ≡ outbox.old.items ++ sending ∷ [] }
 {
     let Sending { port, head, body } = sending;
@@ -78,7 +82,7 @@ fn sends_up_to(port: u8, sends: &[Sending]) -> usize
 
 /// Puts one more send after those of its own port and the lower ones.
 pub(crate) fn insert(outbox: &mut Outbox, sending: Sending)
-    requires { array_vec_len outbox.old < 64 }
+    requires { array_vec_len outbox.old < MOST_SENDS }
     ensures { outbox.new.items ≡ with_send sending outbox.old.items }
 {
     let place = sends_up_to(sending.port, outbox.as_slice());

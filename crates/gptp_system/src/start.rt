@@ -10,7 +10,7 @@ use gptp_correction::SyncIn;
 use gptp_pdelay::Peer;
 use gptp_receipt::Held;
 use gptp_scaled::ScaledNs;
-use gptp_setup::{Params, Setup, interval_of};
+use gptp_setup::{MOST_PORTS, Params, Setup, interval_of};
 use gptp_vector::{ClockId, PortId};
 
 /// A port that announces at this interval, has measured and sent nothing, and whose link is down.
@@ -29,8 +29,8 @@ fn new_port(own: PortId, params: &Params, log_interval: i8) -> Port
 }
 
 /// The ports of a new system, which announce at these intervals.
-fn new_ports(clock: ClockId, params: &Params, intervals: &[i8]) -> ArrayVec<Port, 16>
-    requires { length intervals.now ≤ 16 }
+fn new_ports(clock: ClockId, params: &Params, intervals: &[i8]) -> ArrayVec<Port, MOST_PORTS>
+    requires { length intervals.now ≤ MOST_PORTS }
     ensures { result.items ≡ new_ports clock params.now 1 intervals.now }
 {
     let mut ports = ArrayVec::new();
@@ -45,8 +45,8 @@ fn new_ports(clock: ClockId, params: &Params, intervals: &[i8]) -> ArrayVec<Port
 }
 
 /// What that many ports of a new system hold.
-fn all_disabled(count: usize) -> ArrayVec<Held, 16>
-    requires { count ≤ 16 }
+fn all_disabled(count: usize) -> ArrayVec<Held, MOST_PORTS>
+    requires { count ≤ MOST_PORTS }
     ensures { result.items ≡ all_disabled count }
 {
     let mut held = ArrayVec::new();
@@ -59,13 +59,14 @@ fn all_disabled(count: usize) -> ArrayVec<Held, 16>
 impl State {
     ghost use Rattle.std.specs.Prelude.{◌≡◌, ◌≤◌};
     ghost use Rattle.gptp_pdelay.specs.Clock.{IsDrift};
+    ghost use Rattle.gptp_setup.specs.declared.limits.TheConstants.{MOST_PORTS};
     ghost use Rattle.gptp_setup.specs.Intervals.{AreIntervals, AreParams, IsMoment};
     ghost use Rattle.gptp_system.specs.Ready.{IsReady, state_of};
     ghost use Rattle.gptp_system.specs.Start.{started};
 
     /// A system as it starts at `now`: its own root, with all ports Disabled.
     pub(crate) fn new(setup: Setup, now: u64) -> State
-        requires ports { setup.ports ≤ 16 }
+        requires ports { setup.ports ≤ MOST_PORTS }
         requires params { AreParams setup.params }
         requires intervals { AreIntervals setup }
         requires phase { setup.phase ≤ 1000000000000000000 }

@@ -8,7 +8,7 @@ use arrayvec::ArrayVec;
 use gptp_correction::{SyncIn, SyncInfo};
 use gptp_receipt::Held;
 use gptp_scaled::ScaledNs;
-use gptp_setup::Params;
+use gptp_setup::{MOST_PORTS, Params};
 use gptp_vector::Identity;
 
 /// What a system keeps. Port i stands at place i - 1 of `held` and of `ports`.
@@ -31,13 +31,13 @@ pub struct State {
     pub(crate) sync: u64,
     pub(crate) relay: Option<u64>,
     pub(crate) lapse: Option<u64>,
-    pub(crate) ports: ArrayVec<Port, 16>,
-    pub(crate) held: ArrayVec<Held, 16>,
+    pub(crate) ports: ArrayVec<Port, MOST_PORTS>,
+    pub(crate) held: ArrayVec<Held, MOST_PORTS>,
 }
 
 /// A copy of what the ports hold.
-fn copy_held(held: &[Held]) -> ArrayVec<Held, 16>
-    requires { length held.now ≤ 16 }
+fn copy_held(held: &[Held]) -> ArrayVec<Held, MOST_PORTS>
+    requires { length held.now ≤ MOST_PORTS }
     ensures { result.items ≡ held.now }
 {
     let mut copies = ArrayVec::new();
@@ -48,8 +48,8 @@ fn copy_held(held: &[Held]) -> ArrayVec<Held, 16>
 }
 
 /// A copy of the ports.
-fn copy_ports(ports: &[Port]) -> ArrayVec<Port, 16>
-    requires { length ports.now ≤ 16 }
+fn copy_ports(ports: &[Port]) -> ArrayVec<Port, MOST_PORTS>
+    requires { length ports.now ≤ MOST_PORTS }
     ensures { result.items ≡ ports.now }
 {
     let mut copies = ArrayVec::new();

@@ -1,12 +1,14 @@
 //! Time: what a Sync, a Follow_Up and the timers of both make of a system.
 
-ghost use Rattle.std.specs.Prelude.{◌≡◌, ◌==◌, ◌&&◌, ◌/◌, ◌<◌, ◌≤◌, ◌++◌, ◌∷◌, [], None, length, pos, if◌then◌else◌, OkIff};
+ghost use Rattle.std.specs.Prelude.{◌≡◌, ◌==◌, ◌&&◌, ◌+◌, ◌/◌, ◌<◌, ◌≤◌, ◌++◌, ◌∷◌, [], None, length, pos, if◌then◌else◌, OkIff};
 ghost use Rattle.std.specs.Option.{option_copied, option_map_or};
 ghost use Rattle.arrayvec.specs.ArrayVec.{array_vec_len};
 ghost use Rattle.gptp_correction.specs.Correction.{held_sum};
 ghost use Rattle.gptp_correction.specs.SyncIn.{information};
 ghost use Rattle.gptp_pdelay.specs.Peer.{delay_of, rate_of_peer};
 ghost use Rattle.gptp_scaled.specs.Stamp.{FitsStamp};
+ghost use Rattle.gptp_setup.specs.declared.limits.TheConstants.{MOST_PORTS};
+ghost use Rattle.gptp_system.specs.declared.sending.TheConstants.{MOST_SENDS};
 ghost use Rattle.gptp_system.specs.declared.port.Port.{Port};
 ghost use Rattle.gptp_system.specs.State.{can_lead, is_mine, number};
 ghost use Rattle.gptp_system.specs.Syncing.{as_received, came_from, counted_by_rates, counting, follow_up_of, offset_of, reads_with, sync_of, syncs, IsOffset, IsOwnTime, OffsetFits};
@@ -65,7 +67,7 @@ fn follow_up_of(own: PortId, log_interval: i8, told: &Relayed, port: &Port) -> S
 /// A port sends a Sync.
 fn send_sync(port: &Port, own: PortId, log_interval: i8, outbox: &mut Outbox)
     requires number { own.port ≤ 255 }
-    requires room { array_vec_len outbox.old < 64 }
+    requires room { array_vec_len outbox.old < MOST_SENDS }
     ensures { outbox.new.items ≡ outbox.old.items ++ sync_of own log_interval port.now ∷ [] }
 {
     push(outbox, sync_of(own, log_interval, port));
@@ -74,7 +76,7 @@ fn send_sync(port: &Port, own: PortId, log_interval: i8, outbox: &mut Outbox)
 /// A port sends the Follow_Up of its Sync, with what is told.
 fn send_follow_up(port: &Port, own: PortId, log_interval: i8, told: &Relayed, outbox: &mut Outbox)
     requires number { own.port ≤ 255 }
-    requires room { array_vec_len outbox.old < 64 }
+    requires room { array_vec_len outbox.old < MOST_SENDS }
     ensures { outbox.new.items ≡ outbox.old.items ++ follow_up_of own log_interval told.now port.now ∷ [] }
 {
     push(outbox, follow_up_of(own, log_interval, told, port));
@@ -84,7 +86,7 @@ fn send_follow_up(port: &Port, own: PortId, log_interval: i8, told: &Relayed, ou
 /// lets a struct be passed by value once.)
 fn tell(port: &mut Port, own: PortId, log_interval: i8, told: &Relayed, outbox: &mut Outbox)
     requires number { own.port ≤ 255 }
-    requires room { array_vec_len outbox.old < 63 }
+    requires room { array_vec_len outbox.old + 1 < MOST_SENDS }
     ensures port { port.new ≡ counting port.old }
     ensures sends { outbox.new.items ≡ outbox.old.items
         ++ sync_of own log_interval port.old ∷ follow_up_of own log_interval told.now port.old ∷ [] }
@@ -105,7 +107,7 @@ fn tell_if(
     outbox: &mut Outbox,
 )
     requires number { own.port ≤ 255 }
-    requires room { array_vec_len outbox.old < 63 }
+    requires room { array_vec_len outbox.old + 1 < MOST_SENDS }
     ensures port { port.new ≡ (if is_mine held.now then counting port.old else port.old) }
     ensures sends { outbox.new.items ≡ outbox.old.items
         ++ (if is_mine held.now then sync_of own log_interval port.old ∷ follow_up_of own log_interval told.now port.old ∷ [] else []) }
@@ -126,7 +128,7 @@ fn tell_all(
     outbox: &mut Outbox,
 )
     requires places { length held.now ≡ length ports.old }
-    requires few { length ports.old ≤ 16 }
+    requires few { length ports.old ≤ MOST_PORTS }
     requires empty { outbox.old.items ≡ [] }
     ensures ports { ports.new ≡ counted_by_rates held.now ports.old }
     ensures sends { outbox.new.items ≡ syncs clock log_interval told.now 1 held.now ports.old }

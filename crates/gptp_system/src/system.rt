@@ -37,6 +37,7 @@ impl System {
     ghost use Rattle.gptp_pdelay.specs.Clock.{IsDrift};
     ghost use Rattle.gptp_system.specs.Announcing.{ChangesPriority};
     ghost use Rattle.gptp_system.specs.Input.{given, IsTimely, Steps};
+    ghost use Rattle.gptp_setup.specs.declared.limits.TheConstants.{MOST_PORTS};
     ghost use Rattle.gptp_setup.specs.Intervals.{AreIntervals, AreParams, IsMoment};
     ghost use Rattle.gptp_system.specs.Measuring.{ComesUp, GoesDown};
     ghost use Rattle.std.specs.Option.{option_and_then};
@@ -52,7 +53,7 @@ impl System {
     /// A system as it starts at `now`, in ns: its own root, with all ports Disabled until their links come up, each of
     /// which announces at its own interval. The setup keeps its limits.
     pub fn new(setup: Setup, now: u64) -> System
-        requires ports { setup.ports ≤ 16 }
+        requires ports { setup.ports ≤ MOST_PORTS }
         requires params { AreParams setup.params }
         requires intervals { AreIntervals setup }
         requires phase { setup.phase ≤ 1000000000000000000 }
@@ -161,16 +162,16 @@ impl System {
         self.state.offset
     }
 
-    /// What it reads of the root's time by the Follow_Up that it used last, where an offset is known. It is read so from
-    /// that Follow_Up on until the next one is used.
+    /// What it reads of the root's time by the Follow_Up that it used last, where an offset is known. It is read so
+    /// from that Follow_Up on until the next one is used.
     pub fn held_reading(&self) -> Option<Reading>
         ensures { result ≡ held_reading self.now }
     {
         self.state.held_reading()
     }
 
-    /// What it reads time by: the Follow_Up that it used last, whatever became of its root since, or its own clock where
-    /// it took over. None from each start to the first of both.
+    /// What it reads time by: the Follow_Up that it used last, whatever became of its root since, or its own clock
+    /// where it took over. None from each start to the first of both.
     pub fn reads(&self) -> Option<TimeRead>
         ensures { result ≡ self.now.reads }
     {
@@ -210,7 +211,7 @@ impl System {
         self.state.trace_parts()
     }
 
-    /// How many ports the system has, at most 16.
+    /// How many ports the system has, at most [`MOST_PORTS`](gptp_setup::MOST_PORTS).
     pub fn ports(&self) -> u8
         ensures { result ≡ length self.now.ports }
     {

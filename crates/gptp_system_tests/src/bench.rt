@@ -9,6 +9,7 @@ use crate::same::same_at;
 use arrayvec::ArrayVec;
 use gptp_messages::{FollowUp, Message, PdelayResp, PdelayRespFollowUp, encode, encode_announce};
 use gptp_samples::identity;
+use gptp_setup::{LAST_MOMENT, MOST_PORTS};
 use gptp_system::{Answer, Body, Outbox, Params, Sending, Setup, System, Timer};
 use std::alloc::{AllocError, Global};
 use std::process::Abort;
@@ -25,10 +26,10 @@ pub const DEFAULTS: Params = Params {
     turnaround: 1_000,
     residence: 1_000,
     sync_timeout: 0,
+    granularity: 0,
+    noise: 0,
+    window: 1,
 };
-
-/// The last moment of a simulation.
-const LAST: u64 = 1_000_000_000_000_000;
 
 /// What a system gets.
 #[derive(Clone, Copy, Debug, PartialEq, Eq)]
@@ -71,8 +72,8 @@ impl Kind {
 }
 
 /// The default announce interval for each of so many ports.
-fn alike(ports: u8) -> ArrayVec<i8, 16>
-    requires { ports ≤ 16 }
+fn alike(ports: u8) -> ArrayVec<i8, MOST_PORTS>
+    requires { ports ≤ MOST_PORTS }
     ensures many { length result.items ≡ ports }
     ensures each { AllByRecursion (IsLogUpTo (pos 0)) result.items }
 {
@@ -85,7 +86,7 @@ fn alike(ports: u8) -> ArrayVec<i8, 16>
 
 /// A system that starts at 0, of a clock with all defaults but these.
 pub fn started(clock: u64, ports: u8, phase: u64, lost: u8) -> Result<System, Fail> {
-    if ports > 16 || phase > 1_000_000_000 || lost == 0 {
+    if usize::from(ports) > MOST_PORTS || phase > 1_000_000_000 || lost == 0 {
         return Err(Fail::from("no such system"));
     }
     let setup = Setup {
@@ -138,7 +139,7 @@ pub fn hear(
 ) -> Result<Answer, Fail>
     requires { outbox.old.items ≡ [] }
 {
-    if now > LAST || !has_port(system, port) || system.due(Timer::Pdelay(port)).is_none() {
+    if now > LAST_MOMENT || !has_port(system, port) || system.due(Timer::Pdelay(port)).is_none() {
         return Err(Fail::from("the link isn't up"));
     }
     Ok(system.on_frame(port, frame, now, outbox))
@@ -148,7 +149,7 @@ pub fn hear(
 pub fn expire(system: &mut System, timer: Timer, now: u64, outbox: &mut Outbox) -> Result<(), Fail>
     requires { outbox.old.items ≡ [] }
 {
-    if now > LAST || !has_timer(system, timer) {
+    if now > LAST_MOMENT || !has_timer(system, timer) {
         return Err(Fail::from("no such timer"));
     }
     match system.due(timer) {
@@ -174,15 +175,15 @@ fn give(
             expire(system, timer, now, &mut outbox)?;
             None
         }
-        Step::Up(port) if now <= LAST && has_port(system, port) => {
+        Step::Up(port) if now <= LAST_MOMENT && has_port(system, port) => {
             system.port_up(port, now, &mut outbox);
             None
         }
-        Step::Down(port) if now <= LAST && has_port(system, port) => {
+        Step::Down(port) if now <= LAST_MOMENT && has_port(system, port) => {
             system.port_down(port, now, &mut outbox);
             None
         }
-        Step::Priority(value) if now <= LAST => {
+        Step::Priority(value) if now <= LAST_MOMENT => {
             system.set_priority(value, now, &mut outbox);
             None
         }

@@ -5,6 +5,7 @@ ghost use Rattle.gptp_links.specs.Bounds.{Fit};
 
 use crate::same::{same, same_at};
 use gptp_links::{Bounds, Direction, Fate, Link, ListFate, NotDue, PcgFate, draws_join};
+use gptp_setup::LAST_MOMENT;
 use std::alloc::Global;
 use std::process::Abort;
 use std::test::Fail;
@@ -12,9 +13,6 @@ use std::test::Fail;
 const A: Direction = Direction::FromA;
 
 const B: Direction = Direction::FromB;
-
-/// The last moment of a simulation.
-const LAST: u64 = 1_000_000_000_000_000;
 
 /// What is done with a link, and what is wanted of it then. Times are in ns.
 #[derive(Clone, Copy, Debug)]
@@ -64,7 +62,7 @@ fn take(
     step: &Step,
 ) -> Result<(), Fail> {
     match *step {
-        Step::Sends(direction, octets, now, want) if link.is_up() && now <= LAST => {
+        Step::Sends(direction, octets, now, want) if link.is_up() && now <= LAST_MOMENT => {
             let frame = octets.to_vec(alloc)?;
             same_at(rt, step, link.send(direction, frame, now, fate)?, want);
         }

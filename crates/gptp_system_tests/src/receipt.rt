@@ -4,6 +4,7 @@ use crate::frames::read;
 use crate::same::{same, same_at};
 use gptp_receipt::{Heard, Held, Reception, Why, age, due, hear, qualify, span_of};
 use gptp_samples::{FIRST_ANNOUNCE, frame, identity, port, trace};
+use gptp_setup::LAST_MOMENT;
 use gptp_vector::{ClockId, Full, Identity, PortId, Trace, Vector};
 use std::process::Abort;
 use std::test::Fail;
@@ -37,7 +38,7 @@ fn heard(rt: &impl Abort, held: &mut Held, frame: &[u8], now: u64) -> Heard {
 /// When what the port holds is too old.
 fn end_of(rt: &impl Abort, held: &Held) -> Option<u64> {
     if let Held::Received(reception) = held {
-        assert!(rt; reception.at <= 1_000_000_000_000_000);
+        assert!(rt; reception.at <= LAST_MOMENT);
     }
     due(held, SPAN)
 }
@@ -45,7 +46,7 @@ fn end_of(rt: &impl Abort, held: &Held) -> Option<u64> {
 /// Whether what the port holds is dropped as too old.
 fn drops(rt: &impl Abort, held: &mut Held, now: u64) -> bool {
     if let Held::Received(reception) = held {
-        assert!(rt; reception.at <= 1_000_000_000_000_000);
+        assert!(rt; reception.at <= LAST_MOMENT);
     }
     age(held, SPAN, now)
 }

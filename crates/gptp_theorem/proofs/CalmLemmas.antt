@@ -5,6 +5,8 @@ use Rattle.std.specs.List.{All, cons_option, filter_map}
 use Rattle.std.proofs.lemmas.List.Recursion.{is_count_by}
 use Rattle.std.proofs.lemmas.Option.{get_or_from_slice_get, slice_get_within}
 use Rattle.gptp_roles.specs.Selection.{clock_of}
+use Rattle.gptp_setup.specs.Stamping.{blur_of}
+use Rattle.gptp_pdelay.proofs.GoodLinkLemmas.{good_without}
 use Rattle.gptp_scenario.specs.declared.change.Timed.{Timed}
 use Rattle.gptp_scenario.specs.declared.network.SystemSpec.{SystemSpec}
 use Rattle.gptp_scenario.specs.declared.network.LinkSpec.{LinkSpec}
@@ -114,8 +116,11 @@ quiet_link n events w so calm link channel here used =
       a = subst (λ (x : LinkSpec). IsLive n.systems events x.a.clock) (sym is) a;
       b = subst (λ (x : LinkSpec). IsLive n.systems events x.b.clock) (sym is) b;
     }) in
-    let same = subst (IsQuiet n.params.turnaround n.params.threshold) is quiet in
-    record { lossless = same.lossless; good = same.good }
+    let same = subst (IsQuiet n.params) is quiet in
+    record {
+      lossless = same.lossless;
+      good = good_without (blur_of n.params) channel.bounds.max n.params.turnaround n.params.threshold same.good;
+    }
 
 pub quiet_stands : (n : NetworkState) (events : List Timed) (w : WorldState) → IsNetwork n → StandsAsPlanned n events w
     → IsSound w → IsCalm n events

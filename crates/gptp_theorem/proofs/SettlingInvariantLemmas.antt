@@ -1,9 +1,9 @@
 -- The world that a document leads to keeps what every world keeps.
-use Rattle.std.proofs.Common.{◌≡◌, ◌≤◌, ◌+◌, ℕ, zero, suc, Bool, true, false, cond, List, [], ◌∷◌, Option, Some, nat_le, slice_get, refl, sym, subst, arith}
+use Rattle.std.proofs.Common.{◌≡◌, ◌+◌, ℕ, zero, suc, Bool, true, false, cond, List, [], ◌∷◌, Option, Some, nat_le, slice_get, refl, sym, subst, arith}
 use Rattle.std.specs.List.{AllByRecursion}
 use Rattle.std.proofs.lemmas.Option.{none-some, same_Some}
 use Rattle.gptp_links.specs.declared.bounds.Bounds.{Bounds}
-use Rattle.gptp_setup.specs.Intervals.{interval_of}
+use Rattle.gptp_setup.specs.Intervals.{interval_of, IsMoment}
 use Rattle.gptp_setup.specs.SettlingParams.{SettlingParams}
 use Rattle.gptp_scenario.specs.declared.change.Timed.{Timed}
 use Rattle.gptp_scenario.specs.Allowed.{IsFitAct}
@@ -52,7 +52,7 @@ up_to P until (event ∷ events) each =
 
 -- an event that can be made: it sets no link to a delay above this one, and no priority1 that is no octet
 pub record IsFitEvent (most : ℕ) (timed : Timed) : Type 0 where
-  pub moment : timed.at ≤ 1000000000000000
+  pub moment : IsMoment timed.at
   pub fit : IsFitAct timed.act
   pub prompt : DelayFitsInterval most timed.act
   pub octet : SetsAnOctet timed.act

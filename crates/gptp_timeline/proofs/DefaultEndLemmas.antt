@@ -1,7 +1,8 @@
 -- The default end is behind the last time of a document.
-use Rattle.std.proofs.Common.{◌≡◌, ◌≤◌, ◌+◌, ◌-◌, ℕ, suc, List, [], ◌∷◌, length, slice_get, Some, None, refl, sym, ap, ◌∙◌, arith}
+use Rattle.std.proofs.Common.{◌≡◌, ◌+◌, ◌-◌, ℕ, suc, List, [], ◌∷◌, length, slice_get, Some, None, refl, sym, ap, ◌∙◌, arith}
 use Rattle.std.specs.List.{AllByRecursion}
 use Rattle.std.proofs.lemmas.Option.{same_Some}
+use Rattle.gptp_setup.specs.Intervals.{IsMoment}
 use Rattle.gptp_how_soon.specs.Times.{IsWatchedShortly}
 use Rattle.gptp_how_soon.specs.declared.bounds.SettlingTime.{SettlingTime}
 use Rattle.gptp_timeline.specs.End.{end_behind}
@@ -28,7 +29,7 @@ end_of_none (x ∷ []) none = absurd cc
 end_of_none (x ∷ (y ∷ ys)) none = end_of_none (y ∷ ys) (sym (last_next x y ys) ∙ none)
 
 -- it isn't too late
-pub end_in_time : (ts : List SettlingTime) → AllByRecursion IsWatchedShortly ts → end_behind ts ≤ 1000000000000000
+pub end_in_time : (ts : List SettlingTime) → AllByRecursion IsWatchedShortly ts → IsMoment (end_behind ts)
 end_in_time [] each = omega arith
 end_in_time (t ∷ []) each = each.0.until
 end_in_time (t ∷ (u ∷ us)) each = end_in_time (u ∷ us) each.1

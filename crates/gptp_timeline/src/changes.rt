@@ -1,6 +1,7 @@
 //! The lines of what an act leaves another at a system.
 
 ghost use Rattle.std.specs.Prelude.{◌≡◌, ◌<◌, ◌≤◌, ◌+◌, slice_get, ◌++◌, ◌∷◌, [], OnOk, Some, length, string_bytes};
+ghost use Rattle.gptp_setup.specs.declared.limits.TheConstants.{MOST_PORTS};
 ghost use Rattle.gptp_words.specs.Lines.{text_of};
 ghost use Rattle.gptp_timeline.specs.Changes.{change_lines, changed_lines, changed_failed_line, is_same, known_text, new_lines, changed_port_line, port_lines, port_lines_if, same_line, changed_system_line, system_lines_if};
 
@@ -106,7 +107,7 @@ fn port_before(before: &[ShownPort], place: usize) -> Option<ShownPort>
 
 /// The number of the port at a place.
 fn number_at(place: usize) -> u8
-    requires { place < 16 }
+    requires { place < MOST_PORTS }
     ensures { result ≡ place + 1 }
 {
     place as u8 + 1
@@ -120,7 +121,7 @@ fn write_ports(
     before: &[ShownPort],
     ports: &[ShownPort],
 ) -> Result<(), AllocError>
-    requires { length ports.now ≤ 16 }
+    requires { length ports.now ≤ MOST_PORTS }
     ensures { OnOk result (string_bytes text.new
         ≡ string_bytes text.old ++ text_of (port_lines at clock 1 before.now ports.now)) }
 {

@@ -1,7 +1,8 @@
 //! When the run of a document ends by default.
 
-ghost use Rattle.std.specs.Prelude.{◌≡◌, ◌≤◌, IfOk};
+ghost use Rattle.std.specs.Prelude.{◌≡◌, IfOk};
 ghost use Rattle.std.specs.List.{AllByRecursion};
+ghost use Rattle.gptp_setup.specs.Intervals.{IsMoment};
 ghost use Rattle.gptp_how_soon.specs.Times.{IsWatchedShortly};
 ghost use Rattle.gptp_timeline.specs.End.{default_end, end_behind};
 
@@ -14,7 +15,7 @@ use std::alloc::{AllocError, Global};
 fn end_behind(times: &[SettlingTime]) -> u64
     requires { AllByRecursion IsWatchedShortly times.now }
     ensures is { result ≡ end_behind times.now }
-    ensures bound { result ≤ 1000000000000000 }
+    ensures bound { IsMoment result }
 {
     match times.last() {
         Some(time) => time.at + time.watch,
@@ -22,12 +23,12 @@ fn end_behind(times: &[SettlingTime]) -> u64
     }
 }
 
-/// When the run of a document ends by default, in ns, at most 10^15: as much later than its last event as is watched
-/// then. By then the network has come to rest, its offsets are exact, and eight Syncs more have been sent. Refused for
-/// want of memory alone.
+/// When the run of a document ends by default, in ns, at most `LAST_MOMENT`: as much later than its last event as is
+/// watched then. By then the network has come to rest, its offsets are exact, and eight Syncs more have been sent.
+/// Refused for want of memory alone.
 pub fn end_by_default(alloc: Global, document: &Document) -> Result<u64, AllocError>
     ensures end { IfOk result (λ until. until ≡ default_end document.now) }
-    ensures bound { IfOk result (λ until. until ≤ 1000000000000000) }
+    ensures bound { IfOk result (λ until. IsMoment until) }
 {
     let times = settling_times(alloc, document)?;
     Ok(end_behind(&times))

@@ -1,6 +1,7 @@
 //! What is looked at of what systems read, and what is measured of it.
 
 ghost use Rattle.std.specs.Prelude.{◌≡◌, ◌≤◌, ◌<◌, ◌^◌, IfSome, List, option_map, unsigned_abs};
+ghost use Rattle.gptp_setup.specs.Intervals.{IsMoment};
 ghost use Rattle.gptp_timeline.specs.Jumps.{IsSmallJump};
 ghost use Rattle.gptp_timeline.specs.Looks.{apart, apart_errors, apart_sources, change_if, changed_after, error_in, listed, looked_all, looked_difference, looked_each, looked_error, looked_jump, looked_step, measured_with, told_if};
 ghost use Rattle.gptp_timeline.specs.Measures.{one_at};
@@ -126,7 +127,7 @@ pub(crate) fn error_by<F: Fate + Drop>(
     at: u64,
     system: &SystemReading,
 ) -> Option<i128>
-    requires { at ≤ 1000000000000000 }
+    requires { IsMoment at }
     ensures is { result ≡ error_in at world.now.world_core system.now }
     ensures small { IfSome result (λ e. unsigned_abs e < 2 ^ 100) }
 {
@@ -143,7 +144,7 @@ fn look_at_each<F: Fate + Drop>(
     at: u64,
     systems: &[SystemReading],
 ) -> TimeMeasures
-    requires { at ≤ 1000000000000000 }
+    requires { IsMoment at }
     ensures { result ≡ measured_with (looked_each at world.now.world_core systems.now) measures }
 {
     let mut measures = measures;
@@ -161,7 +162,7 @@ pub(crate) fn look_at_all<F: Fate + Drop>(
     systems: &[SystemReading],
     sources: &[TimeSource],
 ) -> TimeMeasures
-    requires moment { at ≤ 1000000000000000 }
+    requires moment { IsMoment at }
     requires sources { AreSources sources.now systems.now }
     ensures { result ≡ measured_with (looked_all at world.now.world_core systems.now) measures }
 {
@@ -176,7 +177,7 @@ pub(crate) fn told_if<F: Fate + Drop>(
     at: u64,
     sources: &[TimeSource],
 ) -> Option<Difference>
-    requires { at ≤ 1000000000000000 }
+    requires { IsMoment at }
     ensures { (rs : List SystemReading) → AreSources sources.now rs
         → result ≡ told_if changes at world.now.world_core rs }
 {

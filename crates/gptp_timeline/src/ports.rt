@@ -7,6 +7,7 @@ ghost use Rattle.gptp_timeline.specs.Ports.{role_number, same_bool, shows_same_p
 
 use arrayvec::ArrayVec;
 use gptp_roles::Role;
+use gptp_setup::MOST_PORTS;
 use gptp_system::System;
 use std::marker::Model;
 
@@ -55,25 +56,27 @@ pub(crate) fn same_ports(a: &[ShownPort], b: &[ShownPort]) -> bool
     true
 }
 
-/// What is shown of the ports of a system, by rising number: 16 at most.
+/// What is shown of the ports of a system, by rising number.
 #[derive(Debug, Drop)]
 pub(crate) struct Ports {
-    ports: ArrayVec<ShownPort, 16>,
+    ports: ArrayVec<ShownPort, MOST_PORTS>,
 }
 
 impl Model for Ports {
     ghost use Rattle.std.specs.Prelude.{◌≤◌, List, length};
+    ghost use Rattle.gptp_setup.specs.declared.limits.TheConstants.{MOST_PORTS};
     ghost use Rattle.gptp_timeline.specs.declared.ports.ShownPort.{ShownPort};
 
     ghost Value = { List ShownPort };
 
     ghost view = { λ p. p.ports.items };
 
-    ghost invariant = { λ p. length p.ports.items ≤ 16 };
+    ghost invariant = { λ p. length p.ports.items ≤ MOST_PORTS };
 }
 
 impl Ports {
     ghost use Rattle.std.specs.Prelude.{◌≡◌, ◌≤◌, length};
+    ghost use Rattle.gptp_setup.specs.declared.limits.TheConstants.{MOST_PORTS};
     ghost use Rattle.gptp_system.specs.State.{number};
 
     /// What is shown of the port with a number, if there is one.
@@ -87,7 +90,7 @@ impl Ports {
     /// What is shown of each port.
     pub(crate) fn as_slice(&self) -> &[ShownPort]
         ensures is { result.now ≡ self.now }
-        ensures few { length self.now ≤ 16 }
+        ensures few { length self.now ≤ MOST_PORTS }
     {
         self.ports.as_slice()
     }
@@ -114,7 +117,7 @@ fn has_port(system: &System, port: u16) -> bool
 
 /// What is shown of the port of a system with a number, if it has that.
 pub(crate) fn port_of(system: &System, port: u16) -> Option<ShownPort>
-    requires { length system.now.ports ≤ 16 }
+    requires { length system.now.ports ≤ MOST_PORTS }
     ensures { result ≡ number (shown_ports system.now) port }
 {
     match has_port(system, port) {
@@ -125,7 +128,7 @@ pub(crate) fn port_of(system: &System, port: u16) -> Option<ShownPort>
 
 /// What is shown of the ports of a system.
 pub(crate) fn ports_of(system: &System) -> Ports
-    requires { length system.now.ports ≤ 16 }
+    requires { length system.now.ports ≤ MOST_PORTS }
     ensures { result ≡ shown_ports system.now }
 {
     let mut ports = ArrayVec::new();
@@ -137,7 +140,7 @@ pub(crate) fn ports_of(system: &System) -> Ports
 
 /// Whether the ports of a system show this.
 pub(crate) fn show_ports(system: &System, ports: &[ShownPort]) -> bool
-    requires { length system.now.ports ≤ 16 }
+    requires { length system.now.ports ≤ MOST_PORTS }
     ensures { result ≡ true → shown_ports system.now ≡ ports.now }
 {
     if ports.len() != usize::from(system.ports()) {

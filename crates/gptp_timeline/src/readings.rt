@@ -3,6 +3,8 @@
 ghost use Rattle.std.specs.Prelude.{◌≡◌, ◌≤◌, ◌<◌, ◌^◌, ◌+ℤ◌, ◌-ℤ◌, IfSome, Some, false, length, pos, unsigned_abs};
 ghost use Rattle.std.specs.List.{list_any};
 ghost use Rattle.std.specs.Option.{option_and_then, option_map, option_map_or};
+ghost use Rattle.gptp_setup.specs.declared.limits.TheConstants.{MOST_PORTS};
+ghost use Rattle.gptp_setup.specs.Intervals.{IsMoment};
 ghost use Rattle.gptp_system.specs.Reading.{read_at};
 ghost use Rattle.gptp_timeline.specs.NewReading.{can_give_reading};
 ghost use Rattle.gptp_timeline.specs.Readings.{base_of, by_expiry, by_receipt, by_takeover, changes_source, clock_time, failed_by, is_master, is_leading, new_reading, own_reading, read_by, reading_among, reading_error, put_reading, reads_own, received_reading, source_named, source_time};
@@ -114,7 +116,7 @@ pub(crate) fn clock_time<F: Fate + Drop>(
     clock: ClockId,
     at: u64,
 ) -> Option<ScaledNs>
-    requires { at ≤ 1000000000000000 }
+    requires { IsMoment at }
     ensures { result ≡ clock_time clock at world.now.world_core }
 {
     world.well_formed();
@@ -127,7 +129,7 @@ pub(crate) fn source_time<F: Fate + Drop>(
     at: u64,
     source: &TimeSource,
 ) -> Option<i128>
-    requires { at ≤ 1000000000000000 }
+    requires { IsMoment at }
     ensures is { result ≡ source_time source.now at world.now.world_core }
     ensures small { IfSome result (λ z. unsigned_abs z < 2 ^ 99) }
 {
@@ -164,7 +166,7 @@ pub(crate) fn reading_error<F: Fate + Drop>(
     clock: ClockId,
     kept: &KeptReading,
 ) -> Option<i128>
-    requires { at ≤ 1000000000000000 }
+    requires { IsMoment at }
     ensures is { result ≡ reading_error at world.now.world_core clock kept.now }
     ensures small { IfSome result (λ e. unsigned_abs e < 2 ^ 100) }
 {
@@ -235,7 +237,7 @@ fn has_master(ports: &[ShownPort]) -> bool
 
 /// Whether a live system leads: it is its own root, can be a grandmaster, and has a Master port.
 fn is_leading(system: &System) -> bool
-    requires { length system.now.ports ≤ 16 }
+    requires { length system.now.ports ≤ MOST_PORTS }
     ensures { result ≡ is_leading system.now }
 {
     let (root, _, slave) = system.follows();
@@ -425,7 +427,7 @@ fn time_beside<F: Fate + Drop>(
     other: &KeptReading,
     shown: Option<i128>,
 ) -> Option<i128>
-    requires moment { at ≤ 1000000000000000 }
+    requires moment { IsMoment at }
     requires other { shown ≡ source_time other.now.source at world.now.world_core }
     requires size { IfSome shown (λ z. unsigned_abs z < 2 ^ 99) }
     ensures is { result ≡ source_time kept.now.source at world.now.world_core }
@@ -462,7 +464,7 @@ fn more_by(read: i128, old: i128) -> i128
 
 /// The jump of a system whose clock shows this.
 fn jump_at<F: Fate + Drop>(world: &World<F>, at: u64, new: &NewReading, shown: ScaledNs) -> Jump
-    requires moment { at ≤ 1000000000000000 }
+    requires moment { IsMoment at }
     requires shows { clock_time new.now.clock at world.now.world_core ≡ Some shown }
     ensures is { result ≡ jump_of at world.now.world_core new.now }
     ensures small { IsSmallJump result }
@@ -489,7 +491,7 @@ fn jump_at<F: Fate + Drop>(world: &World<F>, at: u64, new: &NewReading, shown: S
 
 /// The jump of a system that gets a reading.
 pub(crate) fn jump_of<F: Fate + Drop>(world: &World<F>, at: u64, new: &NewReading) -> Jump
-    requires { at ≤ 1000000000000000 }
+    requires { IsMoment at }
     ensures is { result ≡ jump_of at world.now.world_core new.now }
     ensures small { IsSmallJump result }
 {

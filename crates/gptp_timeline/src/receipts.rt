@@ -1,6 +1,7 @@
 //! Receipts of time.
 
-ghost use Rattle.std.specs.Prelude.{◌≡◌, ◌≤◌, ◌-ℤ◌, ◌++◌, ◌∷◌, [], OnOk, string_bytes};
+ghost use Rattle.std.specs.Prelude.{◌≡◌, ◌-ℤ◌, ◌++◌, ◌∷◌, [], OnOk, string_bytes};
+ghost use Rattle.gptp_setup.specs.Intervals.{IsMoment};
 ghost use Rattle.gptp_system.specs.State.{local_time};
 ghost use Rattle.gptp_system.specs.Takeover.{told_time};
 ghost use Rattle.gptp_timeline.specs.Receipts.{offset_error, is_follow_up, offset_line, received_by, receiver_clock};
@@ -57,7 +58,7 @@ pub(crate) fn received_by(done: &Done) -> Option<ClockId>
 /// How far a local clock that is `offset` ahead by its own account is off at a time, where another system is the
 /// grandmaster: in units of 2^-16 ns.
 fn error_against(at: u64, offset: ScaledNs, system: &System, leader: &System) -> i128
-    requires { at ≤ 1000000000000000 }
+    requires { IsMoment at }
     ensures { result ≡ offset -ℤ (local_time system.now at -ℤ told_time leader.now at) }
 {
     offset.value() - (system.local(at).value() - told_by(leader.local(at), leader.base()))
@@ -66,7 +67,7 @@ fn error_against(at: u64, offset: ScaledNs, system: &System, leader: &System) ->
 /// How far the offset of a live system is off at a time, in units of 2^-16 ns: that less what its local time is ahead
 /// of what the system tells whose clock its root names; none where that doesn't live, or no offset is known.
 pub(crate) fn error_of<F: Fate + Drop>(at: u64, system: &System, world: &World<F>) -> Option<i128>
-    requires { at ≤ 1000000000000000 }
+    requires { IsMoment at }
     ensures { result ≡ offset_error at system.now world.now.world_core }
 {
     world.well_formed();

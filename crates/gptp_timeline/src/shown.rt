@@ -1,6 +1,7 @@
 //! What is shown of a system.
 
 ghost use Rattle.std.specs.Prelude.{◌≡◌, ◌≤◌, true, false, Some, is_some, length};
+ghost use Rattle.gptp_setup.specs.declared.limits.TheConstants.{MOST_PORTS};
 ghost use Rattle.gptp_timeline.specs.Ports.{same_bool};
 ghost use Rattle.gptp_timeline.specs.Compared.{left_by, same_port_at};
 ghost use Rattle.gptp_timeline.specs.Shown.{is_expecting, is_known, same_choice, same_roles, same_slave, same_way, shown_of};
@@ -27,7 +28,7 @@ pub(crate) struct Shown {
 
 /// What is shown of a live system.
 pub(crate) fn shown_of(system: &System) -> Shown
-    requires { length system.now.ports ≤ 16 }
+    requires { length system.now.ports ≤ MOST_PORTS }
     ensures { result ≡ shown_of system.now }
 {
     let (root, steps, slave) = system.follows();
@@ -68,7 +69,7 @@ fn shows_way(system: &System, shown: &Shown) -> bool
 
 /// Whether a live system shows this.
 fn shows(system: &System, shown: &Shown) -> bool
-    requires { length system.now.ports ≤ 16 }
+    requires { length system.now.ports ≤ MOST_PORTS }
     ensures { result ≡ true → shown_of system.now ≡ shown.now }
 {
     shows_way(system, shown)
@@ -85,7 +86,7 @@ fn shows_known(system: &System, shown: &Shown) -> bool
 
 /// Whether the port of a system with a number is as it was shown. It isn't where either has no such port.
 fn shows_port(system: &System, shown: &Shown, port: u16) -> bool
-    requires { length system.now.ports ≤ 16 }
+    requires { length system.now.ports ≤ MOST_PORTS }
     ensures { result ≡ same_port_at port system.now shown.now }
 {
     match (port_of(system, port), shown.ports.port(port)) {
@@ -96,7 +97,7 @@ fn shows_port(system: &System, shown: &Shown, port: u16) -> bool
 
 /// Whether what is compared of a live system is as it was shown.
 pub(crate) fn shows_left(compared: Compared, system: &System, shown: &Shown) -> bool
-    requires { length system.now.ports ≤ 16 }
+    requires { length system.now.ports ≤ MOST_PORTS }
     ensures same { result ≡ true → left_by compared (Some system.now) (Some shown.now) ≡ Some shown.now }
     ensures other { result ≡ false
         → left_by compared (Some system.now) (Some shown.now) ≡ Some (shown_of system.now) }

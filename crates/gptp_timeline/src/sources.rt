@@ -1,6 +1,7 @@
 //! Sources of what systems read, and how far their times differ.
 
 ghost use Rattle.std.specs.Prelude.{◌≡◌, ◌≤◌, ◌<◌, ◌^◌, ◌-ℤ◌, List, None, Some, OnErr, OnOk, int_lt, unsigned_abs};
+ghost use Rattle.gptp_setup.specs.Intervals.{IsMoment};
 ghost use Rattle.gptp_timeline.specs.Looks.{listed};
 ghost use Rattle.gptp_timeline.specs.Sources.{difference_of, ends_with, further_ahead, further_behind, time_of, told_difference, wider, widest_from};
 ghost use Rattle.gptp_timeline.specs.ToldSources.{AreSources, ends_among, is_told, reads_from, source_of, with_source, without_untold};
@@ -145,7 +146,7 @@ fn ends_with(ends: Option<Ends>, one: Option<SourceTime>) -> Option<Ends>
 
 /// A source with its time, if it has one.
 fn source_of<F: Fate + Drop>(world: &World<F>, at: u64, source: TimeSource) -> Option<SourceTime>
-    requires { at ≤ 1000000000000000 }
+    requires { IsMoment at }
     ensures { result ≡ source_of at world.now.world_core source }
 {
     match clock_time(world, source.clock, at) {
@@ -156,7 +157,7 @@ fn source_of<F: Fate + Drop>(world: &World<F>, at: u64, source: TimeSource) -> O
 
 /// The ends of several sources.
 fn ends_of<F: Fate + Drop>(world: &World<F>, at: u64, sources: &[TimeSource]) -> Option<Ends>
-    requires { at ≤ 1000000000000000 }
+    requires { IsMoment at }
     ensures { result ≡ ends_among at world.now.world_core None sources.now }
 {
     let mut ends = None;
@@ -207,7 +208,7 @@ pub(crate) fn told_difference<F: Fate + Drop>(
     at: u64,
     sources: &[TimeSource],
 ) -> Option<Difference>
-    requires { at ≤ 1000000000000000 }
+    requires { IsMoment at }
     ensures { (rs : List SystemReading) → AreSources sources.now rs
         → result ≡ told_difference at world.now.world_core rs }
 {

@@ -1,7 +1,8 @@
 //! What became of a stretch: the line where it ends.
 
-ghost use Rattle.std.specs.Prelude.{◌≡◌, ◌≤◌, ◌++◌, ◌∷◌, ◌-◌, [], IfOk, OnOk, Some, None, string_bytes};
+ghost use Rattle.std.specs.Prelude.{◌≡◌, ◌++◌, ◌∷◌, ◌-◌, [], IfOk, OnOk, Some, None, string_bytes};
 ghost use Rattle.std.specs.List.{filter_map, flat_map};
+ghost use Rattle.gptp_setup.specs.Intervals.{IsMoment};
 ghost use Rattle.gptp_words.specs.Lines.{text_of};
 ghost use Rattle.gptp_timeline.specs.Limits.{amount_of};
 ghost use Rattle.gptp_timeline.specs.Measures.{greatest_from};
@@ -375,7 +376,7 @@ fn write_reads_kept<F: Fate + Drop>(
     system: &SystemError,
     times: &TimeWatch,
 ) -> Result<(), AllocError>
-    requires { to ≤ 1000000000000000 }
+    requires { IsMoment to }
     ensures { OnOk result (string_bytes text.new
         ≡ string_bytes text.old ++ reads_kept to world.now.world_core (Some times.now) system.now) }
 {
@@ -393,7 +394,7 @@ fn write_reads_if<F: Fate + Drop>(
     system: &SystemError,
     times: &Option<TimeWatch>,
 ) -> Result<(), AllocError>
-    requires { to ≤ 1000000000000000 }
+    requires { IsMoment to }
     ensures { OnOk result (string_bytes text.new
         ≡ string_bytes text.old ++ reads_kept to world.now.world_core times.now system.now) }
 {
@@ -423,7 +424,7 @@ fn write_exact<F: Fate + Drop>(
     bound: u128,
     times: &Option<TimeWatch>,
 ) -> Result<(), AllocError>
-    requires { to ≤ 1000000000000000 }
+    requires { IsMoment to }
     ensures { OnOk result (string_bytes text.new
         ≡ string_bytes text.old ++ (accuracy_line from system.now.clock error bound (reads_kept to world.now.world_core times.now system.now) ++ 10 ∷ [])) }
 {
@@ -443,7 +444,7 @@ fn write_exact_if<F: Fate + Drop>(
     systems: &[Watched],
     times: &Option<TimeWatch>,
 ) -> Result<(), AllocError>
-    requires moment { to ≤ 1000000000000000 }
+    requires moment { IsMoment to }
     requires rise { WatchedRise systems.now }
     ensures { OnOk result (string_bytes text.new
         ≡ string_bytes text.old ++ text_of (system_accuracy from (error_among systems.now) (reads_kept to world.now.world_core times.now) system.now)) }
@@ -473,7 +474,7 @@ pub(crate) fn write_accuracies<F: Fate + Drop>(
     systems: &[Watched],
     times: &Option<TimeWatch>,
 ) -> Result<(), AllocError>
-    requires moment { to ≤ 1000000000000000 }
+    requires moment { IsMoment to }
     requires rise { WatchedRise systems.now }
     ensures { OnOk result (string_bytes text.new
         ≡ string_bytes text.old ++ text_of (flat_map (system_accuracy from (error_among systems.now) (reads_kept to world.now.world_core times.now)) errors.now)) }

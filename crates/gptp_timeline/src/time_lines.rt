@@ -1,6 +1,7 @@
 //! The lines of what systems read.
 
-ghost use Rattle.std.specs.Prelude.{◌≡◌, ◌≤◌, ◌++◌, ◌∷◌, [], OnOk, string_bytes};
+ghost use Rattle.std.specs.Prelude.{◌≡◌, ◌++◌, ◌∷◌, [], OnOk, string_bytes};
+ghost use Rattle.gptp_setup.specs.Intervals.{IsMoment};
 ghost use Rattle.gptp_timeline.specs.TimeLines.{errors_words, jump_words, new_words, read_words, reading_line, reads_words, source_words, times_line};
 
 use crate::amounts::{Near, NearOrNone, SignedOrNone, UpOrNone};
@@ -148,7 +149,7 @@ fn write_errors_of<F: Fate + Drop>(
     at: u64,
     new: &NewReading,
 ) -> Result<(), AllocError>
-    requires { at ≤ 1000000000000000 }
+    requires { IsMoment at }
     ensures { OnOk result (string_bytes text.new
         ≡ string_bytes text.old ++ (errors_words at world.now.world_core new.now ++ 10 ∷ [])) }
 {
@@ -164,7 +165,7 @@ pub(crate) fn write_reading<F: Fate + Drop>(
     at: u64,
     new: &NewReading,
 ) -> Result<(), AllocError>
-    requires { at ≤ 1000000000000000 }
+    requires { IsMoment at }
     ensures { OnOk result (string_bytes text.new
         ≡ string_bytes text.old ++ (reading_line at world.now.world_core new.now ++ 10 ∷ [])) }
 {

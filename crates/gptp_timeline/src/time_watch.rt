@@ -1,6 +1,7 @@
 //! An observer's account of what systems read of time.
 
 ghost use Rattle.std.specs.Prelude.{◌≡◌, ◌+◌, ◌==◌, ◌&&◌, IfOk, OnOk, map, take};
+ghost use Rattle.gptp_setup.specs.Intervals.{IsMoment};
 ghost use Rattle.gptp_model.specs.Views.{rising_clocks};
 ghost use Rattle.gptp_timeline.specs.ExactReads.{unread};
 ghost use Rattle.gptp_timeline.specs.Readings.{no_reading};
@@ -144,7 +145,7 @@ fn set_aside(systems: &mut AllReadings, aside: &SetAside)
 }
 
 impl TimeWatch {
-    ghost use Rattle.std.specs.Prelude.{◌≡◌, ◌≤◌, ◌++◌, None, Some, IfOk, OnOk, true, map, option_and_then, string_bytes};
+    ghost use Rattle.std.specs.Prelude.{◌≡◌, ◌++◌, None, Some, IfOk, OnOk, true, map, option_and_then, string_bytes};
     ghost use Rattle.gptp_model.specs.Views.{rising_clocks};
     ghost use Rattle.gptp_words.specs.Lines.{text_of};
     ghost use Rattle.gptp_timeline.specs.ExactReads.{ended_reads, unread};
@@ -216,7 +217,7 @@ impl TimeWatch {
         new: &NewReading,
         jump: &Jump,
     ) -> Result<(), AllocError>
-        requires moment { at ≤ 1000000000000000 }
+        requires moment { IsMoment at }
         requires before { new.now.before ≡ reading_among self.old.systems new.now.clock }
         requires jump { jump.now ≡ jump_of at world.now.world_core new.now }
         requires small { IsSmallJump jump.now }
@@ -252,7 +253,7 @@ impl TimeWatch {
 
     /// No system gets a reading by an act.
     fn take_none<F: Fate + Drop>(&mut self, world: &World<F>, at: u64, act: &Act)
-        requires { at ≤ 1000000000000000 }
+        requires { IsMoment at }
         ensures { self.new ≡ times_with at world.now.world_core act.now None self.old }
     {
         self.take_failed(failed_by(act));
@@ -276,7 +277,7 @@ impl TimeWatch {
         at: u64,
         new: &NewReading,
     ) -> Result<(), AllocError>
-        requires { at ≤ 1000000000000000 }
+        requires { IsMoment at }
         ensures { OnOk result (string_bytes text.new
             ≡ string_bytes text.old ++ text_of (reading_lines self.now.told at world.now.world_core (Some new.now))) }
     {
@@ -301,7 +302,7 @@ impl TimeWatch {
         timed: &Timed,
         done: &Done,
     ) -> Result<(), AllocError>
-        requires { timed.now.at ≤ 1000000000000000 }
+        requires { IsMoment timed.now.at }
         ensures sees { OnOk result (self.new ≡ times_with timed.now.at world.now.world_core timed.now.act
             (new_reading timed.now.act done.now world.now.world_core self.old.systems) self.old) }
         ensures tells { OnOk result (string_bytes text.new
@@ -327,7 +328,7 @@ impl TimeWatch {
         timed: &Timed,
         done: &Done,
     ) -> Result<(), AllocError>
-        requires { timed.now.at ≤ 1000000000000000 }
+        requires { IsMoment timed.now.at }
         ensures sees { OnOk result (self.new ≡ times_with timed.now.at world.now.world_core timed.now.act
             (new_reading timed.now.act done.now world.now.world_core self.old.systems) self.old) }
         ensures tells { OnOk result (string_bytes text.new
@@ -351,7 +352,7 @@ impl TimeWatch {
         timed: &Timed,
         done: &Done,
     ) -> Result<(), AllocError>
-        requires { timed.now.at ≤ 1000000000000000 }
+        requires { IsMoment timed.now.at }
         ensures sees { OnOk result (self.new ≡ times_looked timed.now.at timed.now.act done.now world.now.world_core self.old) }
         ensures tells { OnOk result (string_bytes text.new
             ≡ string_bytes text.old ++ text_of (times_lines timed.now.at timed.now.act done.now world.now.world_core self.old)) }
@@ -370,7 +371,7 @@ impl TimeWatch {
         timed: &Timed,
         done: &Done,
     ) -> Result<(), AllocError>
-        requires { timed.now.at ≤ 1000000000000000 }
+        requires { IsMoment timed.now.at }
         ensures sees { OnOk result (self.new ≡ times_after timed.now.at timed.now.act done.now world.now.world_core self.old) }
         ensures tells { OnOk result (string_bytes text.new
             ≡ string_bytes text.old ++ text_of (times_lines timed.now.at timed.now.act done.now world.now.world_core self.old)) }
@@ -382,7 +383,7 @@ impl TimeWatch {
 
     /// What is measured of a stretch that ends at a time.
     pub(crate) fn ended<F: Fate + Drop>(&self, world: &World<F>, to: u64) -> TimeMeasures
-        requires { to ≤ 1000000000000000 }
+        requires { IsMoment to }
         ensures { result ≡ measured_with (looked_all to world.now.world_core self.now.systems) self.now.measures }
     {
         look_at_all(
@@ -396,7 +397,7 @@ impl TimeWatch {
 
     /// How far off the system with a clock is at a time by what it reads, if it has time.
     fn error_at<F: Fate + Drop>(&self, world: &World<F>, to: u64, clock: ClockId) -> Option<i128>
-        requires { to ≤ 1000000000000000 }
+        requires { IsMoment to }
         ensures { result ≡ option_and_then (reading_error to world.now.world_core clock) (reading_among self.now.systems clock) }
     {
         match self.systems.of(clock) {
@@ -413,7 +414,7 @@ impl TimeWatch {
         to: u64,
         clock: ClockId,
     ) -> Option<ExactReads>
-        requires { to ≤ 1000000000000000 }
+        requires { IsMoment to }
         ensures { result ≡ ended_reads to world.now.world_core self.now.systems self.now.reads clock }
     {
         let error = amount_of(self.error_at(world, to, clock));

@@ -2,6 +2,7 @@
 
 ghost use Rattle.std.specs.Prelude.{◌≡◌, ◌≢◌, ◌≤◌, ◌++◌, List, [], ℕ, IfErr, IfOk, OnErr, OnOk, drop, length, string_bytes, take};
 ghost use Rattle.std.specs.Io.KnownBytes.{Appends};
+ghost use Rattle.gptp_setup.specs.Intervals.{IsMoment};
 ghost use Rattle.gptp_model.specs.Course.{Begun};
 ghost use Rattle.gptp_model.specs.Prompt.{AllDelaysFitIntervals};
 ghost use Rattle.gptp_model.specs.Views.{rising_clocks};
@@ -179,7 +180,7 @@ fn write_errors<F: Fate + Drop>(
     errors: &Option<TimeErrors>,
     watch: &Watch,
 ) -> Result<(), AllocError>
-    requires { to ≤ 1000000000000000 }
+    requires { IsMoment to }
     ensures { OnOk result (string_bytes text.new
         ≡ string_bytes text.old ++ text_of (kept_accuracy (reads_kept to world.now.world_core watch.now.times) watch.now.systems errors.now)) }
 {
@@ -206,7 +207,7 @@ fn times_ended<F: Fate + Drop>(
     to: u64,
     times: &Option<TimeWatch>,
 ) -> Option<TimeMeasures>
-    requires { to ≤ 1000000000000000 }
+    requires { IsMoment to }
     ensures { result ≡ times_ended to world.now.world_core times.now }
 {
     match times {
@@ -278,7 +279,7 @@ fn end_stretch<F: Fate + Drop, K: Sink>(
     watch: &Watch,
     sink: &mut K,
 ) -> Result<StretchEnd, Cut>
-    requires { plan.now.to ≤ 1000000000000000 }
+    requires { IsMoment plan.now.to }
     ensures some { AppendsSome (K.written sink.old) (K.written sink.new) (text_of (end_lines plan.now world.now.world_core watch.now)) }
     ensures end { IfOk result (λ end. end ≡ end_of plan.now world.now.world_core watch.now) }
     ensures whole { OnOk result
@@ -318,7 +319,7 @@ fn pass_stretch<F: Fate + Drop, K: Sink>(
     requires allowed { AreAllowed events.now }
     requires prompt { AllDelaysFitIntervals world.old.world_core events.now }
     requires due { events_by plan.now.to events.now ≡ events.now }
-    requires moment { plan.now.to ≤ 1000000000000000 }
+    requires moment { IsMoment plan.now.to }
     ensures passed { IfOk result (λ end. (told : List (List ℕ))
         × StretchIsSeen F.answers plan.now events.now world.old.fate world.new.fate world.old.world_core world.new.world_core
         watch.old watch.new told
@@ -353,7 +354,7 @@ fn next_stretch<F: Fate + Drop, K: Sink>(
     requires allowed { AreAllowed events.now }
     requires prompt { AllDelaysFitIntervals world.old.world_core events.now }
     requires due { events_by to events.now ≡ events.now }
-    requires moment { to ≤ 1000000000000000 }
+    requires moment { IsMoment to }
     requires times { AreTimesOf document.now times.now }
     ensures passed { IfOk result (λ kept. (plan : Plan) × (told : List (List ℕ))
         × IsTimelinePlan exact document.now from to (is_begun events.now) plan
@@ -385,7 +386,7 @@ fn all_stretches<F: Fate + Drop, K: Sink>(
     watch: &mut Watch,
     sink: &mut K,
 ) -> Result<StretchesSoFar, Cut>
-    requires moment { until ≤ 1000000000000000 }
+    requires moment { IsMoment until }
     requires begun { (fate : F) × Begun F.answers document.now.network fate world.old.fate world.old.world_core }
     requires prompt { AllDelaysFitIntervals world.old.world_core document.now.events }
     requires starts { watch.old ≡ watch_at_start options.now (aside_kept watch.old) world.old.world_core }
@@ -467,8 +468,8 @@ fn end_verdict<K: Sink>(
     Ok(is_exceeded)
 }
 
-/// Lets the world of a document run up to a time, at most 10^15 ns, and writes what changes at which system when, what
-/// became of each stretch between the times of events, and whether each keeps to the limits, where any is given;
+/// Lets the world of a document run up to a time, at most `LAST_MOMENT`, and writes what changes at which system when,
+/// what became of each stretch between the times of events, and whether each keeps to the limits, where any is given;
 /// answers whether one doesn't.
 ///
 /// Errors: [`Cut::Write`] exactly where a write failed, after which nothing more happens; [`Cut::Memory`] where memory
@@ -482,7 +483,7 @@ pub fn write_timeline<F: Fate + Drop, K: Sink>(
     options: &TimelineOptions,
     sink: &mut K,
 ) -> Result<bool, Cut>
-    requires moment { until ≤ 1000000000000000 }
+    requires moment { IsMoment until }
     ensures whole { IfOk result (λ exceeded. (lines : List (List ℕ))
         × TimelineOf F.answers document.now until options.now fate lines exceeded
         × Appends (K.written sink.old) (K.written sink.new) (text_of lines)) }
@@ -514,9 +515,9 @@ fn summary_with(times: bool) -> TimelineOptions
     }
 }
 
-/// Lets the world of a document run up to a time, at most 10^15 ns, and answers how the last stretches between the times
-/// of events ended, three where there are so many: also what systems read in them, where that is asked, of which some are
-/// set aside. Nothing is written, and how exact systems are isn't asked. Refused for want of memory alone.
+/// Lets the world of a document run up to a time, at most `LAST_MOMENT`, and answers how the last stretches between the
+/// times of events ended, three where there are so many: also what systems read in them, where that is asked, of which
+/// some are set aside. Nothing is written, and how exact systems are isn't asked. Refused for want of memory alone.
 pub fn last_stretches<F: Fate + Drop>(
     alloc: Global,
     document: &Document,
@@ -525,7 +526,7 @@ pub fn last_stretches<F: Fate + Drop>(
     times: bool,
     aside: SetAside,
 ) -> Result<LastStretches, Cut>
-    requires moment { until ≤ 1000000000000000 }
+    requires moment { IsMoment until }
     ensures ends { IfOk result (EndsOf F.answers times aside document.now until fate) }
     ensures memory { IfErr result (λ e. e ≡ Cut.Memory) }
 {

@@ -1,6 +1,8 @@
 //! An observer that tells what changes at which system when.
 
-ghost use Rattle.std.specs.Prelude.{◌≡◌, ◌≤◌, ◌<◌, ◌+◌, ◌++◌, true, IfOk, OnOk, length, map, option_map, string_bytes, take, unsigned_abs};
+ghost use Rattle.std.specs.Prelude.{◌≡◌, ◌<◌, ◌+◌, ◌++◌, true, IfOk, OnOk, length, map, option_map, string_bytes, take, unsigned_abs};
+ghost use Rattle.gptp_setup.specs.declared.limits.TheConstants.{MOST_PORTS};
+ghost use Rattle.gptp_setup.specs.Intervals.{IsMoment};
 ghost use Rattle.gptp_model.specs.Views.{rising_clocks};
 ghost use Rattle.gptp_words.specs.Lines.{text_of};
 ghost use Rattle.gptp_timeline.specs.Leaving.{LeavesAll};
@@ -196,7 +198,7 @@ fn see_times<F: Fate + Drop>(
     timed: &Timed,
     done: &Done,
 ) -> Result<(), AllocError>
-    requires { timed.now.at ≤ 1000000000000000 }
+    requires { IsMoment timed.now.at }
     ensures sees { OnOk result (times.new
         ≡ option_map (times_after timed.now.at timed.now.act done.now world.now.world_core) times.old) }
     ensures tells { OnOk result (string_bytes text.new
@@ -298,7 +300,7 @@ impl Watch {
         timed: &Timed,
         done: &Done,
     ) -> Result<(), AllocError>
-        requires { timed.now.at ≤ 1000000000000000 }
+        requires { IsMoment timed.now.at }
         ensures sees { OnOk result (self.new ≡ see_times timed.now.at timed.now.act done.now world.now.world_core self.old) }
         ensures tells { OnOk result (string_bytes text.new
             ≡ string_bytes text.old ++ text_of (times_lines_if timed.now.at timed.now.act done.now world.now.world_core self.old.times)) }
@@ -424,7 +426,7 @@ impl Watch {
     /// Whether a live system shows what was last shown of the system at a place.
     fn shows_at(&self, compared: Compared, place: usize, system: &System) -> bool
         requires place { place < length self.now.systems }
-        requires few { length system.now.ports ≤ 16 }
+        requires few { length system.now.ports ≤ MOST_PORTS }
         ensures same { result ≡ true → (x : Watched) → slice_get self.now.systems place ≡ Some x
             → left_by compared (Some system.now) x.shown ≡ x.shown }
         ensures other { result ≡ false → (x : Watched) → slice_get self.now.systems place ≡ Some x
@@ -464,7 +466,7 @@ impl Watch {
         system: &System,
     ) -> Result<(), AllocError>
         requires place { place < length self.old.systems }
-        requires few { length system.now.ports ≤ 16 }
+        requires few { length system.now.ports ≤ MOST_PORTS }
         ensures sees { OnOk result ((x : Watched) → slice_get self.old.systems place ≡ Some x
             → self.new ≡ taken look place x (left_by look.compared (Some system.now) x.shown) self.old) }
         ensures tells { OnOk result ((x : Watched) → slice_get self.old.systems place ≡ Some x → string_bytes text.new
@@ -608,7 +610,7 @@ impl Watch {
         place: usize,
         system: &System,
     ) -> Result<(), AllocError>
-        requires moment { at ≤ 1000000000000000 }
+        requires moment { IsMoment at }
         requires place { place < length self.old.systems }
         ensures sees { OnOk result (self.new ≡ see_receipt_of at world.now.world_core place (Some system.now) self.old) }
         ensures tells { OnOk result (string_bytes text.new
@@ -632,7 +634,7 @@ impl Watch {
         place: usize,
         system: &System,
     ) -> Result<(), AllocError>
-        requires moment { at ≤ 1000000000000000 }
+        requires moment { IsMoment at }
         requires place { place < length self.old.systems }
         ensures sees { OnOk result (self.new
             ≡ (if received then see_receipt_of at world.now.world_core place (Some system.now) self.old else self.old)) }
@@ -657,7 +659,7 @@ impl Watch {
         compared: Compared,
         place: usize,
     ) -> Result<(), AllocError>
-        requires moment { at ≤ 1000000000000000 }
+        requires moment { IsMoment at }
         requires place { place < length self.old.systems }
         requires named { (x : Watched) → slice_get self.old.systems place ≡ Some x → x.clock ≡ clock }
         ensures sees { OnOk result (self.new ≡ see_placed at world.now.world_core clock received compared (Some place) self.old) }
@@ -690,7 +692,7 @@ impl Watch {
         received: bool,
         compared: Compared,
     ) -> Result<(), AllocError>
-        requires { at ≤ 1000000000000000 }
+        requires { IsMoment at }
         ensures sees { OnOk result (self.new ≡ see_system at world.now.world_core clock received compared self.old) }
         ensures tells { OnOk result (string_bytes text.new
             ≡ string_bytes text.old ++ text_of (watched_lines at world.now.world_core clock received compared self.old)) }
@@ -709,7 +711,7 @@ impl Watch {
         at: u64,
         done: &Done,
     ) -> Result<(), AllocError>
-        requires { at ≤ 1000000000000000 }
+        requires { IsMoment at }
         ensures sees { OnOk result (self.new ≡ see_delivery at world.now.world_core done.now self.old) }
         ensures tells { OnOk result (string_bytes text.new
             ≡ string_bytes text.old ++ text_of (delivery_lines at world.now.world_core done.now self.old)) }
@@ -737,7 +739,7 @@ impl Watch {
         timed: &Timed,
         done: &Done,
     ) -> Result<(), AllocError>
-        requires { timed.now.at ≤ 1000000000000000 }
+        requires { IsMoment timed.now.at }
         ensures sees { OnOk result (self.new ≡ see_act timed.now.at timed.now.act done.now world.now.world_core self.old) }
         ensures tells { OnOk result (string_bytes text.new
             ≡ string_bytes text.old ++ text_of (seen_lines timed.now.at timed.now.act done.now world.now.world_core self.old)) }

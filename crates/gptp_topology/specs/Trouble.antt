@@ -1,13 +1,16 @@
 -- When a link in use is too long for the threshold, and how many frames it loses (profile).
 use Rattle.std.specs.Prelude.{ℕ, ◌+◌, ◌==◌, ◌&&◌, ◌||◌, not, nat_lt, Bool, if◌then◌else◌}
 use Rattle.gptp_pdelay.specs.GoodLink.{ceil_div}
+use Rattle.gptp_setup.specs.Stamping.{blur_of}
 use Rattle.gptp_setup.specs.declared.setup.Params.{Params}
 use Rattle.gptp_topology.specs.Course.{cable_is_used}
 use Rattle.gptp_topology.specs.declared.course.Standing.{Standing}
 
--- the least threshold at which a link of this greatest delay is good, and what the rule of good links asks for
+-- the least threshold at which a link of this greatest delay is good by time stamps, and what the rule of good links
+-- asks for
 abbrev pub needed : Params → ℕ → ℕ
-needed p most = most + ceil_div most 1000 + ceil_div p.turnaround 2000 + 2
+needed p most =
+    let measured = most + blur_of p in measured + ceil_div measured 1000 + ceil_div p.turnaround 2000 + 2
 
 abbrev pub is_long : Params → Standing → Bool
 is_long p s = cable_is_used s && nat_lt p.threshold (needed p s.cable.bounds.max)

@@ -5,15 +5,14 @@ ghost use Rattle.gptp_topology.specs.Trouble.{is_long, is_troubled, loss_in_use,
 
 use crate::course::{Standing, is_used};
 use gptp_scenario::Params;
+use gptp_setup::blur_of;
 
-/// The least threshold at which a link of this greatest delay is good, in ns.
+/// The least threshold at which a link of this greatest delay is good by the time stamps of the network, in ns.
 pub fn needed(params: &Params, max: u64) -> u128
     ensures { result ≡ needed params.now max }
 {
-    u128::from(max)
-        + u128::from(max.div_ceil(1000))
-        + u128::from(params.turnaround.div_ceil(2000))
-        + 2
+    let measured = u128::from(max) + u128::from(blur_of(params));
+    measured + measured.div_ceil(1000) + u128::from(params.turnaround.div_ceil(2000)) + 2
 }
 
 /// Whether a link is in use and isn't good.

@@ -3,6 +3,7 @@ use Rattle.std.proofs.Common.{◌≡◌, ◌≤◌, ℕ, length, Option, subst, 
 use Rattle.std.proofs.lemmas.Option.{slice_get_within}
 use Rattle.gptp_links.specs.declared.bounds.Bounds.{Bounds}
 use Rattle.gptp_system.specs.declared.answer.Answer.{Answer}
+use Rattle.gptp_setup.specs.declared.limits.TheConstants.{MOST_PORTS}
 use Rattle.gptp_setup.specs.declared.timer.Timer.{Timer}
 use Rattle.gptp_setup.specs.declared.timer.Timer.TheVariants as timers
 use Rattle.gptp_system.specs.Input.{Expires as TimerExpires}
@@ -21,7 +22,8 @@ use Rattle.gptp_world.specs.WorldParts.{world_of, Called, IsWorldParts}
 use Rattle.gptp_model.proofs.NextDueLemmas.{runs_out}
 
 -- the ports of timers are numbered as those of their system
-timer_few : (s : SystemState) (timer : Timer) → length s.ports ≤ 16 → IsTimerOf s timer → timer_port timer ≤ 16
+timer_few : (s : SystemState) (timer : Timer) → length s.ports ≤ MOST_PORTS → IsTimerOf s timer
+    → timer_port timer ≤ MOST_PORTS
 timer_few s (timers.Announce p) few of = let most = of.most in omega (arith, few, most)
 timer_few s (timers.Age p) few of = let most = of.most in omega (arith, few, most)
 timer_few s (timers.Pdelay p) few of = let most = of.most in omega (arith, few, most)

@@ -4,6 +4,7 @@ use Rattle.std.proofs.lemmas.Int.{ints, to_z-of_z}
 use Rattle.std.proofs.lemmas.List.{length-map}
 use Rattle.std.proofs.lemmas.Option.{same_Some}
 use Rattle.arrayvec.specs.ArrayVec.{ArrayVec}
+use Rattle.gptp_setup.specs.declared.limits.TheConstants.{MOST_PORTS}
 use Rattle.gptp_setup.specs.Intervals.{AreIntervals, IsLog}
 use Rattle.gptp_setup.specs.declared.setup.Params.{Params}
 use Rattle.gptp_setup.specs.declared.setup.Setup.{Setup}
@@ -310,8 +311,8 @@ have_lanes n is = each_station n (HasItsLanes n) (λ place m there p lane begins
     (within.0, rw count within.1))
 
 have_few : (n : NetworkState) → IsNetwork n → (place : ℕ) (station : Station)
-    → slice_get (stations_of n) place ≡ Some station → length station.system.ports ≤ 16
-have_few n is = each_station n (λ (station : Station). length station.system.ports ≤ 16) (λ place m there.
+    → slice_get (stations_of n) place ≡ Some station → length station.system.ports ≤ MOST_PORTS
+have_few n is = each_station n (λ (station : Station). length station.system.ports ≤ MOST_PORTS) (λ place m there.
     let count = ports_counted n is place m there in rw count (is.systems place m there).ports)
 
 pub initial_stage : (n : NetworkState) (parts : WorldParts) → IsNetwork n → IsNet parts.net

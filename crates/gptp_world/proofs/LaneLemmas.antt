@@ -4,9 +4,11 @@ use Rattle.std.proofs.lemmas.Bool.Decides.{nat_tests}
 use Rattle.std.proofs.lemmas.Grind.{get_or-set_at}
 use Rattle.std.proofs.lemmas.List.{length-set, get_or-set_other}
 use Rattle.std.proofs.lemmas.Option.{slice_get_within, slice_get_read, get_or_from_slice_get}
+use Rattle.gptp_setup.specs.declared.limits.TheConstants.{MOST_PORTS}
 use Rattle.gptp_vector.specs.declared.port.PortId.{PortId}
 use Rattle.gptp_links.specs.declared.link.Direction.{Direction}
 use Rattle.gptp_links.specs.declared.link.Direction.TheVariants.{FromA, FromB}
+use Rattle.gptp_world.specs.declared.directory.TheConstants.{PORT_SPAN}
 use Rattle.gptp_world.specs.declared.joined_link.Lane.{Lane}
 use Rattle.gptp_world.specs.declared.directory.Ends.{Ends}
 use Rattle.gptp_world.specs.Directory.{Join, direction_start, direction_number, lane_number, lanes_entered, BeginsAt, IsPlan, IsOut, AreOuts}
@@ -50,8 +52,9 @@ unless_here k joins p l e h None x = λ m below begins. tested m below begins (n
 at_other : (k : ℕ) (clocks : List ℕ) (joins : List Join) (outs : List (Option Lane)) (l : Lane) (x c q : ℕ)
     → ((i j clock : ℕ) → slice_get clocks i ≡ Some clock → slice_get clocks j ≡ Some clock → i ≡ j)
     → AreOuts k clocks joins outs → lane_number l ≡ k → slice_get clocks x ≡ Some c → BeginsAt joins (port_id c q) l
-    → (place port clock : ℕ) → slice_get clocks place ≡ Some clock → port ≤ 16 → (17 * place + port ≡ 17 * x + q → ⊥)
-    → IsOut (k + 1) joins (port_id clock port) (slice_index_or outs (17 * place + port) None)
+    → (place port clock : ℕ) → slice_get clocks place ≡ Some clock → port ≤ MOST_PORTS
+    → (PORT_SPAN * place + port ≡ PORT_SPAN * x + q → ⊥)
+    → IsOut (k + 1) joins (port_id clock port) (slice_index_or outs (PORT_SPAN * place + port) None)
 at_other k clocks joins outs l x c q differ h e there begins place port clock at few apart =
     unless_here k joins (port_id clock port) l e
     (λ b.
@@ -60,12 +63,13 @@ at_other k clocks joins outs l x c q differ h e there begins place port clock at
     let ports_same : port ≡ q = ap (λ (p : PortId). p.port) same in
     let places_same : place ≡ x = differ place x clock at (there ∙ ap Some (sym clocks_same)) in
     apart (omega arith))
-    (slice_index_or outs (17 * place + port) None)
+    (slice_index_or outs (PORT_SPAN * place + port) None)
     (h.each place port clock at few)
 
 at_own : (k : ℕ) (clocks : List ℕ) (joins : List Join) (l : Lane) (x c q : ℕ)
-    → lane_number l ≡ k → slice_get clocks x ≡ Some c → q ≤ 16 → BeginsAt joins (port_id c q) l
-    → (place port clock : ℕ) → slice_get clocks place ≡ Some clock → port ≤ 16 → 17 * place + port ≡ 17 * x + q
+    → lane_number l ≡ k → slice_get clocks x ≡ Some c → q ≤ MOST_PORTS → BeginsAt joins (port_id c q) l
+    → (place port clock : ℕ) → slice_get clocks place ≡ Some clock → port ≤ MOST_PORTS
+    → PORT_SPAN * place + port ≡ PORT_SPAN * x + q
     → IsOut (k + 1) joins (port_id clock port) (Some l)
 at_own k clocks joins l x c q e there small begins place port clock at few here =
     let places_same : place ≡ x = omega arith in
@@ -79,29 +83,30 @@ at_own k clocks joins l x c q e there small begins place port clock at few here 
 -- one more lane is entered
 pub one_entered : (k : ℕ) (clocks : List ℕ) (joins : List Join) (outs : List (Option Lane)) (l : Lane) (x c q : ℕ)
     → ((i j clock : ℕ) → slice_get clocks i ≡ Some clock → slice_get clocks j ≡ Some clock → i ≡ j)
-    → AreOuts k clocks joins outs → lane_number l ≡ k → slice_get clocks x ≡ Some c → q ≤ 16
+    → AreOuts k clocks joins outs → lane_number l ≡ k → slice_get clocks x ≡ Some c → q ≤ MOST_PORTS
     → BeginsAt joins (port_id c q) l
-    → AreOuts (k + 1) clocks joins (slice_set outs (17 * x + q) (Some l))
+    → AreOuts (k + 1) clocks joins (slice_set outs (PORT_SPAN * x + q) (Some l))
 one_entered k clocks joins outs l x c q differ h e there small begins = record {
-  count = length-set outs (17 * x + q) (Some l) ∙ h.count;
-  each = λ place port clock at few. tested place port clock at few (nat_eq (17 * place + port) (17 * x + q)) refl;
+  count = length-set outs (PORT_SPAN * x + q) (Some l) ∙ h.count;
+  each = λ place port clock at few.
+      tested place port clock at few (nat_eq (PORT_SPAN * place + port) (PORT_SPAN * x + q)) refl;
 } where
-  within : 17 * x + q < length outs
+  within : PORT_SPAN * x + q < length outs
   within = let b = slice_get_within clocks x c there in let n = h.count in omega arith
 
-  tested : (place port clock : ℕ) → slice_get clocks place ≡ Some clock → port ≤ 16 → (t : Bool)
-      → nat_eq (17 * place + port) (17 * x + q) ≡ t
+  tested : (place port clock : ℕ) → slice_get clocks place ≡ Some clock → port ≤ MOST_PORTS → (t : Bool)
+      → nat_eq (PORT_SPAN * place + port) (PORT_SPAN * x + q) ≡ t
       → IsOut (k + 1) joins (port_id clock port)
-      (slice_index_or (slice_set outs (17 * x + q) (Some l)) (17 * place + port) None)
+      (slice_index_or (slice_set outs (PORT_SPAN * x + q) (Some l)) (PORT_SPAN * place + port) None)
   tested place port clock at few true f =
-      let here : 17 * place + port ≡ 17 * x + q = grind (arith, nat_tests) in
+      let here : PORT_SPAN * place + port ≡ PORT_SPAN * x + q = grind (arith, nat_tests) in
       subst (IsOut (k + 1) joins (port_id clock port))
-      (sym (get_or-set_at outs (17 * x + q) (17 * place + port) (Some l) None here within))
+      (sym (get_or-set_at outs (PORT_SPAN * x + q) (PORT_SPAN * place + port) (Some l) None here within))
       (at_own k clocks joins l x c q e there small begins place port clock at few here)
   tested place port clock at few false f =
-      let apart : 17 * place + port ≡ 17 * x + q → ⊥ = λ s. grind (arith, nat_tests) in
+      let apart : PORT_SPAN * place + port ≡ PORT_SPAN * x + q → ⊥ = λ s. grind (arith, nat_tests) in
       subst (IsOut (k + 1) joins (port_id clock port))
-      (sym (get_or-set_other outs (17 * x + q) (17 * place + port) (Some l) None apart))
+      (sym (get_or-set_other outs (PORT_SPAN * x + q) (PORT_SPAN * place + port) (Some l) None apart))
       (at_other k clocks joins outs l x c q differ h e there begins place port clock at few apart)
 
 -- both lanes of a link are entered
@@ -120,15 +125,15 @@ both_entered i clocks joins outs join ends plan h at at_a at_b =
 -- ---- reading the table
 
 pub at_port : (clocks : List ℕ) (joins : List Join) (outs : List (Option Lane)) (place port clock : ℕ) (o : Option Lane)
-    → AreOuts (2 * length joins) clocks joins outs → slice_get clocks place ≡ Some clock → port ≤ 16
-    → o ≡ slice_index_or outs (17 * place + port) o → IsOut (2 * length joins) joins (port_id clock port) o
+    → AreOuts (2 * length joins) clocks joins outs → slice_get clocks place ≡ Some clock → port ≤ MOST_PORTS
+    → o ≡ slice_index_or outs (PORT_SPAN * place + port) o → IsOut (2 * length joins) joins (port_id clock port) o
 at_port clocks joins outs place port clock o h e few is =
-    let within : 17 * place + port < length outs =
+    let within : PORT_SPAN * place + port < length outs =
     let l = slice_get_within clocks place clock e in let n = h.count in omega arith in
-    let there : slice_get outs (17 * place + port) ≡ Some o = slice_get_read outs (length outs)
-    (17 * place + port) o refl within is in
+    let there : slice_get outs (PORT_SPAN * place + port) ≡ Some o = slice_get_read outs (length outs)
+    (PORT_SPAN * place + port) o refl within is in
     subst (IsOut (2 * length joins) joins (port_id clock port))
-    (get_or_from_slice_get outs (17 * place + port) o None there) (h.each place port clock e few)
+    (get_or_from_slice_get outs (PORT_SPAN * place + port) o None there) (h.each place port clock e few)
 
 pub begins : (k : ℕ) (joins : List Join) (p : PortId) (o : Option Lane) → IsOut k joins p o
     → IfSome o (BeginsAt joins p)
@@ -149,8 +154,8 @@ only_lane clocks joins p None l plan h b =
 
 pub small_port : (clocks : List ℕ) (joins : List Join) (p : PortId) (link : ℕ) (d : Direction) (join : Join)
     → IsPlan clocks joins
-    → slice_get joins link ≡ Some join → direction_start d join ≡ p → p.port ≤ 16
-small_port clocks joins p link FromA join plan e b = subst (λ (q : PortId). q.port ≤ 16) b
+    → slice_get joins link ≡ Some join → direction_start d join ≡ p → p.port ≤ MOST_PORTS
+small_port clocks joins p link FromA join plan e b = subst (λ (q : PortId). q.port ≤ MOST_PORTS) b
     (plan.placed_a link join e).last
-small_port clocks joins p link FromB join plan e b = subst (λ (q : PortId). q.port ≤ 16) b
+small_port clocks joins p link FromB join plan e b = subst (λ (q : PortId). q.port ≤ MOST_PORTS) b
     (plan.placed_b link join e).last

@@ -1,5 +1,6 @@
 -- What an act is about is the same at a later time.
-use Rattle.std.proofs.Common.{ℕ, ◌≤◌}
+use Rattle.std.proofs.Common.{ℕ}
+use Rattle.gptp_setup.specs.Intervals.{IsMoment}
 use Rattle.gptp_world.specs.declared.act_target.ActTarget.{ActTarget}
 use Rattle.gptp_world.specs.declared.act_target.ActTarget.TheVariants as aims
 use Rattle.gptp_scenario.specs.declared.change.Act.{Act}
@@ -162,7 +163,7 @@ room_later (aims.Recover place) parts time has = λ failed. start_at place parts
 room_later (aims.Priority1 place set) parts time has = room_at reaches.All place parts time has
 room_later (aims.Inject lane) parts time has = has
 
-pub stage_later : (parts : WorldParts) (time : ℕ) → time ≤ 1000000000000000 → IsWorldParts parts
+pub stage_later : (parts : WorldParts) (time : ℕ) → IsMoment time → IsWorldParts parts
     → IsWorldParts (at_time time parts)
 stage_later parts time early is = record {
   net = is.net;

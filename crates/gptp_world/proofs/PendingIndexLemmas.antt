@@ -9,12 +9,15 @@ use Rattle.gptp_links.specs.declared.link.Direction.{Direction}
 use Rattle.gptp_links.specs.declared.link.Direction.TheVariants.{FromA, FromB}
 use Rattle.gptp_queue.specs.Entry.{Entry as QueueEntry}
 use Rattle.gptp_queue.specs.Waiting.{time_at, PlacesDiffer, WaitingState}
+use Rattle.gptp_setup.specs.declared.limits.TheConstants.{MOST_PORTS}
 use Rattle.gptp_setup.specs.declared.timer.Timer.{Timer}
 use Rattle.gptp_model.specs.declared.item.Item.{Item}
 use Rattle.gptp_model.specs.declared.item.Item.TheVariants.{Expiry, Arrival}
 use Rattle.gptp_model.specs.Item.{same_item, timer_kind, timer_port}
 use Rattle.gptp_model.specs.Pending.{Entry, pending_entry, put, timer_time, times_of_item, without, without_first_entry, IsKnownItem, arrival_place}
 use Rattle.gptp_model.proofs.TimerLemmas.{kind_below}
+use Rattle.gptp_world.specs.declared.directory.TheConstants.{PORT_SPAN}
+use Rattle.gptp_world.specs.declared.pending_index.TheConstants.{TIMER_KINDS, TIMER_SPAN}
 use Rattle.gptp_world.specs.Chain.{rest_of}
 use Rattle.gptp_world.specs.PendingIndex.{PendingIndexState, queue_at, filed_with_queue, PlacedItem, placed, item_at, placed_items, plain_items, without_placed, items_like, place_of, IsVacant, timer_place, IsPlaced, AreFree, HasSpare, MakesFree, PendingIsIndexed, PutsBack}
 use Rattle.gptp_world.proofs.PlacedLemmas.{map-push, all-placed, placed-more, ArePlacedApart}
@@ -23,7 +26,7 @@ use Rattle.gptp_world.proofs.QueueLemmas.{queue-same, queue-other}
 -- ---- places
 
 pub timer_within : (systems links place : ℕ) (timer : Timer) → IsKnownItem systems links (Expiry place timer)
-    → timer_place place timer < systems * 119
+    → timer_place place timer < systems * TIMER_SPAN
 timer_within systems links place timer known =
     let kind = kind_below timer in let here = known.0 in let port = known.1 in omega arith
 
@@ -37,18 +40,23 @@ both_tests false true f g = g refl
 both_tests false false f g = refl
 
 -- a place tells its parts
-parts : (p k q p' k' q' : ℕ) → k < 7 → k' < 7 → q ≤ 16 → q' ≤ 16 → (p' * 7 + k') * 17 + q' ≡ (p * 7 + k) * 17 + q
+parts : (p k q p' k' q' : ℕ) → k < TIMER_KINDS → k' < TIMER_KINDS → q ≤ MOST_PORTS → q' ≤ MOST_PORTS
+    → (p' * TIMER_KINDS + k') * PORT_SPAN + q' ≡ (p * TIMER_KINDS + k) * PORT_SPAN + q
     → (p ≡ p') × ((k ≡ k') × (q ≡ q'))
 parts p k q p' k' q' h h' i i' e = (omega arith, (omega arith, omega arith))
 
-same_place : (p k q p' k' q' : ℕ) → k < 7 → k' < 7 → q ≤ 16 → q' ≤ 16
-    → (p == p' && (k == k' && q == q')) ≡ ((p' * 7 + k') * 17 + q' == (p * 7 + k) * 17 + q)
+same_place : (p k q p' k' q' : ℕ) → k < TIMER_KINDS → k' < TIMER_KINDS → q ≤ MOST_PORTS → q' ≤ MOST_PORTS
+    → (p == p' && (k == k' && q == q'))
+    ≡ ((p' * TIMER_KINDS + k') * PORT_SPAN + q' == (p * TIMER_KINDS + k) * PORT_SPAN + q)
 same_place p k q p' k' q' h h' i i' =
     both_tests _ _
     (λ t. let a : p ≡ p' = grind (arith, nat_tests) in let b : k ≡ k' = grind (arith, nat_tests) in
     let d : q ≡ q' = grind (arith, nat_tests) in
-    let e : (p' * 7 + k') * 17 + q' ≡ (p * 7 + k) * 17 + q = omega arith in grind (arith, nat_tests))
-    (λ t. let e : (p' * 7 + k') * 17 + q' ≡ (p * 7 + k) * 17 + q = grind (arith, nat_tests) in
+    let e : (p' * TIMER_KINDS + k') * PORT_SPAN + q' ≡ (p * TIMER_KINDS + k) * PORT_SPAN + q = omega arith in
+    grind (arith, nat_tests))
+    (λ t.
+    let e : (p' * TIMER_KINDS + k') * PORT_SPAN + q' ≡ (p * TIMER_KINDS + k) * PORT_SPAN + q =
+    grind (arith, nat_tests) in
     let s = parts p k q p' k' q' h h' i i' e in
     let a : p ≡ p' = s.0 in let b : k ≡ k' = s.1.0 in let d : q ≡ q' = s.1.1 in grind (arith, nat_tests))
 
@@ -139,10 +147,10 @@ module _ (systems links place : ℕ) (timer : Timer) (runs : IsKnownItem systems
   Known p = IsKnownItem systems links p.item
 
   abbrev Placed : PlacedItem → Type 0
-  Placed p = IsPlaced (systems * 119) p.item p.place
+  Placed p = IsPlaced (systems * TIMER_SPAN) p.item p.place
 
   -- an item is this timer exactly where it is at its place
-  same_timer : (item : Item) (there : ℕ) → IsKnownItem systems links item → IsPlaced (systems * 119) item there
+  same_timer : (item : Item) (there : ℕ) → IsKnownItem systems links item → IsPlaced (systems * TIMER_SPAN) item there
       → same_item (Expiry place timer) item ≡ (there == at)
   same_timer (Expiry p t) there known is =
       rw is (same_place place (timer_kind timer) (timer_port timer) p (timer_kind t) (timer_port t) (kind_below timer)
@@ -440,7 +448,7 @@ free-put timers places ps free p are apart = record {
 module _ (systems links : ℕ) (pending_index : PendingIndexState) (places : ℕ) (free : List ℕ) (ps : List PlacedItem)
     (are : PendingIsIndexed systems links pending_index places free ps) where
   abbrev timers : ℕ
-  timers = systems * 119
+  timers = systems * TIMER_SPAN
 
   module _ (place : ℕ) (timer : Timer) (runs : IsKnownItem systems links (Expiry place timer)) where
     abbrev there : ℕ
@@ -729,9 +737,9 @@ index-grown systems links pending_index grown queue roomy after table more free 
     let ps : placed_items more after.entries ≡ placed_items table queue.entries =
     ap (placed_items more) entries ∙ makes.kept ∙ ap (placed_items table) before in
     let timers = are.timers in let up = makes.places in
-    let vacant : AreFree (systems * 119) after.places (placed_items table queue.entries) longer =
-    subst (λ (es : List QueueEntry). AreFree (systems * 119) after.places (placed_items table es) longer) before
-    (makes.are_free (systems * 119) (omega (arith, timers, places))
+    let vacant : AreFree (systems * TIMER_SPAN) after.places (placed_items table queue.entries) longer =
+    subst (λ (es : List QueueEntry). AreFree (systems * TIMER_SPAN) after.places (placed_items table es) longer) before
+    (makes.are_free (systems * TIMER_SPAN) (omega (arith, timers, places))
     (rw (before, places) are.are_free)) in
     rw ps (record {
       few_systems = are.few_systems;

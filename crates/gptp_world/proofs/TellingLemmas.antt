@@ -1,6 +1,7 @@
 -- The ends of a link are told of a change of it, one after the other.
 use Rattle.std.proofs.Common.{◌≡◌, ◌≢◌, ℕ, ◌≤◌, List, [], ◌++◌, Bool, true, false, map, Option, Some, slice_get, slice_index_or, refl, ap, sym, subst, ◌∙◌, inl, inr, arith}
 use Rattle.std.proofs.lemmas.Option.{same_Some}
+use Rattle.gptp_setup.specs.declared.limits.TheConstants.{MOST_PORTS}
 use Rattle.gptp_links.specs.declared.bounds.Bounds.{Bounds}
 use Rattle.gptp_links.specs.declared.link.Direction.{Direction}
 use Rattle.gptp_links.specs.declared.link.Direction.TheVariants.{FromA, FromB}
@@ -35,9 +36,9 @@ use Rattle.gptp_world.proofs.RoomLemmas.{joins_kept}
 
 -- ---- the ends of a link
 
--- the number of a port at which a lane ends is at most 16
+-- the number of a port at which a lane ends is within the limit
 pub small_end : (clocks : List ℕ) (joins : List Join) (link : ℕ) (d : Direction) (join : Join) → IsPlan clocks joins
-    → slice_get joins link ≡ Some join → (direction_end d join).port ≤ 16
+    → slice_get joins link ≡ Some join → (direction_end d join).port ≤ MOST_PORTS
 small_end clocks joins link FromA join plan here = (plan.placed_b link join here).last
 small_end clocks joins link FromB join plan here = (plan.placed_a link join here).last
 

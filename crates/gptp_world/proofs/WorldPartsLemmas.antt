@@ -24,6 +24,7 @@ use Rattle.gptp_world.specs.Net.{between, IsNet, OnlyEntries}
 use Rattle.gptp_model.specs.World.{port_id}
 use Rattle.gptp_world.specs.Room.{both, for_call, for_reach, is_reached, no_room, sends_from, WorldHasRoom, Uses}
 use Rattle.gptp_system.specs.Reach.{may_select, reach, timer_reach}
+use Rattle.gptp_setup.specs.declared.limits.TheConstants.{MOST_PORTS}
 use Rattle.gptp_setup.specs.declared.timer.Timer.{Timer}
 use Rattle.gptp_setup.specs.declared.timer.Timer.TheVariants as timers
 use Rattle.gptp_system.specs.Steps.{IsTimerOf}
@@ -104,10 +105,10 @@ few_kept : (parts : WorldParts) (place : ℕ) (old new : Station) → IsWorldPar
     → slice_get parts.stations.items place ≡ Some old
     → length new.system.ports ≡ length old.system.ports
     → (other : ℕ) (station : Station) → slice_get (slice_set parts.stations.items place new) other ≡ Some station
-    → length station.system.ports ≤ 16
+    → length station.system.ports ≤ MOST_PORTS
 few_kept parts place old new is here same other station there = by (same_place other place)
   where
-    by : (other ≡ place) ⊎ (other ≢ place) → length station.system.ports ≤ 16
+    by : (other ≡ place) ⊎ (other ≢ place) → length station.system.ports ≤ MOST_PORTS
     by (inl places) =
         let now_here = get-set_same parts.stations.items place old new here in
         let one : station ≡ new =

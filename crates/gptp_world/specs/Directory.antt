@@ -1,10 +1,12 @@
 -- What the code keeps of who is where in a world: contracts of private functions alone cite this.
 use Rattle.std.specs.Prelude.{◌≡◌, ◌≢◌, ℕ, ◌+◌, ◌*◌, ◌<◌, ◌≤◌, List, map, length, Contains, Option, Some, None, slice_get, slice_index_or, slice_set}
 use Rattle.std.specs.List.Sorted.{IsPermutation, IsNonDecreasing}
+use Rattle.gptp_setup.specs.declared.limits.TheConstants.{MOST_PORTS}
 use Rattle.gptp_vector.specs.declared.port.PortId.{PortId}
 use Rattle.gptp_links.specs.declared.link.Direction.{Direction}
 use Rattle.gptp_links.specs.declared.link.Direction.TheVariants.{FromA, FromB}
 use Rattle.gptp_roles.specs.Selection.{clock_of}
+use Rattle.gptp_world.specs.declared.directory.TheConstants.{PORT_SPAN}
 use Rattle.gptp_world.specs.declared.joined_link.Lane.{Lane}
 use Rattle.gptp_world.specs.declared.directory.Ends.{Ends}
 pub use Rattle.gptp_world.specs.declared.directory.Join.{Join}
@@ -38,12 +40,12 @@ pub record BeginsAt (joins : List Join) (port : PortId) (lane : Lane) : Type 0 w
   pub there : slice_get joins lane.link ≡ Some join
   pub begins : direction_start lane.direction join ≡ port
 
--- the port is one of a system that stands at some place; ports are numbered from 1 to 16
+-- the port is one of a system that stands at some place; ports are numbered from 1 on
 pub record PortIsPlaced (clocks : List ℕ) (port : PortId) : Type 0 where
   pub place : ℕ
   pub there : slice_get clocks place ≡ Some port.clock
   pub first : 1 ≤ port.port
-  pub last : port.port ≤ 16
+  pub last : port.port ≤ MOST_PORTS
 
 -- clocks differ, links join ports of two systems, and at a port at most one lane begins
 pub record IsPlan (clocks : List ℕ) (joins : List Join) : Type 0 where
@@ -93,18 +95,18 @@ abbrev pub IsOut : ℕ → List Join → PortId → Option Lane → Type 0
 IsOut k joins port None = (lane : Lane) → lane_number lane < k → BeginsAt joins port lane → ⊥
 IsOut k joins port (Some lane) = (lane_number lane < k) × BeginsAt joins port lane
 
--- the lane that begins at each port, at 17 * place + port: of those with numbers below this one
+-- the lane that begins at each port, at PORT_SPAN * place + port: of those with numbers below this one
 pub record AreOuts (k : ℕ) (clocks : List ℕ) (joins : List Join) (outs : List (Option Lane)) : Type 0 where
-  pub count : length outs ≡ 17 * length clocks
-  pub each : (place port clock : ℕ) → slice_get clocks place ≡ Some clock → port ≤ 16
-      → IsOut k joins (record { clock = clock; port = port }) (slice_index_or outs (17 * place + port) None)
+  pub count : length outs ≡ PORT_SPAN * length clocks
+  pub each : (place port clock : ℕ) → slice_get clocks place ≡ Some clock → port ≤ MOST_PORTS
+      → IsOut k joins (record { clock = clock; port = port }) (slice_index_or outs (PORT_SPAN * place + port) None)
 
 -- the table once both lanes of a link are entered
 abbrev pub lanes_entered : ℕ → Join → Ends → List (Option Lane) → List (Option Lane)
 lanes_entered link join ends outs =
     slice_set
-    (slice_set outs (17 * ends.a + join.a.port) (Some (record { link = link; direction = FromA })))
-    (17 * ends.b + join.b.port)
+    (slice_set outs (PORT_SPAN * ends.a + join.a.port) (Some (record { link = link; direction = FromA })))
+    (PORT_SPAN * ends.b + join.b.port)
     (Some (record { link = link; direction = FromB }))
 
 -- all tables

@@ -11,6 +11,8 @@ use Rattle.gptp_model.specs.Pending.{Entry, pending_entry, IsKnownItem, arrival_
 use Rattle.gptp_queue.specs.Entry.{Entry as QueueEntry}
 use Rattle.gptp_queue.specs.Waiting.{WaitingState}
 use Rattle.gptp_setup.specs.declared.timer.Timer.{Timer}
+use Rattle.gptp_world.specs.declared.directory.TheConstants.{PORT_SPAN}
+use Rattle.gptp_world.specs.declared.pending_index.TheConstants.{TIMER_KINDS, TIMER_SPAN}
 
 -- the numbers that are listed for each direction of a link, and how many more can be put
 pub record PendingIndexState : Type 0 where
@@ -68,9 +70,9 @@ IsVacant ps place = AllByRecursion (λ (p : PlacedItem). p.place ≢ place) ps
 
 -- ---- places
 
--- where a timer is; each kind of a system has a place for itself and for each of sixteen ports
+-- where a timer is; each kind of a system has a place for itself and for each port
 abbrev pub timer_place : ℕ → Timer → ℕ
-timer_place place timer = (place * 7 + timer_kind timer) * 17 + timer_port timer
+timer_place place timer = (place * TIMER_KINDS + timer_kind timer) * PORT_SPAN + timer_port timer
 
 -- a timer is at its place, and an arrival behind those of all timers
 abbrev pub IsPlaced : ℕ → Item → ℕ → Type 0
@@ -92,13 +94,13 @@ pub record PendingIsIndexed (systems links : ℕ) (pending_index : PendingIndexS
     (ps : List PlacedItem) : Type 0 where
   pub few_systems : systems ≤ 512
   pub few_links : links ≤ 2048
-  pub timers : systems * 119 ≤ places
+  pub timers : systems * TIMER_SPAN ≤ places
   pub queues_len : length pending_index.queues ≡ links * 2
   pub known : AllByRecursion (λ (p : PlacedItem). IsKnownItem systems links p.item) ps
-  pub placed : AllByRecursion (λ (p : PlacedItem). IsPlaced (systems * 119) p.item p.place) ps
+  pub placed : AllByRecursion (λ (p : PlacedItem). IsPlaced (systems * TIMER_SPAN) p.item p.place) ps
   pub queues : (link : ℕ) (direction : Direction) → map place_of (items_like (Arrival link direction) ps)
       ≡ queue_at (arrival_place link direction) pending_index
-  pub are_free : AreFree (systems * 119) places ps free
+  pub are_free : AreFree (systems * TIMER_SPAN) places ps free
 
 -- there is room for so many more, and each place of the queue can have an item
 pub record HasSpare (spare : ℕ) (queue : WaitingState) (pending_index : PendingIndexState) (items : List Item)

@@ -4,6 +4,7 @@ use Rattle.std.specs.List.{filter}
 use Rattle.gptp_links.specs.declared.bounds.Bounds.{Bounds}
 use Rattle.gptp_links.specs.Fate.{Draw, Draws}
 use Rattle.gptp_system.specs.Input.{PortUp, Priority}
+use Rattle.gptp_setup.specs.declared.limits.TheConstants.{MOST_PORTS}
 use Rattle.gptp_setup.specs.Intervals.{AreParams}
 use Rattle.gptp_system.specs.State.{SystemState, clock}
 use Rattle.gptp_world.specs.declared.world_parts.WorldParts.{WorldParts}
@@ -36,7 +37,7 @@ pub record CanSetTimers (place : ℕ) (parts : WorldParts) : Type 0 where
   pub station : Station
   pub here : slice_get parts.stations.items place ≡ Some station
   pub known : place < parts.net.pending.systems
-  pub few : length station.system.ports ≤ 16
+  pub few : length station.system.ports ≤ MOST_PORTS
   pub room : station.live ≡ true → 4 * length station.system.ports + 3 ≤ parts.net.pending.room
 
 -- they were set, and nothing else has changed

@@ -1,11 +1,13 @@
 -- What the code keeps of a world.
-use Rattle.std.specs.Prelude.{◌≡◌, ◌<◌, ◌≤◌, ◌+◌, ◌*◌, ◌^◌, ℕ, ⊤, Bool, true, List, [], length, map, Option, Some, slice_get, slice_set}
+use Rattle.std.specs.Prelude.{◌≡◌, ◌<◌, ◌≤◌, ◌+◌, ◌*◌, ℕ, ⊤, Bool, true, List, [], length, map, Option, Some, slice_get, slice_set}
 use Rattle.gptp_links.specs.declared.bounds.Bounds.{Bounds}
 use Rattle.gptp_links.specs.Fate.{Draw, Draws}
 use Rattle.gptp_system.specs.declared.answer.Answer.{Answer}
 use Rattle.gptp_system.specs.declared.reach.Reach.{Reach}
 use Rattle.gptp_system.specs.declared.reach.Reach.TheVariants as reaches
 use Rattle.gptp_system.specs.declared.sending.Sending.{Sending}
+use Rattle.gptp_setup.specs.Intervals.{IsMoment}
+use Rattle.gptp_setup.specs.declared.limits.TheConstants.{MOST_PORTS}
 use Rattle.gptp_setup.specs.declared.timer.Timer.{Timer}
 use Rattle.gptp_system.specs.Input.{Input, IsTimely, Steps}
 use Rattle.gptp_system.specs.Reach.{reach}
@@ -43,13 +45,13 @@ pub record IsWorldParts (parts : WorldParts) : Type 0 where
   pub clocks : map clock_at_place parts.stations.items ≡ parts.net.directory.clocks
   pub systems : length parts.stations.items ≤ parts.net.pending.systems
   pub few : (place : ℕ) (station : Station) → slice_get parts.stations.items place ≡ Some station
-      → length station.system.ports ≤ 16
+      → length station.system.ports ≤ MOST_PORTS
   pub ports : (place : ℕ) (station : Station) (p : ℕ) (lane : Lane)
       → slice_get parts.stations.items place ≡ Some station
       → BeginsAt parts.net.directory.joins (port_id (clock station.system) p) lane → (1 ≤ p)
       × (p ≤ length station.system.ports)
   pub empty : parts.outbox.items ≡ []
-  pub moment : parts.now ≤ 10 ^ 15
+  pub moment : IsMoment parts.now
 
 -- the system at a place is live
 pub record IsLiveAt (place : ℕ) (parts : WorldParts) : Type 0 where
@@ -125,8 +127,8 @@ pub record CarriesOut (place : ℕ) (parts : WorldParts) : Type 0 where
   pub net : IsNet parts.net
   pub clocks : map clock_at_place parts.stations.items ≡ parts.net.directory.clocks
   pub systems : length parts.stations.items ≤ parts.net.pending.systems
-  pub moment : parts.now ≤ 10 ^ 15
-  pub few : length station.system.ports ≤ 16
+  pub moment : IsMoment parts.now
+  pub few : length station.system.ports ≤ MOST_PORTS
   pub room : WorldHasRoom (for_left station.system parts.outbox.items) parts.net
 
 -- a call uses no more room than a call can

@@ -7,6 +7,7 @@ use crate::joined_link::Lane;
 use crate::world_parts::WorldParts;
 use gptp_links::{Bounds, Direction};
 use gptp_model::{Act, Change};
+use gptp_setup::MOST_PORTS;
 use gptp_system::Timer;
 use gptp_vector::ClockId;
 
@@ -51,7 +52,8 @@ impl WorldParts {
         ensures none { IfNone result (AtLink (port_id clock port) (world_of self.entry.now).net AnyLink → ⊥) }
     {
         self.net.directory.well_formed();
-        if 16 < port {
+        let number = usize::from(port);
+        if MOST_PORTS < number {
             return None;
         }
         match self.net.directory.place_of(clock) {

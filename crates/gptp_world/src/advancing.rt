@@ -1,6 +1,7 @@
 //! Worlds that go on by themselves.
 
 ghost use Rattle.std.specs.Prelude.{◌≡◌};
+ghost use Rattle.gptp_setup.specs.Intervals.{IsMoment};
 ghost use Rattle.gptp_world.specs.ActTarget.{aim_of};
 
 use crate::act_target::ActTarget;
@@ -91,7 +92,7 @@ impl WorldCore {
 
     /// Its time becomes this, up to which nothing is left that is due.
     fn wait(&mut self, until: u64)
-        requires moment { until ≤ 1000000000000000 }
+        requires moment { IsMoment until }
         requires ahead { self.old.time ≤ until }
         requires first { NothingBefore (until + 1) self.old.net.pending }
         ensures { self.new ≡ at until self.old }
@@ -119,7 +120,7 @@ impl<F: Fate + Drop> World<F> {
         sink: &mut K,
     ) -> Result<(), Cut>
         requires next { IsNext self.old.world_core.net.pending time item }
-        requires moment { time ≤ 1000000000000000 }
+        requires moment { IsMoment time }
         ensures went { (o_after : O) × Follows F.answers O.tells time self.old.fate self.new.fate self.old.world_core
             self.new.world_core observer.old o_after (AppendsSome (K.written sink.old) (K.written sink.new)) }
         ensures followed { OnOk result (Follows F.answers O.tells time self.old.fate self.new.fate self.old.world_core
@@ -152,7 +153,7 @@ impl<F: Fate + Drop> World<F> {
     ) -> Result<Option<(u64, Item)>, Cut>
         requires next { IsUpcoming next self.old.world_core.net.pending }
         requires first { NothingBefore time self.old.world_core.net.pending }
-        requires moment { time ≤ 1000000000000000 }
+        requires moment { IsMoment time }
         ensures went { (o_after : O) × Follows F.answers O.tells time self.old.fate self.new.fate self.old.world_core
             self.new.world_core observer.old o_after (AppendsSome (K.written sink.old) (K.written sink.new)) }
         ensures followed { OnOk result (Follows F.answers O.tells time self.old.fate self.new.fate self.old.world_core
@@ -184,7 +185,7 @@ impl<F: Fate + Drop> World<F> {
         requires next { IsUpcoming next self.old.world_core.net.pending }
         requires first { NothingBefore from self.old.world_core.net.pending }
         requires ahead { from ≤ until }
-        requires moment { until ≤ 1000000000000000 }
+        requires moment { IsMoment until }
         ensures went { (o_after : O) × Follows F.answers O.tells until self.old.fate self.new.fate self.old.world_core
             self.new.world_core observer.old o_after (AppendsSome (K.written sink.old) (K.written sink.new)) }
         ensures followed { OnOk result (Follows F.answers O.tells until self.old.fate self.new.fate self.old.world_core
@@ -212,7 +213,7 @@ impl<F: Fate + Drop> World<F> {
         observer: &mut O,
         sink: &mut K,
     ) -> Result<(), Cut>
-        requires moment { until ≤ 1000000000000000 }
+        requires moment { IsMoment until }
         ensures went { (o_after : O) × Follows F.answers O.tells until self.old.fate self.new.fate self.old.world_core
             self.new.world_core observer.old o_after (AppendsSome (K.written sink.old) (K.written sink.new)) }
         ensures followed { OnOk result (Follows F.answers O.tells until self.old.fate self.new.fate self.old.world_core
@@ -231,10 +232,10 @@ impl<F: Fate + Drop> World<F> {
         Ok(())
     }
 
-    /// It goes on up to a time, at most 10^15 ns, which hasn't passed, before an observer: what is pending happens, one
-    /// act after another, each of them the next that is due then, and the observer sees each as it was done. The buffer
-    /// of a frame that it saw arrive stands ready for another then. After `Ok` that is its time, and nothing that is
-    /// due by then is left.
+    /// It goes on up to a time, at most `LAST_MOMENT`, which hasn't passed, before an observer: what is pending
+    /// happens, one act after another, each of them the next that is due then, and the observer sees each as it was
+    /// done. The buffer of a frame that it saw arrive stands ready for another then. After `Ok` that is its time, and
+    /// nothing that is due by then is left.
     ///
     /// Errors: [`Cut::Write`] exactly where a write failed; [`Cut::Memory`] where the observer says so, or there is no
     /// memory for the next act. Then it has gone on up to there, by whole acts, and what the observer told until then
@@ -246,7 +247,7 @@ impl<F: Fate + Drop> World<F> {
         observer: &mut O,
         sink: &mut K,
     ) -> Result<(), Cut>
-        requires moment { until ≤ 1000000000000000 }
+        requires moment { IsMoment until }
         requires ahead { self.old.world_core.time ≤ until }
         ensures gone { OnOk result (PassesSeen F.answers O.tells until self.old.fate self.new.fate self.old.world_core
             self.new.world_core observer.old observer.new (Appends (K.written sink.old) (K.written sink.new))) }

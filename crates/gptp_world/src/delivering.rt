@@ -1,6 +1,7 @@
 //! Frames that reach a system.
 
 ghost use Rattle.std.specs.Prelude.{◌≡◌, ◌≤◌};
+ghost use Rattle.gptp_setup.specs.declared.limits.TheConstants.{MOST_PORTS};
 
 use crate::frame_budget::FrameBudget;
 use crate::joined_link::Lane;
@@ -18,9 +19,9 @@ pub(crate) struct Reached {
     pub frame: Vec<u8>,
 }
 
-/// The number of a port, from 1 to 16, in one octet.
+/// The number of a port in one octet.
 pub(crate) fn narrowed(port: u16) -> u8
-    requires { port ≤ 16 }
+    requires { port ≤ MOST_PORTS }
     ensures { result ≡ port }
 {
     port as u8

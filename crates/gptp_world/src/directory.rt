@@ -10,6 +10,7 @@ use crate::joined_link::Lane;
 use gptp_hints::ClockHints;
 use gptp_links::Direction;
 use gptp_model::Network;
+use gptp_setup::MOST_PORTS;
 use gptp_vector::{ClockId, PortId};
 use std::alloc::{AllocError, Global};
 use std::marker::Model;
@@ -30,8 +31,8 @@ pub(crate) struct Ends {
     b: usize,
 }
 
-/// How many places of the table of lanes belong to a system: ports are numbered from 1 to 16.
-const PORT_SPAN: usize = 17;
+/// How many places of a table belong to the ports of a system, which are numbered from 1 on.
+pub(crate) const PORT_SPAN: usize = MOST_PORTS + 1;
 
 /// Who is where: the clocks of systems and the ports of links by their places, from 0, in the order in which the
 /// network took them. It doesn't change once it is made, and no call but [`new`](Self::new) takes memory.
@@ -46,7 +47,7 @@ pub(crate) struct Directory {
     ranked: Vec<usize>,
     // The rank of each clock, which is tried before they are searched.
     hints: ClockHints,
-    // The lane that begins at each port, at 17 * place + port.
+    // The lane that begins at each port, at PORT_SPAN * place + port.
     outs: Vec<Option<Lane>>,
     ends: Vec<Ends>,
 }
@@ -338,8 +339,8 @@ fn list_outs(
 
 /// Enters both lanes of a link.
 fn enter(outs: &mut Vec<Option<Lane>>, link: usize, join: &Join, ends: &Ends)
-    requires a { 17 * ends.now.a + join.now.a.port < length outs.old.items }
-    requires b { 17 * ends.now.b + join.now.b.port < length outs.old.items }
+    requires a { PORT_SPAN * ends.now.a + join.now.a.port < length outs.old.items }
+    requires b { PORT_SPAN * ends.now.b + join.now.b.port < length outs.old.items }
     ensures { outs.new.items ≡ lanes_entered link join.now ends.now outs.old.items }
 {
     outs[PORT_SPAN * ends.a + usize::from(join.a.port)] = Some(Lane {

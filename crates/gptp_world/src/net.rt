@@ -19,7 +19,8 @@ pub(crate) struct Net {
 }
 
 impl Net {
-    ghost use Rattle.std.specs.Prelude.{◌≡◌, ℕ, ◌+◌, ◌*◌, ◌^◌, ◌<◌, ◌≤◌, List, [], ◌∷◌, length, Some, slice_get, IfSome, IfNone, true};
+    ghost use Rattle.std.specs.Prelude.{◌≡◌, ℕ, ◌*◌, ◌<◌, ◌≤◌, List, [], ◌∷◌, length, Some, slice_get, IfSome, IfNone, true};
+    ghost use Rattle.gptp_setup.specs.Intervals.{IsMoment};
     ghost use Rattle.gptp_system.specs.State.{clock, own};
     ghost use Rattle.gptp_world.specs.declared.joined_link.JoinedLink.{JoinedLink};
     ghost use Rattle.gptp_model.specs.Sends.{written, IsUnlinkedPort};
@@ -54,7 +55,7 @@ impl Net {
     /// A frame with these octets goes onto a lane whose link is up, as if the port at its beginning had sent it.
     pub(crate) fn inject<F: Fate>(&mut self, lane: Lane, octets: &[u8], now: u64, fate: &mut F)
         requires net { IsNet self.old }
-        requires early { now ≤ 10 ^ 15 }
+        requires early { IsMoment now }
         requires few { length octets.now ≤ 2116 }
         requires room { HasRoomToInject lane self.old }
         requires up { (joined_link : JoinedLink) → slice_get self.old.cables.items lane.link ≡ Some joined_link → joined_link.link.up ≡ true }
@@ -86,7 +87,7 @@ impl Net {
     )
         requires net { IsNet self.old }
         requires place { slice_get self.old.directory.clocks place ≡ Some (clock system.now) }
-        requires early { now ≤ 10 ^ 15 }
+        requires early { IsMoment now }
         requires room { WorldHasRoom (for_sends (clock system.now) (send.now ∷ [])) self.old }
         ensures net { IsNet self.new }
         ensures uses { Uses (for_sends (clock system.now) (send.now ∷ [])) self.old self.new }
@@ -117,7 +118,7 @@ impl Net {
     )
         requires net { IsNet self.old }
         requires place { slice_get self.old.directory.clocks place ≡ Some (clock system.now) }
-        requires early { now ≤ 10 ^ 15 }
+        requires early { IsMoment now }
         requires room { WorldHasRoom (for_sends (clock system.now) sends.now) self.old }
         ensures net { IsNet self.new }
         ensures uses { Uses (for_sends (clock system.now) sends.now) self.old self.new }

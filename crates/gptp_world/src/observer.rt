@@ -1,7 +1,8 @@
 //! What is told of acts, as they are done.
 
-ghost use Rattle.std.specs.Prelude.{◌≡◌, ◌≢◌, ◌≤◌, ℕ, List, OnOk};
+ghost use Rattle.std.specs.Prelude.{◌≡◌, ◌≢◌, ℕ, List, OnOk};
 ghost use Rattle.std.specs.Io.KnownBytes.{Appends};
+ghost use Rattle.gptp_setup.specs.Intervals.{IsMoment};
 ghost use Rattle.gptp_model.specs.Advancing.{Told};
 ghost use Rattle.gptp_model.specs.World.{WorldState};
 ghost use Rattle.gptp_world.specs.Observing.{told_of, TellsAct};
@@ -19,7 +20,7 @@ pub trait Observer {
     // what it tells of an act, after which the world is this, and how the observer stands before and after it
     ghost tells: { Told → WorldState → Self → Self → List (List ℕ) → Type 0 };
 
-    /// It sees an act that was done at a time of at most 10^15 ns, and writes its lines.
+    /// It sees an act that was done at a time of at most `LAST_MOMENT`, and writes its lines.
     ///
     /// Errors: [`Cut::Write`] exactly where a write failed, and [`Cut::Memory`]. Then a front of the lines stands
     /// written.
@@ -31,7 +32,7 @@ pub trait Observer {
         done: &Done,
         sink: &mut K,
     ) -> Result<(), Cut>
-        requires moment { timed.now.at ≤ 1000000000000000 }
+        requires moment { IsMoment timed.now.at }
         ensures some { (o_after : Self) × TellsAct tells (told_of timed.now done.now) world.now.world_core self.old o_after
             (AppendsSome (K.written sink.old) (K.written sink.new)) }
         ensures whole { OnOk result (TellsAct tells (told_of timed.now done.now) world.now.world_core self.old self.new

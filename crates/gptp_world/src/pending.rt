@@ -9,16 +9,15 @@ ghost use Rattle.gptp_links.specs.declared.link.Direction.TheVariants.{FromA, Fr
 ghost use Rattle.gptp_queue.specs.Waiting.{RiseFrom};
 ghost use Rattle.gptp_world.specs.PendingIndex.{placed, placed_items, without_placed, MakesFree, PutsBack};
 
-use crate::pending_index::{PendingIndex, arrival_place, timer_kind, timer_place};
+use crate::pending_index::{
+    PendingIndex, TIMER_KINDS, TIMER_SPAN, arrival_place, timer_kind, timer_place,
+};
 use gptp_links::Direction;
 use gptp_model::Item;
 use gptp_queue::Queue;
 use gptp_system::Timer;
 use std::alloc::{AllocError, Global};
 use std::marker::Model;
-
-/// How many kinds of timers there are. Each has a run in the queue, and arrivals have none.
-const TIMER_KINDS: usize = 7;
 
 /// Room is made for so many entries at least.
 const AT_ONCE: usize = 256;
@@ -50,8 +49,8 @@ fn put_item(
     let _ = queue.put(kind, place, time).unwrap();
 }
 
-/// Makes one more place for arrivals, at which nothing is due, behind those of so many timers. There is room to keep all
-/// places of arrivals then.
+/// Makes one more place for arrivals, at which nothing is due, behind those of so many timers. There is room to keep
+/// all places of arrivals then.
 fn make_place(
     queue: &mut Queue,
     items: &mut Vec<Item>,
@@ -97,7 +96,7 @@ fn put_back(free: &mut Vec<usize>, place: usize)
 }
 
 /// What is pending in a world: timers of its systems, each at most once, and arrivals over its links. Systems and links
-/// are named by their places, from 0, and ports by their numbers, up to 16.
+/// are named by their places, from 0, and ports by their numbers.
 ///
 /// It is seen as how many systems and links there are, the list of what is pending, each with its time in ns, in order
 /// of putting, and how many more entries can be put without being refused.
@@ -146,8 +145,9 @@ impl Pending {
         ensures links { IfOk result (λ pending. pending.links ≡ links) }
         ensures entries { IfOk result (λ pending. pending.entries ≡ []) }
     {
-        let queue = Queue::new(alloc, systems * 119, TIMER_KINDS)?;
-        let items = vec![in alloc; NO_ITEM; systems * 119]?;
+        // Each kind of timers has a run in the queue, and arrivals have none.
+        let queue = Queue::new(alloc, systems * TIMER_SPAN, TIMER_KINDS)?;
+        let items = vec![in alloc; NO_ITEM; systems * TIMER_SPAN]?;
         let pending_index = PendingIndex::new(alloc, links * 2)?;
         Ok(Pending {
             systems,
@@ -189,7 +189,7 @@ impl Pending {
             &mut self.queue,
             &mut self.items,
             &mut self.free,
-            self.systems * 119,
+            self.systems * TIMER_SPAN,
             additional,
         )?;
         self.spare = additional;

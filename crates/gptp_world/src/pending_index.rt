@@ -1,17 +1,25 @@
 //! The places of arrivals, by link and direction.
 
 ghost use Rattle.std.specs.Prelude.{◌≡◌, ℕ, ◌+◌, ◌-◌, ◌*◌, ◌<◌, ◌≤◌, [], ◌∷◌, ◌++◌, length, IsOk, IfOk, OnOk, slice_index_or, slice_set};
+ghost use Rattle.gptp_setup.specs.declared.limits.TheConstants.{MOST_PORTS};
 ghost use Rattle.gptp_model.specs.Item.{timer_kind, timer_port};
 ghost use Rattle.gptp_model.specs.Pending.{arrival_place};
 ghost use Rattle.gptp_world.specs.Chain.{chain_head, rest_of};
 ghost use Rattle.gptp_world.specs.PendingIndex.{queue_at, timer_place, filed_with_queue};
 
 use crate::chain::{Chain, Node};
+use crate::directory::PORT_SPAN;
 use gptp_links::Direction;
 use gptp_system::Timer;
 use slab::Slab;
 use std::alloc::{AllocError, Global};
 use std::marker::Model;
+
+/// How many kinds of timers there are.
+pub(crate) const TIMER_KINDS: usize = 7;
+
+/// How many places belong to the timers of a system: for each kind one for the system, and one for each port.
+pub(crate) const TIMER_SPAN: usize = TIMER_KINDS * PORT_SPAN;
 
 /// A list of numbers for each direction of each link. It is seen as these lists, and how many more numbers can be put.
 #[derive(Drop)]
@@ -84,10 +92,10 @@ impl PendingIndex {
 /// The place of a timer.
 pub(crate) fn timer_place(place: usize, timer: Timer) -> usize
     requires few { place < 512 }
-    requires port { timer_port timer ≤ 16 }
+    requires port { timer_port timer ≤ MOST_PORTS }
     ensures { result ≡ timer_place place timer }
 {
-    (place * 7 + timer_kind(timer)) * 17 + timer_port(timer)
+    (place * TIMER_KINDS + timer_kind(timer)) * PORT_SPAN + timer_port(timer)
 }
 
 /// The kind of a timer.

@@ -1,6 +1,7 @@
 //! What a system sends goes onto its links.
 
-ghost use Rattle.std.specs.Prelude.{◌≡◌, ◌≢◌, ℕ, ◌<◌, ◌≤◌, ◌+◌, ◌^◌, map, length, Some, None, true, slice_get};
+ghost use Rattle.std.specs.Prelude.{◌≡◌, ◌≢◌, ℕ, ◌<◌, ◌≤◌, ◌+◌, map, length, Some, None, true, slice_get};
+ghost use Rattle.gptp_setup.specs.Intervals.{IsMoment};
 ghost use Rattle.gptp_links.specs.Queue.{IsSent};
 ghost use Rattle.gptp_links.specs.State.{queue, ChangesOnly};
 ghost use Rattle.gptp_model.specs.Pending.{put_if};
@@ -23,7 +24,7 @@ fn send_on<F: Fate>(
 ) -> Option<u64>
     requires up { joined_link.old.link.up ≡ true }
     requires room { 0 < (queue direction joined_link.old.link).room }
-    requires early { now ≤ 10 ^ 15 }
+    requires early { IsMoment now }
     ensures a { joined_link.new.a ≡ joined_link.old.a }
     ensures b { joined_link.new.b ≡ joined_link.old.b }
     ensures sent { IsSent F.answers joined_link.old.link.bounds now fate.old fate.new (queue direction joined_link.old.link).frames octets.items (queue direction joined_link.new.link).frames result }
@@ -57,7 +58,7 @@ pub(crate) fn send_one<F: Fate>(
     octets: Vec<u8>,
     now: u64,
 )
-    requires early { now ≤ 10 ^ 15 }
+    requires early { IsMoment now }
     requires links { length cables.old ≤ pending.old.links }
     requires entry { 0 < pending.old.room }
     requires room { HasRoomOn 1 lane cables.old }

@@ -5,8 +5,9 @@ use gptp_links::Fate;
 use gptp_system::{Input, System};
 
 impl WorldParts {
-    ghost use Rattle.std.specs.Prelude.{◌≡◌, ◌≤◌, ◌<◌, ◌^◌, [], ◌∷◌, Some, false, length, slice_get};
+    ghost use Rattle.std.specs.Prelude.{◌≡◌, ◌<◌, [], ◌∷◌, Some, false, length, slice_get};
     ghost use Rattle.std.specs.List.{range_with_len};
+    ghost use Rattle.gptp_setup.specs.Intervals.{IsMoment};
     ghost use Rattle.gptp_model.specs.declared.station.Station.{Station};
     ghost use Rattle.gptp_model.specs.Changing.{failed, fresh, with_setup};
     ghost use Rattle.gptp_world.specs.WorldParts.{world_of, CallUses, HasRoomToCall, IsLiveAt, IsPortAt, IsWorldParts};
@@ -56,7 +57,7 @@ impl WorldParts {
     /// The system at a place is new, and live.
     fn restart(&mut self, place: usize)
         requires can { CanStart place self.old }
-        requires moment { self.old.now ≤ 10 ^ 15 }
+        requires moment { IsMoment self.old.now }
         ensures { (station : Station) → slice_get self.old.stations.items place ≡ Some station
             → StandsReplaced place (fresh self.old.now station) self.old self.new }
     {

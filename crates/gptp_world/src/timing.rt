@@ -1,6 +1,7 @@
 //! What is pending of a system's timers.
 
 ghost use Rattle.std.specs.Prelude.{◌≡◌};
+ghost use Rattle.gptp_setup.specs.declared.limits.TheConstants.{MOST_PORTS};
 ghost use Rattle.gptp_system.specs.Steps.{IsTimerOf};
 ghost use Rattle.gptp_model.specs.World.{station_due};
 
@@ -36,7 +37,7 @@ impl Net {
         requires place { place < self.old.pending.systems }
         requires room { station.now.live ≡ true → 1 ≤ self.old.pending.room }
         requires timer { IsTimerOf station.now.system timer }
-        requires port { timer_port timer ≤ 16 }
+        requires port { timer_port timer ≤ MOST_PORTS }
         ensures entries { self.new.pending.entries ≡ set_timers place station.now (timer ∷ []) self.old.pending.entries }
         ensures only { OnlyEntries 1 self.old self.new }
     {
@@ -48,7 +49,7 @@ impl Net {
         requires place { place < self.old.pending.systems }
         requires room { station.now.live ≡ true → 4 ≤ self.old.pending.room }
         requires port { HasPortNumber station.now.system port }
-        requires few { port ≤ 16 }
+        requires few { port ≤ MOST_PORTS }
         ensures entries { self.new.pending.entries ≡ set_timers place station.now (timers.Pdelay port ∷ timers.Respond port ∷ timers.Announce port ∷ timers.Age port ∷ []) self.old.pending.entries }
         ensures only { OnlyEntries 4 self.old self.new }
     {
@@ -74,7 +75,7 @@ impl Net {
     /// the system.
     pub(crate) fn set_timers(&mut self, place: usize, station: &Station)
         requires place { place < self.old.pending.systems }
-        requires few { length station.now.system.ports ≤ 16 }
+        requires few { length station.now.system.ports ≤ MOST_PORTS }
         requires room { station.now.live ≡ true → 4 * length station.now.system.ports + 3 ≤ self.old.pending.room }
         ensures entries { self.new.pending.entries ≡ set_timers place station.now (timers_from 1 station.now.system.ports) self.old.pending.entries }
         ensures only { OnlyEntries (4 * length station.now.system.ports + 3) self.old self.new }
@@ -93,7 +94,7 @@ impl Net {
         requires place { place < self.old.pending.systems }
         requires room { 2 ≤ self.old.pending.room }
         requires port { HasPortNumber station.now.system port }
-        requires few { port ≤ 16 }
+        requires few { port ≤ MOST_PORTS }
         ensures entries { self.new.pending.entries ≡ set_timers place station.now (timers.Announce port ∷ timers.Age port ∷ []) self.old.pending.entries }
         ensures only { OnlyEntries 2 self.old self.new }
     {
@@ -105,7 +106,7 @@ impl Net {
     /// rising port, and then its own.
     fn set_selected(&mut self, place: usize, station: &Station)
         requires place { place < self.old.pending.systems }
-        requires few { length station.now.system.ports ≤ 16 }
+        requires few { length station.now.system.ports ≤ MOST_PORTS }
         requires room { 2 * length station.now.system.ports + 2 ≤ self.old.pending.room }
         ensures entries { self.new.pending.entries ≡ set_timers place station.now (selected_from 1 station.now.system.ports) self.old.pending.entries }
         ensures only { OnlyEntries (2 * length station.now.system.ports + 2) self.old self.new }
@@ -121,7 +122,7 @@ impl Net {
     /// Makes all timers of the system pending when they are due, where all but the touched ones are so already.
     pub(crate) fn set_touched(&mut self, place: usize, station: &Station, touched: TimersChanged)
         requires place { place < self.old.pending.systems }
-        requires few { length station.now.system.ports ≤ 16 }
+        requires few { length station.now.system.ports ≤ MOST_PORTS }
         requires room { 4 * length station.now.system.ports + 3 ≤ self.old.pending.room }
         requires own { IsTouchedOf station.now.system touched }
         requires set { AreSetBut (holds touched) place station.now self.old.pending.entries }

@@ -53,8 +53,8 @@ impl<F: Fate + Drop> World<F> {
     }
 
     /// An act is done at its time: a frame that is due is delivered, a timer that is due expires, or the network is
-    /// changed. Times are at most 10^15 ns; the bounds that a link is set to keep their ranges, and its greatest delay
-    /// is at most the announce interval.
+    /// changed. Times are at most `LAST_MOMENT`; the bounds that a link is set to keep their ranges, and its greatest
+    /// delay is at most the announce interval.
     ///
     /// Refused, in this order, with `InThePast` where its time has passed, `Untimely` where something is due earlier,
     /// `NoSuch` where there is no such link or system, no such port of a timer, or no link at the port of a change,
@@ -68,7 +68,7 @@ impl<F: Fate + Drop> World<F> {
     /// A failure and other bounds of a link ask for no memory, nor does a change that finds its link or system as it
     /// should become, or an injection where the link is down: these are never refused with `OutOfMemory`.
     pub fn act(&mut self, timed: Timed) -> Result<Done, Refused>
-        requires moment { timed.at ≤ 1000000000000000 }
+        requires moment { IsMoment timed.at }
         requires fit { IsFitAct timed.act }
         requires prompt { DelaysFitIntervals self.old.world_core timed.act }
         ensures done { IfOk result (WasDone F.answers timed self.old.fate self.new.fate self.old.world_core self.new.world_core) }
@@ -83,7 +83,7 @@ impl<F: Fate + Drop> World<F> {
 
     /// An act that is lent is done at its time, or refused, as by [`act`](Self::act), and within its limits.
     pub fn carry_out(&mut self, timed: &Timed) -> Result<Done, Refused>
-        requires moment { timed.now.at ≤ 1000000000000000 }
+        requires moment { IsMoment timed.now.at }
         requires fit { IsFitAct timed.now.act }
         requires prompt { DelaysFitIntervals self.old.world_core timed.now.act }
         ensures done { IfOk result (WasDone F.answers timed.now self.old.fate self.new.fate self.old.world_core self.new.world_core) }
@@ -98,8 +98,8 @@ impl<F: Fate + Drop> World<F> {
 
     /// The acts of a list are done, one after another, up to the first that is refused: answered with its place, from
     /// 0, and why. Those before it stand. Each keeps the limits that [`act`](Self::act) asks for: times are at most
-    /// 10^15 ns, the bounds that a link is set to keep their ranges, and its greatest delay is at most the announce
-    /// interval.
+    /// `LAST_MOMENT`, the bounds that a link is set to keep their ranges, and its greatest delay is at most the
+    /// announce interval.
     pub fn play(&mut self, acts: &[Timed]) -> Result<(), (usize, Refused)>
         requires allowed { AreAllowed acts.now }
         requires prompt { AllDelaysFitIntervals self.old.world_core acts.now }
@@ -128,13 +128,13 @@ impl<F: Fate + Drop> World<F> {
         }
     }
 
-    /// It goes on up to a time, at most 10^15 ns: what is pending happens, one act after another, each of them the next
-    /// that is due then. After `Ok` that is its time, and nothing that is due by then is left.
+    /// It goes on up to a time, at most `LAST_MOMENT`: what is pending happens, one act after another, each of them the
+    /// next that is due then. After `Ok` that is its time, and nothing that is due by then is left.
     ///
     /// Refused with `InThePast` where that time has passed, and then nothing changes. Refused with `OutOfMemory` where
     /// there is no memory for the next act, and then it has gone on up to there, by whole acts.
     pub fn advance(&mut self, until: u64) -> Result<(), Refused>
-        requires moment { until ≤ 1000000000000000 }
+        requires moment { IsMoment until }
         ensures advanced { OnOk result ((told : List Told) × Advanced F.answers until told self.old.fate self.new.fate self.old.world_core self.new.world_core) }
         ensures refused { IfErr result (StopsShort F.answers until self.old.fate self.new.fate self.old.world_core self.new.world_core) }
     {
@@ -257,8 +257,8 @@ impl<F: Fate + Drop> World<F> {
         self.world_core.local(clock, t)
     }
 
-    /// By how much the time that a system tells, live or not, is ahead of its clock, in 2^-16 ns; `None` where there is no
-    /// such system. A system that has failed keeps it until it starts again.
+    /// By how much the time that a system tells, live or not, is ahead of its clock, in 2^-16 ns; `None` where there is
+    /// no such system. A system that has failed keeps it until it starts again.
     pub fn base(&self, clock: ClockId) -> Option<ScaledNs>
         ensures some { IfSome result (λ base. AtSystem clock self.now.world_core (HasBase base)) }
         ensures none { IfNone result ((base : ℤ) → AtSystem clock self.now.world_core (HasBase base) → ⊥) }

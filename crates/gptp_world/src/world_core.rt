@@ -1,6 +1,7 @@
 //! A world without its fate.
 
 ghost use Rattle.std.specs.Prelude.{◌≡◌, ◌<◌, length, OnOk};
+ghost use Rattle.gptp_setup.specs.Intervals.{IsMoment};
 ghost use Rattle.gptp_world.specs.Starting.{Started};
 ghost use Rattle.gptp_world.specs.WorldCore.{IsFounded, SystemsStarted};
 
@@ -59,7 +60,7 @@ fn start_all<F: Fate>(parts: &mut WorldParts, fate: &mut F) -> Result<(), AllocE
 }
 
 impl WorldCore {
-    ghost use Rattle.std.specs.Prelude.{◌≡◌, ◌≢◌, ◌≤◌, IfErr, IfOk, IsOk, OnErr};
+    ghost use Rattle.std.specs.Prelude.{◌≡◌, ◌≢◌, IfErr, IfOk, IsOk, OnErr};
     ghost use Rattle.gptp_model.specs.declared.done.Refused.TheVariants.{OutOfMemory};
     ghost use Rattle.gptp_scenario.specs.Allowed.{IsFitAct};
     ghost use Rattle.gptp_model.specs.Acts.{IsReadyAct, Refuses};
@@ -93,7 +94,7 @@ impl WorldCore {
     /// An act is done at its time, where it can be; otherwise the first test that it fails is answered, and nothing
     /// changes.
     pub(crate) fn act<F: Fate>(&mut self, timed: &Timed, fate: &mut F) -> Result<Done, Refused>
-        requires moment { timed.now.at ≤ 1000000000000000 }
+        requires moment { IsMoment timed.now.at }
         requires fit { IsFitAct timed.now.act }
         requires prompt { DelaysFitIntervals self.old timed.now.act }
         ensures done { IfOk result (WasDone F.answers timed.now fate.old fate.new self.old self.new) }
@@ -123,7 +124,7 @@ impl WorldCore {
         target: ActTarget,
         fate: &mut F,
     ) -> Result<Done, AllocError>
-        requires moment { timed.now.at ≤ 1000000000000000 }
+        requires moment { IsMoment timed.now.at }
         requires fit { IsFitAct timed.now.act }
         requires prompt { DelaysFitIntervals self.old timed.now.act }
         requires octet { SetsAnOctet timed.now.act }

@@ -1,6 +1,6 @@
 //! Octets that are injected into a world. Times are in ns.
 
-ghost use Rattle.std.specs.Prelude.{◌≤◌};
+ghost use Rattle.gptp_setup.specs.Intervals.{IsMoment};
 
 use crate::far::line;
 use crate::same::{same, same_at};
@@ -23,7 +23,7 @@ fn inject<F: Fate + Drop>(
     place: (u64, u16),
     octets: &[u8],
 ) -> Result<Option<Refused>, Fail>
-    requires moment { at ≤ 1000000000000000 }
+    requires moment { IsMoment at }
 {
     let (number, port) = place;
     let octets = Octets::new(octets.to_vec(alloc)?).ok_or("too many octets")?;

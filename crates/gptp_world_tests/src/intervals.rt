@@ -1,15 +1,14 @@
 //! Networks whose ports announce at intervals of their own.
 
-ghost use Rattle.std.specs.Prelude.{◌≤◌, length};
-
 use crate::far::{identity, port};
 use crate::same::{same, same_at};
 use arrayvec::ArrayVec;
+use gptp_setup::MOST_PORTS;
 use gptp_world::{Network, NetworkFault, Params};
 use std::test::Fail;
 
 /// The intervals of a system's ports.
-pub(crate) fn intervals(logs: &[i8]) -> ArrayVec<i8, 16> {
+pub(crate) fn intervals(logs: &[i8]) -> ArrayVec<i8, MOST_PORTS> {
     let mut intervals = ArrayVec::new();
     let _ = intervals.try_extend_from_slice(logs);
     intervals
@@ -26,6 +25,9 @@ const PARAMS: Params = Params {
     turnaround: 1_000,
     residence: 1_000,
     sync_timeout: 0,
+    granularity: 0,
+    noise: 0,
+    window: 1,
 };
 
 #[test]

@@ -1,6 +1,7 @@
 //! The links of a world that are up between two live systems. Times are in ns.
 
-ghost use Rattle.std.specs.Prelude.{◌≡◌, ◌≤◌};
+ghost use Rattle.std.specs.Prelude.{◌≡◌};
+ghost use Rattle.gptp_setup.specs.Intervals.{IsMoment};
 ghost use Rattle.gptp_model.specs.Prompt.{DelaysFitIntervals};
 ghost use Rattle.gptp_scenario.specs.Allowed.{IsFitAct};
 
@@ -24,6 +25,9 @@ const PARAMS: Params = Params {
     turnaround: 1_000,
     residence: 1_000,
     sync_timeout: 0,
+    granularity: 0,
+    noise: 0,
+    window: 1,
 };
 
 /// The clock with this number.
@@ -112,7 +116,7 @@ fn follow(
     timed: Timed,
     wanted: &[usize],
 ) -> Result<(), Fail>
-    requires moment { timed.at ≤ 1000000000000000 }
+    requires moment { IsMoment timed.at }
     requires fit { IsFitAct timed.act }
     requires prompt { DelaysFitIntervals world.old.world_core timed.act }
 {

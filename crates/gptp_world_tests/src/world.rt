@@ -1,6 +1,7 @@
 //! A world that goes on by itself, or by one act after another. Times are in ns.
 
-ghost use Rattle.std.specs.Prelude.{◌≡◌, ◌≤◌};
+ghost use Rattle.std.specs.Prelude.{◌≡◌};
+ghost use Rattle.gptp_setup.specs.Intervals.{IsMoment};
 ghost use Rattle.gptp_model.specs.Prompt.{DelaysFitIntervals};
 ghost use Rattle.gptp_scenario.specs.Allowed.{IsFitAct};
 
@@ -65,7 +66,7 @@ pub(crate) fn begun(alloc: Global, document: &str) -> Result<World<PcgFate>, Fai
 
 /// What goes on by itself is done at that time, or refused.
 pub(crate) fn act<F: Fate + Drop>(world: &mut World<F>, at: u64, act: Act) -> Result<Done, Refused>
-    requires moment { at ≤ 1000000000000000 }
+    requires moment { IsMoment at }
     requires fit { IsFitAct act }
     requires prompt { DelaysFitIntervals world.old.world_core act }
 {
@@ -74,7 +75,7 @@ pub(crate) fn act<F: Fate + Drop>(world: &mut World<F>, at: u64, act: Act) -> Re
 
 /// It goes on up to a time, or that is refused.
 pub(crate) fn advance<F: Fate + Drop>(world: &mut World<F>, until: u64) -> Result<(), Refused>
-    requires { until ≤ 1000000000000000 }
+    requires { IsMoment until }
 {
     world.advance(until)
 }

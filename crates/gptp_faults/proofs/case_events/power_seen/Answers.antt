@@ -1,5 +1,6 @@
 use Rattle.std.proofs.Common.{◌≡◌, ◌++◌, ◌≤◌, ◌∷◌, List, map, sym, ap, subst, ◌∙◌, arith}
 use Rattle.std.specs.List.{AllByRecursion}
+use Rattle.gptp_setup.specs.declared.limits.TheConstants.{LAST_MOMENT}
 use Rattle.gptp_faults.specs.CaseEvents.{IsChangeInRange}
 use Rattle.gptp_faults.specs.declared.case_events.CaseChange.{CaseChange}
 use Rattle.gptp_faults.specs.declared.case_events.CaseChange.TheVariants.{LinkDown}
@@ -13,7 +14,7 @@ invariant_of-result c =
     let seen : c.push_downs.new.changes.items ≡ map LinkDown ports =
     c.in_ok-push_downs.ensures ∙ ap (λ (cs : List CaseChange). cs ++ map LinkDown ports) c.new-seen.ensures.items in
     let early = c.requires in
-    let delay : c.if-is_empty.result ≤ 1000000000000000 = elim c.if-is_empty.branch [
+    let delay : c.if-is_empty.result ≤ LAST_MOMENT = elim c.if-is_empty.branch [
       | then-is_empty w ↦ let is = w.result-is in omega (arith, is)
       | else-is_empty w ↦ let is = w.result-is in omega (arith, is, early)
     ] in

@@ -1,7 +1,8 @@
-use Rattle.std.proofs.Common.{◌≡◌, ◌≤◌, ◌+◌, ◌/◌, ◌==◌, ℕ, Bool, false, not, List, [], ◌∷◌, length, Result, Ok, Err, refl, ap, sym, subst, ◌∙◌, arith}
+use Rattle.std.proofs.Common.{◌≡◌, ◌+◌, ◌/◌, ◌==◌, ℕ, Bool, false, not, List, [], ◌∷◌, length, Result, Ok, Err, refl, ap, sym, subst, ◌∙◌, arith}
 use Rattle.std.specs.Prelude.{IfOk, OnOk}
 use Rattle.std.proofs.lemmas.Bool.Decides.{nat_tests}
 use Rattle.rand_pcg.specs.Lcg.{Lcg}
+use Rattle.gptp_setup.specs.Intervals.{IsMoment}
 use Rattle.gptp_network.specs.Adding.{with_first}
 use Rattle.gptp_network.specs.Document.{DocumentState}
 use Rattle.gptp_sink.specs.declared.cut.Cut.{Cut}
@@ -32,8 +33,8 @@ last_stretches-requires c =
     let delay = c.delay.ensures.is in
     let number = moment_below run t.moments t.seeds c.requires.bounded.some_seed c.requires.run in
     let late = not_late_at d asked t e (run / t.seeds) c.requires.in_time number in
-    let end : end_at d asked e at ≤ 1000000000000000 =
-    subst (λ time. end_at d asked e time ≤ 1000000000000000) (sym c.moment_of-down.ensures.is)
+    let end : IsMoment (end_at d asked e at) =
+    subst (λ time. IsMoment (end_at d asked e time)) (sym c.moment_of-down.ensures.is)
     (ends_early d asked e (moment t (run / t.seeds)) late) in
     omega (arith, end, hold, behind, delay)
 

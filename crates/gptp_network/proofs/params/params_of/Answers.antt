@@ -16,4 +16,7 @@ returns c =
       ← c.in_ok-turnaround.ensures.is,
       ← c.in_ok-residence.ensures.is,
       ← c.in_ok-sync_timeout.ensures.is,
+      ← c.in_ok-granularity.ensures.is,
+      ← c.in_ok-noise.ensures.is,
+      ← c.in_ok-window.ensures.is,
     ) (search rules)

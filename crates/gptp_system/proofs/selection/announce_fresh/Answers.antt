@@ -1,5 +1,6 @@
 use Rattle.std.proofs.Common.{◌≡◌, ◌+◌, ◌<◌, ◌≤◌, suc, length, take, ◌∙◌, sym, arith}
 use Rattle.std.proofs.lemmas.List.{length-take}
+use Rattle.gptp_system.specs.declared.sending.TheConstants.{MOST_SENDS}
 use Rattle.gptp_system.proofs.AnnouncementLemmas.{not_reached, port_at, length-announcements, all_announced-more, announcements-more}
 use Rattle.gptp_system.proofs.selection.announce_fresh.Goals as goal
 
@@ -24,7 +25,7 @@ announce_if-requires-clause-room c =
     let i = c.loop-flag.flag-index in
     let fresh = c.args.fresh.now in
     let sent = length-announcements c.args.clock c.args.root c.args.steps 1 (take i fresh) c.args.ports.now in
-    let count : length c.loop-flag.outbox.items < 64 =
+    let count : length c.loop-flag.outbox.items < MOST_SENDS =
     rw c.loop-flag.invariant.sends (omega (arith, sent, length-take i fresh, c.requires.flags, c.requires.few)) in
     omega (arith, count)
 

@@ -1,5 +1,6 @@
 use Rattle.std.proofs.Common.{◌≡◌, ◌+◌, ◌<◌, ◌≤◌, suc, length, take, ◌∙◌, sym, arith, to_z, of_z, w8, to_z-of_z}
 use Rattle.std.proofs.lemmas.List.{length-take}
+use Rattle.gptp_system.specs.declared.sending.TheConstants.{MOST_SENDS}
 use Rattle.gptp_system.proofs.SyncLemmas.{not_reached, length-syncs, counted-more, syncs-more}
 use Rattle.gptp_system.proofs.syncing.tell_all.Goals as goal
 
@@ -9,7 +10,7 @@ tell_if-requires-clause-room c =
     let sent = length-syncs c.args.clock c.args.log_interval c.args.told.now 1 before c.args.ports.now in
     let reached = length-take c.loop-one.one-index c.args.held.now in
     let log : to_z w8 (of_z w8 c.args.log_interval) ≡ c.args.log_interval = to_z-of_z c.ranges.log_interval in
-    let count : length c.loop-one.outbox.items < 63 =
+    let count : length c.loop-one.outbox.items + 1 < MOST_SENDS =
     rw (c.loop-one.invariant.sends, log)
     (omega (arith, sent, reached, c.loop-one-test.true, c.requires.places, c.requires.few)) in
     omega (arith, count)

@@ -1,5 +1,7 @@
 use Rattle.std.proofs.Common.{◌≡◌, ℕ, ◌*◌, ◌+◌, ◌<◌, ◌≤◌, List, length, Option, Some, slice_get, slice_index_or, refl, sym, subst, arith}
 use Rattle.std.proofs.lemmas.Option.{slice_get_read, slice_get-get_or, slice_get_within}
+use Rattle.gptp_setup.specs.declared.limits.TheConstants.{MOST_PORTS}
+use Rattle.gptp_world.specs.declared.directory.TheConstants.{PORT_SPAN}
 use Rattle.gptp_world.specs.declared.joined_link.Lane.{Lane}
 use Rattle.gptp_world.specs.declared.directory.Ends.{Ends}
 use Rattle.gptp_world.specs.Directory.{Join, AreEndPlaces, AreOuts}
@@ -17,7 +19,7 @@ at : (clocks : List ℕ) (joins : List Join) (ends : List Ends) (i : ℕ) → Ar
 at clocks joins ends i h l = slice_get-get_or ends i _ (let e = ends_length clocks joins ends h in omega arith)
 
 in_table : (clocks : List ℕ) (outs : List (Option Lane)) (place port clock : ℕ) → slice_get clocks place ≡ Some clock
-    → port ≤ 16 → length outs ≡ 17 * length clocks → 17 * place + port < length outs
+    → port ≤ MOST_PORTS → length outs ≡ PORT_SPAN * length clocks → PORT_SPAN * place + port < length outs
 in_table clocks outs place port clock h few e = let l = slice_get_within clocks place clock h in omega arith
 
 pub enter-requires-clause-a : goal.enter-requires-clause-a

@@ -1,5 +1,6 @@
 use Rattle.std.proofs.Common.{◌≡◌, ◌≤◌, ℕ, None, Some, IfSome, slice_get, subst, arith}
 use Rattle.std.proofs.lemmas.Option.{slice_get_within}
+use Rattle.gptp_setup.specs.declared.limits.TheConstants.{MOST_PORTS}
 use Rattle.gptp_world.specs.declared.joined_link.Lane.{Lane}
 use Rattle.gptp_world.specs.Directory.{DirectoryState, BeginsAt}
 use Rattle.gptp_world.proofs.LaneLemmas.{port_id, at_port, begins, only_lane, small_port}
@@ -24,7 +25,8 @@ returns-then-len-place-clause-only c =
 
 pub returns-clause-some : goal.returns-clause-some
 returns-clause-some c =
-    let p = c.from-port.ensures in let small : c.args.port ≤ 16 = let b = c.if-port-ge-PORT_SPAN.false in omega arith in
+    let p = c.from-port.ensures in
+    let small : c.args.port ≤ MOST_PORTS = let b = c.if-port-ge-PORT_SPAN.false in omega arith in
     subst (λ (d : DirectoryState). (clock : ℕ) → slice_get d.clocks c.args.place ≡ Some clock
     → IfSome c.index.result.now (BeginsAt d.joins (port_id clock c.args.port)))
     c.self.view_is
@@ -34,7 +36,8 @@ returns-clause-some c =
 
 pub returns-clause-only : goal.returns-clause-only
 returns-clause-only c =
-    let p = c.from-port.ensures in let small : c.args.port ≤ 16 = let b = c.if-port-ge-PORT_SPAN.false in omega arith in
+    let p = c.from-port.ensures in
+    let small : c.args.port ≤ MOST_PORTS = let b = c.if-port-ge-PORT_SPAN.false in omega arith in
     subst (λ (d : DirectoryState). (clock : ℕ) → (lane : Lane) → slice_get d.clocks c.args.place ≡ Some clock
     → BeginsAt d.joins (port_id clock c.args.port) lane → c.index.result.now ≡ Some lane)
     c.self.view_is

@@ -1,5 +1,6 @@
 use Rattle.std.proofs.Common.{◌≡◌, ◌-◌, ◌*◌, ◌++◌, ◌∷◌, [], length, refl, ap, subst, arith}
 use Rattle.std.proofs.lemmas.List.{length-append}
+use Rattle.gptp_world.specs.declared.pending_index.TheConstants.{TIMER_SPAN}
 use Rattle.gptp_world.specs.PendingIndex.{placed_items, AreFree}
 use Rattle.gptp_world.proofs.PendingLemmas.{same_state}
 use Rattle.gptp_world.proofs.PendingIndexLemmas.{arrival_within, last_free, index-arrival, plain-arrival}
@@ -10,8 +11,8 @@ put_item-requires-clause-place c =
     let p = c.self.inside in let ps = placed_items p.items.items p.queue.entries in
     let popped : p.free.items ≡ c.pop.new.self.items ++ c.unwrap-place.result ∷ [] =
     rw c.unwrap-place.ensures at c.pop.ensures.items in
-    (last_free (p.systems * 119) p.queue.places ps c.pop.new.self.items c.unwrap-place.result
-    (subst (AreFree (p.systems * 119) p.queue.places ps) popped c.self.invariant.0.are_free)).within
+    (last_free (p.systems * TIMER_SPAN) p.queue.places ps c.pop.new.self.items c.unwrap-place.result
+    (subst (AreFree (p.systems * TIMER_SPAN) p.queue.places ps) popped c.self.invariant.0.are_free)).within
 
 pub push-requires-clause-place : goal.push-requires-clause-place
 push-requires-clause-place c =
@@ -25,8 +26,8 @@ invariant_of-self c =
     let are = c.self.invariant.0 in let spare = c.self.invariant.1 in
     let popped : p.free.items ≡ c.pop.new.self.items ++ c.unwrap-place.result ∷ [] =
     rw c.unwrap-place.ensures at c.pop.ensures.items in
-    let last = last_free (p.systems * 119) p.queue.places ps c.pop.new.self.items c.unwrap-place.result
-    (subst (AreFree (p.systems * 119) p.queue.places ps) popped are.are_free) in
+    let last = last_free (p.systems * TIMER_SPAN) p.queue.places ps c.pop.new.self.items c.unwrap-place.result
+    (subst (AreFree (p.systems * TIMER_SPAN) p.queue.places ps) popped are.are_free) in
     let put = c.put_item.ensures in
     let in_queue = spare.in_queue in let in_index = spare.in_index in let in_free = spare.in_free in
     let items = spare.each_place in let room = put.room in let places = put.places in let len = put.items in
@@ -48,8 +49,8 @@ returns-clause-kept c =
     let p = c.self.inside in let ps = placed_items p.items.items p.queue.entries in let are = c.self.invariant.0 in
     let popped : p.free.items ≡ c.pop.new.self.items ++ c.unwrap-place.result ∷ [] =
     rw c.unwrap-place.ensures at c.pop.ensures.items in
-    let last = last_free (p.systems * 119) p.queue.places ps c.pop.new.self.items c.unwrap-place.result
-    (subst (AreFree (p.systems * 119) p.queue.places ps) popped are.are_free) in
+    let last = last_free (p.systems * TIMER_SPAN) p.queue.places ps c.pop.new.self.items c.unwrap-place.result
+    (subst (AreFree (p.systems * TIMER_SPAN) p.queue.places ps) popped are.are_free) in
     rw (← c.self.view_is, c.put_item.ensures.put)
     (same_state _ _ refl refl
     (plain-arrival p.systems p.links p.pending_index p.queue.places p.free.items ps are c.args.link c.args.direction

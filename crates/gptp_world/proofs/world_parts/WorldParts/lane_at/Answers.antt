@@ -5,12 +5,13 @@ use Rattle.gptp_model.specs.World.{port_id}
 use Rattle.gptp_world.proofs.ActTargetLemmas.{begins_placed, lane_found, no_lane}
 use Rattle.gptp_world.proofs.world_parts.WorldParts.lane_at.Goals as goal
 
-pub returns-then-port-gt16-clause-none : goal.returns-then-port-gt16-clause-none
-returns-then-port-gt16-clause-none c =
+pub returns-then-number-gt-MOST_PORTS-clause-none : goal.returns-then-number-gt-MOST_PORTS-clause-none
+returns-then-number-gt-MOST_PORTS-clause-none c =
     no_lane c.args.self.now (port_id c.args.clock c.args.port) c.requires (λ lane begins.
     let last = (begins_placed c.args.self.now.net.directory (port_id c.args.clock c.args.port) lane
     c.well_formed-2.ensures begins).last in
-    let test = c.if-port-gt16.true in absurd (omega (arith, last, test)))
+    let test = c.if-number-gt-MOST_PORTS.true in let same = c.from-number.ensures in
+    absurd (omega (arith, last, test, same)))
 
 pub returns-in-Some-lane_from-clause-some : goal.returns-in-Some-lane_from-clause-some
 returns-in-Some-lane_from-clause-some c =
