@@ -8,6 +8,7 @@ use crate::same::same;
 use arrayvec::ArrayVec;
 use gptp_links::{Direction, PcgFate};
 use gptp_samples::{identity, port};
+use gptp_setup::MOST_PORTS;
 use gptp_vector::{ClockId, Identity};
 use gptp_world::{Act, Change, Network, NetworkFault, Octets, Params, Timed, World};
 use std::alloc::{AllocError, Global};
@@ -31,7 +32,7 @@ const PARAMS: Params = Params {
 };
 
 /// The interval of a system's only port.
-fn interval() -> ArrayVec<i8, 16> {
+fn interval() -> ArrayVec<i8, MOST_PORTS> {
     let mut intervals = ArrayVec::new();
     let _ = intervals.try_push(PARAMS.announce);
     intervals
