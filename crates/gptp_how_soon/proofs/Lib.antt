@@ -7,3 +7,5 @@ pub mod SettleLemmas
 pub mod CalmLemmas
 pub mod ShortLemmas
 pub mod WatchLemmas
+pub mod RoundsLemmas
+pub mod ChosenLemmas

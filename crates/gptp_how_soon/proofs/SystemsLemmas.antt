@@ -62,7 +62,7 @@ then_more events t m =
     let more = stands_more events t own (standing m) in
     rw more (ap₂ (with own) (sym (acted_identity t.act own s)) (sym (acted_alike t.act own s)))
 
-maps_twice : {X Y Z : Type 0} (f : Y → Z) (g : X → Y) (h : X → Z) (xs : List X) → ((x : X) → f (g x) ≡ h x)
+pub maps_twice : {X Y Z : Type 0} (f : Y → Z) (g : X → Y) (h : X → Z) (xs : List X) → ((x : X) → f (g x) ≡ h x)
     → map f (map g xs) ≡ map h xs
 maps_twice f g h [] same = refl
 maps_twice f g h (x ∷ xs) same = ap₂ (λ y ys. y ∷ ys) (same x) (maps_twice f g h xs same)

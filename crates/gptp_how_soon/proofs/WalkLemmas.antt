@@ -8,17 +8,22 @@ use Rattle.gptp_scenario.specs.Calm.{last_change}
 use Rattle.gptp_scenario.specs.Network.{IsNetwork, NetworkState}
 use Rattle.gptp_scenario.specs.SyncWait.{sync_paths}
 use Rattle.gptp_scenario.specs.declared.change.Timed.{Timed}
-use Rattle.gptp_topology.specs.Course.{cable_is_used, named}
+use Rattle.gptp_scenario.specs.declared.network.LinkSpec.{LinkSpec}
+use Rattle.gptp_topology.specs.Course.{cable_is_used, cable_of, named}
+use Rattle.gptp_topology.specs.Tables.{cables_of}
+use Rattle.gptp_topology.specs.declared.course.Standing.{Standing}
 use Rattle.gptp_topology.proofs.StandingLemmas.{Stand, stand_first, stand_more}
+use Rattle.gptp_how_soon.specs.Chosen.{ends_among, ends_in_use, ends_of, moves_some, used_ends}
 use Rattle.gptp_how_soon.specs.Kinds.{sets_bounds, told_by}
-use Rattle.gptp_how_soon.specs.Links.{delay_set, longest_delay, longest_set, new_among, standings_after}
-use Rattle.gptp_how_soon.specs.Systems.{has_clock, system_done, systems_after}
+use Rattle.gptp_how_soon.specs.Links.{delay_set, longest_delay, longest_set, new_among, standing_then, standings_after}
+use Rattle.gptp_how_soon.specs.Systems.{first_system, has_clock, system_done, systems_after}
 use Rattle.gptp_how_soon.specs.Times.{last_set, told_at, told_of, view_at}
-use Rattle.gptp_how_soon.specs.Walk.{IsFirstWalk, WalkGoesOn, WalkPasses, view_seen}
+use Rattle.gptp_how_soon.specs.Walk.{IsFirstWalk, WalkGoesOn, WalkPasses, moves_seen, view_seen}
 use Rattle.gptp_how_soon.specs.declared.bounds.SettlingTime.{SettlingTime}
+use Rattle.gptp_how_soon.specs.declared.chosen.Ends.{Ends}
 use Rattle.gptp_how_soon.specs.declared.walk.Walk.{Walk}
 use Rattle.gptp_how_soon.proofs.LinksLemmas.{calm_is, crossed_is, link_is, new_are, standings_are}
-use Rattle.gptp_how_soon.proofs.SystemsLemmas.{systems_first, systems_more}
+use Rattle.gptp_how_soon.proofs.SystemsLemmas.{maps_twice, systems_first, systems_more}
 
 -- after the events made before this time, and those of it so far
 pub record WalkStands (n : NetworkState) (made now : List Timed) (w : Walk) : Type 0 where
@@ -26,7 +31,9 @@ pub record WalkStands (n : NetworkState) (made now : List Timed) (w : Walk) : Ty
   pub longest : w.longest ≡ longest_delay n (made ++ now)
   pub tables : Stand n (made ++ now) w.tables
   pub systems : w.systems.items ≡ systems_after n (made ++ now)
+  pub ends : w.ends.items ≡ map (ends_of n) n.links
   pub told : w.told.items ≡ told_of n made now
+  pub systems_before : w.systems_before.items ≡ systems_after n made
   pub used : w.used_before.items ≡ map cable_is_used (standings_after n made)
   pub paths : w.paths_before ≡ sync_paths n made
 
@@ -61,6 +68,24 @@ longer : (n : NetworkState) (events : List Timed) (t : Timed)
     → max (delay_set t.act) (longest_delay n events) ≡ longest_delay n (events ++ t ∷ [])
 longer n events t = let more = longest_more events t in omega (arith, more)
 
+-- ---- links in use, by the systems at their ends
+
+used_by : (f : LinkSpec → Ends) (stood : LinkSpec → Standing) (ws : List LinkSpec)
+    → ends_in_use (map f ws) (map cable_is_used (map stood ws)) ≡ map f (filter (λ w. cable_is_used (stood w)) ws)
+used_by f stood [] = refl
+used_by f stood (w ∷ ws) = by (cable_is_used (stood w)) (used_by f stood ws)
+  where
+    by : (test : Bool) → ends_in_use (map f ws) (map cable_is_used (map stood ws))
+        ≡ map f (filter (λ v. cable_is_used (stood v)) ws)
+        → (cond test (f w ∷ []) []) ++ ends_in_use (map f ws) (map cable_is_used (map stood ws))
+        ≡ map f (cond test (w ∷ filter (λ v. cable_is_used (stood v)) ws) (filter (λ v. cable_is_used (stood v)) ws))
+    by true rest = ap (λ es. f w ∷ es) rest
+    by false rest = rest
+
+used_are : (n : NetworkState) (events : List Timed)
+    → ends_in_use (map (ends_of n) n.links) (map cable_is_used (standings_after n events)) ≡ used_ends n events
+used_are n events = used_by (ends_of n) (standing_then n events) n.links
+
 -- ---- what is seen
 
 told_more : (n : NetworkState) (made now : List Timed) (t : Timed)
@@ -73,6 +98,16 @@ told_more n made (u ∷ now) t =
     (append_assoc made (u ∷ []) now))
 
 module _ (n : NetworkState) (network : IsNetwork n) where
+  moves_are : (made now : List Timed) (w : Walk) → WalkStands n made now w
+      → moves_seen w ≡ moves_some n made (made ++ now)
+  moves_are made now w so =
+      let used = so.used in
+      let ends = so.ends in
+      let systems = so.systems in
+      let systems_before = so.systems_before in
+      let standings = standings_are n network (made ++ now) w.tables so.tables in
+      rw (used, ends, systems, systems_before, standings, used_are n made, used_are n (made ++ now)) refl
+
   pub view_is : (made now : List Timed) (w : Walk) (at : ℕ) → WalkStands n made now w
       → view_seen n w at ≡ view_at n made now w.before at
   view_is made now w at so =
@@ -87,6 +122,7 @@ module _ (n : NetworkState) (network : IsNetwork n) where
         paths_before = so.paths i;
         new = new i;
         told = so.told i;
+        moved = moves_are made now w so i;
         paths = crossed_is n network (made ++ now) w.tables so.tables i;
         calm = calm_is n network (made ++ now) w.tables so.tables i;
       }
@@ -100,6 +136,9 @@ module _ (n : NetworkState) (network : IsNetwork n) where
         longest = is.longest ∙ omega arith;
         tables = tables;
         systems = is.systems ∙ systems_first n;
+        ends = is.ends ∙ ap (λ os. map (ends_among os) (cables_of n)) is.systems
+            ∙ maps_twice (ends_among (map first_system n.systems)) cable_of (ends_of n) n.links (λ w. refl);
+        systems_before = is.systems_before ∙ is.systems ∙ systems_first n;
         told = is.told;
         used = is.used ∙ ap (map cable_is_used) (standings_are n network [] w.tables tables);
         paths = is.paths ∙ crossed_is n network [] w.tables tables;
@@ -125,6 +164,8 @@ module _ (n : NetworkState) (network : IsNetwork n) where
             (ap₂ (told_by t.act) (link_is n network (made ++ now) t.act old.tables so.tables)
             (ap (find (has_clock (named t.act))) so.systems))
             ∙ sym (told_more n made now t);
+        ends = ap (λ (v : _). v.items) passes.ends ∙ so.ends;
+        systems_before = ap (λ (v : _). v.items) passes.systems_before ∙ so.systems_before;
         used = ap (λ (v : _). v.items) passes.used ∙ so.used;
         paths = passes.paths ∙ so.paths;
       }
@@ -142,6 +183,8 @@ module _ (n : NetworkState) (network : IsNetwork n) where
             (subst (Stand n (made ++ now)) (sym on.tables) so.tables);
         systems = ap (λ (v : _). v.items) on.systems ∙ so.systems ∙ ap (systems_after n) none;
         told = on.told;
+        ends = ap (λ (v : _). v.items) on.ends ∙ so.ends;
+        systems_before = on.systems_before ∙ so.systems;
         used = on.used ∙ ap (map cable_is_used) (standings_are n network (made ++ now) old.tables so.tables);
         paths = on.paths ∙ crossed_is n network (made ++ now) old.tables so.tables;
       }

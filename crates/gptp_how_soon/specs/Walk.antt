@@ -1,16 +1,19 @@
 -- How a document stands at each time, as its events come (profile).
-use Rattle.std.specs.Prelude.{◌≡◌, ◌≤◌, ℕ, ◌++◌, ◌∷◌, [], ◌==◌, not, max, if◌then◌else◌, map, List, Some, None, IsTrue}
+use Rattle.std.specs.Prelude.{◌≡◌, ◌≤◌, ℕ, Bool, ◌++◌, ◌∷◌, [], ◌==◌, not, max, if◌then◌else◌, map, List, Some, None, IsTrue}
 use Rattle.std.specs.List.{find}
 use Rattle.std.specs.Option.{is_some}
 use Rattle.gptp_scenario.specs.Network.{NetworkState}
 use Rattle.gptp_scenario.specs.declared.change.Act.{Act}
 use Rattle.gptp_topology.specs.Course.{cable_is_used, named}
 use Rattle.gptp_topology.specs.Tables.{AreFirstTables, TablesActed, are_calm, cables_of, link_named, marked_paths, neighbours_at}
+use Rattle.gptp_how_soon.specs.Chosen.{any_moved, chosen_over, ends_among, ends_in_use}
 use Rattle.gptp_how_soon.specs.Kinds.{sets_bounds, told_by}
 use Rattle.gptp_how_soon.specs.Links.{delay_set, longest_among, new_among}
 use Rattle.gptp_how_soon.specs.Systems.{first_system, has_clock, system_done}
 use Rattle.gptp_how_soon.specs.Times.{View, settling_time}
 use Rattle.gptp_how_soon.specs.declared.bounds.SettlingTime.{SettlingTime}
+use Rattle.gptp_how_soon.specs.declared.chosen.Chosen.{Chosen}
+use Rattle.gptp_how_soon.specs.declared.systems.System.{System}
 use Rattle.gptp_how_soon.specs.declared.walk.Walk.{Walk}
 
 -- before all events
@@ -19,8 +22,10 @@ pub record IsFirstWalk (n : NetworkState) (w : Walk) : Type 0 where
   pub longest : w.longest ≡ longest_among (cables_of n)
   pub tables : AreFirstTables n w.tables
   pub systems : w.systems.items ≡ map first_system n.systems
+  pub ends : w.ends.items ≡ map (ends_among w.systems.items) (cables_of n)
   pub told : w.told.items ≡ []
   pub before : w.before ≡ None
+  pub systems_before : w.systems_before.items ≡ w.systems.items
   pub used : w.used_before.items ≡ map cable_is_used w.tables.standings.items
   pub paths : w.paths_before ≡ marked_paths w.tables.marks.items w.tables.nodes.items
 
@@ -37,6 +42,8 @@ pub record WalkPasses (at : ℕ) (act : Act) (old new : Walk) : Type 0 where
       (find (has_clock (named act)) old.systems.items)
       ∷ []
   pub before : new.before ≡ old.before
+  pub ends : new.ends ≡ old.ends
+  pub systems_before : new.systems_before ≡ old.systems_before
   pub used : new.used_before ≡ old.used_before
   pub paths : new.paths_before ≡ old.paths_before
 
@@ -48,8 +55,19 @@ pub record WalkGoesOn (time : SettlingTime) (old new : Walk) : Type 0 where
   pub systems : new.systems ≡ old.systems
   pub told : new.told.items ≡ []
   pub before : new.before ≡ Some time
+  pub ends : new.ends ≡ old.ends
+  pub systems_before : new.systems_before.items ≡ old.systems.items
   pub used : new.used_before.items ≡ map cable_is_used old.tables.standings.items
   pub paths : new.paths_before ≡ marked_paths old.tables.marks.items old.tables.nodes.items
+
+-- what systems that stand so choose over the links in use, and whether one is moved at this time
+abbrev pub chosen_in : Walk → List System → List Bool → List Chosen
+chosen_in w systems used = chosen_over systems (ends_in_use w.ends.items used)
+
+abbrev pub moves_seen : Walk → Bool
+moves_seen w =
+    any_moved w.systems.items (chosen_in w w.systems_before.items w.used_before.items)
+    (chosen_in w w.systems.items (map cable_is_used w.tables.standings.items))
 
 -- what is seen of this time
 abbrev pub view_seen : NetworkState → Walk → ℕ → View
@@ -61,6 +79,7 @@ view_seen n w at = record {
   paths_before = w.paths_before;
   new = new_among (not (is_some w.before)) w.tables.standings.items w.used_before.items;
   told = w.told.items;
+  moved = moves_seen w;
   paths = marked_paths w.tables.marks.items w.tables.nodes.items;
   calm = are_calm n.params (marked_paths w.tables.marks.items w.tables.nodes.items) w.tables.marks.items;
 }

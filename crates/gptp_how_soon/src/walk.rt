@@ -1,15 +1,15 @@
 //! How a document stands at each time, as its events come.
 
-ghost use Rattle.std.specs.Prelude.{◌≡◌, ◌≤◌, IfOk, OnOk, length, map};
-ghost use Rattle.gptp_scenario.specs.Network.{NetworkState};
+ghost use Rattle.std.specs.Prelude.{◌≡◌, ◌≤◌, ◌&&◌, IfOk, OnOk, length};
 ghost use Rattle.gptp_topology.specs.Tables.{AreMarked, cables_of, greatest_used};
 ghost use Rattle.gptp_how_soon.specs.Times.{settling_time};
-ghost use Rattle.gptp_how_soon.specs.Walk.{IsFirstWalk, WalkGoesOn, WalkPasses, view_seen};
+ghost use Rattle.gptp_how_soon.specs.Walk.{IsFirstWalk, WalkGoesOn, WalkPasses, chosen_in, moves_seen, view_seen};
 
 use crate::bounds::{SettlingTime, heard, ready, times_by, way_span};
+use crate::chosen::{Chosen, Ends, any_moved, choose, ends_in_use, ends_of};
 use crate::kinds::{Told, sets_bounds, sets_link, tell};
 use crate::links::{delay_set, longest_among, new_links, used_links};
-use crate::rest::{heard_at_once, is_from_rest, row_of};
+use crate::rest::{asks_who_is_moved, heard_at_once, is_from_rest, row_of};
 use crate::systems::{System, act_on_systems, first_systems, system_at};
 use gptp_scenario::{Act, Network, SyncPaths};
 use gptp_topology::{Cable, Tables, named};
@@ -20,6 +20,8 @@ use std::alloc::{AllocError, Global};
 pub(crate) struct Walk {
     pub tables: Tables,
     pub systems: Vec<System>,
+    /// The systems at the ends of each link.
+    pub ends: Vec<Ends>,
     /// When a link was last set; 0 where none was.
     pub last_set: u64,
     /// The greatest delay that a link has had, in ns.
@@ -28,7 +30,8 @@ pub(crate) struct Walk {
     pub told: Vec<Told>,
     /// The time before, if there is one.
     pub before: Option<SettlingTime>,
-    /// Which links were in use then, and what Sync had to cross.
+    /// The systems as they stood then, which links were in use, and what Sync had to cross.
+    pub systems_before: Vec<System>,
     pub used_before: Vec<bool>,
     pub paths_before: SyncPaths,
 }
@@ -46,15 +49,19 @@ impl Walk {
         network.well_formed();
         let tables = Tables::first(alloc, network, cables)?;
         let systems = first_systems(alloc, network)?;
+        let ends = ends_of(alloc, &systems, cables)?;
+        let systems_before = systems.to_vec(alloc)?;
         let used_before = used_links(alloc, &tables.standings)?;
         let paths_before = tables.sync_paths();
         Ok(Walk {
             tables,
             systems,
+            ends,
             last_set: 0,
             longest: longest_among(cables),
             told: Vec::new(alloc),
             before: None,
+            systems_before,
             used_before,
             paths_before,
         })
@@ -82,11 +89,42 @@ impl Walk {
         requires { length self.old.tables.nodes.items ≤ 512 }
         ensures { OnOk result (WalkGoesOn time self.old self.new) }
     {
+        self.systems_before = self.systems.to_vec(alloc)?;
         self.used_before = used_links(alloc, &self.tables.standings)?;
         self.paths_before = self.tables.sync_paths();
         self.told = Vec::new(alloc);
         self.before = Some(time);
         Ok(())
+    }
+
+    /// What systems that stand so choose over the links that are in use.
+    fn chosen(
+        &self,
+        alloc: Global,
+        systems: &[System],
+        used: &[bool],
+    ) -> Result<Vec<Chosen>, AllocError>
+        ensures { IfOk result (λ chosen. chosen.items ≡ chosen_in self.now systems.now used.now) }
+    {
+        let links = ends_in_use(alloc, &self.ends, used)?;
+        choose(alloc, systems, &links)
+    }
+
+    /// Whether the events of this time move a system.
+    fn moves(&self, alloc: Global) -> Result<bool, AllocError>
+        ensures { IfOk result (λ moved. moved ≡ moves_seen self.now) }
+    {
+        let used = used_links(alloc, &self.tables.standings)?;
+        let before = self.chosen(alloc, &self.systems_before, &self.used_before)?;
+        let now = self.chosen(alloc, &self.systems, &used)?;
+        Ok(any_moved(&self.systems, &before, &now))
+    }
+
+    /// Whether the events of this time move a system, where that is asked.
+    fn moves_if(&self, alloc: Global, asked: bool) -> Result<bool, AllocError>
+        ensures { IfOk result (λ moved. moved ≡ (asked && moves_seen self.now)) }
+    {
+        if asked { self.moves(alloc) } else { Ok(false) }
     }
 
     /// What is told of this time.
@@ -115,6 +153,8 @@ impl Walk {
         let gained = ready + heard(network, followed, told, new) + way_span(paths);
         let paths_before = self.paths_before;
         let from_rest = is_from_rest(self.longest, at, paths_before, paths, told, self.before);
+        let asked = asks_who_is_moved(from_rest, paths_before, told);
+        let moved = self.moves_if(alloc, asked)?;
         Ok(times_by(
             network,
             at,
@@ -122,7 +162,7 @@ impl Walk {
             paths,
             self.tables.is_calm(network, paths),
             sets_link(told),
-            row_of(from_rest, first, told),
+            row_of(from_rest, first, paths_before, told, moved),
             gained,
         ))
     }
