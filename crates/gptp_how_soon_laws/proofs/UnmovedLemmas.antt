@@ -91,13 +91,17 @@ sets_other true live s = refl
 sets_other false live s = refl
 
 -- a priority1 that makes no identity lower makes no system better
-sets_higher : (number value own : ℕ) (s : _)
-    → (number ≡ own → s.identity ≤ value * 2 ^ 104 + s.identity % 2 ^ 104)
-    → s.identity ≤ (system_acted (acts.Change (changes.Priority1 number value)) own s).identity
-sets_higher number value own s higher = by (number == own) refl
+sets_higher : (made : List Timed) (m : SystemSpec) (number value : ℕ)
+    → (number ≡ clock_of m.identity
+    → (system_after made m).identity ≤ value * 2 ^ 104 + (system_after made m).identity % 2 ^ 104)
+    → (system_after made m).identity
+    ≤ (system_acted (acts.Change (changes.Priority1 number value)) (clock_of m.identity) (system_after made m)).identity
+sets_higher made m number value higher = by (number == clock_of m.identity) refl
   where
-    by : (test : Bool) → (number == own) ≡ test → s.identity ≤ (cond test (with_priority1 value s) s).identity
-    by true is = higher (eqb-true number own is)
+    by : (test : Bool) → (number == clock_of m.identity) ≡ test
+        → (system_after made m).identity
+        ≤ (cond test (with_priority1 value (system_after made m)) (system_after made m)).identity
+    by true is = higher (eqb-true number (clock_of m.identity) is)
     by false is = omega arith
 
 module _ (n : NetworkState) (network : IsNetwork n) (made : List Timed) (event : Timed) where
@@ -121,7 +125,7 @@ module _ (n : NetworkState) (network : IsNetwork n) (made : List Timed) (event :
       → (system_after made m).identity ≤ (system_acted act (clock_of m.identity) (system_after made m)).identity
   idle_rises (acts.Change (changes.Priority1 number value)) idle m member live =
       let (place, there) = slice_get-In m n.systems member in
-      sets_higher number value (clock_of m.identity) (system_after made m) (λ clock.
+      sets_higher made m number value (λ clock.
       elim (idle place m there (sym clock)) [
         | inl failed ↦ let no : true ≡ false = sym live ∙ failed in absurd cc
         | inr same ↦ omega (arith, same)
@@ -164,7 +168,7 @@ module _ (n : NetworkState) (network : IsNetwork n) (made : List Timed) (event :
       let (place, there) = slice_get-In m n.systems member in
       subst (λ act. (system_after made m).identity
       ≤ (system_acted act (clock_of m.identity) (system_after made m)).identity) (sym x.act)
-      (sets_higher x.number x.value (clock_of m.identity) (system_after made m) (λ clock.
+      (sets_higher made m x.number x.value (λ clock.
       let same = w.only place m there (sym clock) in
       let worse = subst (λ (o : SystemSpec). (system_after made o).identity
       < x.value * 2 ^ 104 + (system_after made o).identity % 2 ^ 104) (sym same) w.worse in
