@@ -5,3 +5,5 @@ pub mod TimesLemmas
 pub mod SettleLemmas
 pub mod ShortLemmas
 pub mod WatchLemmas
+pub mod RoundsLemmas
+pub mod ChosenLemmas

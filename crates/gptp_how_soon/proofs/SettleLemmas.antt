@@ -1,5 +1,6 @@
 -- What is told of a time is what its view says.
-use Rattle.std.proofs.Common.{◌≡◌, ◌+◌, ℕ, Bool, true, false, not, List, refl}
+use Rattle.std.proofs.Common.{◌≡◌, ◌+◌, ◌&&◌, ◌||◌, ℕ, Bool, true, false, not, if◌then◌else◌, List, refl, ap, ◌∙◌}
+use Rattle.std.specs.List.{list_all, list_any}
 use Rattle.std.specs.Option.{is_some}
 use Rattle.gptp_scenario.specs.Network.{NetworkState}
 use Rattle.gptp_scenario.specs.declared.sync_wait.SyncPaths.{SyncPaths}
@@ -7,12 +8,13 @@ use Rattle.gptp_topology.specs.Tables.{are_calm, marked_paths}
 use Rattle.gptp_topology.specs.declared.course.Cable.{Cable}
 use Rattle.gptp_topology.specs.declared.course.Standing.{Standing}
 use Rattle.gptp_how_soon.specs.Bounds.{heard_by, ready, times_by, way_span}
-use Rattle.gptp_how_soon.specs.Kinds.{sets_link}
+use Rattle.gptp_how_soon.specs.Kinds.{begins_wider, is_loss, makes_nothing, sets_link}
 use Rattle.gptp_how_soon.specs.Links.{new_among}
-use Rattle.gptp_how_soon.specs.Rest.{heard_at_once, is_from_rest, row_of}
+use Rattle.gptp_how_soon.specs.Rest.{are_losses_followed, heard_at_once, is_from_rest, row_of}
 use Rattle.gptp_how_soon.specs.Times.{settling_time}
-use Rattle.gptp_how_soon.specs.Walk.{view_seen}
+use Rattle.gptp_how_soon.specs.Walk.{moves_seen, view_seen}
 use Rattle.gptp_how_soon.specs.declared.bounds.Row.{Row}
+use Rattle.gptp_how_soon.specs.declared.bounds.Row.TheVariants.{AnyPast, Gained, Unchanged}
 use Rattle.gptp_how_soon.specs.declared.bounds.SettlingTime.{SettlingTime}
 use Rattle.gptp_how_soon.specs.declared.kinds.Told.{Told}
 use Rattle.gptp_how_soon.specs.declared.walk.Walk.{Walk}
@@ -21,11 +23,30 @@ pub turned : (a b : Bool) → a ≡ not b → b ≡ not a
 turned a true is = rw is refl
 turned a false is = rw is refl
 
-pub settled_so : (n : NetworkState) (w : Walk) (at : ℕ) (first followed from_rest calm sets : Bool) (paths : SyncPaths)
-    (told : List Told) (standings : List Standing) (used : List Bool) (new : List Cable) (soon heard way : ℕ)
-    (row : Row) (time : SettlingTime)
+-- whether a system is moved counts where it is asked
+same_row : (from_rest first : Bool) (paths : SyncPaths) (told : List Told) (moved : Bool)
+    → row_of from_rest first paths told ((from_rest && are_losses_followed paths told) && moved)
+    ≡ row_of from_rest first paths told moved
+same_row from_rest first paths told moved =
+    by from_rest (list_all makes_nothing told || begins_wider told) (are_losses_followed paths told)
+  where
+    by : (rest idle followed : Bool)
+        → (if not rest then AnyPast else if first then Gained else if idle then Unchanged
+        else if followed && not ((rest && followed) && moved) then Unchanged
+        else if list_any is_loss told then AnyPast else Gained)
+        ≡ (if not rest then AnyPast else if first then Gained else if idle then Unchanged
+        else if followed && not moved then Unchanged
+        else if list_any is_loss told then AnyPast else Gained)
+    by false idle followed = refl
+    by true idle true = refl
+    by true idle false = refl
+
+pub settled_so : (n : NetworkState) (w : Walk) (at : ℕ) (first followed from_rest calm sets moved : Bool)
+    (paths : SyncPaths) (told : List Told) (standings : List Standing) (used : List Bool) (new : List Cable)
+    (soon heard way : ℕ) (row : Row) (time : SettlingTime)
     → time ≡ times_by n at w.last_set paths calm sets row (soon + heard + way)
-    → row ≡ row_of from_rest first told
+    → row ≡ row_of from_rest first w.paths_before told moved
+    → moved ≡ ((from_rest && are_losses_followed w.paths_before told) && moves_seen w)
     → from_rest ≡ is_from_rest w.longest at w.paths_before paths told w.before
     → way ≡ way_span paths
     → heard ≡ heard_by n followed told new
@@ -40,6 +61,9 @@ pub settled_so : (n : NetworkState) (w : Walk) (at : ℕ) (first followed from_r
     → paths ≡ marked_paths w.tables.marks.items w.tables.nodes.items
     → first ≡ not (is_some w.before)
     → time ≡ settling_time n (view_seen n w at)
-settled_so n w at first followed from_rest calm sets paths told standings used new soon heard way row time e0 e1 e2 e3
-    e4 e5 e6 e7 e8 e9 e10 e11 e12 e13 e14 =
-    rw (e0, e1, e2, e3, e4, e5, e6, e7, e8, e9, e10, e11, e12, e13, e14) refl
+settled_so n w at first followed from_rest calm sets moved paths told standings used new soon heard way row time e0 e1
+    e2 e3 e4 e5 e6 e7 e8 e9 e10 e11 e12 e13 e14 e15 =
+    let row_is : row ≡ row_of from_rest first w.paths_before told (moves_seen w) =
+    e1 ∙ ap (row_of from_rest first w.paths_before told) e2
+    ∙ same_row from_rest first w.paths_before told (moves_seen w) in
+    rw (e0, row_is, e3, e4, e5, e6, e7, e8, e9, e10, e11, e12, e13, e14, e15) refl

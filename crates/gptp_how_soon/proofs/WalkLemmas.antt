@@ -8,16 +8,20 @@ use Rattle.gptp_scenario.specs.Calm.{last_change}
 use Rattle.gptp_scenario.specs.Network.{IsNetwork, NetworkState}
 use Rattle.gptp_scenario.specs.SyncWait.{sync_paths}
 use Rattle.gptp_scenario.specs.declared.change.Timed.{Timed}
-use Rattle.gptp_topology.specs.After.{Stand, standings_after}
-use Rattle.gptp_topology.specs.Course.{cable_is_used, named}
-use Rattle.gptp_topology.specs.Tables.{has_clock}
+use Rattle.gptp_scenario.specs.declared.network.LinkSpec.{LinkSpec}
+use Rattle.gptp_topology.specs.After.{Stand, standing_then, standings_after, systems_after}
+use Rattle.gptp_topology.specs.Course.{cable_is_used, cable_of, named}
+use Rattle.gptp_topology.specs.Tables.{cables_of, has_clock}
+use Rattle.gptp_topology.specs.declared.course.Standing.{Standing}
 use Rattle.gptp_topology.proofs.BoundLemmas.{calm_is, crossed_is}
-use Rattle.gptp_topology.proofs.StandingLemmas.{stand_more, systems_are}
+use Rattle.gptp_topology.proofs.StandingLemmas.{maps_twice, stand_more, systems_are}
+use Rattle.gptp_how_soon.specs.Chosen.{ends_among, ends_in_use, ends_of, moves_some, used_ends}
 use Rattle.gptp_how_soon.specs.Kinds.{sets_bounds, told_by}
 use Rattle.gptp_how_soon.specs.Links.{delay_set, longest_delay, longest_set, new_among}
 use Rattle.gptp_how_soon.specs.Times.{last_set, told_at, told_of, view_at}
-use Rattle.gptp_how_soon.specs.Walk.{IsFirstWalk, WalkGoesOn, WalkPasses, view_seen}
+use Rattle.gptp_how_soon.specs.Walk.{IsFirstWalk, WalkGoesOn, WalkPasses, moves_seen, view_seen}
 use Rattle.gptp_how_soon.specs.declared.bounds.SettlingTime.{SettlingTime}
+use Rattle.gptp_how_soon.specs.declared.chosen.Ends.{Ends}
 use Rattle.gptp_how_soon.specs.declared.walk.Walk.{Walk}
 use Rattle.gptp_how_soon.proofs.LinksLemmas.{link_is, new_are}
 
@@ -26,7 +30,9 @@ pub record WalkStands (n : NetworkState) (made now : List Timed) (w : Walk) : Ty
   pub set : w.last_set ≡ last_set (made ++ now)
   pub longest : w.longest ≡ longest_delay n (made ++ now)
   pub tables : Stand n (made ++ now) w.tables
+  pub ends : w.ends.items ≡ map (ends_of n) n.links
   pub told : w.told.items ≡ told_of n made now
+  pub systems_before : w.systems_before.items ≡ systems_after n made
   pub used : w.used_before.items ≡ map cable_is_used (standings_after n made)
   pub paths : w.paths_before ≡ sync_paths n made
 
@@ -61,6 +67,24 @@ longer : (n : NetworkState) (events : List Timed) (t : Timed)
     → max (delay_set t.act) (longest_delay n events) ≡ longest_delay n (events ++ t ∷ [])
 longer n events t = let more = longest_more events t in omega (arith, more)
 
+-- ---- links in use, by the systems at their ends
+
+used_by : (f : LinkSpec → Ends) (stood : LinkSpec → Standing) (ws : List LinkSpec)
+    → ends_in_use (map f ws) (map cable_is_used (map stood ws)) ≡ map f (filter (λ w. cable_is_used (stood w)) ws)
+used_by f stood [] = refl
+used_by f stood (w ∷ ws) = by (cable_is_used (stood w)) (used_by f stood ws)
+  where
+    by : (test : Bool) → ends_in_use (map f ws) (map cable_is_used (map stood ws))
+        ≡ map f (filter (λ v. cable_is_used (stood v)) ws)
+        → (cond test (f w ∷ []) []) ++ ends_in_use (map f ws) (map cable_is_used (map stood ws))
+        ≡ map f (cond test (w ∷ filter (λ v. cable_is_used (stood v)) ws) (filter (λ v. cable_is_used (stood v)) ws))
+    by true rest = ap (λ es. f w ∷ es) rest
+    by false rest = rest
+
+used_are : (n : NetworkState) (events : List Timed)
+    → ends_in_use (map (ends_of n) n.links) (map cable_is_used (standings_after n events)) ≡ used_ends n events
+used_are n events = used_by (ends_of n) (standing_then n events) n.links
+
 -- ---- what is seen
 
 told_more : (n : NetworkState) (made now : List Timed) (t : Timed)
@@ -73,6 +97,16 @@ told_more n made (u ∷ now) t =
     (append_assoc made (u ∷ []) now))
 
 module _ (n : NetworkState) (network : IsNetwork n) where
+  moves_are : (made now : List Timed) (w : Walk) → WalkStands n made now w
+      → moves_seen w ≡ moves_some n made (made ++ now)
+  moves_are made now w so =
+      let used = so.used in
+      let ends = so.ends in
+      let systems_before = so.systems_before in
+      let systems = systems_are n (made ++ now) w.tables so.tables in
+      let standings = so.tables.standings in
+      rw (used, ends, systems, systems_before, standings, used_are n made, used_are n (made ++ now)) refl
+
   pub view_is : (made now : List Timed) (w : Walk) (at : ℕ) → WalkStands n made now w
       → view_seen n w at ≡ view_at n made now w.before at
   view_is made now w at so =
@@ -86,6 +120,7 @@ module _ (n : NetworkState) (network : IsNetwork n) where
         paths_before = so.paths i;
         new = new i;
         told = so.told i;
+        moved = moves_are made now w so i;
         paths = crossed_is n network (made ++ now) w.tables so.tables i;
         calm = calm_is n network (made ++ now) w.tables so.tables i;
       }
@@ -93,14 +128,18 @@ module _ (n : NetworkState) (network : IsNetwork n) where
   -- ---- before all events
 
   pub stands_first : (w : Walk) → IsFirstWalk n w → WalkStands n [] [] w
-  stands_first w is = record {
-    set = is.set;
-    longest = is.longest ∙ omega arith;
-    tables = is.tables;
-    told = is.told;
-    used = is.used ∙ ap (map cable_is_used) is.tables.standings;
-    paths = is.paths ∙ crossed_is n network [] w.tables is.tables;
-  }
+  stands_first w is =
+      let systems = is.systems_before ∙ systems_are n [] w.tables is.tables in record {
+        set = is.set;
+        longest = is.longest ∙ omega arith;
+        tables = is.tables;
+        ends = is.ends ∙ ap (λ os. map (ends_among os) (cables_of n)) systems
+            ∙ maps_twice (ends_among (systems_after n [])) cable_of (ends_of n) n.links (λ w. refl);
+        systems_before = systems;
+        told = is.told;
+        used = is.used ∙ ap (map cable_is_used) is.tables.standings;
+        paths = is.paths ∙ crossed_is n network [] w.tables is.tables;
+      }
 
   -- ---- one event more
 
@@ -120,6 +159,8 @@ module _ (n : NetworkState) (network : IsNetwork n) where
             (ap₂ (told_by t.act) (link_is n network (made ++ now) t.act old.tables so.tables)
             (ap (find (has_clock (named t.act))) (systems_are n (made ++ now) old.tables so.tables)))
             ∙ sym (told_more n made now t);
+        ends = ap (λ (v : _). v.items) passes.ends ∙ so.ends;
+        systems_before = ap (λ (v : _). v.items) passes.systems_before ∙ so.systems_before;
         used = ap (λ (v : _). v.items) passes.used ∙ so.used;
         paths = passes.paths ∙ so.paths;
       }
@@ -136,6 +177,8 @@ module _ (n : NetworkState) (network : IsNetwork n) where
         tables = subst (λ events. Stand n events new.tables) none
             (subst (Stand n (made ++ now)) (sym on.tables) so.tables);
         told = on.told;
+        ends = ap (λ (v : _). v.items) on.ends ∙ so.ends;
+        systems_before = on.systems_before ∙ systems_are n (made ++ now) old.tables so.tables;
         used = on.used ∙ ap (map cable_is_used) so.tables.standings;
         paths = on.paths ∙ crossed_is n network (made ++ now) old.tables so.tables;
       }

@@ -149,6 +149,10 @@ is_recovery_of clock e = (e.clock == clock) && is_recovery e
 abbrev pub makes_nothing : Told → Bool
 makes_nothing e = is_idle e || is_unused e
 
+-- it makes nothing of what stands, or a live system worse
+abbrev pub leaves_links : Told → Bool
+leaves_links e = makes_nothing e || (is_loss e && is_priority1 e)
+
 abbrev pub lowers_unused : Told → Bool
 lowers_unused e = is_unused e && is_link_down e
 

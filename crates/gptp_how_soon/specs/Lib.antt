@@ -1,5 +1,6 @@
 pub mod Kinds
 pub mod Links
+pub mod Chosen
 pub mod Bounds
 pub mod Rest
 pub mod Times

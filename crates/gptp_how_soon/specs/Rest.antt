@@ -6,7 +6,7 @@ use Rattle.std.specs.Prelude.{ℕ, ◌+◌, ◌*◌, ◌&&◌, ◌||◌, nat_le,
 use Rattle.std.specs.List.{list_all, list_any}
 use Rattle.gptp_scenario.specs.declared.sync_wait.SyncPaths.{SyncPaths}
 use Rattle.gptp_how_soon.specs.Bounds.{way_span}
-use Rattle.gptp_how_soon.specs.Kinds.{are_heard, begins_wider, fails_and_recovers, first_wider_by, is_better, is_gain, is_loss, is_other, is_recovery, is_wider, lowers_unused, makes_nothing, tells_nothing}
+use Rattle.gptp_how_soon.specs.Kinds.{are_heard, begins_wider, fails_and_recovers, first_wider_by, is_better, is_gain, is_loss, is_other, is_recovery, is_wider, leaves_links, lowers_unused, makes_nothing, tells_nothing}
 use Rattle.gptp_how_soon.specs.declared.bounds.Row.{Row}
 use Rattle.gptp_how_soon.specs.declared.bounds.Row.TheVariants.{AnyPast, Unchanged, Gained}
 use Rattle.gptp_how_soon.specs.declared.bounds.Settling.{Settling}
@@ -47,6 +47,11 @@ abbrev pub is_wider_followed : SettlingTime → ℕ → SyncPaths → SyncPaths 
 is_wider_followed b at paths_before paths told =
     begins_wider told && settles_wider_by b at paths_before paths (first_wider_by told) b.settling
 
+-- Losses are followed where each is a priority1, no other event makes something of what stands, and no path had more
+-- than 255 systems before.
+abbrev pub are_losses_followed : SyncPaths → List Told → Bool
+are_losses_followed paths_before told = nat_le paths_before.systems 255 && list_all leaves_links told
+
 -- Time 0 is from rest where its events, if any, leave it so that nothing is told.
 abbrev pub is_from_rest : ℕ → ℕ → SyncPaths → SyncPaths → List Told → Option SettlingTime → Bool
 is_from_rest longest at paths_before paths told None = list_all tells_nothing told
@@ -60,12 +65,14 @@ is_from_rest longest at paths_before paths told (Some b) =
 -- ---- rows
 
 -- Not from rest, or after a loss, the network may come from any past. Events that make nothing of what stands leave it
--- as it was, and so does a link that gets wider. At the start nothing was, and so nothing is lost.
-abbrev pub row_of : Bool → Bool → List Told → Row
-row_of from_rest first told =
+-- as it was. So does a link that gets wider, and so do losses that are followed, where no system is moved. At the start
+-- nothing was, and so nothing is lost.
+abbrev pub row_of : Bool → Bool → SyncPaths → List Told → Bool → Row
+row_of from_rest first paths_before told moved =
     if not from_rest then AnyPast
     else if first then Gained
     else if list_all makes_nothing told || begins_wider told then Unchanged
+    else if are_losses_followed paths_before told && not moved then Unchanged
     else if list_any is_loss told then AnyPast else Gained
 
 -- It is followed that all is heard at once at the start, and later where it is so of each event. Who gets better is

@@ -1,5 +1,5 @@
 -- How a document stands at each time, as its events come (profile).
-use Rattle.std.specs.Prelude.{◌≡◌, ◌≤◌, ℕ, ◌++◌, ◌∷◌, [], ◌==◌, not, max, if◌then◌else◌, map, List, Some, None, IsTrue}
+use Rattle.std.specs.Prelude.{◌≡◌, ◌≤◌, ℕ, Bool, ◌++◌, ◌∷◌, [], ◌==◌, not, max, if◌then◌else◌, map, List, Some, None, IsTrue}
 use Rattle.std.specs.List.{find}
 use Rattle.std.specs.Option.{is_some}
 use Rattle.gptp_scenario.specs.Network.{NetworkState}
@@ -7,10 +7,13 @@ use Rattle.gptp_scenario.specs.declared.change.Act.{Act}
 use Rattle.gptp_topology.specs.After.{Stand}
 use Rattle.gptp_topology.specs.Course.{cable_is_used, named}
 use Rattle.gptp_topology.specs.Tables.{TablesActed, are_calm, cables_of, has_clock, link_named, marked_paths, neighbours_at, systems_in}
+use Rattle.gptp_topology.specs.declared.nodes.System.{System}
+use Rattle.gptp_how_soon.specs.Chosen.{any_moved, chosen_over, ends_among, ends_in_use}
 use Rattle.gptp_how_soon.specs.Kinds.{sets_bounds, told_by}
 use Rattle.gptp_how_soon.specs.Links.{delay_set, longest_among, new_among}
 use Rattle.gptp_how_soon.specs.Times.{View, settling_time}
 use Rattle.gptp_how_soon.specs.declared.bounds.SettlingTime.{SettlingTime}
+use Rattle.gptp_how_soon.specs.declared.chosen.Chosen.{Chosen}
 use Rattle.gptp_how_soon.specs.declared.walk.Walk.{Walk}
 
 -- before all events
@@ -18,8 +21,10 @@ pub record IsFirstWalk (n : NetworkState) (w : Walk) : Type 0 where
   pub set : w.last_set ≡ 0
   pub longest : w.longest ≡ longest_among (cables_of n)
   pub tables : Stand n [] w.tables
+  pub ends : w.ends.items ≡ map (ends_among w.systems_before.items) (cables_of n)
   pub told : w.told.items ≡ []
   pub before : w.before ≡ None
+  pub systems_before : w.systems_before.items ≡ systems_in w.tables.nodes.items
   pub used : w.used_before.items ≡ map cable_is_used w.tables.standings.items
   pub paths : w.paths_before ≡ marked_paths w.tables.marks.items w.tables.nodes.items
 
@@ -35,6 +40,8 @@ pub record WalkPasses (at : ℕ) (act : Act) (old new : Walk) : Type 0 where
       (find (has_clock (named act)) (systems_in old.tables.nodes.items))
       ∷ []
   pub before : new.before ≡ old.before
+  pub ends : new.ends ≡ old.ends
+  pub systems_before : new.systems_before ≡ old.systems_before
   pub used : new.used_before ≡ old.used_before
   pub paths : new.paths_before ≡ old.paths_before
 
@@ -45,8 +52,19 @@ pub record WalkGoesOn (time : SettlingTime) (old new : Walk) : Type 0 where
   pub tables : new.tables ≡ old.tables
   pub told : new.told.items ≡ []
   pub before : new.before ≡ Some time
+  pub ends : new.ends ≡ old.ends
+  pub systems_before : new.systems_before.items ≡ systems_in old.tables.nodes.items
   pub used : new.used_before.items ≡ map cable_is_used old.tables.standings.items
   pub paths : new.paths_before ≡ marked_paths old.tables.marks.items old.tables.nodes.items
+
+-- what systems that stand so choose over the links in use, and whether one is moved at this time
+abbrev pub chosen_in : Walk → List System → List Bool → List Chosen
+chosen_in w systems used = chosen_over systems (ends_in_use w.ends.items used)
+
+abbrev pub moves_seen : Walk → Bool
+moves_seen w =
+    any_moved (systems_in w.tables.nodes.items) (chosen_in w w.systems_before.items w.used_before.items)
+    (chosen_in w (systems_in w.tables.nodes.items) (map cable_is_used w.tables.standings.items))
 
 -- what is seen of this time
 abbrev pub view_seen : NetworkState → Walk → ℕ → View
@@ -58,6 +76,7 @@ view_seen n w at = record {
   paths_before = w.paths_before;
   new = new_among (not (is_some w.before)) w.tables.standings.items w.used_before.items;
   told = w.told.items;
+  moved = moves_seen w;
   paths = marked_paths w.tables.marks.items w.tables.nodes.items;
   calm = are_calm n.params (marked_paths w.tables.marks.items w.tables.nodes.items) w.tables.marks.items;
 }

@@ -5,6 +5,7 @@
 #![tactic(auto)]
 
 mod bounds;
+mod chosen;
 mod kinds;
 mod links;
 mod rest;
@@ -14,5 +15,6 @@ mod times;
 mod walk;
 
 pub use bounds::{Row, Settling, SettlingTime};
+pub use chosen::Chosen;
 pub use kinds::{Kind, Told, What};
 pub use times::{settling_at, settling_times};

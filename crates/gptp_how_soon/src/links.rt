@@ -27,7 +27,7 @@ pub(crate) fn mark_used(used: &mut Vec<bool>, standings: &[Standing]) -> Result<
 }
 
 /// Whether the link at a place is among those in use.
-fn is_used_at(used: &[bool], place: usize) -> bool
+pub(crate) fn is_used_at(used: &[bool], place: usize) -> bool
     ensures { result ≡ is_used_at used.now place }
 {
     match used.get(place) {

@@ -1,14 +1,14 @@
 //! Whether a time is from rest, so that what its events do says how soon the choice stands.
 
-ghost use Rattle.std.specs.Prelude.{◌≡◌, ◌≤◌, ◌+◌, ◌*◌, nat_lt};
+ghost use Rattle.std.specs.Prelude.{◌≡◌, ◌≤◌, ◌&&◌, ◌+◌, ◌*◌, nat_lt};
 ghost use Rattle.gptp_how_soon.specs.Bounds.{way_span};
-ghost use Rattle.gptp_how_soon.specs.Rest.{are_events_followed, are_recoveries_followed, are_turns_followed, heard_at_once, is_from_rest, is_wider_followed, rested, row_of, settles_wider_by};
+ghost use Rattle.gptp_how_soon.specs.Rest.{are_events_followed, are_losses_followed, are_recoveries_followed, are_turns_followed, heard_at_once, is_from_rest, is_wider_followed, rested, row_of, settles_wider_by};
 
 use crate::bounds::{Row, SettlingTime, way_span};
 use crate::kinds::{
-    Told, all_make_nothing, all_tell_nothing, any_better, any_gain, any_loss, any_lowers_unused,
-    any_other, any_recovery, any_wider, are_heard, begins_wider, fails_and_recovers,
-    first_wider_by,
+    Told, all_leave_links, all_make_nothing, all_tell_nothing, any_better, any_gain, any_loss,
+    any_lowers_unused, any_other, any_recovery, any_wider, are_heard, begins_wider,
+    fails_and_recovers, first_wider_by,
 };
 use gptp_scenario::SyncPaths;
 
@@ -128,15 +128,37 @@ pub(crate) fn is_from_rest(
     }
 }
 
-/// What is known of a time, where it is from rest or isn't.
-pub(crate) fn row_of(from_rest: bool, first: bool, told: &[Told]) -> Row
-    ensures { result ≡ row_of from_rest first told.now }
+/// Whether losses are followed.
+fn are_losses_followed(paths_before: SyncPaths, told: &[Told]) -> bool
+    ensures { result ≡ are_losses_followed paths_before told.now }
+{
+    paths_before.systems <= 255 && all_leave_links(told)
+}
+
+/// Whether it counts if its events move a system.
+pub(crate) fn asks_who_is_moved(from_rest: bool, paths_before: SyncPaths, told: &[Told]) -> bool
+    ensures { result ≡ (from_rest && are_losses_followed paths_before told.now) }
+{
+    from_rest && are_losses_followed(paths_before, told)
+}
+
+/// What is known of a time, where it is from rest or isn't, and its events move a system or don't.
+pub(crate) fn row_of(
+    from_rest: bool,
+    first: bool,
+    paths_before: SyncPaths,
+    told: &[Told],
+    moved: bool,
+) -> Row
+    ensures { result ≡ row_of from_rest first paths_before told.now moved }
 {
     if !from_rest {
         Row::AnyPast
     } else if first {
         Row::Gained
     } else if all_make_nothing(told) || begins_wider(told) {
+        Row::Unchanged
+    } else if are_losses_followed(paths_before, told) && !moved {
         Row::Unchanged
     } else if any_loss(told) {
         Row::AnyPast

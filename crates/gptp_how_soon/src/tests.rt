@@ -194,6 +194,21 @@ fn a_link_that_gets_wider_costs_nothing(rt: HostRuntime) -> Result<(), Fail> {
 }
 
 #[test]
+fn a_priority1_by_which_no_system_is_moved_costs_nothing(rt: HostRuntime) -> Result<(), Fail> {
+    // Of a system that is nobody's root; then of the root, which stays the best.
+    let times = ring(
+        rt.alloc(),
+        "[[event]]\nat = 30000000000\nkind = \"priority1\"\nclock = \"000000000000000b\"\nvalue = 250\n[[event]]\nat = 60000000000\nkind = \"priority1\"\nclock = \"000000000000000a\"\nvalue = 130\n",
+    )?;
+    assert_eq!(rt; soon(&times, 30_000_000_000), Some((0, 30_000_007_200)));
+    assert_eq!(rt;
+        soon(&times, 60_000_000_000),
+        Some((15_000_002_870, 75_000_010_070))
+    );
+    Ok(())
+}
+
+#[test]
 fn a_system_recovers_behind_its_links(rt: HostRuntime) -> Result<(), Fail> {
     let times = ring(
         rt.alloc(),

@@ -1,23 +1,25 @@
 //! How a document stands at each time, as its events come.
 
-ghost use Rattle.std.specs.Prelude.{◌≡◌, ◌≤◌, IfOk, OnOk, [], map};
-ghost use Rattle.gptp_scenario.specs.Network.{NetworkState};
+ghost use Rattle.std.specs.Prelude.{◌≡◌, ◌≤◌, ◌&&◌, IfOk, OnOk};
 ghost use Rattle.gptp_topology.specs.Tables.{AreMarked, marked_paths};
 ghost use Rattle.gptp_how_soon.specs.Times.{settling_time};
-ghost use Rattle.gptp_how_soon.specs.Walk.{IsFirstWalk, WalkGoesOn, WalkPasses, view_seen};
+ghost use Rattle.gptp_how_soon.specs.Walk.{IsFirstWalk, WalkGoesOn, WalkPasses, chosen_in, moves_seen, view_seen};
 
 use crate::bounds::{SettlingTime, heard, ready, times_by, way_span};
+use crate::chosen::{Chosen, Ends, any_moved, choose, copy_systems, ends_in_use, ends_of};
 use crate::kinds::{Told, sets_bounds, sets_link, tell};
 use crate::links::{delay_set, longest_among, mark_used, new_links};
-use crate::rest::{heard_at_once, is_from_rest, row_of};
+use crate::rest::{asks_who_is_moved, heard_at_once, is_from_rest, row_of};
 use gptp_scenario::{Act, Network, SyncPaths};
-use gptp_topology::{Tables, cables_of};
+use gptp_topology::{System, Tables, cables_of};
 use std::alloc::{AllocError, Global};
 
 /// How a document stands after its events so far, of which some have this time.
 #[derive(Drop)]
 pub(crate) struct Walk {
     pub tables: Tables,
+    /// The systems at the ends of each link.
+    pub ends: Vec<Ends>,
     /// When a link was last set; 0 where none was.
     pub last_set: u64,
     /// The greatest delay that a link has had, in ns.
@@ -26,7 +28,8 @@ pub(crate) struct Walk {
     pub told: Vec<Told>,
     /// The time before, if there is one.
     pub before: Option<SettlingTime>,
-    /// Which links were in use then, and what Sync had to cross.
+    /// The systems as they stood then, which links were in use, and what Sync had to cross.
+    pub systems_before: Vec<System>,
     pub used_before: Vec<bool>,
     pub paths_before: SyncPaths,
 }
@@ -39,15 +42,20 @@ impl Walk {
         network.well_formed();
         let cables = cables_of(alloc, network)?;
         let tables = Tables::first(alloc, network)?;
+        let mut systems_before = Vec::new(alloc);
+        copy_systems(&mut systems_before, &tables.nodes)?;
+        let ends = ends_of(alloc, &systems_before, &cables)?;
         let mut used_before = Vec::new(alloc);
         mark_used(&mut used_before, &tables.standings)?;
         let paths_before = tables.sync_paths();
         Ok(Walk {
             tables,
+            ends,
             last_set: 0,
             longest: longest_among(&cables),
             told: Vec::new(alloc),
             before: None,
+            systems_before,
             used_before,
             paths_before,
         })
@@ -74,11 +82,45 @@ impl Walk {
         requires { paths ≡ marked_paths self.old.tables.marks.items self.old.tables.nodes.items }
         ensures { OnOk result (WalkGoesOn time self.old self.new) }
     {
+        copy_systems(&mut self.systems_before, &self.tables.nodes)?;
         mark_used(&mut self.used_before, &self.tables.standings)?;
         self.paths_before = paths;
         self.told.clear();
         self.before = Some(time);
         Ok(())
+    }
+
+    /// What systems that stand so choose over the links that are in use.
+    fn chosen(
+        &self,
+        alloc: Global,
+        systems: &[System],
+        used: &[bool],
+    ) -> Result<Vec<Chosen>, AllocError>
+        ensures { IfOk result (λ chosen. chosen.items ≡ chosen_in self.now systems.now used.now) }
+    {
+        let links = ends_in_use(alloc, &self.ends, used)?;
+        choose(alloc, systems, &links)
+    }
+
+    /// Whether the events of this time move a system.
+    fn moves(&self, alloc: Global) -> Result<bool, AllocError>
+        ensures { IfOk result (λ moved. moved ≡ moves_seen self.now) }
+    {
+        let mut systems = Vec::new(alloc);
+        copy_systems(&mut systems, &self.tables.nodes)?;
+        let mut used = Vec::new(alloc);
+        mark_used(&mut used, &self.tables.standings)?;
+        let before = self.chosen(alloc, &self.systems_before, &self.used_before)?;
+        let now = self.chosen(alloc, &systems, &used)?;
+        Ok(any_moved(&systems, &before, &now))
+    }
+
+    /// Whether the events of this time move a system, where that is asked.
+    fn moves_if(&self, alloc: Global, asked: bool) -> Result<bool, AllocError>
+        ensures { IfOk result (λ moved. moved ≡ (asked && moves_seen self.now)) }
+    {
+        if asked { self.moves(alloc) } else { Ok(false) }
     }
 
     /// What is told of this time, where this is what Sync has to cross at it.
@@ -108,6 +150,8 @@ impl Walk {
         let gained = ready + heard(network, followed, told, new) + way_span(paths);
         let paths_before = self.paths_before;
         let from_rest = is_from_rest(self.longest, at, paths_before, paths, told, self.before);
+        let asked = asks_who_is_moved(from_rest, paths_before, told);
+        let moved = self.moves_if(alloc, asked)?;
         Ok(times_by(
             network,
             at,
@@ -115,7 +159,7 @@ impl Walk {
             paths,
             self.tables.is_calm(network, paths),
             sets_link(told),
-            row_of(from_rest, first, told),
+            row_of(from_rest, first, paths_before, told, moved),
             gained,
         ))
     }

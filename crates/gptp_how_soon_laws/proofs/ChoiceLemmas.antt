@@ -4,20 +4,24 @@ use Rattle.std.specs.Prelude.{◌==◌, nat_le}
 use Rattle.std.proofs.lemmas.Bool.{eqb-false, eqb-true}
 use Rattle.std.proofs.lemmas.Bool.Decides.{nat_tests}
 use Rattle.gptp_lists.specs.Members.{In}
+use Rattle.gptp_lists.proofs.SystemSpecLemmas.{In-left, In-parts}
 use Rattle.gptp_setup.specs.SettlingParams.{largest_interval}
 use Rattle.gptp_scenario.specs.Network.{NetworkState, pace_of}
 use Rattle.gptp_scenario.specs.SyncWait.{sync_paths}
 use Rattle.gptp_scenario.specs.declared.change.Timed.{Timed}
 use Rattle.gptp_network.specs.Document.{DocumentState}
 use Rattle.gptp_network.specs.Snapshot.{events_by}
+use Rattle.gptp_network.proofs.SnapshotLemmas.{from_filter}
 use Rattle.gptp_theorem.specs.PlayedLaws.{IsPlayable}
 use Rattle.gptp_how_soon.specs.Times.{View, events_at, gained_at, last_set, ready_at, row_at, settling_times, settling_times_from, time_at, view_at}
 use Rattle.gptp_how_soon.specs.declared.bounds.Settling.{Settling}
 use Rattle.gptp_how_soon.specs.declared.bounds.SettlingTime.{SettlingTime}
 use Rattle.gptp_settling_time.specs.HowSoon.{BoundsChoice, BoundsEvents, BoundsStart, IsChoiceBoundAfter, NoneBetween}
 use Rattle.gptp_settling_time.proofs.MomentLemmas.{parted}
+use Rattle.gptp_settling_time.proofs.WellFormedLemmas.{after_well}
 use Rattle.gptp_how_soon_laws.specs.Choice.{SettlingsAreChoiceBounds}
 use Rattle.gptp_how_soon_laws.proofs.RowLemmas.{HasComeToRest, bounds_choice, gained, never_unchanged, started, tells, unchanged}
+use Rattle.gptp_how_soon_laws.proofs.UnmovedLemmas.{AreWell}
 use Rattle.gptp_how_soon_laws.proofs.TimesLemmas.{AreTimes, later_times, times_after, times_parts}
 
 -- the events up to time 0 are those at it
@@ -102,13 +106,24 @@ module _ (d : DocumentState) (playable : IsPlayable d) where
         let passed = rest.passed in
         (rest.settling.choice, then.choice, omega (arith, less, passed), bounds)
 
+    made_or_now : (t : Timed) → In t (made ++ now) → In t all
+    made_or_now t member = elim (In-parts t made now member) [
+      | inl early ↦ (from_filter (λ (u : Timed). nat_le u.at b.at) t all early).0
+      | inr here ↦ (from_filter (λ (u : Timed). u.at == at) t all here).0
+    ]
+
+    well : AreWell n (made ++ now)
+    well events left are =
+        after_well d playable events
+        (λ t member. made_or_now t (subst (In t) are (In-left t events left member)))
+
     later_so : TellsSo (b.at ∷ earlier) (time_at d (Some b) at)
     later_so s is =
         let it = tells n v s is in
         let bound =
         bounds_choice n Sharp (made ++ now) (row_at v) (gained_at n v) it.calm
-        (λ row. let (rest, idle) = unchanged n playable.network all b at late row in
-        sharp 0 rest (elim idle [ inl still ↦ inl (still, refl) | inr wider ↦ inr (inl (wider, refl)) ]))
+        (λ row. let (rest, still) = unchanged n playable.network all b at late well row in
+        sharp 0 rest (elim still [ inl each ↦ inl (each, refl) | inr wider ↦ inr (inl (wider, refl)) ]))
         (λ row off. let (rest, gains) = gained n playable.network all b at late row off in
         sharp (gained_at n v) rest (inr (inr (ready_at n v, gains)))) in
         record {

@@ -1,10 +1,11 @@
 -- What an event does that is told to be idle, or a gain.
-use Rattle.std.proofs.Common.{◌≡◌, ◌≤◌, ◌⊎◌, inl, inr, ◌+◌, ◌*◌, ◌^◌, ◌%◌, ℕ, Bool, true, false, nat_lt, List, Option, Some, None, slice_get, refl, sym, ap, subst, ◌∙◌, arith}
+use Rattle.std.proofs.Common.{◌≡◌, ◌<◌, ◌≤◌, ◌⊎◌, inl, inr, ◌+◌, ◌*◌, ◌^◌, ◌%◌, ℕ, Bool, true, false, nat_lt, List, Option, Some, None, slice_get, refl, sym, ap, subst, ◌∙◌, arith}
 use Rattle.std.specs.Prelude.{◌==◌, ◌&&◌, ◌||◌, not, if◌then◌else◌, nat_le, ◌-◌}
 use Rattle.std.specs.List.{find}
-use Rattle.std.proofs.lemmas.Bool.{eqb-true}
+use Rattle.std.proofs.lemmas.Bool.{eqb-false, eqb-true}
 use Rattle.std.proofs.lemmas.Bool.Decides.{nat_tests}
 use Rattle.gptp_vector.specs.declared.port.PortId.{PortId}
+use Rattle.gptp_roles.specs.Selection.{clock_of}
 use Rattle.gptp_scenario.specs.Calm.{IsLive}
 use Rattle.gptp_scenario.specs.Change.{is_at, link_after, system_after}
 use Rattle.gptp_scenario.specs.InUse.{lives}
@@ -328,6 +329,26 @@ module _ (clock : ℕ) (what : What) where
       by true false true e is = (refl, grind (arith, nat_tests))
       by true false false e is = absurd cc
 
+  loss_priority1 : (value : ℕ) (o : Option System) → is_loss (told clock what (kind_of_priority1 value o)) ≡ true
+      → (x : System) × (o ≡ Some x) × (x.lives ≡ true) × (x.identity < identity_with value x)
+  loss_priority1 value None is = absurd cc
+  loss_priority1 value (Some x) is =
+      let (live, higher) =
+      by x.lives (identity_with value x == x.identity) (nat_lt (identity_with value x) x.identity) refl refl is in
+      (x, refl, live, higher)
+    where
+      by : (live same lower : Bool) → (identity_with value x == x.identity) ≡ same
+          → nat_lt (identity_with value x) x.identity ≡ lower
+          → is_loss (told clock what (if not live || same then Idle else if lower then Gain else Loss)) ≡ true
+          → (live ≡ true) × (x.identity < identity_with value x)
+      by false same lower d e is = absurd cc
+      by true true lower d e is = absurd cc
+      by true false true d e is = absurd cc
+      by true false false d e is =
+          let apart = eqb-false (identity_with value x) x.identity d in
+          let least : x.identity ≤ identity_with value x = grind (arith, nat_tests) in
+          (refl, omega (arith, apart, least))
+
 -- ---- events
 
 module _ (n : NetworkState) (network : IsNetwork n) (made : List Timed) where
@@ -460,6 +481,33 @@ module _ (n : NetworkState) (network : IsNetwork n) (made : List Timed) where
       × (value * 2 ^ 104 + (system_after made w).identity % 2 ^ 104 ≤ (system_after made w).identity)) (sym same)
       (subst (λ (o : System). (o.lives ≡ true) × (identity_with value o ≤ o.identity)) (sym one.is) (live, lower))
   gain_gains (acts.Change (changes.Inject clock port octets)) is = absurd cc
+
+  -- a live system gets worse
+  pub record Worsens (number value : ℕ) : Type 0 where
+    pub system : SystemSpec
+    pub place : ℕ
+    pub there : slice_get n.systems place ≡ Some system
+    pub clock : clock_of system.identity ≡ number
+    pub only : (i : ℕ) (m : SystemSpec) → slice_get n.systems i ≡ Some m → clock_of m.identity ≡ number → m ≡ system
+    pub live : (system_after made system).live ≡ true
+    pub worse : (system_after made system).identity
+        < value * 2 ^ 104 + (system_after made system).identity % 2 ^ 104
+
+  pub loss_worsens : (number value : ℕ) → is_loss (told_at n made (setting number value)) ≡ true
+      → Worsens number value
+  loss_worsens number value is =
+      let (x, found_is, live, worse) =
+      loss_priority1 number (what_of (setting number value)) value (system_at number) is in
+      let one = named_system n network made number x found_is in
+      record {
+        system = one.system;
+        place = one.place;
+        there = one.there;
+        clock = one.clock;
+        only = one.only;
+        live = ap (λ (o : System). o.lives) one.is ∙ live;
+        worse = subst (λ (o : System). o.identity < identity_with value o) (sym one.is) worse;
+      }
 
   either_failed : (a b : Bool) → (a && b) ≡ false → (a ≡ false) ⊎ (b ≡ false)
   either_failed false b is = inl refl

@@ -3,6 +3,7 @@ mod NamedLemmas
 mod KindLemmas
 mod MoreLemmas
 mod GainedLemmas
+mod UnmovedLemmas
 mod RowLemmas
 pub mod ChoiceLemmas
 pub mod StepLemmas

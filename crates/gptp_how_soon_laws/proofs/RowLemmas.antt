@@ -26,9 +26,9 @@ use Rattle.gptp_topology.specs.After.{is_calm}
 use Rattle.gptp_topology.specs.Course.{cable_of}
 use Rattle.gptp_topology.specs.declared.course.Cable.{Cable}
 use Rattle.gptp_how_soon.specs.Bounds.{asked_again, choice_by, choice_of_row, is_again, is_hard_to_hear, ready, settled, two_exchanges}
-use Rattle.gptp_how_soon.specs.Kinds.{are_heard, fails_and_recovers, is_better, is_gain, is_idle, is_loss, is_other, is_recover, is_recovery, is_recovery_of, lowers_unused, makes_nothing, recovers, sets_link, tells_nothing, begins_wider, first_wider_by, is_wider}
+use Rattle.gptp_how_soon.specs.Kinds.{are_heard, fails_and_recovers, is_better, is_gain, is_idle, is_loss, is_other, is_recover, is_recovery, is_recovery_of, leaves_links, lowers_unused, makes_nothing, recovers, sets_link, tells_nothing, begins_wider, first_wider_by, is_wider}
 use Rattle.gptp_how_soon.specs.Links.{delay_set, is_new, longest_among, longest_delay, longest_set, new_links, varies}
-use Rattle.gptp_how_soon.specs.Rest.{are_events_followed, are_recoveries_followed, are_turns_followed, heard_at_once, is_from_rest, rested, rested_by, is_wider_followed, settles_wider_by}
+use Rattle.gptp_how_soon.specs.Rest.{are_events_followed, are_losses_followed, are_recoveries_followed, are_turns_followed, heard_at_once, is_from_rest, rested, rested_by, is_wider_followed, settles_wider_by}
 use Rattle.gptp_how_soon.specs.Times.{View, events_at, gained_at, ready_at, row_at, settling_time, told_at, told_of, view_at}
 use Rattle.gptp_how_soon.specs.declared.bounds.Row.{Row}
 use Rattle.gptp_how_soon.specs.declared.bounds.Row.TheVariants.{AnyPast, Unchanged, Gained}
@@ -39,13 +39,15 @@ use Rattle.gptp_how_soon.specs.declared.kinds.Told.{Told}
 use Rattle.gptp_how_soon.specs.declared.kinds.What.{What}
 use Rattle.gptp_how_soon.specs.declared.kinds.What.TheVariants as whats
 use Rattle.gptp_settling_time.specs.Gains.{HasDelaysWithin}
-use Rattle.gptp_settling_time.specs.HowSoon.{AreReadyAtStart, AreStartEvents, BoundsChoice, BoundsGains, BoundsStart, EachEvent, IsIdleEvent, way_span, AreWiderEvents}
+use Rattle.gptp_settling_time.specs.HowSoon.{AreReadyAtStart, AreStartEvents, BoundsChoice, BoundsGains, BoundsStart, EachEvent, IsStillEvent, way_span, AreWiderEvents}
 use Rattle.gptp_settling_time.specs.InTurn.{NoneUsed, TellsNothing, UsedVaryLittle}
 use Rattle.gptp_settling_time.proofs.CutLemmas.{IsBy, all_by}
+use Rattle.gptp_settling_time.proofs.FollowedLemmas.{all_still}
 use Rattle.gptp_settling_time.proofs.MomentLemmas.{all_at}
 use Rattle.gptp_topology.proofs.RestLemmas.{calm_from, used_cable}
 use Rattle.gptp_how_soon_laws.proofs.GainedLemmas.{AreFollowed, AreTurnsFollowed, all_gained, all_heard, all_idle, all_wider, none_any, not_none}
 use Rattle.gptp_how_soon_laws.proofs.KindLemmas.{told}
+use Rattle.gptp_how_soon_laws.proofs.UnmovedLemmas.{AreWell, all_still_unmoved}
 
 -- ---- what is told
 
@@ -109,21 +111,25 @@ tells n v s is = by v.calm refl is
 
 -- ---- rows
 
-unchanged_from : (rest idle loss : Bool)
-    → (if not rest then AnyPast else if idle then Unchanged else if loss then AnyPast else Gained) ≡ Unchanged
-    → (rest ≡ true) × (idle ≡ true)
-unchanged_from false idle loss is = absurd cc
-unchanged_from true true loss is = (refl, refl)
-unchanged_from true false true is = absurd cc
-unchanged_from true false false is = absurd cc
+unchanged_from : (rest idle left loss : Bool)
+    → (if not rest then AnyPast else if idle then Unchanged else if left then Unchanged
+    else if loss then AnyPast else Gained) ≡ Unchanged
+    → (rest ≡ true) × ((idle ≡ true) ⊎ (left ≡ true))
+unchanged_from false idle left loss is = absurd cc
+unchanged_from true true left loss is = (refl, inl refl)
+unchanged_from true false true loss is = (refl, inr refl)
+unchanged_from true false false true is = absurd cc
+unchanged_from true false false false is = absurd cc
 
-gained_from : (rest idle loss : Bool)
-    → (if not rest then AnyPast else if idle then Unchanged else if loss then AnyPast else Gained) ≡ Gained
+gained_from : (rest idle left loss : Bool)
+    → (if not rest then AnyPast else if idle then Unchanged else if left then Unchanged
+    else if loss then AnyPast else Gained) ≡ Gained
     → (rest ≡ true) × (loss ≡ false) × (idle ≡ false)
-gained_from false idle loss is = absurd cc
-gained_from true true loss is = absurd cc
-gained_from true false true is = absurd cc
-gained_from true false false is = (refl, refl, refl)
+gained_from false idle left loss is = absurd cc
+gained_from true true left loss is = absurd cc
+gained_from true false true loss is = absurd cc
+gained_from true false false true is = absurd cc
+gained_from true false false false is = (refl, refl, refl)
 
 begun_from : (rest : Bool) → (if not rest then AnyPast else Gained) ≡ Gained → rest ≡ true
 begun_from false is = absurd cc
@@ -410,24 +416,38 @@ module _ (n : NetworkState) (network : IsNetwork n) (events : List Timed) (b : S
       below : (x y : ℕ) → nat_lt x y ≡ true → x < y
       below x y test = grind (arith, nat_tests)
 
-  pub unchanged : row_at v ≡ Unchanged
+  -- what stands is left, as no system is moved
+  unmoved : AreWell n (made ++ now) → (are_losses_followed v.paths_before v.told && not v.moved) ≡ true
+      → EachEvent (IsStillEvent n) made now
+  unmoved well left =
+      let (followed, none) = and_parts (are_losses_followed v.paths_before v.told) (not v.moved) left in
+      let (few, leaves) =
+      and_parts (nat_le v.paths_before.systems 255) (list_all leaves_links v.told) followed in
+      all_still_unmoved n network made now well (at_most v.paths_before.systems 255 few) (not-true v.moved none) leaves
+
+  pub unchanged : AreWell n (made ++ now) → row_at v ≡ Unchanged
       → (rest : HasComeToRest b at)
-      × (EachEvent (IsIdleEvent n) made now ⊎ AreWiderEvents n (b.at + rest.settling.choice) at made now)
-  unchanged row =
+      × (EachEvent (IsStillEvent n) made now ⊎ AreWiderEvents n (b.at + rest.settling.choice) at made now)
+  unchanged well row =
       let (from, which) =
       unchanged_from (is_from_rest v.longest at v.paths_before v.paths v.told (Some b))
-      (list_all makes_nothing v.told || begins_wider v.told) (list_any is_loss v.told) row in
+      (list_all makes_nothing v.told || begins_wider v.told) (are_losses_followed v.paths_before v.told && not v.moved)
+      (list_any is_loss v.told) row in
       let facts = from_rest from in (
         facts.rested,
-        elim (or_cases (list_all makes_nothing v.told) (begins_wider v.told) which) [
-          | inl idle ↦ inl (all_idle n network at made now facts.turns (all_at at events) idle)
-          | inr begins ↦
-              let settles =
-              (and_parts (begins_wider v.told)
-              (settles_wider_by b at v.paths_before v.paths (first_wider_by v.told) b.settling)
-              (facts.wider (begins_some v.told begins))).1 in
-              inr (all_wider n network at made now (b.at + facts.rested.settling.choice) made now begins
-              (settles_so facts.rested.settling b.settling facts.rested.is settles))
+        elim which [
+          | inl nothing ↦ elim (or_cases (list_all makes_nothing v.told) (begins_wider v.told) nothing) [
+            | inl idle ↦
+                inl (all_still n made now (all_idle n network at made now facts.turns (all_at at events) idle))
+            | inr begins ↦
+                let settles =
+                (and_parts (begins_wider v.told)
+                (settles_wider_by b at v.paths_before v.paths (first_wider_by v.told) b.settling)
+                (facts.wider (begins_some v.told begins))).1 in
+                inr (all_wider n network at made now (b.at + facts.rested.settling.choice) made now begins
+                (settles_so facts.rested.settling b.settling facts.rested.is settles))
+          ]
+          | inr left ↦ inl (unmoved well left)
         ],
       )
 
@@ -449,7 +469,8 @@ module _ (n : NetworkState) (network : IsNetwork n) (events : List Timed) (b : S
   gained row off =
       let (from, none, which) =
       gained_from (is_from_rest v.longest at v.paths_before v.paths v.told (Some b))
-      (list_all makes_nothing v.told || begins_wider v.told) (list_any is_loss v.told) row in
+      (list_all makes_nothing v.told || begins_wider v.told) (are_losses_followed v.paths_before v.told && not v.moved)
+      (list_any is_loss v.told) row in
       let facts = from_rest from in
       let (some, narrow) = or_parts (list_all makes_nothing v.told) (begins_wider v.told) which in (
         facts.rested,

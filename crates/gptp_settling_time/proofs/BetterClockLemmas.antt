@@ -5,7 +5,7 @@ use Rattle.std.proofs.lemmas.Bool.{eq-eqb}
 use Rattle.gptp_lists.specs.Members.{In}
 use Rattle.gptp_lists.proofs.MappedLemmas.{alike, same_there}
 use Rattle.gptp_graph.specs.PathBound.{BoundsPaths}
-use Rattle.gptp_graph.specs.Snapshot.{Joins, PortIdentity, System, port_of}
+use Rattle.gptp_graph.specs.Snapshot.{Joins, PortIdentity, System, clocks, port_of}
 use Rattle.gptp_graph.proofs.LinkLemmas.{Joins-sym}
 use Rattle.gptp_links.specs.Fate.{Draw}
 use Rattle.gptp_setup.specs.Intervals.{interval_of}
@@ -34,7 +34,7 @@ use Rattle.gptp_invariants.specs.WorldNews.{IsNews}
 use Rattle.gptp_invariants.specs.WorldSound.{IsGain}
 use Rattle.gptp_invariants.specs.WorldStanding.{channel_is_used, live_stations, snapshot_of, stations_have_clock}
 use Rattle.gptp_invariants.proofs.WorldSoundCallLemmas.{links_more}
-use Rattle.gptp_invariants.proofs.WorldSystemLemmas.{clock_lives}
+use Rattle.gptp_invariants.proofs.WorldSystemLemmas.{clock_from, clock_lives, clock_there}
 use Rattle.gptp_invariants.proofs.WorldWayLemmas.{way_of}
 use Rattle.gptp_invariants.proofs.ChoiceCalmKeptLemmas.{delay_bare, lane_bare}
 use Rattle.gptp_settling_time.proofs.AlwaysClaimedLemmas.{AreHeard, IsClaimedAlways, asks_back, capable_is_on, place_of_way, start_calm, start_net, start_network, way_back, way_stands}
@@ -42,9 +42,9 @@ use Rattle.gptp_settling_time.proofs.HeardLemmas.{StaysCapableAt, stays_elsewher
 use Rattle.gptp_settling_time.specs.Idle.{Lives}
 use Rattle.gptp_settling_time.proofs.PriorityNewsLemmas.{stood}
 use Rattle.gptp_settling_time.proofs.ReactionStageLemmas.{stage_after}
-use Rattle.gptp_settling_time.proofs.ReactsLemmas.{Reacts, reacts}
+use Rattle.gptp_settling_time.proofs.ReactsLemmas.{Reacts, reacts, reacts_news}
 use Rattle.gptp_settling_time.proofs.RestClaimedLemmas.{AreOn}
-use Rattle.gptp_settling_time.proofs.SettledSeenLemmas.{HasSettledSeen, IsSettledSeen}
+use Rattle.gptp_settling_time.proofs.SettledSeenLemmas.{HasSettledSeen, IsSettledSeen, wired_as}
 
 -- ---- what looks at clocks and ends of links alone
 
@@ -72,19 +72,27 @@ of_bare : {X : Type 0} (f : List Channel → X) → ((channels : List Channel) �
     → (before after : List Channel) → DifferInFlight before after → f after ≡ f before
 of_bare f each before after kept = sym (each after) ∙ ap f kept ∙ each before
 
--- ---- the change
+-- ---- clocks and links stay
 
-module _ (p : SettlingParams) (start next owner value : ℕ) (w : WorldState) (draws : List Draw) (done : Done)
-    (w' : WorldState) (is : IsClaimedAlways p start w) (on : AreOn p start w is.heard) (world' : IsWorld p w')
-    (live : Lives owner w) (octet : value < 256) (gain : IsGain (Priority1 owner value) w)
-    (acts : Acts (Changing (Priority1 owner value)) w draws done w') (soon : w.time < next) (news' : IsNews p next w')
-    (near : AllAreNear (snapshot_of w)) (settled : HasSettledSeen p w) where
-  abbrev world : IsWorld p w
-  world = is.news.world
+links_stay : (w v : WorldState)
+    → ((number : ℕ) → stations_have_clock (live_stations v.stations) number
+    ≡ stations_have_clock (live_stations w.stations) number)
+    → DifferInFlight w.net.channels v.net.channels → (a b : PortIdentity) → Joins (snapshot_of w) a b
+    → Joins (snapshot_of v) a b
+links_stay w v lives links =
+    links_more w v
+    (λ s member. clock_lives v.stations s.clock (lives s.clock ∙ has_clock (live_stations w.stations) s member))
+    (λ link channel here.
+    let (now, stands, same) = alike bare bare v.net.channels w.net.channels links link channel here in
+    record {
+      new = now;
+      here = stands;
+      a = ap (λ (c : Channel). c.a) same;
+      b = ap (λ (c : Channel). c.b) same;
+      up = λ raised. ap (λ (c : Channel). c.up) same ∙ raised;
+    })
 
-  r : Reacts w w'
-  r = reacts p w world owner value live octet gain draws done w' acts
-
+module _ (p : SettlingParams) (w w' : WorldState) (r : Reacts w w') where
   used_alike : (channel : Channel) → channel_is_used (live_stations w'.stations) channel
       ≡ channel_is_used (live_stations w.stations) channel
   used_alike channel = λ i. channel.up && (r.lives channel.a.clock i && r.lives channel.b.clock i)
@@ -96,8 +104,8 @@ module _ (p : SettlingParams) (start next owner value : ℕ) (w : WorldState) (d
   used_now channel now same used =
       used_alike now ∙ ap (channel_is_used (live_stations w.stations)) same ∙ used
 
-  quiet_back : HaveQuietLinks p.params w' → HaveQuietLinks p.params w
-  quiet_back quiet link channel here used =
+  pub quiet_before : HaveQuietLinks p.params w' → HaveQuietLinks p.params w
+  quiet_before quiet link channel here used =
       let (now, stands, same) = alike bare bare w'.net.channels w.net.channels r.links link channel here in
       let x = quiet link now stands (used_now channel now same used) in
       let bounds = ap (λ (c : Channel). c.bounds) same in
@@ -110,20 +118,46 @@ module _ (p : SettlingParams) (start next owner value : ℕ) (w : WorldState) (d
       w.net.channels w'.net.channels r.links
 
   -- no link is another
-  links_back : (a b : PortIdentity) → Joins (snapshot_of w') a b → Joins (snapshot_of w) a b
-  links_back =
-      links_more w' w
-      (λ s member. clock_lives w.stations s.clock
-      (sym (r.lives s.clock) ∙ has_clock (live_stations w'.stations) s member))
-      (λ link channel here.
-      let (old, stands, same) = alike bare bare w.net.channels w'.net.channels (sym r.links) link channel here in
+  pub links_before : (a b : PortIdentity) → Joins (snapshot_of w') a b → Joins (snapshot_of w) a b
+  links_before = links_stay w' w (λ number. sym (r.lives number)) (sym r.links)
+
+  pub links_after : (a b : PortIdentity) → Joins (snapshot_of w) a b → Joins (snapshot_of w') a b
+  links_after = links_stay w w' r.lives r.links
+
+  pub clocks_after : (number : ℕ) → In number (clocks (snapshot_of w)) → In number (clocks (snapshot_of w'))
+  clocks_after number known =
+      clock_from (live_stations w'.stations) number
+      (r.lives number ∙ clock_there (live_stations w.stations) number known)
+
+  -- a network of the world has the wiring of one that it had before
+  pub wiring_same : (n n' : Network) → SameWiring n (start_network p 0 0 w) → n.most ≡ delay_in w
+      → n' ≡ wired_as n' (start_network p 0 0 w') → SameWiring n n'
+  wiring_same n n' same most is =
+      let delay = delay_same in
+      let delays : n'.most ≡ delay_in w' = ap (λ (x : Network). x.most) is in
       record {
-        new = old;
-        here = stands;
-        a = ap (λ (c : Channel). c.a) same;
-        b = ap (λ (c : Channel). c.b) same;
-        up = λ raised. ap (λ (c : Channel). c.up) same ∙ raised;
-      })
+        place = λ v. ap (λ (x : Network). x.place v) is ∙ r.places v ∙ same.place v;
+        lane = λ q.
+            ap (λ (x : Network). x.lane q) is
+            ∙ of_bare (λ channels. lane_of channels q) (lane_bare q) w.net.channels w'.net.channels r.links
+            ∙ same.lane q;
+        log = λ q. ap (λ (x : Network). x.log_of q) is ∙ r.logs q ∙ same.log q;
+        interval = λ q. ap (λ (x : Network). x.interval_of q) is ∙ ap interval_of (r.logs q) ∙ same.interval q;
+        most = omega (arith, delay, delays, most);
+      }
+
+-- ---- the change
+
+module _ (p : SettlingParams) (start next owner value : ℕ) (w : WorldState) (draws : List Draw) (done : Done)
+    (w' : WorldState) (is : IsClaimedAlways p start w) (on : AreOn p start w is.heard) (world' : IsWorld p w')
+    (live : Lives owner w) (octet : value < 256) (gain : IsGain (Priority1 owner value) w)
+    (acts : Acts (Changing (Priority1 owner value)) w draws done w') (soon : w.time < next) (news' : IsNews p next w')
+    (near : AllAreNear (snapshot_of w)) (settled : HasSettledSeen p w) where
+  abbrev world : IsWorld p w
+  world = is.news.world
+
+  r : Reacts w w'
+  r = reacts p w world owner value live octet draws done w' acts
 
   -- ---- ports
 
@@ -153,21 +187,10 @@ module _ (p : SettlingParams) (start next owner value : ℕ) (w : WorldState) (d
     sound = on_links says_announce (snapshot_of w') (view w') news'.sound
 
     seen : IsSettledSeen p w
-    seen = settled (quiet_back quiet') off
+    seen = settled (quiet_before p w w' r quiet') off
 
     wired : SameWiring seen.n n
-    wired =
-        let delay = delay_same in
-        let most = seen.most in
-        record {
-          place = λ v. r.places v ∙ seen.same.place v;
-          lane = λ q.
-              of_bare (λ channels. lane_of channels q) (lane_bare q) w.net.channels w'.net.channels r.links
-              ∙ seen.same.lane q;
-          log = λ q. r.logs q ∙ seen.same.log q;
-          interval = λ q. ap interval_of (r.logs q) ∙ seen.same.interval q;
-          most = omega (arith, delay, most);
-        }
+    wired = wiring_same p w w' r seen.n n seen.same seen.most refl
 
     -- the port that hears is on
     lasts : (d : ℕ) (best : System) (v pp u q : ℕ) → LeadsFarther n.graph d best v pp u q
@@ -195,9 +218,10 @@ module _ (p : SettlingParams) (start next owner value : ℕ) (w : WorldState) (d
           levels = λ d best v pp u q close leads.
               stage_after says_announce seen.n n seen.net net (view w) (view w')
               (subst AllAreNear (sym seen.graph) near) seen.calm seen.invariant seen.late r.call
-              (subst (λ g. HasNews g (snapshot_of w')) (sym seen.graph) r.news)
-              (λ a b joins. subst (λ g. Joins g a b) (sym seen.graph) (links_back a b joins)) wired
-              (delay_same ∙ sym seen.most) (omega (arith, early)) calm sound lasts d best v pp u q close leads;
+              (subst (λ g. HasNews g (snapshot_of w')) (sym seen.graph)
+              (reacts_news p w world owner value live octet draws done w' acts gain))
+              (λ a b joins. subst (λ g. Joins g a b) (sym seen.graph) (links_before p w w' r a b joins)) wired
+              (delay_same p w w' r ∙ sym seen.most) (omega (arith, early)) calm sound lasts d best v pp u q close leads;
         }
 
   pub better_claimed : IsClaimedAlways p next w'

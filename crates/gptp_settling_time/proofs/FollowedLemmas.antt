@@ -17,12 +17,13 @@ use Rattle.gptp_scenario.specs.declared.sync_wait.SyncPaths.{SyncPaths}
 use Rattle.gptp_network.specs.Document.{DocumentState}
 use Rattle.gptp_network.specs.Events.{AreInOrder}
 use Rattle.gptp_network.specs.Snapshot.{events_by}
-use Rattle.gptp_settling_time.specs.HowSoon.{AfterIdleEvents, AreGainEvents, AreHeardEvents, AreReadyAtStart, AreStartEvents, BoundsEvents, BoundsStart, EachEvent, IsChoiceBound, IsChoiceBoundAfter, IsGainEvent, IsGainToo, IsHeardEvent, IsHeardToo, IsIdleEvent, TurnsUnused, events_at, way_span, AreWiderEvents}
+use Rattle.gptp_settling_time.specs.HowSoon.{AfterIdleEvents, AreGainEvents, AreHeardEvents, AreReadyAtStart, AreStartEvents, BoundsEvents, BoundsStart, EachEvent, IsChoiceBound, IsChoiceBoundAfter, IsGainEvent, IsGainToo, IsHeardEvent, IsHeardToo, IsIdleEvent, IsStillEvent, TurnsUnused, events_at, way_span, AreWiderEvents}
 use Rattle.gptp_settling_time.specs.InTurn.{AnyPast, AreCapableSoon, BeginsBy, EventLeads, Gained, HasSettledAnyhow, HasSettledHeard, HasSettledSince, Heard, LeadOn, LeavesSettled, MakesNothing, Past, SettlesAfter, SettlesByEvents, Starting, StartsWith, TellsNothing, TurnsInVain, UsedVaryLittle, WidensLink}
+use Rattle.gptp_settling_time.specs.Losses.{LeavesChoice}
 use Rattle.gptp_settling_time.proofs.CutLemmas.{IsBy, all_by}
 use Rattle.gptp_settling_time.proofs.MadeLemmas.{adds_later}
 use Rattle.gptp_settling_time.proofs.MomentLemmas.{all_at, last_by, parted}
-use Rattle.gptp_settling_time.proofs.SamePathsLemmas.{idle_paths, turned_paths}
+use Rattle.gptp_settling_time.proofs.SamePathsLemmas.{idle_paths, priority_paths, turned_paths}
 
 -- ---- what leads on
 
@@ -128,9 +129,10 @@ module _ (n : NetworkState) (made : List Timed) (event : Timed) where
     way_over (Gained start) settled = omega (arith, settled)
     way_over (Heard start) settled = omega (arith, settled)
 
-    same_paths : IsIdleEvent n made event → sync_paths n more ≡ sync_paths n made
-    same_paths (inl nothing) = idle_paths n network made event nothing
-    same_paths (inr turns) = turned_paths n made event turns
+    same_paths : IsStillEvent n made event → sync_paths n more ≡ sync_paths n made
+    same_paths (inl (inl nothing)) = idle_paths n network made event nothing
+    same_paths (inl (inr turns)) = turned_paths n made event turns
+    same_paths (inr leaves) = priority_paths n made event leaves.clock leaves.value leaves.act
 
     turns_in_vain : (act : Act) → TurnsUnused n made act → TurnsInVain n made event since act
     turns_in_vain (Changing (LinkUp number port)) failed = failed
@@ -147,9 +149,13 @@ module _ (n : NetworkState) (made : List Timed) (event : Timed) where
     makes_nothing (inl nothing) = inl nothing
     makes_nothing (inr turns) = inr (off, turns_in_vain event.act turns)
 
-    module _ (idle : IsIdleEvent n made event) where
+    leaves_still : IsStillEvent n made event → MakesNothing n made event since ⊎ LeavesChoice n made event
+    leaves_still (inl idle) = inl (makes_nothing idle)
+    leaves_still (inr leaves) = inr leaves
+
+    module _ (idle : IsStillEvent n made event) where
       leaves_so : way ≤ event.at → LeavesSettled n made event since
-      leaves_so over = record { nothing = makes_nothing idle; off = off; since = omega (arith, over) }
+      leaves_so over = record { nothing = leaves_still idle; off = off; since = omega (arith, over) }
 
       pub idle_leads : (past : Past) → HasSettled n made past event.at → EventLeads n made past event (Heard since)
       idle_leads AnyPast settled = (settled, inr (inr (inl (leaves_so (way_over AnyPast settled)))))
@@ -161,6 +167,12 @@ module _ (n : NetworkState) (made : List Timed) (event : Timed) where
       idle_settled past settled =
           let over = way_over past settled in
           subst (λ (x : SyncPaths). since + way_span x ≤ event.at) (sym (same_paths idle)) (omega (arith, over))
+
+-- what makes nothing of what stands leaves it as it is
+pub all_still : (n : NetworkState) (made now : List Timed) → EachEvent (IsIdleEvent n) made now
+    → EachEvent (IsStillEvent n) made now
+all_still n made [] idle = tt
+all_still n made (event ∷ now) (one, idle) = (inl one, all_still n (made ++ event ∷ []) now idle)
 
 -- ---- the events of a time lead from a network that has settled
 
@@ -211,9 +223,9 @@ module _ (n : NetworkState) (network : IsNetwork n) where
           (settled_later n made past time settled late is);
     }
 
-    -- they make nothing of what stands
+    -- they make nothing of what stands, or leave the settled choice
     idle_led : (made now : List Timed) (past : Past) → AllNow now → HasSettled n made past time
-        → EachEvent (IsIdleEvent n) made now → IsLed n made now past (suc (time + 0))
+        → EachEvent (IsStillEvent n) made now → IsLed n made now past (suc (time + 0))
     idle_led made [] past at settled idle = none_led made past (suc (time + 0)) (omega arith) settled
     idle_led made (event ∷ now) past (here, at) settled (one, idle) =
         let then = subst (HasSettled n made past) (sym here) settled in
@@ -289,7 +301,7 @@ module _ (n : NetworkState) (network : IsNetwork n) where
         let (next, leads, then) =
         widens_leads made event past (suc settled) by here calm is (omega (arith, late)) widens (omega (arith, soon)) in
         led_more n made now event past (Heard next) (suc (time + 0)) leads
-        (idle_led (made ++ event ∷ []) now (Heard next) at then idle)
+        (idle_led (made ++ event ∷ []) now (Heard next) at then (all_still n (made ++ event ∷ []) now idle))
 
     -- such come first, and then others that lead to this
     after_idle : (Are : List Timed → List Timed → Type 0) (all : List Timed) (later : ℕ)
@@ -303,11 +315,11 @@ module _ (n : NetworkState) (network : IsNetwork n) where
     after_idle Are all later then made (event ∷ now) past are (here, at) settled (inr (one, is)) =
         let before = subst (HasSettled n made past) (sym here) settled in
         let start : ℕ = since n made event network off in
-        led_more n made now event past (Heard start) later (idle_leads n made event network off one past before)
+        led_more n made now event past (Heard start) later (idle_leads n made event network off (inl one) past before)
         (after_idle Are all later then (made ++ event ∷ []) now (Heard start)
         (append_assoc made (event ∷ []) now ∙ are) at
         (subst (HasSettled n (made ++ event ∷ []) (Heard start)) here
-        (idle_settled n made event network off one past before))
+        (idle_settled n made event network off (inl one) past before))
         is)
 
     module _ (ready : ℕ) where

@@ -1,7 +1,10 @@
 -- Events lead a document from what its network came from to the next, and it settles by that.
 use Rattle.std.proofs.Common.{◌≡◌, inl, inr, ◌<◌, ◌≤◌, ◌+◌, ◌*◌, ℕ, suc, pred, List, [], ◌∷◌, ◌++◌, Option, refl, sym, ap, subst, ◌∙◌, append_assoc, append-nil, arith}
 use Rattle.std.specs.List.{AllByRecursion}
+use Rattle.gptp_lists.specs.Members.{In}
+use Rattle.gptp_graph.specs.Best.{IsBest}
 use Rattle.gptp_graph.specs.PathBound.{BoundsPaths, path_bound}
+use Rattle.gptp_graph.specs.Snapshot.{System, clocks}
 use Rattle.gptp_graph.proofs.ExistenceLemmas.{distance_exists}
 use Rattle.gptp_graph.proofs.PathBoundLemmas.{IsDistance-within, paths_within}
 use Rattle.gptp_bmca_machine.specs.SoundLaws.{AllAreNear}
@@ -28,6 +31,7 @@ use Rattle.gptp_model.specs.World.{WorldState, port_id}
 use Rattle.gptp_world.specs.Transitions.{ActTrace}
 use Rattle.gptp_network.specs.Document.{DocumentState}
 use Rattle.gptp_network.specs.Snapshot.{events_by}
+use Rattle.gptp_network.proofs.ExistenceLemmas.{stands_after}
 use Rattle.gptp_report.specs.Transitions.{Courses, Unfolds}
 use Rattle.gptp_invariants.specs.ChoiceCalm.{delay_in, sync_paths_of}
 use Rattle.gptp_invariants.specs.ChoiceSettled.{Settled}
@@ -42,6 +46,9 @@ use Rattle.gptp_invariants.proofs.WorldSettlingInvariantLemmas.{settled_at_once,
 use Rattle.gptp_invariants.proofs.WorldSoundLemmas.{sound_later}
 use Rattle.gptp_invariants.proofs.WorldStandsLemmas.{stands_well}
 use Rattle.gptp_theorem.specs.PlayedLaws.{IsMade, IsPlayable}
+use Rattle.gptp_theorem.specs.AlikeLaws.{AreAlike}
+use Rattle.gptp_theorem.proofs.AlikeLemmas.{clock_among, turned}
+use Rattle.gptp_theorem.proofs.AlikeLemmas.{best as alike_best}
 use Rattle.gptp_theorem.proofs.CalmLemmas.{pace_stands, quiet_stands}
 use Rattle.gptp_theorem.proofs.HeadlineLemmas.{is_settled}
 use Rattle.gptp_theorem.proofs.SettlingInvariantLemmas.{IsFitEvent, events_fit, events_made, least_of}
@@ -50,11 +57,12 @@ use Rattle.gptp_theorem.proofs.SyncPathLemmas.{paths_stand}
 use Rattle.gptp_settling_time.specs.Exactly.{SettlesBy}
 use Rattle.gptp_settling_time.specs.Gains.{ChangesNothing, IsIdleAfter, LeavesCapable, TakesNothing}
 use Rattle.gptp_settling_time.specs.InTurn.{ActsFindSettledInTurn, AddsHeard, AnyPast, BeginsBy, BettersClock, BringsUp, EventLeads, Gained, Heard, LeadOn, LeavesSettled, MakesNothing, Past, RecoversAlone, SettlesAfter, SettlesByEvents, Starting, TurnsInVain, WidensFrom}
+use Rattle.gptp_settling_time.specs.Losses.{MovesNone}
 use Rattle.gptp_settling_time.proofs.AlwaysClaimedLemmas.{IsClaimedAlways, since_later}
 use Rattle.gptp_settling_time.proofs.BegunLemmas.{begun_keeps, begun_last, rested_sound}
 use Rattle.gptp_settling_time.proofs.ClaimedToLemmas.{IsClaimedTo, claimed_act, claimed_later, claimed_settled}
 use Rattle.gptp_settling_time.proofs.DocumentLemmas.{run_to}
-use Rattle.gptp_settling_time.proofs.GainLemmas.{better_lives, down_so, few_so, gain_so, idle_so, unused_so, used_so, within_so}
+use Rattle.gptp_settling_time.proofs.GainLemmas.{better_lives, down_so, few_so, gain_so, idle_so, lives_so, unused_so, used_so, within_so}
 use Rattle.gptp_settling_time.proofs.FailedDownLemmas.{lowered_claimed, lowered_news}
 use Rattle.gptp_settling_time.proofs.FailedUpLemmas.{raised_claimed, raised_from}
 use Rattle.gptp_settling_time.proofs.HeardLemmas.{heard_on}
@@ -71,6 +79,7 @@ use Rattle.gptp_settling_time.proofs.RestClaimedLemmas.{AreOn, rest_claimed, res
 use Rattle.gptp_settling_time.proofs.SettledClaimedLemmas.{settled_claimed}
 use Rattle.gptp_settling_time.proofs.SettledSeenLemmas.{HasSettledSeen, always_settled}
 use Rattle.gptp_settling_time.proofs.BetterClockLemmas.{better_claimed}
+use Rattle.gptp_settling_time.proofs.UnmovedLemmas.{unmoved_claimed}
 use Rattle.gptp_settling_time.proofs.WidenedLemmas.{widened_claimed}
 use Rattle.gptp_settling_time.proofs.StandsStillLemmas.{StandsStill, claims_stand, from_stands}
 use Rattle.gptp_settling_time.proofs.StartEventLemmas.{IsStarting, IsStartingTo, begun_soon_claimed, begun_soon_news, starting_act, starting_begins, starting_later, starting_made, starts_claimed, starts_news}
@@ -310,12 +319,39 @@ module _ {F : Type 0} (answers : Bounds → ℕ → F → Option ℕ → F → T
       (from_later p next event.at w k.ready.timely.now k.ready.timely.first
       (subst (λ time. IsNewsFrom p time w) (sym same) news))
 
-  -- nor does it in a network that has settled
+  -- a system that isn't moved keeps its best
+  kept_best : MovesNone n made event → (v : ℕ) (b : System) → In v (clocks (snapshot_of w'))
+      → IsBest (snapshot_of then) v b → IsBest (snapshot_of w') v b
+  kept_best none v b known was =
+      let (g, stands) = stands_after n made playable.network in
+      let (g', stands') = stands_after n more playable.network in
+      let (systems, links) = snapshots_stand n made then g keeps_then.stands keeps_then.claim.world.sound stands in
+      let (systems', links') = snapshots_stand n more w' g' after.stands after.claim.world.sound stands' in
+      let before : AreAlike (snapshot_of then) g = record { systems = systems; links = links } in
+      let now : AreAlike (snapshot_of w') g' = record { systems = systems'; links = links' } in
+      let unmoved = none g g' v stands stands' (clock_among (snapshot_of w') g' now v known) in
+      alike_best g' (snapshot_of w') (turned (snapshot_of w') g' now) v b
+      (unmoved.best b (alike_best (snapshot_of then) g before v b was))
+
+  -- what leaves a network as it stands, or its settled choice, leaves it settled
   pub left_settled : (start next : ℕ) (claim : IsClaimedAlways p start then) → AreOn p start then claim.heard
       → HasSettledSeen p then → LeavesSettled n made event next → AreReadyBy p next then → AreSilentBy p next then
       → IsClaimedTo d more next w'
-  left_settled start next claim on settled leaves ready silent =
-      left_so next (settled_claimed p start next then claim on settled leaves.off ready silent) leaves.nothing
+  left_settled start next claim on settled leaves ready silent = elim leaves.nothing [
+    | inl nothing ↦ left_so next (settled_claimed p start next then claim on settled leaves.off ready silent) nothing
+    | inr choice ↦
+        let since = leaves.since in
+        record {
+          keeps = after;
+          since = unmoved_claimed p next choice.clock choice.value then k.draws done w' keeps_then.claim.world
+              after.claim.world
+              (lives_so n made then keeps_then.stands keeps_then.claim.world.sound choice.clock choice.live)
+              (subst SetsAnOctet choice.act fit.octet)
+              (subst (λ act. Acts act then k.draws done w') choice.act k.acts) (kept_best choice.moves)
+              keeps_then.claim.pace keeps_then.claim.measured after.claim.measured leaves.off (omega (arith, since))
+              (near_then choice.few) settled claim.news.sound ready silent;
+        }
+  ]
 
   -- it widens a link of a network that has settled
   widened_to : (start next : ℕ) → IsSoundWorld w → AreReadyBy p start then → AreSilentBy p start then

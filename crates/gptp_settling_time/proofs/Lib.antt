@@ -69,4 +69,8 @@ pub mod ReactionStageLemmas
 pub mod ReactsLemmas
 pub mod SettledSeenLemmas
 pub mod PriorityNewsLemmas
+pub mod SameBestLemmas
+pub mod ReselectsLemmas
+pub mod UnmovedLemmas
 pub mod BetterClockLemmas
+pub mod WellFormedLemmas

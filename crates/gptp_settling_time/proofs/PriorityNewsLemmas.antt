@@ -131,15 +131,14 @@ module _ (gone : ℕ) (at : LinkPlace) (place value : ℕ) (w : WorldState) (dra
 -- ---- news
 
 module _ (p : SettlingParams) (start owner value : ℕ) (w : WorldState) (draws : List Draw) (done : Done)
-    (w' : WorldState) (pace : KeepPace p) (is : IsWorld p w) (is' : IsWorld p w') (measured : LinkIsMeasured w)
-    (live : Lives owner w) (sound : IsSoundWorld w) (silent : AreSilentBy p start w)
-    (gain : IsGain (Priority1 owner value) w) (octet : value < 256)
+    (w' : WorldState) (is : IsWorld p w) (is' : IsWorld p w') (measured : LinkIsMeasured w) (live : Lives owner w)
+    (silent : AreSilentBy p start w) (octet : value < 256)
     (acts : Acts (Changing (Priority1 owner value)) w draws done w') where
   r : Reacts w w'
-  r = reacts p w is owner value live octet gain draws done w' acts
+  r = reacts p w is owner value live octet draws done w' acts
 
-  silent' : AreSilentBy p start w'
-  silent' at s =
+  pub priority_silent : AreSilentBy p start w'
+  priority_silent at s =
       let k = acts.1 in
       let still = set_still value k.place k.station w k.is.here in
       let clocks =
@@ -157,25 +156,39 @@ module _ (p : SettlingParams) (start owner value : ℕ) (w : WorldState) (draws 
             )
       ]
 
+  pub priority_ready : AreReadyBy p start w → AreReadyBy p start w'
+  priority_ready ready at stands =
+      ready_goes_through p start at (Changing (Priority1 owner value)) w w' draws done is.sound measured tt acts
+      (ready at (stood w w' r p is is' at stands))
+
+module _ (p : SettlingParams) (start owner value : ℕ) (w : WorldState) (draws : List Draw) (done : Done)
+    (w' : WorldState) (pace : KeepPace p) (is : IsWorld p w) (is' : IsWorld p w') (measured : LinkIsMeasured w)
+    (live : Lives owner w) (sound : IsSoundWorld w) (silent : AreSilentBy p start w)
+    (gain : IsGain (Priority1 owner value) w) (octet : value < 256)
+    (acts : Acts (Changing (Priority1 owner value)) w draws done w') where
+  abbrev reaction : Reacts w w'
+  reaction = reacts p w is owner value live octet draws done w' acts
+
   measured' : LinkIsMeasured w'
   measured' = acts_measured (Changing (Priority1 owner value)) w w' draws done is.sound measured octet acts
+
+  silent' : AreSilentBy p start w'
+  silent' = priority_silent p start owner value w draws done w' is is' measured live silent octet acts
 
   sound' : IsSoundWorld w'
   sound' = sound_gains p (Priority1 owner value) w draws done w' gain octet acts is is' sound
 
   pub priority_stays_news : AreReadyBy p start w → w.time < start → IsNews p start w'
   priority_stays_news ready early =
-      let time = r.time in
+      let time = reaction.time in
       news_begin p start w' pace is' measured' silent' sound'
-      (λ at stands.
-      ready_goes_through p start at (Changing (Priority1 owner value)) w w' draws done is.sound measured tt acts
-      (ready at (stood w w' r p is is' at stands)))
+      (priority_ready p start owner value w draws done w' is is' measured live silent octet acts ready)
       (omega (arith, early, time))
 
   -- some ports may ask again before they are capable
   pub priority_soon : (by : ℕ) → AreComing p by start w → w.time ≤ by → by < start → IsNewsSoon p start w'
   priority_soon by coming early before =
-      let time = r.time in
+      let time = reaction.time in
       record {
         by = by;
         early = omega (arith, early, time);
@@ -187,5 +200,5 @@ module _ (p : SettlingParams) (start owner value : ℕ) (w : WorldState) (draws 
         sound = sound';
         coming = λ at stands.
             coming_goes_through p by start at (Changing (Priority1 owner value)) w w' draws done is.sound measured tt
-            acts (coming at (stood w w' r p is is' at stands));
+            acts (coming at (stood w w' reaction p is is' at stands));
       }

@@ -1,4 +1,4 @@
--- A system whose priority1 gets no worse reacts, as the machine sees it, and the links stand as they did.
+-- A system whose priority1 is set reacts, as the machine sees it, and the links stand as they did.
 use Rattle.std.proofs.Common.{◌≡◌, ◌≤◌, ◌<◌, ◌+◌, ◌*◌, ◌^◌, ◌%◌, ℕ, zero, suc, pos, Bool, true, false, List, [], ◌∷◌, map, Some, slice_get, slice_set, refl, sym, ap, subst, ◌∙◌, inl, inr, arith}
 use Rattle.std.specs.Option.{option_map_or}
 use Rattle.std.specs.Prelude.{◌==◌, ◌||◌, if◌then◌else◌}
@@ -6,7 +6,7 @@ use Rattle.std.proofs.lemmas.Option.{same_Some}
 use Rattle.gptp_lists.specs.Members.{In}
 use Rattle.gptp_lists.proofs.MappedLemmas.{alike, same_there}
 use Rattle.gptp_lists.proofs.PlaceLemmas.{get-set_other, get-set_same, map-set_same, same_place}
-use Rattle.gptp_graph.specs.Snapshot.{PortIdentity, System}
+use Rattle.gptp_graph.specs.Snapshot.{IsWellFormed, PortIdentity, System}
 use Rattle.gptp_links.specs.Fate.{Draw}
 use Rattle.gptp_setup.specs.SettlingParams.{SettlingParams}
 use Rattle.gptp_scenario.specs.declared.change.Act.TheVariants.{Change as Changing}
@@ -24,19 +24,20 @@ use Rattle.gptp_model.proofs.BareLemmas.{DifferInFlight, bare, calls_bare}
 use Rattle.gptp_model.proofs.StayLemmas.{stays_apart, with_setup_stays}
 use Rattle.gptp_model.proofs.SteadyLemmas.{same_clock}
 use Rattle.gptp_bmca_machine.specs.Acts.{StationAnswers}
+use Rattle.gptp_bmca_machine.specs.SoundEverywhere.{IsSoundEverywhere}
 use Rattle.gptp_bmca_machine.specs.SoundLaws.{HasNews}
 use Rattle.gptp_bmca_machine.specs.Touch.{Other}
 use Rattle.gptp_invariants.specs.ChoiceCalm.{clock_place, log_at, log_of, setups_of}
 use Rattle.gptp_invariants.specs.ChoiceSettlesAsMachine.{IsWorld}
 use Rattle.gptp_invariants.specs.ChoiceView.{lanes_view, says_announce, station_view, touch_view, view}
-use Rattle.gptp_invariants.specs.WorldSound.{IsGain}
+use Rattle.gptp_invariants.specs.WorldSound.{IsGain, IsSoundWorld}
 use Rattle.gptp_invariants.specs.WorldStanding.{live_stations, snapshot_of, standing_system, stations_have_clock}
 use Rattle.gptp_invariants.proofs.ChoiceSeenCallLemmas.{IsCallSeen, calls_seen}
 use Rattle.gptp_invariants.proofs.ChoiceTakeUpLemmas.{BeginApart}
 use Rattle.gptp_invariants.proofs.ChoiceSendLemmas.{lanes_apart}
 use Rattle.gptp_invariants.proofs.WorldActEncodableLemmas.{answering_kept}
 use Rattle.gptp_invariants.proofs.WorldAnsweringLemmas.{IsAnswering, sound_answers}
-use Rattle.gptp_invariants.proofs.WorldSoundCallLemmas.{IsThereToo, links_more}
+use Rattle.gptp_invariants.proofs.WorldSoundCallLemmas.{IsThereToo, call_sound, links_more}
 use Rattle.gptp_invariants.proofs.WorldSystemLemmas.{IsLiveAt, live_from, live_there}
 use Rattle.gptp_settling_time.specs.Idle.{Lives}
 
@@ -110,11 +111,10 @@ pub record Reacts (w w' : WorldState) : Type 0 where
       ≡ stations_have_clock (live_stations w.stations) number
   pub stand : map lives_as w'.stations ≡ map lives_as w.stations
   pub links : DifferInFlight w.net.channels w'.net.channels
-  pub news : HasNews (snapshot_of w) (snapshot_of w')
 
 module _ (p : SettlingParams) (w : WorldState) (is : IsWorld p w) (owner value : ℕ) (live : Lives owner w)
-    (octet : value < 256) (gain : IsGain (Priority1 owner value) w) (draws : List Draw) (done : Done)
-    (w' : WorldState) (acts : Acts (Changing (Priority1 owner value)) w draws done w') where
+    (octet : value < 256) (draws : List Draw) (done : Done) (w' : WorldState)
+    (acts : Acts (Changing (Priority1 owner value)) w draws done w') where
   abbrev now : WorldState
   now = record w { last_change = w.time }
 
@@ -178,21 +178,29 @@ module _ (p : SettlingParams) (w : WorldState) (is : IsWorld p w) (owner value :
         calls_seen place (Priority value) v draws answer w' c old.steady old.its tt
         (answering.encodable.stations place c.station c.here).system octet apart
 
-    still : (s : System) → In s (live_stations w.stations)
+    -- it lives with its new identity
+    pub identity_is : c.after.identity ≡ value * 2 ^ 104 + station.system.identity % 2 ^ 104
+    identity_is =
+        ap (λ (x : SystemState). x.identity) c.steps.state
+        ∙ ap (λ (x : SystemState). value * 2 ^ 104 + x.identity % 2 ^ 104) (ap (λ (x : Station). x.system) (sym one))
+
+    pub known : In (standing_system (in_state c.after c.station)) (live_stations w'.stations)
+    known =
+        live_there w'.stations place (in_state c.after c.station)
+        (ap (λ (x : WorldState). slice_get x.stations place) c.is
+        ∙ get-set_same v.stations place c.station (in_state c.after c.station) c.here) c.live
+
+    still : IsGain (Priority1 owner value) w → (s : System) → In s (live_stations w.stations)
         → (t : System) × In t (live_stations w'.stations) × (t.clock ≡ s.clock) × (t.identity ≤ s.identity)
     unfolding after
-    still s member = elim (same_place at.place place) [
+    still gain s member = elim (same_place at.place place) [
       | inl same ↦ (let was : at.station ≡ station = same_there w.stations place at.station station
           (ap (slice_get w.stations) (sym same) ∙ at.here) here in
           let system : c.station.system ≡ at.station.system =
           ap (λ (x : Station). x.system) (sym one) ∙ ap (λ (x : Station). x.system) (sym was) in
           let names : clock c.after ≡ s.clock =
           named ∙ ap clock system ∙ ap (λ (x : System). x.clock) (sym at.is) in
-          let identity : c.after.identity ≡ value * 2 ^ 104 + c.station.system.identity % 2 ^ 104 =
-          ap (λ (x : SystemState). x.identity) c.steps.state in
-          let given : c.after.identity ≡ value * 2 ^ 104 + station.system.identity % 2 ^ 104 =
-          identity ∙ ap (λ (x : SystemState). value * 2 ^ 104 + x.identity % 2 ^ 104)
-          (ap (λ (x : Station). x.system) (sym one)) in
+          let given = identity_is in
           let before : s.identity ≡ station.system.identity =
           ap (λ (x : System). x.identity) at.is ∙ ap (λ (x : Station). x.system.identity) was in
           let better = gain place station (record { here = here; named = k.is.named }) in
@@ -211,12 +219,6 @@ module _ (p : SettlingParams) (w : WorldState) (is : IsWorld p w) (owner value :
       where
         at : IsLiveAt w.stations s
         at = live_from w.stations s member
-
-        known : In (standing_system after) (live_stations w'.stations)
-        known =
-            live_there w'.stations place after
-            (ap (λ (x : WorldState). slice_get x.stations place) c.is
-            ∙ get-set_same v.stations place c.station after c.here) c.live
 
     links_there : (link : ℕ) (channel : Channel) → slice_get w.net.channels link ≡ Some channel
         → IsThereToo w'.net.channels link channel
@@ -261,20 +263,43 @@ module _ (p : SettlingParams) (w : WorldState) (is : IsWorld p w) (owner value :
           ∙ map-set_same lives_as w.stations place station new here refl;
       links = subst (λ (x : WorldState). DifferInFlight w.net.channels x.net.channels) (sym c.is)
           (calls_bare place (Priority value) v draws answer w' c);
-      news = record {
-        systems = still;
-        links = links_more w w' (λ s member. let (t, stands, same, less) = still s member in (t, stands, same))
-            links_there;
-      };
     }
 
-  pub reacts : Reacts w w'
-  reacts = by k.so
+    called_news : IsGain (Priority1 owner value) w → HasNews (snapshot_of w) (snapshot_of w')
+    called_news gain = record {
+      systems = still gain;
+      links = links_more w w' (λ s member. let (t, stands, same, less) = still gain s member in (t, stands, same))
+          links_there;
+    }
+
+    called_sound : IsWellFormed (snapshot_of w') → IsSoundEverywhere says_announce (snapshot_of w') (view w)
+        → IsSoundWorld w'
+    called_sound well all =
+        call_sound (snapshot_of w') well place (Priority value) v draws answer w' c answering
+        (stays_apart w (with_station place new w)
+        (with_setup_stays value place station w here is.sound.wired.setups) is.sound.wired.apart) tt
+        (record { deaf = λ n octets same. absurd cc; fits = octet }) known
+        (subst (IsSoundEverywhere says_announce (snapshot_of w')) (sym seen_v) all)
+
+  pub answered : (answer : Answer) × Calls place (Priority value) v draws answer w'
+  answered = by k.so
     where
-      by : CallsIfLive place (Priority value) v draws w' → Reacts w w'
-      by (inl (answer, c)) = called answer c
+      by : CallsIfLive place (Priority value) v draws w'
+          → (answer : Answer) × Calls place (Priority value) v draws answer w'
+      by (inl called) = called
       by (inr (failed, none, same)) =
           let it = same_there v.stations place failed.station new failed.here there in
           let on : station.live ≡ true = live place station (record { here = here; named = k.is.named }) in
           let off : station.live ≡ false = ap (λ (x : Station). x.live) (sym it) ∙ failed.failed in
           absurd (let both = sym on ∙ off in cc)
+
+  pub reacts : Reacts w w'
+  reacts = called answered.0 answered.1
+
+  pub reacts_news : IsGain (Priority1 owner value) w → HasNews (snapshot_of w) (snapshot_of w')
+  reacts_news = called_news answered.0 answered.1
+
+  -- what is sound by the new identity stays so
+  pub reacts_sound : IsWellFormed (snapshot_of w') → IsSoundEverywhere says_announce (snapshot_of w') (view w)
+      → IsSoundWorld w'
+  reacts_sound = called_sound answered.0 answered.1

@@ -1,5 +1,5 @@
 -- An event that changes nothing leaves the paths of a network as they are, and so does one that turns a link with a
--- failed end.
+-- failed end, and a priority1.
 use Rattle.std.proofs.Common.{◌≡◌, ◌⊎◌, inl, inr, ◌+◌, ℕ, Bool, true, false, cond, List, [], ◌∷◌, ◌++◌, Option, Some, None, slice_get, refl, sym, ap, ap₂, subst, ◌∙◌}
 use Rattle.std.specs.Prelude.{◌&&◌, ◌||◌, ◌==◌, if◌then◌else◌, max, min}
 use Rattle.std.specs.List.{cons_option, count_by, filter_map, list_any}
@@ -52,9 +52,16 @@ map_same f g (x ∷ xs) same =
 
 -- ---- what stands the same has the same paths
 
+-- after more events the same systems live, and the same links are in use, with the same bounds
+pub record StandAlike (n : NetworkState) (events more : List Timed) : Type 0 where
+  pub systems : (m : SystemSpec) → In m n.systems → (system_after more m).live ≡ (system_after events m).live
+  pub used : (v : LinkSpec) → In v n.links
+      → is_used n.systems more (link_after more v) ≡ is_used n.systems events (link_after events v)
+  pub bounds : (v : LinkSpec) → In v n.links → (link_after more v).bounds ≡ (link_after events v).bounds
+
 module _ (n : NetworkState) (events more : List Timed)
     (systems : (m : SystemSpec) → In m n.systems → (system_after more m).live ≡ (system_after events m).live) where
-  lives_same : (clock : ℕ) → lives n.systems more clock ≡ lives n.systems events clock
+  pub lives_same : (clock : ℕ) → lives n.systems more clock ≡ lives n.systems events clock
   lives_same clock =
       any_same (λ m. (clock_of m.identity == clock) && (system_after more m).live)
       (λ m. (clock_of m.identity == clock) && (system_after events m).live) n.systems
@@ -63,47 +70,52 @@ module _ (n : NetworkState) (events more : List Timed)
   used_same : (w : LinkSpec) → is_used n.systems more w ≡ is_used n.systems events w
   used_same w = ap₂ (λ a b. w.up && a && b) (lives_same w.a.clock) (lives_same w.b.clock)
 
-  module _ (used : (v : LinkSpec) → In v n.links
+  -- where the same systems live
+  alike_by : ((v : LinkSpec) → In v n.links
       → is_used n.systems events (link_after more v) ≡ is_used n.systems events (link_after events v))
-      (bounds : (v : LinkSpec) → In v n.links → (link_after more v).bounds ≡ (link_after events v).bounds) where
-    used_after : (v : LinkSpec) → In v n.links
-        → is_used n.systems more (link_after more v) ≡ is_used n.systems events (link_after events v)
-    used_after v member = used_same (link_after more v) ∙ used v member
+      → ((v : LinkSpec) → In v n.links → (link_after more v).bounds ≡ (link_after events v).bounds)
+      → StandAlike n events more
+  alike_by used bounds = record {
+    systems = systems;
+    used = λ v member. used_same (link_after more v) ∙ used v member;
+    bounds = bounds;
+  }
 
-    neighbour_same : (clock : ℕ) (v : LinkSpec) → In v n.links
-        → neighbour n.systems more clock v ≡ neighbour n.systems events clock v
-    neighbour_same clock v member = ap (λ used. if used then far_clock clock v else None) (used_after v member)
+module _ (n : NetworkState) (events more : List Timed) (same : StandAlike n events more) where
+  neighbour_same : (clock : ℕ) (v : LinkSpec) → In v n.links
+      → neighbour n.systems more clock v ≡ neighbour n.systems events clock v
+  neighbour_same clock v member = ap (λ used. if used then far_clock clock v else None) (same.used v member)
 
-    between_same : (m : SystemSpec) → In m n.systems
-        → lives_between n.systems n.links more m ≡ lives_between n.systems n.links events m
-    between_same m member =
-        ap₂ (λ live far. live && any_differ far) (systems m member)
-        (map_same (neighbour n.systems more (clock_of m.identity)) (neighbour n.systems events (clock_of m.identity))
-        n.links (neighbour_same (clock_of m.identity)))
+  between_same : (m : SystemSpec) → In m n.systems
+      → lives_between n.systems n.links more m ≡ lives_between n.systems n.links events m
+  between_same m member =
+      ap₂ (λ live far. live && any_differ far) (same.systems m member)
+      (map_same (neighbour n.systems more (clock_of m.identity)) (neighbour n.systems events (clock_of m.identity))
+      n.links (neighbour_same (clock_of m.identity)))
 
-    delay_same : (vs : List LinkSpec) → ((v : LinkSpec) → In v vs → In v n.links)
-        → greatest_delay n.systems more vs ≡ greatest_delay n.systems events vs
-    delay_same [] among = refl
-    delay_same (v ∷ vs) among =
-        let member = among v (inl refl) in
-        let rest = delay_same vs (λ w is. among w (inr is)) in
-        ap₂ (λ used delay. if used then max (link_after more v).bounds.max delay else delay) (used_after v member) rest
-        ∙ ap (λ (b : Bounds).
-        if is_used n.systems events (link_after events v) then max b.max (greatest_delay n.systems events vs)
-        else greatest_delay n.systems events vs) (bounds v member)
+  delay_same : (vs : List LinkSpec) → ((v : LinkSpec) → In v vs → In v n.links)
+      → greatest_delay n.systems more vs ≡ greatest_delay n.systems events vs
+  delay_same [] among = refl
+  delay_same (v ∷ vs) among =
+      let member = among v (inl refl) in
+      let rest = delay_same vs (λ w is. among w (inr is)) in
+      ap₂ (λ used delay. if used then max (link_after more v).bounds.max delay else delay) (same.used v member) rest
+      ∙ ap (λ (b : Bounds).
+      if is_used n.systems events (link_after events v) then max b.max (greatest_delay n.systems events vs)
+      else greatest_delay n.systems events vs) (same.bounds v member)
 
-    systems_same : path_systems n.systems n.links more ≡ path_systems n.systems n.links events
-    unfolding path_systems
-    systems_same =
-        ap₂ (λ between live. min (between + 2) live)
-        (count_same (lives_between n.systems n.links more) (lives_between n.systems n.links events) n.systems
-        between_same)
-        (count_same (λ m. (system_after more m).live) (λ m. (system_after events m).live) n.systems systems)
+  systems_same : path_systems n.systems n.links more ≡ path_systems n.systems n.links events
+  unfolding path_systems
+  systems_same =
+      ap₂ (λ between live. min (between + 2) live)
+      (count_same (lives_between n.systems n.links more) (lives_between n.systems n.links events) n.systems
+      between_same)
+      (count_same (λ m. (system_after more m).live) (λ m. (system_after events m).live) n.systems same.systems)
 
-    paths_same : sync_paths n more ≡ sync_paths n events
-    paths_same =
-        ap₂ (λ systems delay. record { systems = systems; delay = delay }) systems_same
-        (delay_same n.links (λ v member. member))
+  pub paths_same : sync_paths n more ≡ sync_paths n events
+  paths_same =
+      ap₂ (λ systems delay. record { systems = systems; delay = delay }) systems_same
+      (delay_same n.links (λ v member. member))
 
 -- ---- what changes nothing
 
@@ -129,6 +141,13 @@ set_so clock port up w already = by (is_at clock port w) refl
         ap (λ up. record { a = w.a; b = w.b; bounds = w.bounds; up = up })
         (sym (already (is_end clock port w at)))
     by false at = refl
+
+-- with another priority1 a system lives as before
+priority_lives : (made : List Timed) (m : SystemSpec) (value : ℕ) (test : Bool)
+    → (if test then with_priority1 value (system_after made m) else system_after made m).live
+    ≡ (system_after made m).live
+priority_lives made m value true = refl
+priority_lives made m value false = refl
 
 module _ (n : NetworkState) (network : IsNetwork n) (made : List Timed) where
   -- a system of this clock that lives or has failed already does so still
@@ -165,13 +184,8 @@ module _ (n : NetworkState) (network : IsNetwork n) (made : List Timed) where
       let same = same_there n.systems place idle.system m
       (subst (λ i. slice_get n.systems i ≡ Some idle.system) one idle.there) there in
       subst (λ x. (system_after made x).live ≡ true) same idle.live)
-  system_idles (Priority1 number value) idle m member = priority_lives (number == clock_of m.identity)
-    where
-      priority_lives : (test : Bool)
-          → (if test then with_priority1 value (system_after made m) else system_after made m).live
-          ≡ (system_after made m).live
-      priority_lives true = refl
-      priority_lives false = refl
+  system_idles (Priority1 number value) idle m member =
+      priority_lives made m value (number == clock_of m.identity)
   system_idles (Inject number port octets) idle m member = refl
 
   link_idles : (change : Change) → IsIdleAfter n made change → (v : LinkSpec) → In v n.links
@@ -188,11 +202,10 @@ module _ (n : NetworkState) (network : IsNetwork n) (made : List Timed) where
   link_idles (Priority1 number value) idle v member = refl
   link_idles (Inject number port octets) idle v member = refl
 
-  pub idle_paths : (event : Timed) → ChangesNothing n made event.act
-      → sync_paths n (made ++ event ∷ []) ≡ sync_paths n made
-  idle_paths event nothing =
+  pub idle_alike : (event : Timed) → ChangesNothing n made event.act → StandAlike n made (made ++ event ∷ [])
+  idle_alike event nothing =
       let (systems, links) = by event.act nothing in
-      paths_same n made (made ++ event ∷ [])
+      alike_by n made (made ++ event ∷ [])
       (λ m member. ap (λ s. s.live) (system_behind made event (clock_of m.identity) (standing m)) ∙ systems m member)
       (λ v member. ap (is_used n.systems made) (link_behind made event v ∙ links v member))
       (λ v member. ap (λ (w : LinkSpec). w.bounds) (link_behind made event v ∙ links v member))
@@ -204,6 +217,10 @@ module _ (n : NetworkState) (network : IsNetwork n) (made : List Timed) where
       by (Deliver link direction) none = absurd none
       by (Expire number timer) none = absurd none
       by (Changing change) idle = (system_idles change idle, link_idles change idle)
+
+  pub idle_paths : (event : Timed) → ChangesNothing n made event.act
+      → sync_paths n (made ++ event ∷ []) ≡ sync_paths n made
+  idle_paths event nothing = paths_same n made (made ++ event ∷ []) (idle_alike event nothing)
 
 -- ---- a link with a failed end comes up or goes down
 
@@ -275,11 +292,9 @@ module _ (n : NetworkState) (made : List Timed) where
       by true = refl
       by false = refl
 
-  -- that leaves the paths as they are, too
-  pub turned_paths : (event : Timed) → TurnsUnused n made event.act
-      → sync_paths n (made ++ event ∷ []) ≡ sync_paths n made
-  turned_paths event turns =
-      paths_same n made (made ++ event ∷ [])
+  pub turned_alike : (event : Timed) → TurnsUnused n made event.act → StandAlike n made (made ++ event ∷ [])
+  turned_alike event turns =
+      alike_by n made (made ++ event ∷ [])
       (λ m member.
       ap (λ s. s.live) (system_behind made event (clock_of m.identity) (standing m)) ∙ systems event.act turns m)
       (λ v member. ap (is_used n.systems made) (link_behind made event v) ∙ used event.act turns v member)
@@ -320,3 +335,26 @@ module _ (n : NetworkState) (made : List Timed) where
       bounds (Changing (Inject clock port octets)) none v = absurd none
       bounds (Deliver link direction) none v = absurd none
       bounds (Expire clock timer) none v = absurd none
+
+  -- that leaves the paths as they are, too
+  pub turned_paths : (event : Timed) → TurnsUnused n made event.act
+      → sync_paths n (made ++ event ∷ []) ≡ sync_paths n made
+  turned_paths event turns = paths_same n made (made ++ event ∷ []) (turned_alike event turns)
+
+  -- and so does a priority1
+  pub priority_alike : (event : Timed) (number value : ℕ) → event.act ≡ Changing (Priority1 number value)
+      → StandAlike n made (made ++ event ∷ [])
+  priority_alike event number value is =
+      alike_by n made (made ++ event ∷ [])
+      (λ m member.
+      ap (λ s. s.live) (system_behind made event (clock_of m.identity) (standing m))
+      ∙ ap (λ act. (system_acted act (clock_of m.identity) (system_after made m)).live) is
+      ∙ priority_lives made m value (number == clock_of m.identity))
+      (λ v member. ap (is_used n.systems made) (stays v)) (λ v member. ap (λ (w : LinkSpec). w.bounds) (stays v))
+    where
+      stays : (v : LinkSpec) → link_after (made ++ event ∷ []) v ≡ link_after made v
+      stays v = link_behind made event v ∙ ap (λ act. link_acted act (link_after made v)) is
+
+  pub priority_paths : (event : Timed) (number value : ℕ) → event.act ≡ Changing (Priority1 number value)
+      → sync_paths n (made ++ event ∷ []) ≡ sync_paths n made
+  priority_paths event number value is = paths_same n made (made ++ event ∷ []) (priority_alike event number value is)

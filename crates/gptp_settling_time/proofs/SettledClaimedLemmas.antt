@@ -1,9 +1,8 @@
 -- In a world that is seen to have settled claims are made of all links always, from each time by which its ports were
 -- capable, where nothing lapses.
-use Rattle.std.proofs.Common.{◌≡◌, ◌<◌, ℕ, inl, inr, arith}
-use Rattle.gptp_setup.specs.SettlingParams.{SettlingParams, lapse_span}
+use Rattle.std.proofs.Common.{ℕ, inl, inr}
+use Rattle.gptp_setup.specs.SettlingParams.{SettlingParams}
 use Rattle.gptp_scenario.specs.Calm.{NothingLapses}
-use Rattle.gptp_scenario.specs.SyncWait.{sync_wait}
 use Rattle.gptp_model.specs.World.{WorldState}
 use Rattle.gptp_invariants.specs.ChoiceCalm.{paths_with}
 use Rattle.gptp_invariants.specs.DelayLinkView.{LinkPlace}
@@ -12,6 +11,7 @@ use Rattle.gptp_settling_time.proofs.AlwaysClaimedLemmas.{AreHeard, IsClaimedAlw
 use Rattle.gptp_settling_time.proofs.HeardLemmas.{IsHeardAt, IsOn, StaysCapableAt, heard_link}
 use Rattle.gptp_settling_time.proofs.RestClaimedLemmas.{AreOn}
 use Rattle.gptp_settling_time.proofs.SettledSeenLemmas.{HasSettledSeen, always_seen, news_seen}
+use Rattle.gptp_settling_time.proofs.StandsLikeLemmas.{none_short}
 
 -- a port that is capable now stays so, whatever was claimed of its link
 on_stays : (p : SettlingParams) (start : ℕ) (at : LinkPlace) (w : WorldState) → (x : IsHeardAt p start at w)
@@ -35,11 +35,8 @@ module _ (p : SettlingParams) (start next : ℕ) (w : WorldState) (claim : IsCla
     ready = ready;
     settling = λ m bounded quiet off.
         news_seen p m next w claim.news.world claim.news.sound (settled quiet off) bounded;
-    in_turn = λ m bounded quiet short. absurd (none m short);
+    in_turn = λ m bounded quiet short. absurd (none_short p (paths_with m w) off short);
   }
-    where
-      none : (m : ℕ) → sync_wait p.params (paths_with m w) < lapse_span p.params → ⊥
-      none m short = let nothing : lapse_span p.params ≡ 0 = rw off (omega arith) in omega (arith, nothing, short)
 
   pub settled_claimed : IsClaimedAlways p next w
   settled_claimed = record {

@@ -5,6 +5,7 @@ use Rattle.gptp_graph.specs.PathBound.{BoundsPaths}
 use Rattle.gptp_graph.specs.Snapshot.{Joins, PortIdentity, System, port_of}
 use Rattle.gptp_scenario.specs.Calm.{NothingLapses}
 use Rattle.gptp_scenario.specs.SyncWait.{sync_wait}
+use Rattle.gptp_scenario.specs.declared.sync_wait.SyncPaths.{SyncPaths}
 use Rattle.gptp_setup.specs.declared.setup.Params.{Params}
 use Rattle.gptp_setup.specs.Intervals.{interval_of}
 use Rattle.gptp_setup.specs.SettlingParams.{SettlingParams, lapse_span, largest_interval}
@@ -150,12 +151,17 @@ module _ (w w' : WorldState) (like : StandsLike w w') where
 -- ---- the claims
 
 -- where nothing lapses no Sync is waited for
+pub none_short : (p : SettlingParams) (paths : SyncPaths) → NothingLapses p.params
+    → sync_wait p.params paths < lapse_span p.params
+    → ⊥
+none_short p paths off short =
+    let none : lapse_span p.params ≡ 0 = rw off (omega arith) in omega (arith, none, short)
+
 pub expects_none : (p : SettlingParams) (start : ℕ) (w w' : WorldState) → NothingLapses p.params → (m : ℕ)
     → SyncsAreExpected says_sync (turn_network p m start w) (view w)
     → sync_wait p.params (paths_with m w') < lapse_span p.params
     → SyncsAreExpected says_sync (turn_network p m start w') (view w')
-expects_none p start w w' nothing m expected short =
-    let none : lapse_span p.params ≡ 0 = rw nothing (omega arith) in absurd (omega (arith, none, short))
+expects_none p start w w' nothing m expected short = absurd (none_short p (paths_with m w') nothing short)
 
 module _ (p : SettlingParams) (start : ℕ) (w w' : WorldState) (like : StandsLike w w') (world : IsWorld p w')
     (measured : LinkIsMeasured w') (silent : AreSilentBy p start w') (sound : IsSoundWorld w')

@@ -17,13 +17,12 @@ use Rattle.gptp_links.specs.Queue.{Frame}
 use Rattle.gptp_pdelay.specs.GoodLink.{IsGoodLink}
 use Rattle.gptp_scenario.specs.Calm.{NothingLapses}
 use Rattle.gptp_scenario.specs.Params.{KeepPace}
-use Rattle.gptp_scenario.specs.SyncWait.{sync_wait}
 use Rattle.gptp_scenario.specs.declared.change.Act.TheVariants.{Change as Changing}
 use Rattle.gptp_scenario.specs.declared.change.Change.TheVariants.{LinkSet}
 use Rattle.gptp_setup.specs.declared.setup.Params.{Params}
 use Rattle.gptp_setup.specs.declared.setup.Setup.{Setup}
 use Rattle.gptp_setup.specs.Intervals.{interval_of}
-use Rattle.gptp_setup.specs.SettlingParams.{SettlingParams, lapse_span, largest_interval}
+use Rattle.gptp_setup.specs.SettlingParams.{SettlingParams, largest_interval}
 use Rattle.gptp_system.specs.Measures.{Part, measure_at}
 use Rattle.gptp_model.specs.Acts.{Acts, set_to}
 use Rattle.gptp_model.specs.Changing.{with_bounds}
@@ -61,6 +60,7 @@ use Rattle.gptp_settling_time.proofs.LinkStoodLemmas.{stood_in}
 use Rattle.gptp_settling_time.proofs.LinkUpLemmas.{lane_set}
 use Rattle.gptp_settling_time.proofs.SameLinkLemmas.{StaysSameLink, ready_same}
 use Rattle.gptp_settling_time.proofs.SettledSeenLemmas.{HasSettledSeen, IsSettledSeen, stage_settled}
+use Rattle.gptp_settling_time.proofs.StandsLikeLemmas.{none_short}
 use Rattle.gptp_settling_time.proofs.WiderLinkLemmas.{facts_wide, first_wide}
 use Rattle.gptp_settling_time.proofs.WillAskLemmas.{first_since}
 
@@ -508,12 +508,8 @@ module _ (p : SettlingParams) (start next by place : ℕ) (w : WorldState) (is :
               interval = same.interval;
               most = same.most;
             });
-        in_turn = λ m bounded calm short. absurd (none m short);
+        in_turn = λ m bounded calm short. absurd (none_short p (paths_with m widened) off short);
       }
-        where
-          none : (m : ℕ) → sync_wait p.params (paths_with m widened) < lapse_span p.params → ⊥
-          none m short =
-              let nothing : lapse_span p.params ≡ 0 = rw off (omega arith) in omega (arith, nothing, short)
 
       widened_always : IsClaimedAlways p next widened
       widened_always = record {

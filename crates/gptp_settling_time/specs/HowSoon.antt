@@ -10,11 +10,12 @@
 -- little.
 --
 -- Events that make nothing of what stands ask for no time: such that change nothing, and a link with a failed end that
--- comes up or goes down. Nor does a link in use whose delays are set so that they get wider, if that comes first.
--- These gains are followed, at a time behind events that make nothing: a link that comes up between live systems, a
--- system that recovers, and a priority1 of a live system that gets better. The first is heard at once where its delay
--- varies little, the second where it uses no link, the last where no path has more than 255 systems. At time 0 links
--- may go down and come up, systems fail and a priority1 be set. Not followed are other delays that are set, and events
+-- comes up or goes down. Nor does a priority1 that moves no system, as one that gets worse of a system that is nobody's
+-- best. Nor does a link in use whose delays are set so that they get wider, if that comes first. These gains are
+-- followed, at a time behind events that make nothing: a link that comes up between live systems, a system that
+-- recovers, and a priority1 of a live system that gets better. The first is heard at once where its delay varies
+-- little, the second where it uses no link, the last where no path has more than 255 systems. At time 0 links may go
+-- down and come up, systems fail and a priority1 be set. Not followed are other delays that are set, and other events
 -- that take something away at a later time. There the span stands.
 use Rattle.std.specs.Prelude.{◌≡◌, ◌<◌, ◌≤◌, ◌⊎◌, ◌+◌, ◌*◌, ◌==◌, ℕ, ⊤, pred, suc, List, [], ◌∷◌, ◌++◌, filter}
 use Rattle.gptp_lists.specs.Members.{In}
@@ -35,6 +36,7 @@ use Rattle.gptp_network.specs.Document.{DocumentState}
 use Rattle.gptp_network.specs.Snapshot.{events_by}
 use Rattle.gptp_settling_time.specs.Gains.{ChangesNothing, EndHasFailed, LeavesCapable, TakesNothing}
 use Rattle.gptp_settling_time.specs.InTurn.{AddsHeard, BettersClock, MakesNothing, NoneUsed, TellsNothing, UsedVaryLittle, WidensLink}
+use Rattle.gptp_settling_time.specs.Losses.{LeavesChoice}
 
 -- ---- times
 
@@ -61,6 +63,10 @@ TurnsUnused n made act = ⊥
 -- it makes nothing of what stands: it changes nothing, or it turns a link that isn't used
 abbrev pub IsIdleEvent : NetworkState → List Timed → Timed → Type 0
 IsIdleEvent n made event = ChangesNothing n made event.act ⊎ TurnsUnused n made event.act
+
+-- it makes nothing of what stands, or is a priority1 that leaves the settled choice
+abbrev pub IsStillEvent : NetworkState → List Timed → Timed → Type 0
+IsStillEvent n made event = IsIdleEvent n made event ⊎ LeavesChoice n made event
 
 -- it takes nothing away, and ports are capable from the next time on
 abbrev pub IsGainEvent : NetworkState → ℕ → List Timed → Timed → Type 0
@@ -145,11 +151,11 @@ AreWiderEvents n settled time made (event ∷ events) =
     × (settled + 2 * by + way_span (sync_paths n (made ++ event ∷ [])) < time + way_span (sync_paths n made))
     × EachEvent (IsIdleEvent n) (made ++ event ∷ []) events
 
--- At a time by which the choice stands, as it does from this earlier time on: its events make nothing of what stands,
--- widen a link, or are gains.
+-- At a time by which the choice stands, as it does from this earlier time on: its events make nothing of what stands or
+-- leave the settled choice, widen a link, or are gains.
 abbrev pub BoundsEvents : NetworkState → List Timed → List Timed → ℕ → ℕ → ℕ → Type 0
 BoundsEvents n made now settled time choice =
-    (EachEvent (IsIdleEvent n) made now × (choice ≡ 0))
+    (EachEvent (IsStillEvent n) made now × (choice ≡ 0))
     ⊎ ((AreWiderEvents n settled time made now × (choice ≡ 0))
     ⊎ ((ready : ℕ) × BoundsGains n made now time ready choice))
 

@@ -8,9 +8,10 @@
 -- it leads where the network has settled and it changes nothing, brings up a link between live systems, lets a system
 -- recover that uses none, or sets a better priority1. Where the delay of that link varies little the first Announce
 -- over it comes to a port that is capable already, and a system that gets better tells so at once. What makes nothing
--- of what stands leaves a network settled that had settled, whatever it came from, and so does what widens the delays
--- of a link in use. Where all was heard before, such links may also come up, and such systems recover, one after
--- another at any time, as several at once; and what changes nothing asks for no time at all.
+-- of what stands leaves a network settled that had settled, whatever it came from, and so does a priority1 that moves
+-- no system, and what widens the delays of a link in use. Where all was heard before, such links may also come up, and
+-- such systems recover, one after another at any time, as several at once; and what changes nothing asks for no time at
+-- all.
 use Rattle.std.specs.Prelude.{◌≡◌, ◌<◌, ◌≤◌, ◌⊎◌, ◌+◌, ◌*◌, ℕ, ⊤, pred, List, [], ◌∷◌, ◌++◌, Option, Some, slice_get}
 use Rattle.gptp_lists.specs.Members.{In}
 use Rattle.gptp_vector.specs.declared.port.PortId.{PortId}
@@ -35,6 +36,7 @@ use Rattle.gptp_theorem.specs.PlayedLaws.{IsPlayable}
 use Rattle.gptp_settling_time.specs.Documents.{IsSettledAs}
 use Rattle.gptp_settling_time.specs.Exactly.{SettlesBy}
 use Rattle.gptp_settling_time.specs.Gains.{AreCapableAnyway, AreCapableNext, AreCapableStill, ChangesNothing, EndHasFailed, HasRested, IsDownAfter, IsNoWorse, JoinsLive, LeavesCapable, TakesNothing, UsesNoLink, exchanged_from}
+use Rattle.gptp_settling_time.specs.Losses.{LeavesChoice}
 
 -- what a network came from, and from when on its ports are capable
 pub data Past : Type 0 where
@@ -128,11 +130,11 @@ abbrev pub MakesNothing : NetworkState → List Timed → Timed → ℕ → Type
 MakesNothing n before event start =
     ChangesNothing n before event.act ⊎ (NothingLapses n.params × TurnsInVain n before event start event.act)
 
--- After these events this one makes nothing of what stands, and nothing lapses for want of Sync. What had settled is
--- settled at its time: as if ports had been capable from the next time on, the greatest delay for each system of a path
--- but one before.
+-- After these events this one makes nothing of what stands, or is a priority1 that leaves the settled choice; and
+-- nothing lapses for want of Sync. What had settled is settled at its time: as if ports had been capable from the next
+-- time on, the greatest delay for each system of a path but one before.
 pub record LeavesSettled (n : NetworkState) (before : List Timed) (event : Timed) (next : ℕ) : Type 0 where
-  pub nothing : MakesNothing n before event next
+  pub nothing : MakesNothing n before event next ⊎ LeavesChoice n before event
   pub off : NothingLapses n.params
   pub since : next + pred (sync_paths n before).systems * (sync_paths n before).delay ≡ event.at
 

@@ -2,6 +2,7 @@ pub mod Exactly
 pub mod Gains
 pub mod Documents
 pub mod Idle
+pub mod Losses
 pub mod Starts
 pub mod InTurn
 pub mod ExactInTurn

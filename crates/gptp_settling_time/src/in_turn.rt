@@ -11,7 +11,8 @@ use gptp_links::Fate;
 /// after a link has come up between live systems of a network that had settled, where its greatest delay is below twice
 /// its least: what was held and in flight elsewhere is sound and stays at its stage, and the first Announce over the new
 /// link comes to a port that is capable already. Nor has one after a better priority1, which its system tells at once.
-/// And an event that changes nothing asks for no time in a network that had settled, whatever it came from.
+/// And an event that changes nothing asks for no time in a network that had settled, whatever it came from; nor does a
+/// priority1 by which no system is moved.
 pub fn documents_settle_in_turn<F: Fate>()
     ensures { ActsFindSettledInTurn F.answers }
 {}

@@ -1,0 +1,552 @@
+-- Where no system is moved by the events of a time, of which no other than a priority1 makes something of what stands,
+-- none is moved by any of them: identities only rise, and links stay.
+use Rattle.std.proofs.Common.{◌≡◌, ◌<◌, ◌≤◌, ◌⊎◌, inl, inr, ◌+◌, ◌*◌, ◌^◌, ◌%◌, ℕ, Bool, true, false, cond, suc, List, [], ◌∷◌, ◌++◌, zero, Some, length, slice_get, refl, sym, ap, ap₂, subst, ◌∙◌, append-nil, append_assoc, arith}
+use Rattle.std.specs.Prelude.{◌==◌, ◌&&◌}
+use Rattle.std.specs.List.{list_all, range_with_len}
+use Rattle.std.proofs.lemmas.Bool.{and_parts, eq-eqb, eqb-true, not-false, or_cases}
+use Rattle.gptp_lists.specs.Members.{In}
+use Rattle.gptp_lists.proofs.MappedLemmas.{mapped_there, same_there}
+use Rattle.gptp_lists.proofs.PlaceLemmas.{same_place}
+use Rattle.gptp_lists.proofs.SystemSpecLemmas.{from_map, slice_get-In}
+use Rattle.gptp_graph.specs.Best.{IsBest}
+use Rattle.gptp_graph.specs.Path.{Reaches}
+use Rattle.gptp_graph.specs.Snapshot.{IsWellFormed, Joins, Link, PortIdentity, Snapshot, System, clocks}
+use Rattle.gptp_graph.proofs.BestLemmas.{IsBest-unique}
+use Rattle.gptp_graph.proofs.SystemLemmas.{In-clocks}
+use Rattle.gptp_roles.specs.Selection.{clock_of}
+use Rattle.gptp_scenario.specs.Change.{standing, system_acted, system_after, with_live, with_priority1}
+use Rattle.gptp_scenario.specs.InUse.{lives}
+use Rattle.gptp_scenario.specs.Network.{IsNetwork, NetworkState}
+use Rattle.gptp_scenario.specs.SyncWait.{sync_paths}
+use Rattle.gptp_scenario.specs.declared.change.Act.{Act}
+use Rattle.gptp_scenario.specs.declared.change.Act.TheVariants as acts
+use Rattle.gptp_scenario.specs.declared.change.Change.TheVariants as changes
+use Rattle.gptp_scenario.specs.declared.change.Timed.{Timed}
+use Rattle.gptp_scenario.specs.declared.network.SystemSpec.{SystemSpec}
+use Rattle.gptp_scenario.specs.declared.sync_wait.SyncPaths.{SyncPaths}
+use Rattle.gptp_network.specs.Snapshot.{StandsAfter, has_clock}
+use Rattle.gptp_network.specs.Snapshot as snapshots
+use Rattle.gptp_network.proofs.ExistenceLemmas.{stands_after}
+use Rattle.gptp_network.proofs.InUseLemmas.{live_there, runs, there_live}
+use Rattle.gptp_network.proofs.PassLemmas.{passes, passes_at}
+use Rattle.gptp_network.proofs.SnapshotLemmas.{clock_after, member_there, with_clock}
+use Rattle.gptp_theorem.proofs.EventLemmas.{system_behind}
+use Rattle.gptp_topology.specs.After.{system_then, systems_after}
+use Rattle.gptp_topology.specs.declared.nodes.System as ours
+use Rattle.gptp_how_soon.specs.Chosen.{chosen_after, differs, is_moved, is_moved_at, moves_some}
+use Rattle.gptp_how_soon.specs.Kinds.{is_idle, is_loss, is_priority1, is_unused, leaves_links, makes_nothing}
+use Rattle.gptp_how_soon.specs.Times.{told_at, told_of}
+use Rattle.gptp_how_soon.specs.declared.chosen.Chosen.{Chosen}
+use Rattle.gptp_how_soon.proofs.ChosenLemmas.{IsAt, at_clock, chosen_there, link_stands, settled_choice, used_then}
+use Rattle.gptp_settling_time.specs.Gains.{ChangesNothing}
+use Rattle.gptp_settling_time.specs.HowSoon.{EachEvent, IsStillEvent, TurnsUnused}
+use Rattle.gptp_settling_time.specs.Losses.{MovesNone}
+use Rattle.gptp_settling_time.proofs.SameBestLemmas.{HaveSameBests, distance_over, route_over}
+use Rattle.gptp_settling_time.proofs.SamePathsLemmas.{StandAlike, idle_alike, lives_same, paths_same, priority_alike, turned_alike}
+use Rattle.gptp_how_soon_laws.proofs.GainedLemmas.{none_any}
+use Rattle.gptp_how_soon_laws.proofs.KindLemmas.{Worsens, idle_changes, loss_worsens, unused_turns}
+
+-- ---- systems that get worse alone
+
+-- after more events the same systems live, the same links are in use, and no live system is better
+pub record OnlyWorsen (n : NetworkState) (events more : List Timed) : Type 0 where
+  pub alike : StandAlike n events more
+  pub rises : (m : SystemSpec) → In m n.systems → (system_after events m).live ≡ true
+      → (system_after events m).identity ≤ (system_after more m).identity
+
+worsen_none : (n : NetworkState) (events : List Timed) → OnlyWorsen n events events
+worsen_none n events = record {
+  alike = record {
+    systems = λ m member. refl;
+    used = λ v member. refl;
+    bounds = λ v member. refl;
+  };
+  rises = λ m member live. omega arith;
+}
+
+worsen_both : (n : NetworkState) (events more all : List Timed) → OnlyWorsen n events more → OnlyWorsen n more all
+    → OnlyWorsen n events all
+worsen_both n events more all a b = record {
+  alike = record {
+    systems = λ m member. b.alike.systems m member ∙ a.alike.systems m member;
+    used = λ v member. b.alike.used v member ∙ a.alike.used v member;
+    bounds = λ v member. b.alike.bounds v member ∙ a.alike.bounds v member;
+  };
+  rises = λ m member live.
+      let first = a.rises m member live in
+      let then = b.rises m member (a.alike.systems m member ∙ live) in
+      omega (arith, first, then);
+}
+
+alike_back : (n : NetworkState) (events more : List Timed) → StandAlike n events more → StandAlike n more events
+alike_back n events more a = record {
+  systems = λ m member. sym (a.systems m member);
+  used = λ v member. sym (a.used v member);
+  bounds = λ v member. sym (a.bounds v member);
+}
+
+-- a system that fails or recovers keeps its identity
+sets_other : (test live : Bool) (s : _) → (cond test (with_live live s) s).identity ≡ s.identity
+sets_other true live s = refl
+sets_other false live s = refl
+
+-- a priority1 that makes no identity lower makes no system better
+sets_higher : (made : List Timed) (m : SystemSpec) (number value : ℕ)
+    → (number ≡ clock_of m.identity
+    → (system_after made m).identity ≤ value * 2 ^ 104 + (system_after made m).identity % 2 ^ 104)
+    → (system_after made m).identity
+    ≤ (system_acted (acts.Change (changes.Priority1 number value)) (clock_of m.identity) (system_after made m)).identity
+sets_higher made m number value higher = by (number == clock_of m.identity) refl
+  where
+    by : (test : Bool) → (number == clock_of m.identity) ≡ test
+        → (system_after made m).identity
+        ≤ (cond test (with_priority1 value (system_after made m)) (system_after made m)).identity
+    by true is = higher (eqb-true number (clock_of m.identity) is)
+    by false is = omega arith
+
+module _ (n : NetworkState) (network : IsNetwork n) (made : List Timed) (event : Timed) where
+  abbrev more : List Timed
+  more = made ++ event ∷ []
+
+  identity_behind : (m : SystemSpec)
+      → (system_after more m).identity ≡ (system_acted event.act (clock_of m.identity) (system_after made m)).identity
+  identity_behind m = ap (λ s. s.identity) (system_behind made event (clock_of m.identity) (standing m))
+
+  rises_by : ((m : SystemSpec) → In m n.systems → (system_after made m).live ≡ true
+      → (system_after made m).identity ≤ (system_acted event.act (clock_of m.identity) (system_after made m)).identity)
+      → (m : SystemSpec) → In m n.systems → (system_after made m).live ≡ true
+      → (system_after made m).identity ≤ (system_after more m).identity
+  rises_by higher m member live =
+      subst (λ i. (system_after made m).identity ≤ i) (sym (identity_behind m)) (higher m member live)
+
+  -- by what changes nothing
+  idle_rises : (act : Act) → ChangesNothing n made act → (m : SystemSpec) → In m n.systems
+      → (system_after made m).live ≡ true
+      → (system_after made m).identity ≤ (system_acted act (clock_of m.identity) (system_after made m)).identity
+  idle_rises (acts.Change (changes.Priority1 number value)) idle m member live =
+      let (place, there) = slice_get-In m n.systems member in
+      sets_higher made m number value (λ clock.
+      elim (idle place m there (sym clock)) [
+        | inl failed ↦ let no : true ≡ false = sym live ∙ failed in absurd cc
+        | inr same ↦ omega (arith, same)
+      ])
+  idle_rises (acts.Deliver link direction) idle m member live = absurd idle
+  idle_rises (acts.Expire clock timer) idle m member live = absurd idle
+  idle_rises (acts.Change (changes.LinkDown clock port)) idle m member live = omega arith
+  idle_rises (acts.Change (changes.LinkUp clock port)) idle m member live = omega arith
+  idle_rises (acts.Change (changes.LinkSet clock port least greatest loss)) idle m member live = absurd idle
+  idle_rises (acts.Change (changes.Fail clock)) idle m member live =
+      let same = sets_other (clock == clock_of m.identity) false (system_after made m) in omega (arith, same)
+  idle_rises (acts.Change (changes.Recover clock)) idle m member live =
+      let same = sets_other (clock == clock_of m.identity) true (system_after made m) in omega (arith, same)
+  idle_rises (acts.Change (changes.Inject clock port octets)) idle m member live = omega arith
+
+  -- by a link that isn't used
+  turn_rises : (act : Act) → TurnsUnused n made act → (m : SystemSpec)
+      → (system_after made m).identity ≤ (system_acted act (clock_of m.identity) (system_after made m)).identity
+  turn_rises (acts.Change (changes.LinkDown clock port)) turns m = omega arith
+  turn_rises (acts.Change (changes.LinkUp clock port)) turns m = omega arith
+  turn_rises (acts.Change (changes.LinkSet clock port least greatest loss)) turns m = absurd turns
+  turn_rises (acts.Change (changes.Fail clock)) turns m = absurd turns
+  turn_rises (acts.Change (changes.Recover clock)) turns m = absurd turns
+  turn_rises (acts.Change (changes.Priority1 number value)) turns m = absurd turns
+  turn_rises (acts.Change (changes.Inject clock port octets)) turns m = absurd turns
+  turn_rises (acts.Deliver link direction) turns m = absurd turns
+  turn_rises (acts.Expire clock timer) turns m = absurd turns
+
+  -- by a priority1 that makes a live system worse
+  pub record IsWorsening : Type 0 where
+    pub number : ℕ
+    pub value : ℕ
+    pub act : event.act ≡ acts.Change (changes.Priority1 number value)
+    pub worsens : Worsens n network made number value
+
+  worse_rises : (x : IsWorsening) → (m : SystemSpec) → In m n.systems
+      → (system_after made m).identity ≤ (system_acted event.act (clock_of m.identity) (system_after made m)).identity
+  worse_rises x m member =
+      let w = x.worsens in
+      let (place, there) = slice_get-In m n.systems member in
+      subst (λ act. (system_after made m).identity
+      ≤ (system_acted act (clock_of m.identity) (system_after made m)).identity) (sym x.act)
+      (sets_higher made m x.number x.value (λ clock.
+      let same = w.only place m there (sym clock) in
+      let worse = subst (λ (o : SystemSpec). (system_after made o).identity
+      < x.value * 2 ^ 104 + (system_after made o).identity % 2 ^ 104) (sym same) w.worse in
+      omega (arith, worse)))
+
+  not_priority : (act : Act) → is_priority1 (told_at n made act) ≡ false
+      → (is_loss (told_at n made act) && is_priority1 (told_at n made act)) ≡ true → ⊥
+  not_priority act other is =
+      let (loss, priority) = and_parts (is_loss (told_at n made act)) (is_priority1 (told_at n made act)) is in
+      let no : true ≡ false = sym priority ∙ other in cc
+
+  is_worsening : (act : Act) → event.act ≡ act
+      → (is_loss (told_at n made act) && is_priority1 (told_at n made act)) ≡ true → IsWorsening
+  is_worsening (acts.Change (changes.Priority1 number value)) same is =
+      let act = acts.Change (changes.Priority1 number value) in
+      record {
+        number = number;
+        value = value;
+        act = same;
+        worsens = loss_worsens n network made number value
+            (and_parts (is_loss (told_at n made act)) (is_priority1 (told_at n made act)) is).0;
+      }
+  is_worsening (acts.Deliver link direction) same is = absurd (not_priority (acts.Deliver link direction) refl is)
+  is_worsening (acts.Expire clock timer) same is = absurd (not_priority (acts.Expire clock timer) refl is)
+  is_worsening (acts.Change (changes.LinkDown clock port)) same is =
+      absurd (not_priority (acts.Change (changes.LinkDown clock port)) refl is)
+  is_worsening (acts.Change (changes.LinkUp clock port)) same is =
+      absurd (not_priority (acts.Change (changes.LinkUp clock port)) refl is)
+  is_worsening (acts.Change (changes.LinkSet clock port least greatest loss)) same is =
+      absurd (not_priority (acts.Change (changes.LinkSet clock port least greatest loss)) refl is)
+  is_worsening (acts.Change (changes.Fail clock)) same is =
+      absurd (not_priority (acts.Change (changes.Fail clock)) refl is)
+  is_worsening (acts.Change (changes.Recover clock)) same is =
+      absurd (not_priority (acts.Change (changes.Recover clock)) refl is)
+  is_worsening (acts.Change (changes.Inject clock port octets)) same is =
+      absurd (not_priority (acts.Change (changes.Inject clock port octets)) refl is)
+
+  -- such an event
+  abbrev pub IsKind : Type 0
+  IsKind = ChangesNothing n made event.act ⊎ (TurnsUnused n made event.act ⊎ IsWorsening)
+
+  pub kind_is : leaves_links (told_at n made event.act) ≡ true → IsKind
+  kind_is leaves =
+      let e = told_at n made event.act in
+      elim (or_cases (makes_nothing e) (is_loss e && is_priority1 e) leaves) [
+        | inl nothing ↦ elim (or_cases (is_idle e) (is_unused e) nothing) [
+          | inl idle ↦ inl (idle_changes n network made event.act idle)
+          | inr unused ↦ inr (inl (unused_turns n network made event.act unused))
+        ]
+        | inr loss ↦ inr (inr (is_worsening event.act refl loss))
+      ]
+
+  pub worsen_one : IsKind → OnlyWorsen n made more
+  worsen_one (inl idle) = record {
+    alike = idle_alike n network made event idle;
+    rises = rises_by (idle_rises event.act idle);
+  }
+  worsen_one (inr (inl turns)) = record {
+    alike = turned_alike n made event turns;
+    rises = rises_by (λ m member live. turn_rises event.act turns m);
+  }
+  worsen_one (inr (inr x)) = record {
+    alike = priority_alike n made event x.number x.value x.act;
+    rises = rises_by (λ m member live. worse_rises x m member);
+  }
+
+-- ---- snapshots
+
+-- the same systems and links stand
+module _ (n : NetworkState) (network : IsNetwork n) (events more : List Timed) (alike : StandAlike n events more)
+    (g h : Snapshot) (stands : StandsAfter n events g) (stands' : StandsAfter n more h) (well' : IsWellFormed h) where
+  clock_over : (v : ℕ) → In v (clocks g) → In v (clocks h)
+  clock_over v known =
+      let (s, live, same) = from_map (λ (t : System). t.clock) v g.systems known in
+      let has : has_clock g.systems v ≡ true =
+      passes_at (λ (t : System). t.clock == v) g.systems s live (eq-eqb s.clock v same) in
+      let then : lives n.systems more v ≡ true =
+      lives_same n events more alike.systems v ∙ there_live n network events g stands v has in
+      let (t, there, is) = with_clock h.systems v (live_there n network more h stands' v then) in
+      subst (λ c. In c (clocks h)) is (In-clocks h t there)
+
+  link_over : (l : Link) → In l g.links → In l h.links
+  link_over l member =
+      let r = runs n network events g stands l member in
+      let used = alike.used r.wire r.member ∙ r.used in
+      subst (λ k. In k h.links) r.is
+      (link_stands n network more h stands' well' r.wire r.member
+      (used_then n network more h stands' well' r.wire used))
+
+  joins_over : (p q : PortIdentity) → Joins g p q → Joins h p q
+  joins_over p q (inl member) = inl (link_over (record { a = p; b = q }) member)
+  joins_over p q (inr member) = inr (link_over (record { a = q; b = p }) member)
+
+-- a system of a snapshot lives
+lives_of : (n : NetworkState) (network : IsNetwork n) (events : List Timed) (g : Snapshot) → StandsAfter n events g
+    → (s : System) → In s g.systems → (i : ℕ) (m : SystemSpec) → slice_get n.systems i ≡ Some m
+    → clock_of m.identity ≡ s.clock → (system_after events m).live ≡ true
+lives_of n network events g stands s live i m there clock =
+    let has : has_clock g.systems s.clock ≡ true =
+    passes_at (λ (t : System). t.clock == s.clock) g.systems s live (eq-eqb s.clock s.clock refl) in
+    let (k, among, both) =
+    passes (λ (k : SystemSpec). (clock_of k.identity == s.clock) && (system_after events k).live) n.systems
+    (there_live n network events g stands s.clock has) in
+    let (named, lives) = and_parts (clock_of k.identity == s.clock) (system_after events k).live both in
+    let (j, here) = slice_get-In k n.systems among in
+    let place = network.clocks j i k m here there (eqb-true (clock_of k.identity) s.clock named ∙ sym clock) in
+    let one = same_there n.systems i k m (subst (λ p. slice_get n.systems p ≡ Some k) place here) there in
+    subst (λ (x : SystemSpec). (system_after events x).live ≡ true) one lives
+
+-- it is no better after more events
+rises_over : (n : NetworkState) (network : IsNetwork n) (events more : List Timed) (g h : Snapshot)
+    → StandsAfter n events g → StandsAfter n more h → OnlyWorsen n events more
+    → (s t : System) → In s g.systems → In t h.systems → s.clock ≡ t.clock → s.identity ≤ t.identity
+rises_over n network events more g h stands stands' worsens s t live there clock =
+    let (m, among, is) = member_there n network events g stands s live in
+    let (k, known, is') = member_there n network more h stands' t there in
+    let (i, at) = slice_get-In m n.systems among in
+    let (j, here) = slice_get-In k n.systems known in
+    let name : clock_of m.identity ≡ s.clock = sym (clock_after events m) ∙ ap (λ (x : System). x.clock) is in
+    let name' : clock_of k.identity ≡ t.clock = sym (clock_after more k) ∙ ap (λ (x : System). x.clock) is' in
+    let place = network.clocks i j m k at here (name ∙ clock ∙ sym name') in
+    let one : m ≡ k = same_there n.systems j m k (subst (λ p. slice_get n.systems p ≡ Some m) place at) here in
+    let higher = worsens.rises m among (lives_of n network events g stands s live i m at name) in
+    let first_is = ap (λ (x : System). x.identity) is in
+    let last_is : (system_after more m).identity ≡ t.identity =
+    ap (λ (x : SystemSpec). (system_after more x).identity) one ∙ ap (λ (x : System). x.identity) is' in
+    omega (arith, higher, first_is, last_is)
+
+-- what reaches over links that another snapshot has reaches there
+reach_over : (g h : Snapshot) → ((v : ℕ) → In v (clocks g) → In v (clocks h))
+    → ((p q : PortIdentity) → Joins g p q → Joins h p q) → (v w : ℕ) → Reaches g v w → Reaches h v w
+reach_over g h systems links v w (us, path) = (
+  us,
+  record {
+    begins = systems v path.begins;
+    route = route_over g h links v w us path.route;
+    different = path.different;
+  },
+)
+
+-- a system of two snapshots with one identity is one
+same_system : (n : NetworkState) (network : IsNetwork n) (events more : List Timed) (g h : Snapshot)
+    → StandsAfter n events g → StandsAfter n more h → (s t : System) → In s g.systems → In t h.systems
+    → s.identity ≡ t.identity → s ≡ t
+same_system n network events more g h stands stands' s t live there same =
+    let (m, among, is) = member_there n network events g stands s live in
+    let (k, known, is') = member_there n network more h stands' t there in
+    let identity : (system_after events m).identity ≡ (system_after more k).identity =
+    ap (λ (x : System). x.identity) is ∙ same ∙ sym (ap (λ (x : System). x.identity) is') in
+    let (i, at) = slice_get-In m n.systems among in
+    let (j, here) = slice_get-In k n.systems known in
+    let place = network.clocks i j m k at here
+    (sym (clock_after events m) ∙ ap clock_of identity ∙ clock_after more k) in
+    let one : m ≡ k = same_there n.systems j m k (subst (λ p. slice_get n.systems p ≡ Some m) place at) here in
+    sym is
+    ∙ ap₂ (λ x y. snapshots.system_of (x, y)) identity (ap (λ (x : SystemSpec). x.ports) one)
+    ∙ is'
+
+-- the place is among the first ones
+in_range : (first count place : ℕ) → first ≤ place → place < first + count → In place (range_with_len first count)
+in_range first zero place least most = absurd (omega (arith, least, most))
+in_range first (suc count) place least most = elim (same_place place first) [
+  | inl same ↦ inl same
+  | inr apart ↦ inr (in_range (first + 1) count place (omega (arith, least, apart)) (omega (arith, most)))
+]
+
+-- ---- where no system is moved between first and last
+
+module _ (n : NetworkState) (network : IsNetwork n) (first all : List Timed) (worsen : OnlyWorsen n first all)
+    (unmoved : moves_some n first all ≡ false) (g0 gk : Snapshot) (stands0 : StandsAfter n first g0)
+    (standsk : StandsAfter n all gk) (well0 : IsWellFormed g0) (wellk : IsWellFormed gk) where
+  -- the best of a system is so at first and at last
+  pub record Stays (v : ℕ) : Type 0 where
+    pub best : System
+    pub is_best : IsBest g0 v best
+    pub last : System
+    pub last_lives : In last gk.systems
+    pub same : best.identity ≡ last.identity
+
+  lives_at : (i v : ℕ) (at : IsAt n i v) → In v (clocks gk) → (system_after all at.system).live ≡ true
+  lives_at i v at known =
+      let (s, live, named) = from_map (λ (t : System). t.clock) v gk.systems known in
+      lives_of n network all gk standsk s live i at.system at.there (at.clock ∙ sym named)
+
+  -- who isn't moved has one root
+  root_stays : (o : ours.System) (before now : Chosen) → (o.lives && differs before now) ≡ false → o.lives ≡ true
+      → before.root ≡ now.root
+  root_stays o before now none live =
+      let same : differs before now ≡ false =
+      ap (λ b. b && differs before now) (sym live) ∙ none in
+      let both = not-false ((before.root == now.root) && (before.steps == now.steps)) same in
+      eqb-true before.root now.root (and_parts (before.root == now.root) (before.steps == now.steps) both).0
+
+  stays : (v : ℕ) → In v (clocks gk) → Stays v
+  stays v known =
+      let (i, at) = at_clock n network all gk standsk wellk v known in
+      let (b, there0) = chosen_there n network first g0 stands0 well0 i v at in
+      let (c, therek) = chosen_there n network all gk standsk wellk i v at in
+      let known0 = clock_over n network all first (alike_back n first all worsen.alike) gk g0 standsk stands0 well0 v
+      known in
+      let x = settled_choice n network first g0 stands0 well0 i v at known0 b there0 in
+      let y = settled_choice n network all gk standsk wellk i v at known c therek in
+      let o : ours.System = system_then all at.system in
+      let there : slice_get (systems_after n all) i ≡ Some o =
+      mapped_there (system_then all) n.systems i at.system at.there in
+      let less = bound (systems_after n all) i o there in
+      let within : In i (range_with_len 0 (length (systems_after n all))) =
+      in_range 0 (length (systems_after n all)) i (omega arith) (omega (arith, less)) in
+      let none = none_any (is_moved_at (systems_after n all) (chosen_after n first) (chosen_after n all))
+      (range_with_len 0 (length (systems_after n all))) i unmoved within in
+      let here : (o.lives && differs b c) ≡ false =
+      (λ k. is_moved (sym there k) (sym there0 k) (sym therek k)) ∙ none in
+      let root = root_stays o b c here (lives_at i v at known) in
+      record {
+        best = x.best;
+        is_best = x.is_best;
+        last = y.best;
+        last_lives = y.is_best.live;
+        same = sym x.root ∙ root ∙ y.root;
+      }
+    where
+      bound : (os : List ours.System) (place : ℕ) (o : ours.System) → slice_get os place ≡ Some o → place < length os
+      bound [] place o is = absurd cc
+      bound (p ∷ os) zero o is = omega arith
+      bound (p ∷ os) (suc place) o is = let rest = bound os place o is in omega (arith, rest)
+
+  -- so it is in between
+  module _ (events : List Timed) (before : OnlyWorsen n first events) (after : OnlyWorsen n events all) (g : Snapshot)
+      (stands : StandsAfter n events g) (well : IsWellFormed g) where
+    pub record HasBest (v : ℕ) : Type 0 where
+      pub best : System
+      pub is_best : IsBest g v best
+      pub first_best : System
+      pub was_best : IsBest g0 v first_best
+      pub same : best.identity ≡ first_best.identity
+
+    keeps : (v : ℕ) (x : Stays v) (s : System) → In s g.systems → s.clock ≡ x.best.clock
+        → s.identity ≡ x.best.identity
+    keeps v x s live clock =
+        let up =
+        rises_over n network first events g0 g stands0 stands before x.best s x.is_best.live live (sym clock) in
+        let last_clock : s.clock ≡ x.last.clock =
+        clock ∙ sym (well0.identified x.best x.is_best.live).clock ∙ ap (λ i. i % 2 ^ 64) x.same
+        ∙ (wellk.identified x.last x.last_lives).clock in
+        let down = rises_over n network events all g gk stands standsk after s x.last live x.last_lives last_clock in
+        let same = x.same in
+        omega (arith, up, down, same)
+
+    pub has_best : (v : ℕ) → In v (clocks g) → HasBest v
+    has_best v member =
+        let known = clock_over n network events all after.alike g gk stands standsk wellk v member in
+        let x = stays v known in
+        let b = x.best in
+        let back_alike = alike_back n first events before.alike in
+        let over = clock_over n network first events before.alike g0 g stands0 stands well in
+        let back = clock_over n network events first back_alike g g0 stands stands0 well0 in
+        let links = joins_over n network first events before.alike g0 g stands0 stands well in
+        let links_back = joins_over n network events first back_alike g g0 stands stands0 well0 in
+        let (s, live, clock) = from_map (λ (t : System). t.clock) b.clock g.systems
+        (over b.clock (In-clocks g0 b x.is_best.live)) in
+        let identity : s.identity ≡ b.identity = keeps v x s live clock in
+        record {
+          best = s;
+          is_best = record {
+            live = live;
+            reached = subst (Reaches g v) (sym clock) (reach_over g0 g over links v b.clock x.is_best.reached);
+            least = λ t there reached.
+                let (u, lived, name) = from_map (λ (r : System). r.clock) t.clock g0.systems
+                (back t.clock (In-clocks g t there)) in
+                let least = x.is_best.least u lived
+                (subst (Reaches g0 v) (sym name) (reach_over g g0 back links_back v t.clock reached)) in
+                let more = rises_over n network first events g0 g stands0 stands before u t lived there name in
+                omega (arith, least, more, identity);
+          };
+          first_best = b;
+          was_best = x.is_best;
+          same = identity;
+        }
+
+  -- an event in between moves none
+  module _ (made : List Timed) (event : Timed) (before : OnlyWorsen n first made)
+      (one : OnlyWorsen n made (made ++ event ∷ [])) (after : OnlyWorsen n (made ++ event ∷ []) all)
+      (well : (g : Snapshot) → StandsAfter n made g → IsWellFormed g)
+      (well' : (g : Snapshot) → StandsAfter n (made ++ event ∷ []) g → IsWellFormed g) where
+    abbrev later : List Timed
+    later = made ++ event ∷ []
+
+    pub moves_none : MovesNone n made event
+    moves_none g h v stands stands' known =
+        record { best = same.best v; far = distance_over g h (well g stands) (well' h stands') same v }
+      where
+        back : StandAlike n later made
+        back = alike_back n made later one.alike
+
+        best : (u : ℕ) (b : System) → IsBest g u b → IsBest h u b
+        best u b is =
+            let here = is.reached.1.begins in
+            let there = clock_over n network made later one.alike g h stands stands' (well' h stands') u here in
+            let x = has_best made before (worsen_both n made later all one after) g stands (well g stands) u here in
+            let begun = worsen_both n first made later before one in
+            let y = has_best later begun after h stands' (well' h stands') u there in
+            let first_same : x.first_best ≡ y.first_best =
+            IsBest-unique g0 u x.first_best y.first_best well0 x.was_best y.was_best in
+            let same : x.best ≡ y.best =
+            same_system n network made later g h stands stands' x.best y.best x.is_best.live y.is_best.live
+            (x.same ∙ ap (λ (s : System). s.identity) first_same ∙ sym y.same) in
+            let is_x : x.best ≡ b = IsBest-unique g u x.best b (well g stands) x.is_best is in
+            subst (IsBest h u) (sym same ∙ is_x) y.is_best
+
+        same : HaveSameBests g h
+        same = record {
+          clocks = clock_over n network made later one.alike g h stands stands' (well' h stands');
+          links = joins_over n network made later one.alike g h stands stands' (well' h stands');
+          links_back = joins_over n network later made back h g stands' stands (well g stands);
+          best = best;
+        }
+
+-- ---- the events of a time
+
+-- they only make systems worse
+pub worsen_all : (n : NetworkState) (network : IsNetwork n) (made left : List Timed)
+    → list_all leaves_links (told_of n made left) ≡ true → OnlyWorsen n made (made ++ left)
+worsen_all n network made [] leaves = subst (OnlyWorsen n made) (sym (append-nil made)) (worsen_none n made)
+worsen_all n network made (event ∷ left) leaves =
+    let (one, rest) =
+    and_parts (leaves_links (told_at n made event.act)) (list_all leaves_links (told_of n (made ++ event ∷ []) left))
+    leaves in
+    worsen_both n made (made ++ event ∷ []) (made ++ event ∷ left)
+    (worsen_one n network made event (kind_is n network made event one))
+    (subst (OnlyWorsen n (made ++ event ∷ [])) (append_assoc made (event ∷ []) left)
+    (worsen_all n network (made ++ event ∷ []) left rest))
+
+-- what stands after the first of these events, however many, is well formed
+abbrev pub AreWell : NetworkState → List Timed → Type 0
+AreWell n all = (events left : List Timed) → events ++ left ≡ all → (g : Snapshot) → StandsAfter n events g
+    → IsWellFormed g
+
+module _ (n : NetworkState) (network : IsNetwork n) (first now : List Timed) (well : AreWell n (first ++ now))
+    (few : (sync_paths n first).systems ≤ 255) (unmoved : moves_some n first (first ++ now) ≡ false)
+    (leaves : list_all leaves_links (told_of n first now) ≡ true) where
+  abbrev all : List Timed
+  all = first ++ now
+
+  still_each : (made left : List Timed) → made ++ left ≡ all → OnlyWorsen n first made
+      → list_all leaves_links (told_of n made left) ≡ true → EachEvent (IsStillEvent n) made left
+  still_each made [] are before rest = tt
+  still_each made (event ∷ left) are before rest =
+      let (one, others) =
+      and_parts (leaves_links (told_at n made event.act)) (list_all leaves_links (told_of n (made ++ event ∷ []) left))
+      rest in
+      let kind = kind_is n network made event one in
+      let worsens = worsen_one n network made event kind in
+      let are_more : (made ++ event ∷ []) ++ left ≡ all = append_assoc made (event ∷ []) left ∙ are in
+      let worse = worsen_both n first made (made ++ event ∷ []) before worsens in
+      (still kind worsens others are_more, still_each (made ++ event ∷ []) left are_more worse others)
+    where
+      still : IsKind n network made event → OnlyWorsen n made (made ++ event ∷ [])
+          → list_all leaves_links (told_of n (made ++ event ∷ []) left) ≡ true → (made ++ event ∷ []) ++ left ≡ all
+          → IsStillEvent n made event
+      still (inl idle) worsens others are_more = inl (inl idle)
+      still (inr (inl turns)) worsens others are_more = inl (inr turns)
+      still (inr (inr x)) worsens others are_more =
+          let (g0, stands0) = stands_after n first network in
+          let (gk, standsk) = stands_after n all network in
+          let w = x.worsens in
+          inr (record {
+            clock = x.number;
+            value = x.value;
+            act = x.act;
+            live = record { place = w.place; system = w.system; there = w.there; clock = w.clock; live = w.live };
+            moves = moves_none n network first all (worsen_all n network first now leaves) unmoved g0 gk stands0 standsk
+                (well first now refl g0 stands0) (well all [] (append-nil all) gk standsk) made event before worsens
+                (subst (OnlyWorsen n (made ++ event ∷ [])) are_more
+                (worsen_all n network (made ++ event ∷ []) left others))
+                (well made (event ∷ left) are) (well (made ++ event ∷ []) left are_more);
+            few = subst (λ (p : SyncPaths). p.systems ≤ 255)
+                (sym (paths_same n first made before.alike)) few;
+          })
+
+  pub all_still_unmoved : EachEvent (IsStillEvent n) first now
+  all_still_unmoved = still_each first now refl (worsen_none n first) leaves

@@ -1,0 +1,37 @@
+-- Events by which no system is moved.
+--
+-- An event *moves* a system that lives after it where another system, or the same with another identity, is the best of
+-- its component then, or it is nearer to that or farther from it. So its root or its steps are others.
+use Rattle.std.specs.Prelude.{◌≡◌, ◌≤◌, ℕ, List, [], ◌∷◌, ◌++◌}
+use Rattle.gptp_lists.specs.Members.{In}
+use Rattle.gptp_graph.specs.Best.{IsBest}
+use Rattle.gptp_graph.specs.Distance.{IsDistance}
+use Rattle.gptp_graph.specs.Snapshot.{Snapshot, System, clocks}
+use Rattle.gptp_network.specs.Snapshot.{StandsAfter}
+use Rattle.gptp_scenario.specs.Calm.{IsLive}
+use Rattle.gptp_scenario.specs.Network.{NetworkState}
+use Rattle.gptp_scenario.specs.SyncWait.{sync_paths}
+use Rattle.gptp_scenario.specs.declared.change.Act.TheVariants.{Change as Changing}
+use Rattle.gptp_scenario.specs.declared.change.Change.TheVariants.{Priority1}
+use Rattle.gptp_scenario.specs.declared.change.Timed.{Timed}
+
+-- in the second snapshot the system has the best that it has in the first, and is as far from it
+pub record IsUnmoved (g g' : Snapshot) (v : ℕ) : Type 0 where
+  pub best : (b : System) → IsBest g v b → IsBest g' v b
+  pub far : (d : ℕ) → IsDistance g v d → IsDistance g' v d
+
+-- after these events this one moves no system
+abbrev pub MovesNone : NetworkState → List Timed → Timed → Type 0
+MovesNone n before event = (g g' : Snapshot) (v : ℕ) → StandsAfter n before g
+    → StandsAfter n (before ++ event ∷ []) g' → In v (clocks g')
+    → IsUnmoved g g' v
+
+-- After these events this one sets the priority1 of a system that lives, and the settled choice stays: no system is
+-- moved. So that system is nobody's best, before and after, or keeps its identity. No path has more than 255 systems.
+pub record LeavesChoice (n : NetworkState) (before : List Timed) (event : Timed) : Type 0 where
+  pub clock : ℕ
+  pub value : ℕ
+  pub act : event.act ≡ Changing (Priority1 clock value)
+  pub live : IsLive n.systems before clock
+  pub moves : MovesNone n before event
+  pub few : (sync_paths n before).systems ≤ 255
