@@ -1,12 +1,12 @@
 //! Devices that count their calls, of which one fails, and a sink that counts the lines of a call.
 
-use crate::run::TWO;
 use crate::same::{same, same_at};
 use gptp_commands::compare::compare_lines;
 use gptp_commands::failure::{SimError, Status};
 use gptp_commands::run::{RunOptions, run};
 use gptp_commands::sink::{CountedWriter, Sink, WriteFailed};
 use gptp_commands::source::CountedReader;
+use gptp_samples::TWO;
 use std::io::{self, Read, Write};
 use std::test::Fail;
 

@@ -1,8 +1,9 @@
 //! A document that ends after each of its octets.
 
-use crate::run::{TO_THE_END, TWO, ran};
+use crate::run::{TO_THE_END, ran};
 use crate::same::same_at;
 use gptp_commands::failure::Status;
+use gptp_samples::TWO;
 use std::test::Fail;
 
 /// The text of a front that is no TOML.

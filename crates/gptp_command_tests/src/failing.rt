@@ -1,7 +1,7 @@
 //! Devices of which each call fails in turn, for every command: a read that fails leaves nothing written, a write that
 //! fails a front of the text.
 
-use crate::run::{TO_THE_END, TWO};
+use crate::run::TO_THE_END;
 use crate::same::same_at;
 use gptp_commands::check::check;
 use gptp_commands::compare::compare_lines;
@@ -11,6 +11,7 @@ use gptp_commands::run::{RunOptions, run};
 use gptp_commands::sink::{Sink, WriteFailed};
 use gptp_commands::source::{ReadFailed, Source};
 use gptp_commands::timeline::{TimelineOrder, timeline};
+use gptp_samples::TWO;
 use gptp_timeline::{Limits, TimelineOptions};
 use gptp_vector::ClockId;
 use std::alloc::Global;

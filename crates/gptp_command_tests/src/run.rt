@@ -7,6 +7,7 @@ use crate::same::{same, same_at};
 use gptp_commands::failure::{SimError, Status};
 use gptp_commands::run::{RunOptions, run};
 use gptp_commands::sink::CountedWriter;
+use gptp_samples::TWO;
 use std::alloc::Global;
 use std::test::Fail;
 
@@ -33,22 +34,6 @@ pub fn ran(
     let status = run(alloc, &mut source, &mut sink, options)?;
     Ok((written, status))
 }
-
-/// Two systems, clocks 1 and 2, the second 1 ms ahead; their first ports are linked.
-pub const TWO: &str = "version = 1
-[[system]]
-clock = \"0000000000000001\"
-[[system]]
-clock = \"0000000000000002\"
-phase = 1000000
-[[link]]
-a = \"0000000000000001\"
-a_port = 1
-b = \"0000000000000002\"
-b_port = 1
-min = 500
-max = 500
-";
 
 /// Every frame is told, up to two seconds.
 const ALL_FRAMES: RunOptions = RunOptions {

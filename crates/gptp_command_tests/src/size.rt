@@ -1,12 +1,13 @@
 //! Inputs of as many octets as a command reads, of one more, and of some that it leaves.
 
-use crate::run::{TO_THE_END, TWO};
+use crate::run::TO_THE_END;
 use crate::same::same_at;
 use gptp_commands::check::check;
 use gptp_commands::compare::compare_lines;
 use gptp_commands::failure::Status;
 use gptp_commands::run::run;
 use gptp_commands::sink::CountedWriter;
+use gptp_samples::TWO;
 use std::test::Fail;
 
 /// What reads the octets: a command, or `check` as its certificate.

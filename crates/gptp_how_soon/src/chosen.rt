@@ -24,7 +24,7 @@ pub(crate) struct Ends {
     pub b: usize,
 }
 
-/// Writes the systems of these nodes.
+/// Writes the systems as they stand at these nodes.
 pub(crate) fn copy_systems(systems: &mut Vec<System>, nodes: &[Node]) -> Result<(), AllocError>
     ensures { OnOk result (systems.new.items ≡ systems_in nodes.now) }
 {

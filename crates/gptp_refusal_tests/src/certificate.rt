@@ -4,23 +4,9 @@ use crate::same::same;
 use gptp_certificate::{Certificate, parse, print, print_line, write_certificate};
 use gptp_links::PcgFate;
 use gptp_network::{Document, Snapshot};
+use gptp_samples::TWO;
 use gptp_world::World;
 use std::test::Fail;
-
-/// Two systems whose first ports are linked.
-const TWO: &str = "version = 1
-[[system]]
-clock = \"0000000000000001\"
-[[system]]
-clock = \"0000000000000002\"
-[[link]]
-a = \"0000000000000001\"
-a_port = 1
-b = \"0000000000000002\"
-b_port = 1
-min = 500
-max = 500
-";
 
 /// Three systems in a line, each with its second port linked to the first of the next.
 const LINE: &str = "version = 1

@@ -4,24 +4,9 @@ use crate::same::same;
 use gptp_links::PcgFate;
 use gptp_network::Document;
 use gptp_report::write_report;
+use gptp_samples::TWO;
 use gptp_world::World;
 use std::test::Fail;
-
-/// Two systems, the second 1 ms ahead, whose first ports are linked.
-const TWO: &str = "version = 1
-[[system]]
-clock = \"0000000000000001\"
-[[system]]
-clock = \"0000000000000002\"
-phase = 1000000
-[[link]]
-a = \"0000000000000001\"
-a_port = 1
-b = \"0000000000000002\"
-b_port = 1
-min = 500
-max = 500
-";
 
 /// When they have settled, in ns, and what they are then.
 const SETTLED: u64 = 26_000_000_000;

@@ -198,7 +198,10 @@ impl Network {
 
     /// A system by its place from 0: its identity, ports, phase, drift and the intervals of its ports, as they were
     /// given.
-    pub fn system_at(&self, place: usize) -> Option<(Identity, u8, u64, i32, ArrayVec<i8, MOST_PORTS>)>
+    pub fn system_at(
+        &self,
+        place: usize,
+    ) -> Option<(Identity, u8, u64, i32, ArrayVec<i8, MOST_PORTS>)>
         ensures { result ≡ option_map (λ m. (m.identity, m.ports, m.phase, m.drift, m.intervals))
             (slice_get self.now.systems place) }
     {

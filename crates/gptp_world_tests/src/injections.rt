@@ -4,11 +4,11 @@ ghost use Rattle.gptp_setup.specs.Intervals.{IsMoment};
 
 use crate::far::line;
 use crate::same::{same, same_at};
-use crate::world::{ARRIVAL, ARRIVAL_FROM_B, SPREAD, TWO, act, advance, begun, clock, timed};
+use crate::world::{ARRIVAL, ARRIVAL_FROM_B, SPREAD, act, advance, begun, clock, timed};
 use gptp_links::{Fate, ListFate, PcgFate};
 use gptp_messages::Refused as Unread;
 use gptp_network::Document;
-use gptp_samples::{FIRST_ANNOUNCE, frame, identity, port};
+use gptp_samples::{FIRST_ANNOUNCE, TWO, frame, identity, port};
 use gptp_system::Answer;
 use gptp_vector::{ClockId, Trace};
 use gptp_world::{Act, Change, Done, Octets, Refused, Timed, World};

@@ -8,15 +8,12 @@ ghost use Rattle.gptp_scenario.specs.Allowed.{IsFitAct};
 use crate::same::same;
 use gptp_links::{Direction, Fate, ListFate, PcgFate};
 use gptp_network::Document;
+use gptp_samples::TWO;
 use gptp_system::Timer;
 use gptp_vector::ClockId;
 use gptp_world::{Act, Done, Refused, Timed, World};
 use std::alloc::Global;
 use std::test::Fail;
-
-/// Two systems, clocks 1 and 2, whose first ports a link joins; each frame takes 500 ns.
-pub(crate) const TWO: &str =
-    "version = 1\n[[system]]\nclock = \"0000000000000001\"\n[[system]]\nclock = \"0000000000000002\"\nphase = 1000000\n[[link]]\na = \"0000000000000001\"\na_port = 1\nb = \"0000000000000002\"\nb_port = 1\nmin = 500\nmax = 500\n";
 
 /// The clock with this number.
 pub(crate) fn clock(number: u64) -> ClockId {
