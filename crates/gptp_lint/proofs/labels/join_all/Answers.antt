@@ -10,7 +10,6 @@ loop-place-preserved c = c.join_at.ensures ∙ c.loop-place.invariant
 pub returns : goal.returns
 returns c =
     let past = c.loop-place-test.false in
-    let total = c.len-place-end.ensures in
     ap (λ es. joined_all es c.loop-place.labels)
-    (sym (none_left c.args.ends.now c.args.standings.now c.loop-place.place (omega (arith, past, total))))
+    (sym (none_left c.args.ends.now c.args.standings.now c.loop-place.place (omega (arith, past))))
     ∙ c.loop-place.invariant
