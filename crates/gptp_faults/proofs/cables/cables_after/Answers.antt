@@ -1,5 +1,5 @@
 -- In the end the links are all, as the tables have them.
-use Rattle.std.proofs.Common.{◌≡◌, List, map, ap, ap₂, subst, sym, ◌∙◌}
+use Rattle.std.proofs.Common.{◌≡◌, List, map, ap, ap₂, refl, subst, sym, ◌∙◌}
 use Rattle.std.specs.List.{AllByRecursion}
 use Rattle.std.proofs.lemmas.List.{take_all}
 use Rattle.gptp_scenario.specs.Network.{IsNetwork, NetworkState}
