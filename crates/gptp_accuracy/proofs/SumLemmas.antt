@@ -90,10 +90,10 @@ longer_last w l = link_last w l (length w.links) refl
 
 module _ (p : Params) (w : Way) (l : WayLink) (s : Sums) (timed : IsTimedBy p w) (sums : AreSumsOf w s) where
   -- the link as it is measured
-  jitter : ℕ
+  abbrev jitter : ℕ
   jitter = l.most - l.least + 2 * blur_of p
 
-  most : ℕ
+  abbrev most : ℕ
   most = l.most + blur_of p
 
   hop_is : hop_error_at (longer w l) (length w.links) ≡ hop_error jitter most p.turnaround

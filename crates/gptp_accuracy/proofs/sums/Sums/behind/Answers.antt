@@ -6,7 +6,7 @@ use Rattle.gptp_accuracy.proofs.sums.Sums.behind.Goals as goal
 
 pub rate_error-requires-clause-jitter : goal.rate_error-requires-clause-jitter
 rate_error-requires-clause-jitter c =
-    let little = c.blur_of.ensures.within c.requires.params in
+    let little = c.blur_of-blur.ensures.within c.requires.params in
     let short = c.requires.link.short in omega (arith, little, short)
 
 pub rate_error-requires-clause-interval : goal.rate_error-requires-clause-interval
@@ -15,17 +15,17 @@ rate_error-requires-clause-interval c =
 
 pub link_error-requires-clause-jitter : goal.link_error-requires-clause-jitter
 link_error-requires-clause-jitter c =
-    let little = c.blur_of.ensures.within c.requires.params in
+    let little = c.blur_of-blur.ensures.within c.requires.params in
     let short = c.requires.link.short in omega (arith, little, short)
 
 pub link_error-requires-clause-most : goal.link_error-requires-clause-most
 link_error-requires-clause-most c =
-    let little = c.blur_of.ensures.within c.requires.params in
+    let little = c.blur_of-blur.ensures.within c.requires.params in
     let short = c.requires.link.short in omega (arith, little, short)
 
 pub wait_error-requires-clause-time : goal.wait_error-requires-clause-time
 wait_error-requires-clause-time c =
-    let little = c.blur_of.ensures.within c.requires.params in
+    let little = c.blur_of-blur.ensures.within c.requires.params in
     let short = c.requires.link.short in
     let residence = c.requires.params.residence in
     let jitter = c.requires.sums.jitter in omega (arith, little, short, residence, jitter)
@@ -35,7 +35,7 @@ returns c = λ w links summed.
     let p = c.args.params.now in
     let s = c.args.self.now in
     let l = way_link c.args.link.now in
-    let blur = c.blur_of.ensures.blur in
+    let blur = c.blur_of-blur.ensures.blur in
     let made : IsMade p s l c.rate_interval.result c.rate_error.result c.link_error.result c.rates_error.result
     c.wait_error.result c.steady_rate.result c.from.result =
     record {
