@@ -44,6 +44,12 @@ in_units error rates span x y within =
 
 -- ---- what is read
 
+-- of an exact clock
+exactly : (error passed : ℕ) (x : ℤ) → AreWithin error x (pos (33550000 * (passed + 32768 * 0)))
+    → AreWithin error x (pos (33550000 * passed))
+exactly error passed x within =
+    record { low = omega (arith, ints, within.low); high = omega (arith, ints, within.high) }
+
 read_within : (w : Way) (phase : ℕ → ℕ) (base : Option ℤ) (i : ℕ) (told : Relayed) (sent came now : ℕ) (rate delay : ℤ)
     → IsOnWay w phase base i told sent came → IsMeasuredAt w i rate delay → FitsRate (told.rate +ℤ rate) → came ≤ now
     → let ingress = shown_at w phase (suc i) came in
@@ -79,7 +85,7 @@ read_within w phase base i told sent came now rate delay on measured fits later 
     (told_at w phase on.right.ahead now) passed.count
     (omega (arith, sent_error_is w i, error_behind w i, link_grows w i))
     (both_moved (shown_at w phase 0 sent) (shown_at w phase 0 now) on.right.ahead passed.count passed.is) on.right.time
-    within in (
+    (exactly _ passed.count (pos 33550000 *ℤ added) within) in (
       on.right.ahead,
       on.right.base_is,
       rw gone (record { low = omega (arith, ints, sum.low); high = omega (arith, ints, sum.high) }),
