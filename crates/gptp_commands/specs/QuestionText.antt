@@ -22,10 +22,8 @@ AnswersQuestion (Lint strict) input d output status = TellsFindings input d stri
 
 -- the line of an input that is refused by this fault: `lint` also tells its place
 abbrev pub RefusesInput : Question → List ℕ → DocumentFault → List (List ℕ) → Status → Type 0
-RefusesInput (Choice until) input fault output status = RefusesFault fault output status
-RefusesInput (Accuracy until options) input fault output status = RefusesFault fault output status
-RefusesInput (Explain clock until) input fault output status = RefusesFault fault output status
 RefusesInput (Lint strict) input fault output status = RefusesAtPlace input fault output status
+RefusesInput question input fault output status = RefusesFault fault output status
 
 -- an input is a document, of which the question is answered, or fails a test
 abbrev pub AnswersQuestionInput : Question → List ℕ → List (List ℕ) → Status → Type 0

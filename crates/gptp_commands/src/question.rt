@@ -82,13 +82,8 @@ fn refuse_document(
     ensures memory { IfErr result (λ e. e ≡ SimError.Memory) }
 {
     match question {
-        Question::Choice { until: _ } => refuse(alloc, fault),
-        Question::Accuracy {
-            until: _,
-            options: _,
-        } => refuse(alloc, fault),
-        Question::Explain { clock: _, until: _ } => refuse(alloc, fault),
         Question::Lint { strict: _ } => refuse_at_place(alloc, input, fault),
+        _ => refuse(alloc, fault),
     }
 }
 
