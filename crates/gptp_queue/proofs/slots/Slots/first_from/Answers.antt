@@ -8,13 +8,13 @@ pub returns-then-ahead-ne0-clause-some : goal.returns-then-ahead-ne0-clause-some
 returns-then-ahead-ne0-clause-some c =
     let s = c.self.inside in let some = c.if-ahead-ne0.true in
     rw (← c.self.view_is)
-    (ahead_some s.filled s.entries.queues c.self.invariant.1 c.args.low c.requires (search rules) (omega (arith, some)))
+    (ahead_some s.filled s.entries.queues c.self.invariant c.args.low c.requires (search rules) (omega (arith, some)))
 
 pub loop-word-init : goal.loop-word-init
 loop-word-init c =
     let s = c.self.inside in let none = c.if-ahead-ne0.false in
     rw (← c.self.view_is)
-    (ahead_none s.filled s.entries.queues c.self.invariant.1 c.args.low c.requires (omega (arith, none)))
+    (ahead_none s.filled s.entries.queues c.self.invariant c.args.low c.requires (omega (arith, none)))
 
 pub loop-word-preserved : goal.loop-word-preserved
 loop-word-preserved c = λ k from here.
@@ -23,7 +23,7 @@ loop-word-preserved c = λ k from here.
       | inl earlier ↦ c.loop-word.invariant k from earlier
       | inr not ↦
           let empty : part_at s.entries.queues k ≡ [] =
-          word-empty s.filled s.entries.queues c.self.invariant.1 c.loop-word.word (omega (arith, test))
+          word-empty s.filled s.entries.queues c.self.invariant c.loop-word.word (omega (arith, test))
           c.if-filled-ne0.false k (omega (arith, not, here)) in
           rw (← c.self.view_is) empty
     ]
@@ -34,7 +34,7 @@ returns-then-filled-ne0-clause-some c =
     let from = c.loop-word.auto.word in
     let so_far = rw (← c.self.view_is) at c.loop-word.invariant in
     rw (← c.self.view_is)
-    (found_in s.filled s.entries.queues c.self.invariant.1 c.loop-word.word (omega (arith, test))
+    (found_in s.filled s.entries.queues c.self.invariant c.loop-word.word (omega (arith, test))
     (omega (arith, some)) (search rules) c.args.low (omega (arith, from)) so_far)
 
 pub returns-clause-none : goal.returns-clause-none
