@@ -47,7 +47,7 @@ use Rattle.gptp_invariants.proofs.DelayWatchLemmas.{watch_kept}
 use Rattle.gptp_invariants.specs.DelayElsewhere.{IsElsewhere, IsOtherLink}
 use Rattle.gptp_invariants.proofs.DelayEndLemmas.{HearsWhatFits}
 use Rattle.gptp_invariants.proofs.DelayLinkCallLemmas.{back_in_time, back_late, back_mute, others_send, out_in_time, out_late, out_mute}
-use Rattle.gptp_invariants.proofs.WorldActsByLemmas.{PortCallsKeep}
+use Rattle.gptp_model.proofs.ActsByLemmas.{PortCallsKeep}
 use Rattle.gptp_invariants.proofs.DelayLinkKeptLemmas.{HasAll, all_stay, among_stays}
 use Rattle.gptp_invariants.proofs.DelayLinkLemmas.{IsOrderly, LinkStep, link_called, net_orderly, sender_opposite, sound_orderly}
 use Rattle.gptp_invariants.proofs.DelayPartLemmas.{AsksAsBefore, asks_still}

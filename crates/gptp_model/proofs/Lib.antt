@@ -1,4 +1,5 @@
 pub mod BareLemmas
+pub mod ActsByLemmas
 pub mod StayLemmas
 pub mod FlowLemmas
 pub mod UpLemmas

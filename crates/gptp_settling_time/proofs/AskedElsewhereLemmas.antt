@@ -26,7 +26,7 @@ use Rattle.gptp_invariants.specs.FailedUnanswered.{StandsUnanswered}
 use Rattle.gptp_invariants.proofs.DelayLinkCallLemmas.{at_own}
 use Rattle.gptp_invariants.proofs.DelayLinkLemmas.{IsOrderly, net_orderly, sound_orderly}
 use Rattle.gptp_invariants.proofs.DelayElsewhereLemmas.{orderly_too}
-use Rattle.gptp_invariants.proofs.WorldActsByLemmas.{PortCallsKeep, ends_told}
+use Rattle.gptp_model.proofs.ActsByLemmas.{PortCallsKeep, ends_told}
 use Rattle.gptp_invariants.proofs.WorldBeforeLemmas.{stood}
 use Rattle.gptp_invariants.proofs.FailedSilentElsewhereLemmas.{changed_stood, live_before}
 use Rattle.gptp_settling_time.proofs.BetweenFailedLemmas.{AreGoneBetween, IsGoneBetween, gone_still, gone_up}

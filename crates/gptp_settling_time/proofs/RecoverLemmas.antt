@@ -54,7 +54,7 @@ use Rattle.gptp_invariants.proofs.DelayLinkStandLemmas.{end_is}
 use Rattle.gptp_invariants.proofs.FailedNeverAnsweredLemmas.{never_called}
 use Rattle.gptp_invariants.proofs.FailedUnansweredCallLemmas.{asker_is, call_seen, view_stays}
 use Rattle.gptp_invariants.proofs.DelayElsewhereLemmas.{orderly_too}
-use Rattle.gptp_invariants.proofs.WorldActsByLemmas.{PortCallsKeep, start_told}
+use Rattle.gptp_model.proofs.ActsByLemmas.{PortCallsKeep, start_told}
 use Rattle.gptp_invariants.proofs.WorldBeforeLemmas.{calls_before, stood}
 use Rattle.gptp_invariants.proofs.WorldNewsLemmas.{news_begin, ready_goes_through}
 use Rattle.gptp_invariants.proofs.WorldOutlineLemmas.{acts_time}

@@ -8,6 +8,7 @@ use Rattle.gptp_lists.proofs.PlaceLemmas.{get-set_same}
 use Rattle.gptp_links.specs.declared.link.Direction.{Direction}
 use Rattle.gptp_links.specs.declared.link.Direction.TheVariants.{FromA, FromB}
 use Rattle.gptp_links.specs.Fate.{Draw}
+use Rattle.gptp_links.specs.Queue.{Frame}
 use Rattle.gptp_setup.specs.declared.timer.Timer.{Timer}
 use Rattle.gptp_system.specs.declared.answer.Answer.{Answer}
 use Rattle.gptp_system.specs.Input.{Input, IsTimely, Expires as TimerExpires, Frame as FrameHeard, PortDown, PortUp, Priority}
@@ -25,14 +26,20 @@ use Rattle.gptp_model.specs.Agrees.{stopped}
 use Rattle.gptp_model.specs.Ahead.{HasPorts, IsPortAmong}
 use Rattle.gptp_model.specs.Changing.{CallsAll, CallsIfLive, ComesUpIf, FailsIf, GoesDownIf, Injects, InjectsIf, RecoversIf, Starts, StartsAll, TellsEnds, brought_up, failed, fresh, taken_down, up_ports, with_bounds, with_setup, with_station}
 use Rattle.gptp_model.specs.Sound.{IsWired, JoinPorts}
-use Rattle.gptp_model.specs.World.{Channel, Net, WorldState, port_id, receiver, sender, station_due}
+use Rattle.gptp_model.specs.World.{Channel, Net, WorldState, port_id, receiver, sender, station_due, world_queue}
 use Rattle.gptp_model.proofs.AgreeLemmas.{replaced}
 use Rattle.gptp_model.proofs.AheadLemmas.{calls_ports, live_due}
-use Rattle.gptp_model.proofs.ChangeOnTimeLemmas.{calls_if_live_ports}
-use Rattle.gptp_model.proofs.SoundLemmas.{delivered_up}
 use Rattle.gptp_model.proofs.UpLemmas.{brought_ports}
 
 -- ---- ports that come up or go down
+
+-- a system has as many ports as before
+calls_if_live_ports : (place : ℕ) (input : Input) (w : WorldState) (draws : List Draw) (w' : WorldState)
+    → CallsIfLive place input w draws w' → (other ports : ℕ) → HasPorts other ports w → HasPorts other ports w'
+calls_if_live_ports place input w draws w' (inl (answer, k)) other ports has =
+    calls_ports place input w draws answer w' k other ports has
+calls_if_live_ports place input w draws w' (inr (failed, none, is)) other ports has =
+    subst (HasPorts other ports) (sym is) has
 
 -- every call that gives a port such an input keeps this; that the port is one of the system follows from what is known
 abbrev pub PortCallsKeep : Type 0 → (ℕ → Input) → (WorldState → Type 0) → Type 0
@@ -171,7 +178,31 @@ pub expires_timely : (place : ℕ) (timer : Timer) (w : WorldState) (draws : Lis
 expires_timely place timer w draws w' k =
     let least : w.time ≤ w.time = omega arith in rw (expires_due place timer w draws w' k) least
 
--- the port that a frame reaches is up, where its system lives
+-- a frame is in flight on a link that is up, so that the port at its end measures that link
+opposite_up : (w : WorldState) (link place : ℕ) (direction : Direction) (channel : Channel) (station : Station)
+    → IsWired w
+    → slice_get w.net.channels link ≡ Some channel → channel.up ≡ true → slice_get w.stations place ≡ Some station
+    → station.live ≡ true → clock station.system ≡ (receiver direction channel).clock
+    → IsUp station.system (receiver direction channel).port
+opposite_up w link place FromA channel station is here up there live named =
+    is.linked link place FromB channel station here up there live named
+opposite_up w link place FromB channel station is here up there live named =
+    is.linked link place FromA channel station here up there live named
+
+in_flight_up : (up : Bool) (frames : List Frame) (oldest : Frame) (rest : List Frame) → (up ≡ false → frames ≡ [])
+    → frames ≡ oldest ∷ rest → up ≡ true
+in_flight_up true frames oldest rest still front = refl
+in_flight_up false frames oldest rest still front = let none = still refl in absurd cc
+
+pub delivered_up : (link : ℕ) (direction : Direction) (octets : List ℕ) (w : WorldState) (draws : List Draw)
+    (answer : Option Answer) (w' : WorldState) (k : Delivers link direction octets w draws answer w') → IsWired w
+    → k.station.live ≡ true → IsUp k.station.system (receiver direction k.channel).port
+delivered_up link direction octets w draws answer w' k is live =
+    let up = in_flight_up k.channel.up (world_queue direction k.channel) _ k.takes.rest
+    (is.flow link direction k.channel k.takes.here).still k.takes.front in
+    opposite_up w link k.place direction k.channel k.station is k.takes.here up k.there live k.is_end
+
+-- and so where it stands at that place
 pub reached_up : (link : ℕ) (direction : Direction) (octets : List ℕ) (w : WorldState) (draws : List Draw)
     (answer : Option Answer) (w' : WorldState) (k : Delivers link direction octets w draws answer w') → IsWired w
     → (station : Station) → slice_get w.stations k.place ≡ Some station → station.live ≡ true
@@ -192,6 +223,10 @@ module _ {Known : Type 0} {Allows : Act → Type 0} {Says : List ℕ → Type 0}
   port_down : PortCallsKeep Known PortDown Is
   port_down place port w draws answer w' k of =
       e.system_called place (PortDown port) w draws answer w' k (record { timely = of; says = tt })
+
+  pub start_by : (place : ℕ) (w : WorldState) (draws : List Draw) (w' : WorldState) → Starts place w draws w' → Is w
+      → Is w'
+  start_by = system_starts Known Is port_up e.system_started
 
   pub starts_by : (places : List ℕ) (w : WorldState) (draws : List Draw) (w' : WorldState)
       → StartsAll places w draws w' → Is w → Is w'
@@ -230,7 +265,7 @@ module _ {Known : Type 0} {Allows : Act → Type 0} {Says : List ℕ → Type 0}
   recovers : (live : Bool) (place : ℕ) (w : WorldState) (draws : List Draw) (w' : WorldState)
       → RecoversIf live place w draws w' → Is w → Is w'
   recovers true place w draws w' (none, same) is = subst Is (sym same) is
-  recovers false place w draws w' k is = system_starts Known Is port_up e.system_started place w draws w' k is
+  recovers false place w draws w' k is = start_by place w draws w' k is
 
   priority_told : (number value place : ℕ) (w : WorldState) (draws : List Draw) (w' : WorldState)
       → Allows (Changing (Priority1 number value)) → CallsIfLive place (Priority value) w draws w' → Is w → Is w'
