@@ -23,13 +23,13 @@ use Rattle.gptp_pdelay.specs.Peer.{reset_peer}
 use Rattle.gptp_model.specs.declared.done.Done.{Done}
 use Rattle.gptp_model.specs.declared.station.Station.{Station}
 use Rattle.gptp_model.specs.Act.{Calls, all_timers, in_state}
-use Rattle.gptp_model.specs.Ahead.{IsPortAmong}
 use Rattle.gptp_model.specs.Acts.{Acts, Changes, set_to}
 use Rattle.gptp_model.specs.Changing.{CallsAll, CallsIfLive, ComesUpIf, FailsIf, GoesDownIf, InjectsIf, RecoversIf, TellsEnds, brought_up, failed, fresh, lost, taken_down, up_ports, with_bounds, with_setup, with_station}
 use Rattle.gptp_model.specs.Sends.{entered}
 use Rattle.gptp_model.specs.Sound.{IsSound, JoinPorts}
 use Rattle.gptp_model.specs.World.{Channel, Net, WorldState, port_id, receiver, sender}
-use Rattle.gptp_model.proofs.StayLemmas.{JoinTheSame, Stays, begins_same, calls_if_live_stay, calls_stay, join_on, join_same, refreshed_stays, set_join, stays_apart, stays_clocks, stays_setups, with_setup_stays}
+use Rattle.gptp_model.proofs.EndLemmas.{each_end_told}
+use Rattle.gptp_model.proofs.StayLemmas.{JoinTheSame, Stays, begins_same, calls_stay, join_on, refreshed_stays, set_join, stays_apart, stays_clocks, stays_setups, with_setup_stays}
 use Rattle.gptp_model.proofs.UpLemmas.{brought_ports}
 use Rattle.gptp_pdelay_machine.specs.Facts.{Facts, IsGood}
 use Rattle.gptp_pdelay_machine.specs.Measured.{MeterInv}
@@ -47,8 +47,8 @@ use Rattle.gptp_invariants.proofs.DelayWatchLemmas.{watch_kept}
 use Rattle.gptp_invariants.specs.DelayElsewhere.{IsElsewhere, IsOtherLink}
 use Rattle.gptp_invariants.proofs.DelayEndLemmas.{HearsWhatFits}
 use Rattle.gptp_invariants.proofs.DelayLinkCallLemmas.{back_in_time, back_late, back_mute, others_send, out_in_time, out_late, out_mute}
-use Rattle.gptp_model.proofs.ActsByLemmas.{PortCallsKeep}
-use Rattle.gptp_invariants.proofs.DelayLinkKeptLemmas.{HasAll, all_stay, among_stays}
+use Rattle.gptp_model.proofs.ActsByLemmas.{PortCallsKeep, join_among}
+use Rattle.gptp_invariants.proofs.DelayLinkKeptLemmas.{HasAll, all_stay}
 use Rattle.gptp_invariants.proofs.DelayLinkLemmas.{IsOrderly, LinkStep, link_called, net_orderly, sender_opposite, sound_orderly}
 use Rattle.gptp_invariants.proofs.DelayPartLemmas.{AsksAsBefore, asks_still}
 use Rattle.gptp_system.proofs.StepLemmas.{steps_sound}
@@ -412,48 +412,6 @@ module _ (at : LinkPlace) (P : WorldState → Type 0) (link_in : (w : WorldState
       apart (sym (orderly.apart at.link place direction way was.old channel was.here here
       (sym (begins_same w.net.channels at.link direction l.channel was) ∙ same)))
 
-  -- both ends of another link are told
-  tells_hold : (input : ℕ → Input) (place : ℕ) (channel : Channel) (w : WorldState)
-      (draws : List Draw) (w' : WorldState) → IsOfPort input
-      → ((direction way : Direction) (v : WorldState) → JoinTheSame w.net.channels v.net.channels → (l : IsLinkOf at v)
-      → sender direction l.channel ≢ sender way channel)
-      → IsPortAmong channel.a w.stations → IsPortAmong channel.b w.stations → StaysWatched w
-      → TellsEnds input channel w draws w' → StaysWatched w'
-  tells_hold input place channel w draws w' of other port_a port_b h k =
-      if_live_hold k.place_b (input channel.b.port) k.between k.second w' timely_b first
-      (aside_of at k.place_b input channel.b k.between (link_in k.between first.watched) of named_b
-      (λ direction. other direction FromB k.between stays.links (link_in k.between first.watched))) k.at_b
-    where
-      named_a : (station : Station) → slice_get w.stations k.place_a ≡ Some station
-          → clock station.system ≡ channel.a.clock
-      named_a station there =
-          ap (λ (x : Station). clock x.system) (same_there w.stations k.place_a station k.station_a there k.is_a.here)
-          ∙ k.is_a.named
-
-      first : StaysWatched k.between
-      first = if_live_hold k.place_a (input channel.a.port) w k.first k.between
-          (λ station there. of.timely station.system w.time channel.a.port
-          (port_a k.place_a station there (named_a station there))) h
-          (aside_of at k.place_a input channel.a w (link_in w h.watched) of named_a
-          (λ direction. other direction FromA w (join_same w.net.channels) (link_in w h.watched))) k.at_a
-
-      stays : Stays w k.between
-      stays = calls_if_live_stay k.place_a (input channel.a.port) w k.first k.between h.orderly.setups k.at_a
-
-      named_b : (station : Station) → slice_get k.between.stations k.place_b ≡ Some station
-          → clock station.system ≡ channel.b.clock
-      named_b station there =
-          let near = stays.stations k.place_b station there in
-          near.same.named
-          ∙ ap (λ (x : Station). clock x.system)
-          (same_there w.stations k.place_b near.old k.station_b near.here k.is_b.here) ∙ k.is_b.named
-
-      timely_b : (station : Station) → slice_get k.between.stations k.place_b ≡ Some station
-          → IsTimely station.system k.between.time (input channel.b.port)
-      timely_b station there =
-          of.timely station.system k.between.time channel.b.port
-          (among_stays w k.between channel.b stays port_b k.place_b station there (named_b station there))
-
   -- a system at neither end is brought up
   all_hold : (place : ℕ) (ps : List ℕ) (w : WorldState) (draws : List Draw) (w' : WorldState)
       → at.asking ≢ place → at.answering ≢ place → HasAll place ps w → StaysWatched w
@@ -483,19 +441,26 @@ module _ (at : LinkPlace) (P : WorldState → Type 0) (link_in : (w : WorldState
         → net.channels ≡ slice_set w.net.channels place new → new.a ≡ channel.a → new.b ≡ channel.b
         → TellsEnds input channel (record w { net = net }) draws w' → P w'
     other_told input place channel new net draws w' of here apart channels a b k =
-        (tells_hold input place channel (record w { net = net }) draws w' of
-        (λ direction way v on l. ends_other at w v place channel usual.orderly
-        (join_on w.net.channels net.channels v.net.channels joins on) here apart l direction way)
-        (λ other station there named. usual.ports place other FromA channel station here there named)
-        (λ other station there named. usual.ports place other FromB channel station here there named)
-        (record {
-          watched = other_link place new w net channels apart is;
-          orderly = net_orderly w net joins usual.orderly;
-        })
-        k).watched
+        (each_end_told input channel changed StaysWatched
+        (λ direction q v ds answer v' c stays named number h.
+        calls_hold q (input (sender direction channel).port) v ds answer v' c
+        (of.timely c.station.system v.time (sender direction channel).port number) h
+        (aside_of at q input (sender direction channel) v (link_in v h.watched) of
+        (λ station there.
+        ap (λ (x : Station). clock x.system) (same_there v.stations q station c.station there c.here) ∙ named)
+        (λ way. ends_other at w v place channel usual.orderly
+        (join_on w.net.channels net.channels v.net.channels joins stays.links) here apart (link_in v h.watched) way
+        direction))) orderly.setups (join_among w place channel usual.ports here) draws w' k
+        (record { watched = other_link place new w net channels apart is; orderly = orderly })).watched
       where
+        changed : WorldState
+        changed = record w { net = net }
+
         joins : JoinTheSame w.net.channels net.channels
         joins = subst (JoinTheSame w.net.channels) (sym channels) (set_join w.net.channels place channel new here a b)
+
+        orderly : IsOrderly changed
+        orderly = net_orderly w net joins usual.orderly
 
     goes_down : (up : Bool) (place : ℕ) (channel : Channel) (draws : List Draw) (w' : WorldState)
         → slice_get w.net.channels place ≡ Some channel → place ≢ at.link → GoesDownIf up place channel w draws w'

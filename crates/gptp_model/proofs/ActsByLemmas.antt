@@ -33,6 +33,13 @@ use Rattle.gptp_model.proofs.UpLemmas.{brought_ports}
 
 -- ---- ports that come up or go down
 
+-- the ports at the ends of a link are those of systems
+pub join_among : (w : WorldState) (link : ℕ) (channel : Channel) → JoinPorts w
+    → slice_get w.net.channels link ≡ Some channel → (direction : Direction)
+    → IsPortAmong (sender direction channel) w.stations
+join_among w link channel ports here direction place station there named =
+    ports link place direction channel station here there named
+
 -- a system has as many ports as before
 calls_if_live_ports : (place : ℕ) (input : Input) (w : WorldState) (draws : List Draw) (w' : WorldState)
     → CallsIfLive place input w draws w' → (other ports : ℕ) → HasPorts other ports w → HasPorts other ports w'
@@ -234,19 +241,13 @@ module _ {Known : Type 0} {Allows : Act → Type 0} {Says : List ℕ → Type 0}
 
   -- ---- changes
 
-  -- the ports at the ends of a link are those of systems
-  ends_among : (place : ℕ) (channel : Channel) (w : WorldState) → slice_get w.net.channels place ≡ Some channel
-      → (Known → JoinPorts w) → Known → (direction : Direction) → IsPortAmong (sender direction channel) w.stations
-  ends_among place channel w here joins known direction other station there named =
-      joins known place other direction channel station here there named
-
   goes_down : (up : Bool) (place : ℕ) (channel : Channel) (w : WorldState) (draws : List Draw) (w' : WorldState)
       → slice_get w.net.channels place ≡ Some channel → (Known → JoinPorts w)
       → GoesDownIf up place channel w draws w' → Is w → Is w'
   goes_down false place channel w draws w' here joins (none, same) is = subst Is (sym same) is
   goes_down true place channel w draws w' here joins k is =
       ends_told Known Is PortDown port_down channel (record w { net = taken_down place channel w.net }) draws w'
-      (ends_among place channel w here joins) k (e.link_down place channel w here is)
+      (λ known. join_among w place channel (joins known) here) k (e.link_down place channel w here is)
 
   comes_up : (up : Bool) (place : ℕ) (channel : Channel) (w : WorldState) (draws : List Draw) (w' : WorldState)
       → slice_get w.net.channels place ≡ Some channel → (Known → JoinPorts w)
@@ -254,7 +255,7 @@ module _ {Known : Type 0} {Allows : Act → Type 0} {Says : List ℕ → Type 0}
   comes_up true place channel w draws w' here joins (none, same) is = subst Is (sym same) is
   comes_up false place channel w draws w' here joins k is =
       ends_told Known Is PortUp port_up channel (record w { net = brought_up place channel w.net }) draws w'
-      (ends_among place channel w here joins) k (e.link_up place channel w here is)
+      (λ known. join_among w place channel (joins known) here) k (e.link_up place channel w here is)
 
   fails : (live : Bool) (place : ℕ) (station : Station) (w : WorldState) (draws : List Draw) (w' : WorldState)
       → slice_get w.stations place ≡ Some station → FailsIf live place station w draws w' → Is w → Is w'

@@ -3,6 +3,7 @@ pub mod ActsByLemmas
 pub mod StayLemmas
 pub mod FlowLemmas
 pub mod UpLemmas
+pub mod EndLemmas
 pub mod LinkedLemmas
 pub mod WiredLemmas
 pub mod AgreeLemmas

@@ -18,11 +18,13 @@ use Rattle.gptp_model.specs.Agrees.{stopped}
 use Rattle.gptp_model.specs.Changing.{brought_up, failed, fresh, lost, taken_down, up_ports, with_bounds, with_setup, with_station, CallsAll, CallsIfLive, ComesUpIf, FailsIf, GoesDownIf, RecoversIf, Starts, StartsAll, TellsEnds, InjectsIf}
 use Rattle.gptp_model.specs.World.{port_id}
 use Rattle.gptp_model.specs.Sound.{AreApart, AreLinked, HaveOwnClocks, HaveTheirSetups, JoinPorts, IsWired}
+use Rattle.gptp_model.proofs.ActsByLemmas.{join_among}
 use Rattle.gptp_model.proofs.AgreeLemmas.{replaced}
 use Rattle.gptp_lists.proofs.MappedLemmas.{same_there}
 use Rattle.gptp_lists.proofs.PlaceLemmas.{get-set_same, set_each}
 use Rattle.gptp_model.proofs.SteadyLemmas.{same_clock}
 use Rattle.gptp_model.proofs.StayLemmas.{begins_same, calls_if_live_stay, calls_stay, carry_same, refreshed_stays, sends_carry, sends_one_carry, set_carry, starts_stays, stays_clocks, stays_ports, stays_setups, takes_carry, tells_ends_carry, CarryTheSame, Stays}
+use Rattle.gptp_model.proofs.EndLemmas.{HasPort, among_has, stays_has_port}
 use Rattle.gptp_model.proofs.UpLemmas.{brings_port, brought_ports, comes_up, is_down, stays_up}
 use Rattle.gptp_scenario.specs.declared.change.Act.{Act}
 use Rattle.gptp_model.specs.Acts.{Acts, Changes, set_to}
@@ -150,20 +152,6 @@ calls_kept Excepted place input w draws answer w' calls downs but =
 
 -- ---- the links of ports go down and come up
 
--- the port is one of the system at a place
-abbrev pub HasPort : ℕ → PortId → WorldState → Type 0
-HasPort place port w = (station : Station) → slice_get w.stations place ≡ Some station
-    → (clock station.system ≡ port.clock) × HasPortNumber station.system port.port
-
-pub stays_has_port : (place : ℕ) (port : PortId) (w w' : WorldState) → Stays w w' → HasPort place port w
-    → HasPort place port w'
-stays_has_port place port w w' stays has station there =
-    let one = stays.stations place station there in
-    let old = has one.old one.here in
-    let at = old.1 in
-    let count = one.same.count in
-    (one.same.named ∙ old.0, record { least = at.least; most = rw count at.most })
-
 same_port : (p q : PortId) → p.clock ≡ q.clock → p.port ≡ q.port → p ≡ q
 same_port p q clocks ports = ap (λ c. port_id c p.port) clocks ∙ ap (port_id q.clock) ports
 
@@ -287,16 +275,6 @@ expires_linked place timer w draws w' linked expires =
 abbrev IsJoined : Channel → PortId → Type 0
 IsJoined channel port = (port ≡ channel.a) ⊎ (port ≡ channel.b)
 
--- the ends of a link are ports of the systems that are told
-joined_has : (place link : ℕ) (direction : Direction) (channel : Channel) (station : Station) (w : WorldState)
-    → JoinPorts w → slice_get w.net.channels link ≡ Some channel → slice_get w.stations place ≡ Some station
-    → clock station.system ≡ (sender direction channel).clock → HasPort place (sender direction channel) w
-joined_has place link direction channel station w ports here there named other at =
-    let one : station ≡ other = same_there w.stations place station other there at in
-    subst (λ (s : Station). (clock s.system ≡ (sender direction channel).clock)
-    × HasPortNumber s.system (sender direction channel).port) one
-    (named, ports link place direction channel station here there named)
-
 -- A link goes down: no link that is up is at its ports any more.
 lost_unused : (place : ℕ) (channel : Channel) (w : WorldState) → slice_get w.net.channels place ≡ Some channel
     → AreApart w → (link : ℕ) (direction : Direction) (c : Channel)
@@ -338,13 +316,13 @@ goes_down place channel w draws w' here setups ports apart linked tells =
     has_b =
         stays_has_port tells.place_b channel.b down tells.between
         (calls_if_live_stay tells.place_a (PortDown channel.a.port) down tells.first tells.between setups tells.at_a)
-        (joined_has tells.place_b place FromB channel tells.station_b w ports here tells.is_b.here tells.is_b.named)
+        (among_has tells.place_b channel.b tells.station_b down tells.is_b (join_among w place channel ports here FromB))
 
     told : LinkedBut (IsJoined channel) w'
     told =
         down_if_live (IsJoined channel) tells.place_b channel.b tells.between tells.second w' (inr refl) has_b
         (down_if_live (IsJoined channel) tells.place_a channel.a down tells.first tells.between (inl refl)
-        (joined_has tells.place_a place FromA channel tells.station_a w ports here tells.is_a.here tells.is_a.named)
+        (among_has tells.place_a channel.a tells.station_a down tells.is_a (join_among w place channel ports here FromA))
         but tells.at_a) tells.at_b
 
 goes_down_linked : (up : Bool) (place : ℕ) (channel : Channel) (w : WorldState) (draws : List Draw)
@@ -376,10 +354,10 @@ brought_up_linked place channel w draws w' here setups clocks ports linked tells
     (up_if_live (λ port. port ≡ channel.b) NoPort tells.place_b channel.b tells.between tells.second w'
     (stays_clocks at tells.between first clocks)
     (stays_has_port tells.place_b channel.b at tells.between first
-    (joined_has tells.place_b place FromB channel tells.station_b w ports here tells.is_b.here tells.is_b.named))
+    (among_has tells.place_b channel.b tells.station_b at tells.is_b (join_among w place channel ports here FromB)))
     (λ port is. inr is)
     (up_if_live (IsJoined channel) (λ port. port ≡ channel.b) tells.place_a channel.a at tells.first tells.between
-    clocks (joined_has tells.place_a place FromA channel tells.station_a w ports here tells.is_a.here tells.is_a.named)
+    clocks (among_has tells.place_a channel.a tells.station_a at tells.is_a (join_among w place channel ports here FromA))
     less (brought_up_but place channel w here linked) tells.at_a) tells.at_b)
   where
     at : WorldState

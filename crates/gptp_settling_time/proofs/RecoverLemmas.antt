@@ -55,7 +55,7 @@ use Rattle.gptp_invariants.proofs.FailedNeverAnsweredLemmas.{never_called}
 use Rattle.gptp_invariants.proofs.FailedUnansweredCallLemmas.{asker_is, call_seen, view_stays}
 use Rattle.gptp_invariants.proofs.DelayElsewhereLemmas.{orderly_too}
 use Rattle.gptp_model.proofs.ActsByLemmas.{PortCallsKeep, start_told}
-use Rattle.gptp_invariants.proofs.WorldBeforeLemmas.{calls_before, stood}
+use Rattle.gptp_invariants.proofs.FailedSilentElsewhereLemmas.{stood_up}
 use Rattle.gptp_invariants.proofs.WorldNewsLemmas.{news_begin, ready_goes_through}
 use Rattle.gptp_invariants.proofs.WorldOutlineLemmas.{acts_time}
 use Rattle.gptp_invariants.proofs.WorldSoundCallLemmas.{up_keeps}
@@ -515,10 +515,8 @@ module _ (p : SettlingParams) (by next number : ℕ) (w : WorldState) (draws : L
     module _ (at : LinkPlace) (s : StandsUnanswered at w') where
       stood_begun : StandsUnanswered at begun
       stood_begun =
-          start_told ⊥ (λ v. StandsUnanswered at v → StandsUnanswered at begun)
-          (λ place port v ds answer v' c of back stands.
-          back (stood at v v' (calls_before place (PortUp port) v ds answer v' c) stands)) k.place now draws w' starts
-          (λ stands. stands) s
+          start_told ⊥ (λ v. StandsUnanswered at v → StandsUnanswered at begun) (stood_up at begun) k.place now draws w'
+          starts (λ stands. stands) s
 
       -- what is failed is another system than the one that recovers
       answering_apart : at.answering ≢ k.place
