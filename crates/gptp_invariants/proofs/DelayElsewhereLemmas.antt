@@ -1,7 +1,6 @@
 -- A change that leaves a link alone leaves it watched, with the times that it had.
-use Rattle.std.proofs.Common.{◌≡◌, ◌≢◌, ◌⊎◌, ℕ, Bool, true, false, List, [], ◌∷◌, map, Option, Some, None, slice_get, slice_set, refl, sym, ap, subst, ◌∙◌, inl, inr, eqb-true}
+use Rattle.std.proofs.Common.{◌≡◌, ◌≢◌, ◌⊎◌, ℕ, Bool, true, false, List, Option, Some, None, slice_get, slice_set, refl, sym, ap, subst, ◌∙◌, inl, inr, eqb-true}
 use Rattle.std.specs.Prelude.{⊤, if◌then◌else◌, ◌==◌}
-use Rattle.std.proofs.lemmas.Option.{same_Some}
 use Rattle.gptp_lists.proofs.MappedLemmas.{same_there}
 use Rattle.gptp_lists.proofs.PlaceLemmas.{get-set_all, get-set_other, get-set_same, same_place}
 use Rattle.gptp_vector.specs.declared.port.PortId.{PortId}
@@ -24,13 +23,12 @@ use Rattle.gptp_model.specs.declared.done.Done.{Done}
 use Rattle.gptp_model.specs.declared.station.Station.{Station}
 use Rattle.gptp_model.specs.Act.{Calls, all_timers, in_state}
 use Rattle.gptp_model.specs.Acts.{Acts, Changes, set_to}
-use Rattle.gptp_model.specs.Changing.{CallsAll, CallsIfLive, ComesUpIf, FailsIf, GoesDownIf, InjectsIf, RecoversIf, TellsEnds, brought_up, failed, fresh, lost, taken_down, up_ports, with_bounds, with_setup, with_station}
+use Rattle.gptp_model.specs.Changing.{CallsIfLive, ComesUpIf, FailsIf, GoesDownIf, InjectsIf, RecoversIf, TellsEnds, brought_up, failed, fresh, lost, taken_down, with_bounds, with_setup, with_station}
 use Rattle.gptp_model.specs.Sends.{entered}
 use Rattle.gptp_model.specs.Sound.{IsSound, JoinPorts}
 use Rattle.gptp_model.specs.World.{Channel, Net, WorldState, port_id, receiver, sender}
 use Rattle.gptp_model.proofs.EndLemmas.{each_end_told}
 use Rattle.gptp_model.proofs.StayLemmas.{JoinTheSame, Stays, begins_same, calls_stay, join_on, refreshed_stays, set_join, stays_apart, stays_clocks, stays_setups, with_setup_stays}
-use Rattle.gptp_model.proofs.UpLemmas.{brought_ports}
 use Rattle.gptp_pdelay_machine.specs.Facts.{Facts, IsGood}
 use Rattle.gptp_pdelay_machine.specs.Measured.{MeterInv}
 use Rattle.gptp_pdelay_machine.specs.Meter.{Meter, act_of}
@@ -47,8 +45,7 @@ use Rattle.gptp_invariants.proofs.DelayWatchLemmas.{watch_kept}
 use Rattle.gptp_invariants.specs.DelayElsewhere.{IsElsewhere, IsOtherLink}
 use Rattle.gptp_invariants.proofs.DelayEndLemmas.{HearsWhatFits}
 use Rattle.gptp_invariants.proofs.DelayLinkCallLemmas.{back_in_time, back_late, back_mute, others_send, out_in_time, out_late, out_mute}
-use Rattle.gptp_model.proofs.ActsByLemmas.{PortCallsKeep, join_among}
-use Rattle.gptp_invariants.proofs.DelayLinkKeptLemmas.{HasAll, all_stay}
+use Rattle.gptp_model.proofs.ActsByLemmas.{PortCallsKeep, join_among, start_ports_told}
 use Rattle.gptp_invariants.proofs.DelayLinkLemmas.{IsOrderly, LinkStep, link_called, net_orderly, sender_opposite, sound_orderly}
 use Rattle.gptp_invariants.proofs.DelayPartLemmas.{AsksAsBefore, asks_still}
 use Rattle.gptp_system.proofs.StepLemmas.{steps_sound}
@@ -412,19 +409,6 @@ module _ (at : LinkPlace) (P : WorldState → Type 0) (link_in : (w : WorldState
       apart (sym (orderly.apart at.link place direction way was.old channel was.here here
       (sym (begins_same w.net.channels at.link direction l.channel was) ∙ same)))
 
-  -- a system at neither end is brought up
-  all_hold : (place : ℕ) (ps : List ℕ) (w : WorldState) (draws : List Draw) (w' : WorldState)
-      → at.asking ≢ place → at.answering ≢ place → HasAll place ps w → StaysWatched w
-      → CallsAll place (map PortUp ps) w draws w' → StaysWatched w'
-  all_hold place [] w draws w' asking answering has h (none, same) = subst StaysWatched (sym same) h
-  all_hold place (p ∷ ps) w draws w' asking answering has h (first, rest, between, answer, split, k, more) =
-      let one = calls_hold place (PortUp p) w first answer between k
-      (has p (inl refl) k.station k.here) h
-      (record { asking = λ same. absurd (asking same); answering = λ same. absurd (answering same) }) in
-      let stays = calls_stay place (PortUp p) w first answer between h.orderly.setups k in
-      all_hold place ps between rest w' asking answering
-      (all_stay place ps w between stays (λ q member. has q (inr member))) one more
-
   -- ---- the changes
 
   -- what is used of the world
@@ -502,12 +486,11 @@ module _ (at : LinkPlace) (P : WorldState → Type 0) (link_in : (w : WorldState
         → P w'
     recovers true place station draws w' here live (none, same) = subst P (sym same) is
     recovers false place station draws w' here dead k =
-        (all_hold place (up_ports new w.net) begun draws w' (λ same. asking (sym same))
-        (λ same. answering (sym same))
-        (λ p member x there.
-        subst (λ (y : Station). HasPortNumber y.system p)
-        (same_Some new x (sym (get-set_same w.stations place k.station new k.here) ∙ there))
-        (brought_ports new w.net p member))
+        (start_ports_told place (λ ports. StaysWatched)
+        (λ port ports v ds answer v' c of h.
+        calls_hold place (PortUp port) v ds answer v' c of h
+        (record { asking = λ same. absurd (asking (sym same)); answering = λ same. absurd (answering (sym same)) }))
+        w draws w' k
         (record {
           watched = other_system place new w (all_timers place new w.net) refl asking answering is;
           orderly = record {
@@ -517,8 +500,7 @@ module _ (at : LinkPlace) (P : WorldState → Type 0) (link_in : (w : WorldState
             params = get-set_all (λ (x : Station). AreParams x.system.params) w.stations place k.station new k.here
                 (usual.setups place k.station k.here) usual.orderly.params;
           };
-        })
-        k.calls).watched
+        })).watched
       where
         new : Station
         new = fresh w.time k.station

@@ -87,31 +87,45 @@ module _ (Known : Type 0) (Is : WorldState → Type 0) (input : ℕ → Input) (
           station there in
           record { least = old.least; most = rw count old.most }
 
-  -- ports of the system at a place, which has as many as this one, are told one after another
-  ports_told : (s : SystemState) (place : ℕ) (ps : List ℕ) (w : WorldState) (draws : List Draw) (w' : WorldState)
-      → HasPorts place (length s.ports) w → ((p : ℕ) → In p ps → HasPortNumber s p)
-      → CallsAll place (map input ps) w draws w' → Is w → Is w'
-  ports_told s place [] w draws w' has among (none, same) is = subst Is (sym same) is
-  ports_told s place (p ∷ ps) w draws w' has among (first, rest, between, answer, split, k, more) is =
+-- Ports of the system at a place, which has as many as this one, are told one after another. What is so: with those
+-- that are still to be told.
+module _ (input : ℕ → Input) (place : ℕ) (s : SystemState) (Is : List ℕ → WorldState → Type 0)
+    (called : (port : ℕ) (ports : List ℕ) (w : WorldState) (draws : List Draw) (answer : Answer) (w' : WorldState)
+    (k : Calls place (input port) w draws answer w') → HasPortNumber k.station.system port → Is (port ∷ ports) w
+    → Is ports w') where
+  pub ports_told : (ports : List ℕ) (w : WorldState) (draws : List Draw) (w' : WorldState)
+      → HasPorts place (length s.ports) w → ((port : ℕ) → In port ports → HasPortNumber s port)
+      → CallsAll place (map input ports) w draws w' → Is ports w → Is [] w'
+  ports_told [] w draws w' has among (none, same) is = subst (Is []) (sym same) is
+  ports_told (p ∷ ps) w draws w' has among (first, rest, between, answer, split, k, more) is =
       let of = among p (inl refl) in
       let count = has k.station k.here in
       let there : HasPortNumber k.station.system p = record { least = of.least; most = rw count of.most } in
-      ports_told s place ps between rest w'
-      (calls_ports place (input p) w first answer between k place (length s.ports) has)
-      (λ q member. among q (inr member)) more (called place p w first answer between k (λ known. there) is)
+      ports_told ps between rest w' (calls_ports place (input p) w first answer between k place (length s.ports) has)
+      (λ q member. among q (inr member)) more (called p ps w first answer between k there is)
 
 -- ---- starts
 
 -- a system stands at its place as it starts, and then its ports come up
-pub start_told : (Known : Type 0) (Is : WorldState → Type 0) → PortCallsKeep Known PortUp Is → (place : ℕ)
-    (w : WorldState) (draws : List Draw) (w' : WorldState) → (k : Starts place w draws w')
-    → Is (replaced place (fresh w.time k.station) w) → Is w'
-start_told Known Is called place w draws w' k =
+pub start_ports_told : (place : ℕ) (Is : List ℕ → WorldState → Type 0)
+    → ((port : ℕ) (ports : List ℕ) (w : WorldState) (draws : List Draw) (answer : Answer) (w' : WorldState)
+    (k : Calls place (PortUp port) w draws answer w') → HasPortNumber k.station.system port → Is (port ∷ ports) w
+    → Is ports w')
+    → (w : WorldState) (draws : List Draw) (w' : WorldState) → (k : Starts place w draws w')
+    → Is (up_ports (fresh w.time k.station) w.net) (replaced place (fresh w.time k.station) w) → Is [] w'
+start_ports_told place Is called w draws w' k =
     let new : Station = fresh w.time k.station in
-    ports_told Known Is PortUp called new.system place (up_ports new w.net) (replaced place new w) draws w'
+    ports_told PortUp place new.system Is called (up_ports new w.net) (replaced place new w) draws w'
     (λ station there. ap (λ (x : Station). length x.system.ports)
     (sym (same_Some new station (sym (get-set_same w.stations place k.station new k.here) ∙ there))))
     (brought_ports new w.net) k.calls
+
+pub start_told : (Known : Type 0) (Is : WorldState → Type 0) → PortCallsKeep Known PortUp Is → (place : ℕ)
+    (w : WorldState) (draws : List Draw) (w' : WorldState) → (k : Starts place w draws w')
+    → Is (replaced place (fresh w.time k.station) w) → Is w'
+start_told Known Is called place =
+    start_ports_told place (λ ports. Is)
+    (λ port ports w draws answer w' k of. called place port w draws answer w' k (λ known. of))
 
 module _ (Known : Type 0) (Is : WorldState → Type 0) (called : PortCallsKeep Known PortUp Is)
     (started : (place : ℕ) (station : Station) (w : WorldState) → slice_get w.stations place ≡ Some station → Is w
