@@ -14,10 +14,10 @@ use Rattle.gptp_system.specs.Measures.{part_asked, measure_at}
 use Rattle.gptp_system.specs.State.{clock}
 use Rattle.gptp_model.specs.declared.station.Station.{Station}
 use Rattle.gptp_model.specs.Act.{Calls}
-use Rattle.gptp_model.specs.Changing.{CallsIfLive, TellsEnds, brought_up}
+use Rattle.gptp_model.specs.Changing.{TellsEnds, brought_up}
 use Rattle.gptp_model.specs.Sound.{HaveOwnClocks, IsWired}
 use Rattle.gptp_model.specs.World.{Channel, WorldState, sender}
-use Rattle.gptp_model.proofs.StayLemmas.{JoinTheSame, begins_same, carry_same, join_on, set_join, stays_clocks}
+use Rattle.gptp_model.proofs.StayLemmas.{JoinTheSame, begins_same, join_on, set_join, stays_clocks}
 use Rattle.gptp_pdelay_machine.specs.Setting.{Setting}
 use Rattle.gptp_pdelay_machine.specs.Silence.{InvUnanswered}
 use Rattle.gptp_invariants.specs.DelayLinkView.{LinkPlace, asker_view}

@@ -419,10 +419,10 @@ stay_kept first = record {
   system_called = λ place input w draws answer w' k given.
       later first w w' (λ setups. calls_stay place input w draws answer w' setups k);
   frame_taken = λ link direction octets channel w net k stays. (
-      later first w (record w { net = net }) (λ setups. net_stays w net setups
-          (carry_join w.net.channels net.channels (takes_carry link direction w.time octets channel w.net net k))) stays,
-      tt,
-    );
+    later first w (record w { net = net }) (λ setups. net_stays w net setups
+        (carry_join w.net.channels net.channels (takes_carry link direction w.time octets channel w.net net k))) stays,
+    tt,
+  );
   timer_stopped = λ place timer w.
       let after : WorldState = stopped place timer w in
       later first w after (λ setups. net_stays w after.net setups (join_same w.net.channels));
