@@ -5,6 +5,5 @@ pub mod OptionLemmas
 pub mod PartLemmas
 pub mod QueueLemmas
 pub mod BothLemmas
-pub mod ChainLemmas
 pub mod SlotLemmas
 pub mod RingLemmas

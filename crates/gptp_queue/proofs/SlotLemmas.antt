@@ -1,68 +1,31 @@
--- Queues of entries through one slab, and the bits that say which have one.
-use Rattle.std.proofs.Common.{Option, ◌≡◌, ◌≢◌, ℕ, ◌+◌, ◌-◌, ◌*◌, ◌/◌, ◌%◌, ◌^◌, ◌<◌, ◌≤◌, List, [], ◌∷◌, ◌++◌, length, map, get_or, set, replicate, bit_and, bit_or, w64, refl, sym, ap, subst, ◌∙◌, inl, inr, arith}
+-- The slots of a ring, and the bits that say which have an entry.
+use Rattle.std.proofs.Common.{◌≡◌, ◌≢◌, ℕ, ◌+◌, ◌-◌, ◌*◌, ◌/◌, ◌%◌, ◌^◌, ◌<◌, ◌≤◌, List, [], ◌∷◌, ◌++◌, length, get_or, set, replicate, bit_and, bit_or, w64, refl, sym, ap, subst, ◌∙◌, inl, inr, arith}
 use Prim.Native.Nat.{zero, suc}
 use Rattle.std.specs.Int.{bit_at, bit_not, trailing_zeros}
 use Rattle.std.proofs.lemmas.Bool.{cases_eq, cases_lt}
 use Rattle.std.proofs.Math.ListN.{length-set}
-use Rattle.std.proofs.lemmas.List.{get_or_past, get_or-replicate, get_or-set_same, get_or-set_other, length-map, length-replicate}
+use Rattle.std.proofs.lemmas.List.{get_or-replicate, get_or-set_same, get_or-set_other}
 use Rattle.std.proofs.lemmas.Nat.Bits.{bit_at_above, bit_at-zero, bit_at-trailing_zeros, bit_at_set_same, bit_at_set_other, bit_at_clear_same, bit_at_clear_other}
-use Rattle.std.proofs.lemmas.List.Sums.{get_or-le-sum_by}
-use Rattle.std.proofs.lemmas.Option.{slice_get-get_or}
 use native.Mathlib.Nat.{div-div-eq-div-mul, div-le_self}
 use Rattle.std.proofs.lemmas.Nat.{pow-add}
-use Rattle.std.specs.List.{Contains, sum_by}
-use Rattle.slab.specs.Slab.{Slab, get, slab_len}
-use Rattle.gptp_lists.proofs.PlaceLemmas.{read}
-use Rattle.gptp_queue.specs.Chain.{chain_at, entries_in, entry_at, places, no_chain, AreChained, ChangesOne}
-use Rattle.gptp_queue.specs.Order.{first_of, part_at, rest_of, Within}
+use Rattle.std.specs.List.{Contains}
+use Rattle.gptp_queue.specs.Order.{part_at, rest_of, Within}
 use Rattle.gptp_queue.specs.Slots.{slot_bit, AreFilled, IsFirstFrom}
-use Rattle.gptp_queue.specs.declared.chain.Chain.{Chain}
-use Rattle.gptp_queue.specs.declared.chain.Node.{Node}
 use Rattle.gptp_queue.specs.Entry.{Entry}
-use Rattle.gptp_queue.proofs.ChainLemmas.{all-changed, entries-changed, entries_there}
 
--- ---- queues
-
-abbrev pub queues_of : Slab Node → List Chain → List (List Entry)
-queues_of nodes chains = map (entries_in (get nodes)) chains
-
--- the chain at a place changed, so the queue there did
-pub queue_changed : (s t : Slab Node) (chains : List Chain) (place : ℕ) (after : Chain)
-    (change : List Entry → List Entry) → AreChained s chains → place < length chains
-    → ChangesOne (get s) (get t) (chain_at place chains) after
-    → entries_in (get t) after ≡ change (entries_in (get s) (chain_at place chains))
-    → queues_of t (set chains place after)
-    ≡ set (queues_of s chains) place (change (part_at (queues_of s chains) place))
-queue_changed s t chains place after change are within changes entries =
-    entries-changed s t chains place after are within changes
-    ∙ ap (set (queues_of s chains) place) (entries ∙ ap change (sym (entries_there (get s) chains place)))
-
--- the chain that a call is lent is the one at that place
-pub chain_lent : (chains : List Chain) (place : ℕ) (lent : Chain) → place < length chains
-    → lent ≡ get_or chains place lent → chain_at place chains ≡ lent
-chain_lent chains place lent within value =
-    read chains place (get_or chains place lent) no_chain (slice_get-get_or chains place lent within) ∙ sym value
-
-pub many_chains : (s : Slab Node) (filled : List ℕ) (chains : List Chain) → AreFilled filled (queues_of s chains)
-    → length chains ≡ 2048
-many_chains s filled chains are = sym (length-map chains (entries_in (get s))) ∙ are.slots
-
--- nothing is there at the beginning
-pub none_queued : (s : Slab Node) (n k : ℕ) → part_at (queues_of s (replicate n no_chain)) k ≡ []
-none_queued s zero k = refl
-none_queued s (suc n) zero = refl
-none_queued s (suc n) (suc k) = none_queued s n k
+-- ---- no entry
 
 pub nothing_queued : (queues : List (List Entry)) → ((k : ℕ) → part_at queues k ≡ []) → (e : Entry) → Within queues e
     → ⊥
 nothing_queued queues none e (k, there) =
     let no_member : Contains [] e = rw (none k) at there in omega (arith, no_member.1)
 
-pub filled-none : (s : Slab Node) → AreFilled (replicate 32 0) (queues_of s (replicate 2048 no_chain))
-filled-none s = record {
+pub filled-none : (queues : List (List Entry)) → length queues ≡ 2048 → ((k : ℕ) → part_at queues k ≡ [])
+    → AreFilled (replicate 32 0) queues
+filled-none queues many none = record {
   words = refl;
-  slots = length-map (replicate 2048 no_chain) (entries_in (get s)) ∙ length-replicate 2048 no_chain;
-  clear = λ slot small bit. none_queued s 2048 slot;
+  slots = many;
+  clear = λ slot small bit. none slot;
   set = λ slot small bit.
       absurd (omega (
         arith,
@@ -92,7 +55,7 @@ module _ (filled : List ℕ) (queues : List (List Entry)) (slot : ℕ) (queue : 
   within : slot < length queues
   within = let l = sound.slots in omega (arith, l, small)
 
-  here : part_at (set queues slot queue) slot ≡ queue
+  pub here : part_at (set queues slot queue) slot ≡ queue
   here = get_or-set_same queues slot queue [] within
 
   there : (k : ℕ) → k ≢ slot → part_at (set queues slot queue) k ≡ part_at queues k
@@ -123,7 +86,7 @@ module _ (filled : List ℕ) (queues : List (List Entry)) (slot : ℕ) (queue : 
             ];
       }
 
-  pub filled-clear : queue ≡ []
+  pub filled-clear : part_at (set queues slot queue) slot ≡ []
       → AreFilled (set filled (slot / 64)
       (bit_and (get_or filled (slot / 64) 0) (bit_not w64 (1 * 2 ^ (slot % 64) % 2 ^ 64))))
       (set queues slot queue)
@@ -139,7 +102,7 @@ module _ (filled : List ℕ) (queues : List (List Entry)) (slot : ℕ) (queue : 
         slots = length-set queues _ _ ∙ sound.slots;
         clear = λ other small bit.
             elim (cases_eq other slot) [
-              | inl same ↦ ap (part_at (set queues slot queue)) same ∙ here ∙ none
+              | inl same ↦ ap (part_at (set queues slot queue)) same ∙ none
               | inr differs ↦ there other differs ∙ sound.clear other small (sym (others other differs) ∙ bit)
             ];
         set = λ other small bit.
@@ -149,23 +112,21 @@ module _ (filled : List ℕ) (queues : List (List Entry)) (slot : ℕ) (queue : 
             ];
       }
 
-  -- a queue that has an entry before and after
-  in_range : slot < 2048
-  in_range = small
-
-  pub filled-same : part_at queues slot ≢ [] → queue ≢ [] → AreFilled filled (set queues slot queue)
+  -- a slot that has an entry before and after
+  pub filled-same : part_at queues slot ≢ [] → part_at (set queues slot queue) slot ≢ []
+      → AreFilled filled (set queues slot queue)
   filled-same was some = record {
     words = sound.words;
     slots = length-set queues _ _ ∙ sound.slots;
-    clear = λ other small bit.
+    clear = λ other below bit.
         elim (cases_eq other slot) [
-          | inl same ↦ absurd (was (sound.clear slot in_range (subst (λ (k : ℕ). slot_bit filled k ≡ 0) same bit)))
-          | inr differs ↦ there other differs ∙ sound.clear other small bit
+          | inl same ↦ absurd (was (sound.clear slot small (subst (λ (k : ℕ). slot_bit filled k ≡ 0) same bit)))
+          | inr differs ↦ there other differs ∙ sound.clear other below bit
         ];
-    set = λ other small bit.
+    set = λ other below bit.
         elim (cases_eq other slot) [
-          | inl same ↦ rw (same, here) some
-          | inr differs ↦ rw (there other differs) (sound.set other small bit)
+          | inl same ↦ rw same some
+          | inr differs ↦ rw (there other differs) (sound.set other below bit)
         ];
   }
 
@@ -263,35 +224,7 @@ module _ (filled : List ℕ) (queues : List (List Entry)) (sound : AreFilled fil
           sound.clear k (omega (arith, before, h, small)) (rw at at clear);
     }
 
--- ---- no chain yet
-
-chain_of_none : (n i : ℕ) → chain_at i (replicate n no_chain) ≡ no_chain
-chain_of_none zero i = refl
-chain_of_none (suc n) zero = refl
-chain_of_none (suc n) (suc i) = chain_of_none n i
-
-no_counts : (n : ℕ) → sum_by (λ (c : Chain). c.count) (replicate n no_chain) ≡ 0
-no_counts zero = refl
-no_counts (suc n) = let ih = no_counts n in omega (arith, ih)
-
-pub none_chained : (s : Slab Node) (n : ℕ) → slab_len s ≡ 0 → AreChained s (replicate n no_chain)
-none_chained s n empty = record {
-  each = λ i. rw (chain_of_none n i) (record { there = tt; differ = tt; tail = tt });
-  apart = λ i j differ. rw (chain_of_none n i, chain_of_none n j) tt;
-  alone = empty ∙ sym (no_counts n);
-  fits = omega (arith, empty);
-}
-
--- ---- a chain that has entries, or none
-
-pub count_none : (s : ℕ → Option Node) (chain : Chain) → chain.count ≡ 0 → entries_in s chain ≡ []
-count_none s chain none = ap (λ (n : ℕ). map (entry_at s) (places s n chain.head)) none
-
-pub count_some : (s : ℕ → Option Node) (chain : Chain) → chain.count ≢ 0 → entries_in s chain ≢ []
-count_some s chain some = by chain.count some where
-  by : (m : ℕ) → m ≢ 0 → map (entry_at s) (places s m chain.head) ≢ []
-  by zero some = absurd (some refl)
-  by (suc m) some = λ is. let lengths = ap length is in omega (arith, lengths)
+-- ---- an entry came, or the first is gone
 
 pub push_some : (xs : List Entry) (e : Entry) → xs ++ e ∷ [] ≢ []
 push_some [] e is = let lengths = ap length is in omega (arith, lengths)
@@ -300,82 +233,3 @@ push_some (x ∷ xs) e is = let lengths = ap length is in omega (arith, lengths)
 pub rest_some : (xs : List Entry) → rest_of xs ≢ [] → xs ≢ []
 rest_some [] some = some
 rest_some (x ∷ xs) some = λ is. let lengths = ap length is in omega (arith, lengths)
-
--- ---- the first of a queue was taken out
-
-module _ (s t : Slab Node) (filled : List ℕ) (chains : List Chain) (slot : ℕ) (lent after : Chain) (small : slot < 2048)
-    (chained : AreChained s chains) (sound : AreFilled filled (queues_of s chains))
-    (lent_is : lent ≡ get_or chains slot lent)
-    (changes : ChangesOne (get s) (get t) lent after)
-    (rest : entries_in (get t) after ≡ rest_of (entries_in (get s) lent))
-    (len : slab_len t + lent.count ≡ slab_len s + after.count) (fewer : slab_len t ≤ slab_len s)
-    (capacity : t.capacity ≡ s.capacity) where
-  in_chains : slot < length chains
-  in_chains = let many = many_chains s filled chains sound in omega (arith, many, small)
-
-  is_lent : chain_at slot chains ≡ lent
-  is_lent = chain_lent chains slot lent in_chains lent_is
-
-  pub popped_queues : queues_of t (set chains slot after)
-      ≡ set (queues_of s chains) slot (rest_of (part_at (queues_of s chains) slot))
-  popped_queues = queue_changed s t chains slot after rest_of chained in_chains (rw is_lent changes) (rw is_lent rest)
-
-  pub popped_chained : AreChained t (set chains slot after)
-  popped_chained =
-      let fits = chained.fits in
-      all-changed s t chains slot after chained in_chains (rw is_lent changes) (rw is_lent len)
-      (omega (arith, fits, fewer, capacity))
-
-  queue_left : rest_of (part_at (queues_of s chains) slot) ≡ entries_in (get t) after
-  queue_left = ap rest_of (entries_there (get s) chains slot ∙ ap (entries_in (get s)) is_lent) ∙ sym rest
-
-  pub popped_clear : after.count ≡ 0
-      → AreFilled (set filled (slot / 64)
-      (bit_and (get_or filled (slot / 64) 0) (bit_not w64 (1 * 2 ^ (slot % 64) % 2 ^ 64))))
-      (queues_of t (set chains slot after))
-  popped_clear none =
-      rw popped_queues
-      (filled-clear filled (queues_of s chains) slot (rest_of (part_at (queues_of s chains) slot)) small sound
-      (queue_left ∙ count_none (get t) after none))
-
-  pub popped_same : after.count ≢ 0 → AreFilled filled (queues_of t (set chains slot after))
-  popped_same some =
-      let left : rest_of (part_at (queues_of s chains) slot) ≢ [] =
-      λ is. count_some (get t) after some (sym queue_left ∙ is) in
-      rw popped_queues
-      (filled-same filled (queues_of s chains) slot (rest_of (part_at (queues_of s chains) slot)) small sound
-      (rest_some (part_at (queues_of s chains) slot) left) left)
-
--- a chain that was given back is what it was
-pub read_back : (s : Slab Node) (filled : List ℕ) (chains : List Chain) (slot : ℕ) (after found : Chain) → slot < 2048
-    → AreFilled filled (queues_of s chains) → found ≡ get_or (set chains slot after) slot found → found ≡ after
-read_back s filled chains slot after found small sound is =
-    let many = many_chains s filled chains sound in
-    is ∙ get_or-set_same chains slot after found (omega (arith, many, small))
-
--- ---- nothing in the slab
-
-no_count : (chains : List Chain) (i : ℕ) → sum_by (λ (x : Chain). x.count) chains ≡ 0 → (chain_at i chains).count ≡ 0
-no_count chains i none = elim (cases_lt i (length chains)) [
-  | inl within ↦
-      let least = get_or-le-sum_by (λ (c : Chain). c.count) chains i no_chain within in omega (arith, least, none)
-  | inr past ↦ ap (λ (c : Chain). c.count) (get_or_past chains i no_chain past)
-]
-
-pub nothing_held : (s : Slab Node) (chains : List Chain) → AreChained s chains → slab_len s ≡ 0 → (e : Entry)
-    → Within (queues_of s chains) e → ⊥
-nothing_held s chains chained none e (k, there) =
-    let alone = chained.alone in
-    let count = no_count chains k (omega (arith, alone, none)) in
-    let empty : part_at (queues_of s chains) k ≡ [] =
-    entries_there (get s) chains k ∙ count_none (get s) (chain_at k chains) count in
-    let no_member : Contains [] e = rw empty at there in omega (arith, no_member.1)
-
--- the first of a chain that is lent is that of its queue
-pub first_lent : (s : Slab Node) (filled : List ℕ) (chains : List Chain) (slot : ℕ) (lent : Chain) → slot < 2048
-    → AreFilled filled (queues_of s chains) → lent ≡ get_or chains slot lent
-    → first_of (entries_in (get s) lent) ≡ first_of (part_at (queues_of s chains) slot)
-first_lent s filled chains slot lent small sound is =
-    let many = many_chains s filled chains sound in
-    let same = chain_lent chains slot lent (omega (arith, many, small)) is in
-    ap first_of (ap (entries_in (get s)) (sym same) ∙ sym (entries_there (get s) chains slot))

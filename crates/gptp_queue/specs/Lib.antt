@@ -4,5 +4,4 @@ pub mod Waiting
 pub mod Order
 pub mod Table
 pub mod Queue
-pub mod Chain
 pub mod Slots

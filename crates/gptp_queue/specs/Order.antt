@@ -1,5 +1,5 @@
 -- Entries in order of time: those of a queue, and such as were cancelled.
-use Rattle.std.specs.Prelude.{◌≡◌, ◌⊎◌, ℕ, ◌+◌, ◌<◌, ◌==◌, ◌&&◌, ◌||◌, Bool, true, false, ⊤, List, length, [], ◌∷◌, Option, Some, None, nat_lt, if◌then◌else◌, slice_index_or}
+use Rattle.std.specs.Prelude.{◌≡◌, ◌⊎◌, ℕ, ◌+◌, ◌<◌, ◌==◌, ◌&&◌, ◌||◌, Bool, true, false, ⊤, List, drop, length, [], ◌∷◌, Option, Some, None, nat_lt, if◌then◌else◌, slice_get, slice_index_or}
 use Rattle.std.specs.List.{All, Contains, sum_by}
 use Rattle.std.specs.Ordering.{nat_cmp, on, then_cmp}
 use Rattle.std.specs.declared.cmp.Ordering.{Ordering}
@@ -28,12 +28,10 @@ due_first d e = earlier e.0 d.0
 -- ---- lists
 
 abbrev pub first_of : List Entry → Option Entry
-first_of [] = None
-first_of (e ∷ es) = Some e
+first_of es = slice_get es 0
 
 abbrev pub rest_of : List Entry → List Entry
-rest_of [] = []
-rest_of (e ∷ es) = es
+rest_of = drop 1
 
 abbrev pub first_and : Option Entry → List Entry → List Entry
 first_and None rest = rest

@@ -5,11 +5,6 @@ use Rattle.std.specs.List.{Contains}
 use Rattle.gptp_queue.specs.Order.{part_at, IsOrdered, Rise}
 use Rattle.gptp_queue.specs.Entry.{Entry}
 
--- the entries of each slot, and how many more can be put
-pub record SlotsState : Type 0 where
-  pub queues : List (List Entry)
-  pub room : ℕ
-
 -- the bit of a slot
 abbrev pub slot_bit : List ℕ → ℕ → ℕ
 slot_bit filled slot = bit_at (slice_index filled (slot / 64)) (slot % 64)

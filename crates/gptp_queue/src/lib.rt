@@ -5,7 +5,6 @@
 #![tactic(auto)]
 
 mod before;
-mod chain;
 mod entry;
 mod far;
 mod heap;

@@ -5,10 +5,9 @@ ghost use Rattle.gptp_queue.specs.Order.{first_of, part_at, rest_of, Within};
 ghost use Rattle.gptp_queue.specs.Slots.{IsFirstFrom};
 ghost use Rattle.gptp_queue.specs.Entry.{Entry};
 
-use crate::chain::{Chain, Node};
 use crate::entry::Entry;
 use crate::maybe_entry::MaybeEntry;
-use slab::Slab;
+use gptp_chain::Queues;
 use std::alloc::{AllocError, Global};
 use std::marker::Model;
 
@@ -21,26 +20,20 @@ pub(crate) const SLOTS: usize = 2048;
 pub(crate) struct Slots {
     // Bit `slot % 64` of the word `slot / 64` says whether a slot has an entry.
     filled: [u64; 32],
-    // The entries of all slots.
-    nodes: Slab<Node>,
-    queues: Vec<Chain>,
+    // The entries of each slot.
+    entries: Queues<Entry>,
 }
 
 impl Model for Slots {
-    ghost use Rattle.std.specs.Prelude.{◌-◌, map};
-    ghost use Rattle.slab.specs.Slab.{get, slab_len};
-    ghost use Rattle.gptp_queue.specs.Chain.{entries_in, AreChained};
-    ghost use Rattle.gptp_queue.specs.Slots.{AreFilled, SlotsState};
+    ghost use Rattle.gptp_chain.specs.Queues.{QueuesState};
+    ghost use Rattle.gptp_queue.specs.Entry.{Entry as Due};
+    ghost use Rattle.gptp_queue.specs.Slots.{AreFilled};
 
-    ghost Value = { SlotsState };
+    ghost Value = { QueuesState Due };
 
-    ghost view = { λ s. record {
-      queues = map (entries_in (get s.nodes)) s.queues.items;
-      room = s.nodes.capacity - slab_len s.nodes;
-    } };
+    ghost view = { λ s. s.entries };
 
-    ghost invariant = { λ s.
-        AreChained s.nodes s.queues.items × AreFilled s.filled (map (entries_in (get s.nodes)) s.queues.items) };
+    ghost invariant = { λ s. AreFilled s.filled s.entries.queues };
 }
 
 impl Slots {
@@ -49,11 +42,10 @@ impl Slots {
         ensures none { IfOk result (λ slots. (e : Entry) → Within slots.queues e → ⊥) }
         ensures len { IfOk result (λ slots. length slots.queues ≡ 2048) }
     {
-        let queues = vec![in alloc; Chain::new(); SLOTS]?;
+        let entries = Queues::new(alloc, SLOTS)?;
         Ok(Slots {
             filled: [0; 32],
-            nodes: Slab::new(alloc),
-            queues,
+            entries,
         })
     }
 
@@ -61,21 +53,21 @@ impl Slots {
     pub fn room(&self) -> usize
         ensures { result ≡ self.now.room }
     {
-        self.nodes.capacity() - self.nodes.len()
+        self.entries.room()
     }
 
     /// Whether there is no entry.
     pub fn is_empty(&self) -> bool
         ensures { result ≡ true → (e : Entry) → Within self.now.queues e → ⊥ }
     {
-        self.nodes.is_empty()
+        self.entries.are_empty()
     }
 
     /// There are 2,048 slots.
     pub fn are_many(&self)
         ensures { length self.now.queues ≡ 2048 }
     {
-        let _ = &self.queues;
+        let _ = &self.entries;
     }
 
     /// Makes room for so many more entries.
@@ -84,7 +76,7 @@ impl Slots {
         ensures room { self.old.room ≤ self.new.room }
         ensures ok { OnOk result (additional ≤ self.new.room) }
     {
-        self.nodes.reserve(additional)
+        self.entries.reserve(additional)
     }
 
     /// Puts an entry behind the others of a slot.
@@ -94,7 +86,7 @@ impl Slots {
         ensures queues { self.new.queues ≡ slice_set self.old.queues slot (part_at self.old.queues slot ++ entry ∷ []) }
         ensures room { self.new.room ≡ self.old.room - 1 }
     {
-        self.queues[slot].push(&mut self.nodes, entry);
+        self.entries.push(slot, entry);
         self.filled[slot / 64] |= 1 << (slot % 64);
     }
 
@@ -104,8 +96,8 @@ impl Slots {
         ensures queues { self.new.queues ≡ slice_set self.old.queues slot (rest_of (part_at self.old.queues slot)) }
         ensures room { self.old.room ≤ self.new.room }
     {
-        self.queues[slot].pop(&mut self.nodes);
-        if self.queues[slot].is_empty() {
+        self.entries.pop(slot);
+        if self.entries.is_empty(slot) {
             self.filled[slot / 64] &= !(1 << (slot % 64));
         }
     }
@@ -115,8 +107,8 @@ impl Slots {
         requires { slot < 2048 }
         ensures { result ≡ first_of (part_at self.now.queues slot) }
     {
-        match self.queues[slot].first(&self.nodes) {
-            Some(entry) => MaybeEntry::of(entry),
+        match self.entries.first(slot) {
+            Some(entry) => MaybeEntry::of(*entry),
             None => MaybeEntry::none(),
         }
     }

@@ -22,7 +22,6 @@ pub mod PendingIndexLemmas
 pub mod FollowLemmas
 pub mod QueueLemmas
 pub mod PendingLemmas
-pub mod ChainLemmas
 pub mod TimingLemmas
 pub mod ArrivingLemmas
 pub mod ChangingLemmas

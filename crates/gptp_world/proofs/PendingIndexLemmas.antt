@@ -1,9 +1,10 @@
 -- What is pending in a world, by place.
-use Rattle.std.proofs.Common.{◌≡◌, ◌≢◌, if◌then◌else◌, ℕ, ◌+◌, ◌*◌, ◌<◌, ◌≤◌, ◌==◌, ◌&&◌, Bool, true, false, List, [], ◌∷◌, ◌++◌, map, length, Option, Some, None, length-set, max, refl, sym, ap, ◌∙◌, arith, subst, inl, inr}
+use Rattle.std.proofs.Common.{◌≡◌, ◌≢◌, if◌then◌else◌, ℕ, ◌+◌, ◌*◌, ◌<◌, ◌≤◌, ◌==◌, ◌&&◌, Bool, true, false, List, [], ◌∷◌, ◌++◌, drop, map, length, Option, Some, None, length-set, max, refl, sym, ap, ◌∙◌, arith, subst, inl, inr}
 use Rattle.std.specs.Prelude.{slice_index_or}
 use Rattle.std.specs.List.{AllByRecursion}
 use Rattle.std.proofs.lemmas.Bool.Decides.{nat_tests}
 use Rattle.std.proofs.lemmas.List.{length-append}
+use Rattle.gptp_chain.specs.Queues.{QueuesState, queue_at, with_queue_at}
 use Rattle.gptp_links.specs.Flights.{Differ}
 use Rattle.gptp_links.specs.declared.link.Direction.{Direction}
 use Rattle.gptp_links.specs.declared.link.Direction.TheVariants.{FromA, FromB}
@@ -18,8 +19,7 @@ use Rattle.gptp_model.specs.Pending.{Entry, pending_entry, put, timer_time, time
 use Rattle.gptp_model.proofs.TimerLemmas.{kind_below}
 use Rattle.gptp_world.specs.declared.directory.TheConstants.{PORT_SPAN}
 use Rattle.gptp_world.specs.declared.pending_index.TheConstants.{TIMER_KINDS, TIMER_SPAN}
-use Rattle.gptp_world.specs.Chain.{rest_of}
-use Rattle.gptp_world.specs.PendingIndex.{PendingIndexState, queue_at, filed_with_queue, PlacedItem, placed, item_at, placed_items, plain_items, without_placed, items_like, place_of, IsVacant, timer_place, IsPlaced, AreFree, HasSpare, MakesFree, PendingIsIndexed, PutsBack}
+use Rattle.gptp_world.specs.PendingIndex.{PlacedItem, placed, item_at, placed_items, plain_items, without_placed, items_like, place_of, IsVacant, timer_place, IsPlaced, AreFree, HasSpare, MakesFree, PendingIsIndexed, PutsBack}
 use Rattle.gptp_world.proofs.PlacedLemmas.{map-push, all-placed, placed-more, ArePlacedApart}
 use Rattle.gptp_world.proofs.QueueLemmas.{queue-same, queue-other}
 
@@ -445,7 +445,7 @@ free-put timers places ps free p are apart = record {
 
 -- ---- what is pending, after a change
 
-module _ (systems links : ℕ) (pending_index : PendingIndexState) (places : ℕ) (free : List ℕ) (ps : List PlacedItem)
+module _ (systems links : ℕ) (pending_index : QueuesState ℕ) (places : ℕ) (free : List ℕ) (ps : List PlacedItem)
     (are : PendingIsIndexed systems links pending_index places free ps) where
   abbrev timers : ℕ
   timers = systems * TIMER_SPAN
@@ -510,8 +510,8 @@ module _ (systems links : ℕ) (pending_index : PendingIndexState) (places : ℕ
     abbrev lane : ℕ
     lane = arrival_place link direction
 
-    abbrev longer : PendingIndexState
-    longer = filed_with_queue lane (queue_at lane pending_index ++ n ∷ []) room pending_index
+    abbrev longer : QueuesState ℕ
+    longer = with_queue_at lane (queue_at lane pending_index ++ n ∷ []) room pending_index
 
     queues-put : (other : ℕ) (way : Direction) (t : Bool)
         → same_item (Arrival other way) (Arrival link direction) ≡ t
@@ -557,8 +557,8 @@ module _ (systems links : ℕ) (pending_index : PendingIndexState) (places : ℕ
     abbrev way_of : ℕ
     way_of = arrival_place link direction
 
-    abbrev shorter : PendingIndexState
-    shorter = filed_with_queue way_of (rest_of (queue_at way_of pending_index)) room pending_index
+    abbrev shorter : QueuesState ℕ
+    shorter = with_queue_at way_of (drop 1 (queue_at way_of pending_index)) room pending_index
 
     pub listed : map place_of (items_like (Arrival link direction) ps) ≡ n ∷ ns
     listed = are.queues link direction ∙ first
@@ -577,10 +577,10 @@ module _ (systems links : ℕ) (pending_index : PendingIndexState) (places : ℕ
         (let test = sym (same_arrivals other link way direction) ∙ t in grind (arith, nat_tests, test)) in
         let within : way_of < length pending_index.queues =
         omega (arith, are.queues_len, arrival_within links link direction known) in
-        let now = queue-same pending_index way_of (rest_of (queue_at way_of pending_index)) room within in
+        let now = queue-same pending_index way_of (drop 1 (queue_at way_of pending_index)) room within in
         like-taken (Arrival other way) n ps ns (are.queues other way ∙ ap (λ i. queue_at i pending_index) same
         ∙ first) apart
-        ∙ sym (ap (λ i. queue_at i shorter) same ∙ now ∙ ap rest_of first)
+        ∙ sym (ap (λ i. queue_at i shorter) same ∙ now ∙ ap (drop 1) first)
     queues-taken other way false t =
         let differ : arrival_place other way ≢ way_of =
         (λ same. let test = sym (same_arrivals other link way direction) ∙ t in grind (arith, nat_tests, test, same)) in
@@ -723,14 +723,14 @@ makes-both queue after last table more most free longer longest first second =
     }
 
 -- what is pending stays so where room and places are made
-pub index-grown : (systems links : ℕ) (pending_index grown : PendingIndexState) (queue roomy after : WaitingState)
+pub index-grown : (systems links : ℕ) (pending_index grown : QueuesState ℕ) (queue roomy after : WaitingState)
     (table more : List Item) (free longer : List ℕ)
     → PendingIsIndexed systems links pending_index queue.places free (placed_items table queue.entries)
     → grown ≡ record pending_index { room = grown.room } → roomy ≡ record queue { room = roomy.room }
     → MakesFree roomy after table more free longer
     → PendingIsIndexed systems links grown after.places longer (placed_items more after.entries)
 index-grown systems links pending_index grown queue roomy after table more free longer are kept same makes =
-    let queues : grown.queues ≡ pending_index.queues = ap (λ (p : PendingIndexState). p.queues) kept in
+    let queues : grown.queues ≡ pending_index.queues = ap (λ (p : QueuesState ℕ). p.queues) kept in
     let places : roomy.places ≡ queue.places = ap (λ (q : WaitingState). q.places) same in
     let before : roomy.entries ≡ queue.entries = ap (λ (q : WaitingState). q.entries) same in
     let entries : after.entries ≡ roomy.entries = ap (λ (q : WaitingState). q.entries) makes.queue in
@@ -755,7 +755,7 @@ index-grown systems links pending_index grown queue roomy after table more free 
 
 -- ---- room
 
-pub spare-left : (spare : ℕ) (queue after : WaitingState) (pending_index left : PendingIndexState) (items : List Item)
+pub spare-left : (spare : ℕ) (queue after : WaitingState) (pending_index left : QueuesState ℕ) (items : List Item)
     (free longer : List ℕ) → HasSpare spare queue pending_index items free → queue.room ≤ after.room
     → after.places ≡ queue.places → pending_index.room ≤ left.room → length free ≤ length longer
     → HasSpare spare after left items longer

@@ -1,7 +1,6 @@
 pub mod ActTarget
 pub mod Buffers
 pub mod JoinedLink
-pub mod Chain
 pub mod FrameBudget
 pub mod Delivering
 pub mod Directory

@@ -1,6 +1,7 @@
 -- What is pending in a world, by place in a queue: each timer has a place of its own, and an arrival one that was free.
-use Rattle.std.specs.Prelude.{◌≡◌, ◌≢◌, ◌⊎◌, ℕ, ◌+◌, ◌*◌, ◌<◌, ◌≤◌, ◌==◌, not, List, [], ◌∷◌, ◌++◌, map, length, slice_index_or, slice_set}
+use Rattle.std.specs.Prelude.{◌≡◌, ◌≢◌, ◌⊎◌, ℕ, ◌+◌, ◌*◌, ◌<◌, ◌≤◌, ◌==◌, not, List, [], ◌∷◌, ◌++◌, map, length, slice_index_or}
 use Rattle.std.specs.List.{AllByRecursion, filter}
+use Rattle.gptp_chain.specs.Queues.{QueuesState, queue_at}
 use Rattle.gptp_links.specs.Flights.{Differ}
 use Rattle.gptp_links.specs.declared.link.Direction.{Direction}
 use Rattle.gptp_links.specs.declared.link.Direction.TheVariants.{FromA}
@@ -13,21 +14,6 @@ use Rattle.gptp_queue.specs.Waiting.{WaitingState}
 use Rattle.gptp_setup.specs.declared.timer.Timer.{Timer}
 use Rattle.gptp_world.specs.declared.directory.TheConstants.{PORT_SPAN}
 use Rattle.gptp_world.specs.declared.pending_index.TheConstants.{TIMER_KINDS, TIMER_SPAN}
-
--- the numbers that are listed for each direction of a link, and how many more can be put
-pub record PendingIndexState : Type 0 where
-  pub queues : List (List ℕ)
-  pub room : ℕ
-
--- ---- queues
-
-abbrev pub queue_at : ℕ → PendingIndexState → List ℕ
-queue_at place pending_index = slice_index_or pending_index.queues place []
-
--- the queue at a place is this, and there is so much room
-abbrev pub filed_with_queue : ℕ → List ℕ → ℕ → PendingIndexState → PendingIndexState
-filed_with_queue place queue room pending_index = record pending_index
-    { queues = slice_set pending_index.queues place queue; room = room }
 
 -- ---- items at places
 
@@ -90,7 +76,7 @@ pub record AreFree (timers places : ℕ) (ps : List PlacedItem) (free : List ℕ
 
 -- What is pending is of systems and links that there are, each item at its place. The places of the arrivals of each
 -- direction of a link are listed in order of putting.
-pub record PendingIsIndexed (systems links : ℕ) (pending_index : PendingIndexState) (places : ℕ) (free : List ℕ)
+pub record PendingIsIndexed (systems links : ℕ) (pending_index : QueuesState ℕ) (places : ℕ) (free : List ℕ)
     (ps : List PlacedItem) : Type 0 where
   pub few_systems : systems ≤ 512
   pub few_links : links ≤ 2048
@@ -103,7 +89,7 @@ pub record PendingIsIndexed (systems links : ℕ) (pending_index : PendingIndexS
   pub are_free : AreFree (systems * TIMER_SPAN) places ps free
 
 -- there is room for so many more, and each place of the queue can have an item
-pub record HasSpare (spare : ℕ) (queue : WaitingState) (pending_index : PendingIndexState) (items : List Item)
+pub record HasSpare (spare : ℕ) (queue : WaitingState) (pending_index : QueuesState ℕ) (items : List Item)
     (free : List ℕ) : Type 0 where
   pub in_queue : spare ≤ queue.room
   pub in_index : spare ≤ pending_index.room

@@ -11,7 +11,6 @@ mod advancing;
 mod arriving;
 mod buffers;
 mod building;
-mod chain;
 mod changing;
 mod checking;
 mod delivering;

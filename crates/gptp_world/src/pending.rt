@@ -9,9 +9,8 @@ ghost use Rattle.gptp_links.specs.declared.link.Direction.TheVariants.{FromA, Fr
 ghost use Rattle.gptp_queue.specs.Waiting.{RiseFrom};
 ghost use Rattle.gptp_world.specs.PendingIndex.{placed, placed_items, without_placed, MakesFree, PutsBack};
 
-use crate::pending_index::{
-    PendingIndex, TIMER_KINDS, TIMER_SPAN, arrival_place, timer_kind, timer_place,
-};
+use crate::pending_index::{TIMER_KINDS, TIMER_SPAN, arrival_place, timer_kind, timer_place};
+use gptp_chain::Queues;
 use gptp_links::Direction;
 use gptp_model::Item;
 use gptp_queue::Queue;
@@ -109,7 +108,7 @@ pub struct Pending {
     // The item that is due at each place, where one is.
     items: Vec<Item>,
     // The places of the arrivals, by link and direction.
-    pending_index: PendingIndex,
+    pending_index: Queues<usize>,
     // The places for arrivals at which nothing is due.
     free: Vec<usize>,
     // There is room for so many more, or for more than that.
@@ -148,7 +147,7 @@ impl Pending {
         // Each kind of timers has a run in the queue, and arrivals have none.
         let queue = Queue::new(alloc, systems * TIMER_SPAN, TIMER_KINDS)?;
         let items = vec![in alloc; NO_ITEM; systems * TIMER_SPAN]?;
-        let pending_index = PendingIndex::new(alloc, links * 2)?;
+        let pending_index = Queues::new(alloc, links * 2)?;
         Ok(Pending {
             systems,
             links,

@@ -1,8 +1,9 @@
 use Rattle.std.proofs.Common.{refl, sym, ap, ◌∙◌, ◌<◌, arith}
+use Rattle.gptp_chain.specs.Queues.{queue_at}
 use Rattle.gptp_model.specs.Pending.{arrival_place}
 use Rattle.gptp_model.specs.declared.item.Item.TheVariants.{Arrival}
 use Rattle.gptp_model.proofs.PendingLemmas.{without_first-none}
-use Rattle.gptp_world.specs.PendingIndex.{placed_items, plain_items, queue_at}
+use Rattle.gptp_world.specs.PendingIndex.{placed_items, plain_items}
 use Rattle.gptp_world.proofs.PendingLemmas.{same_state}
 use Rattle.gptp_world.proofs.QueueLemmas.{front_is, no_front}
 use Rattle.gptp_world.proofs.PlacedLemmas.{all-placed, apart-placed, placed-without}
@@ -13,7 +14,7 @@ pub take-requires : goal.take-requires
 take-requires c =
     let p = c.self.inside in let are = c.self.invariant.0 in let ps = placed_items p.items.items p.queue.entries in
     let first = front_is (queue_at (arrival_place c.args.link c.args.direction) p.pending_index) c.in-Some.place
-    (sym c.in-Some.is ∙ rw c.arrival_place.ensures at c.pop.ensures.number) in
+    (sym c.in-Some.is ∙ rw c.arrival_place.ensures at c.pop.ensures.value) in
     let item = Arrival c.args.link c.args.direction in
     let listed = are.queues c.args.link c.args.direction ∙ first.1 in
     first_holds item c.in-Some.place (λ place. place < p.queue.places) ps first.0 listed
@@ -24,7 +25,7 @@ pub invariant_of-self : goal.invariant_of-self
 invariant_of-self c =
     let p = c.self.inside in let are = c.self.invariant.0 in let ps = placed_items p.items.items p.queue.entries in
     let first = front_is (queue_at (arrival_place c.args.link c.args.direction) p.pending_index) c.in-Some.place
-    (sym c.in-Some.is ∙ rw c.arrival_place.ensures at c.pop.ensures.number) in
+    (sym c.in-Some.is ∙ rw c.arrival_place.ensures at c.pop.ensures.value) in
     let item = Arrival c.args.link c.args.direction in
     let known = rw (← c.self.view_is) at c.requires in (
       rw (
@@ -48,7 +49,7 @@ pub returns-in-Some-clause-kept : goal.returns-in-Some-clause-kept
 returns-in-Some-clause-kept c =
     let p = c.self.inside in let are = c.self.invariant.0 in let ps = placed_items p.items.items p.queue.entries in
     let first = front_is (queue_at (arrival_place c.args.link c.args.direction) p.pending_index) c.in-Some.place
-    (sym c.in-Some.is ∙ rw c.arrival_place.ensures at c.pop.ensures.number) in
+    (sym c.in-Some.is ∙ rw c.arrival_place.ensures at c.pop.ensures.value) in
     let item = Arrival c.args.link c.args.direction in
     let listed = are.queues c.args.link c.args.direction ∙ first.1 in
     rw (← c.self.view_is, c.take.ensures)
@@ -61,7 +62,7 @@ pub returns-in-Some-clause-one : goal.returns-in-Some-clause-one
 returns-in-Some-clause-one c = λ _.
     let p = c.self.inside in let are = c.self.invariant.0 in let ps = placed_items p.items.items p.queue.entries in
     let first = front_is (queue_at (arrival_place c.args.link c.args.direction) p.pending_index) c.in-Some.place
-    (sym c.in-Some.is ∙ rw c.arrival_place.ensures at c.pop.ensures.number) in
+    (sym c.in-Some.is ∙ rw c.arrival_place.ensures at c.pop.ensures.value) in
     let item = Arrival c.args.link c.args.direction in
     let listed = are.queues c.args.link c.args.direction ∙ first.1 in
     rw (
@@ -78,7 +79,7 @@ returns-in-None-clause-kept c =
     let p = c.self.inside in let are = c.self.invariant.0 in
     let item = Arrival c.args.link c.args.direction in
     let none = no_front (queue_at (arrival_place c.args.link c.args.direction) p.pending_index) (sym c.in-None.is
-    ∙ rw c.arrival_place.ensures at c.pop.ensures.number) in
+    ∙ rw c.arrival_place.ensures at c.pop.ensures.value) in
     let ps = placed_items p.items.items p.queue.entries in
     rw (← c.self.view_is)
     (same_state _ _ refl refl
@@ -91,6 +92,6 @@ returns-in-None-clause-none c = λ _.
     let p = c.self.inside in let are = c.self.invariant.0 in
     let item = Arrival c.args.link c.args.direction in
     let none = no_front (queue_at (arrival_place c.args.link c.args.direction) p.pending_index) (sym c.in-None.is
-    ∙ rw c.arrival_place.ensures at c.pop.ensures.number) in
+    ∙ rw c.arrival_place.ensures at c.pop.ensures.value) in
     rw (← c.self.view_is)
     (times-none item (placed_items p.items.items p.queue.entries) (are.queues c.args.link c.args.direction ∙ none))
