@@ -15,6 +15,7 @@ use Rattle.gptp_system.specs.declared.answer.Answer.{Answer}
 use Rattle.gptp_system.specs.Facts.{IsSystem}
 use Rattle.gptp_system.specs.Input.{Input, IsTimely, PortUp}
 use Rattle.gptp_system.specs.Start.{started}
+use Rattle.gptp_system.specs.State.{SystemState}
 use Rattle.gptp_system.specs.Steps.{HasPortNumber}
 use Rattle.gptp_system.proofs.ReadyLemmas.{started_ready}
 use Rattle.gptp_system.proofs.SystemLemmas.{starts_system}
@@ -24,7 +25,6 @@ use Rattle.gptp_model.specs.Changing.{fresh, up_ports, CallsAll, CallsIfLive, St
 use Rattle.gptp_model.specs.World.{Channel, Net, WorldState}
 use Rattle.gptp_model.proofs.AgreeLemmas.{replaced}
 use Rattle.gptp_model.proofs.AheadLemmas.{sends_later}
-use Rattle.gptp_model.proofs.ChangeOnTimeLemmas.{IsOfPort}
 use Rattle.gptp_model.proofs.SteadyLemmas.{same_ports}
 use Rattle.gptp_model.proofs.StayLemmas.{calls_stay, refreshed_stays, stays_setups, Stays}
 use Rattle.gptp_model.proofs.UpLemmas.{brought_ports}
@@ -116,7 +116,8 @@ module _ {F : Type 0} (answers : Bounds → ℕ → F → Option ℕ → F → T
           (inr (record { station = station; here = here; failed = failed }, refl, refl)) (itself_on w can)
 
   -- both ends of a link are told
-  pub tells_ends_exist : (input : ℕ → Input) (channel : Channel) (w : WorldState) (fate : F) → IsOfPort input
+  pub tells_ends_exist : (input : ℕ → Input) (channel : Channel) (w : WorldState) (fate : F)
+      → ((s : SystemState) (now p : ℕ) → HasPortNumber s p → IsTimely s now (input p))
       → ((p : ℕ) → HearsOctets (input p)) → CanCall w → HasEnd channel.a w.stations → HasEnd channel.b w.stations
       → Comes answers w fate (TellsEnds input channel w)
   tells_ends_exist input channel w fate timely octets can a b =

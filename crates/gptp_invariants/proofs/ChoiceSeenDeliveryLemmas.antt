@@ -33,7 +33,7 @@ use Rattle.gptp_invariants.proofs.ChoicePlaceLemmas.{IsPortAt, IsStationAt, port
 use Rattle.gptp_invariants.proofs.ChoiceTakeUpLemmas.{BeginApart, begin_apart}
 use Rattle.gptp_invariants.proofs.ChoiceTouchLemmas.{capable_hears, frame_young, grow_back, hear_back, heard_in}
 use Rattle.gptp_invariants.proofs.ChoiceSendLemmas.{world_apart}
-use Rattle.gptp_invariants.proofs.WorldActsByLemmas.{reached_up}
+use Rattle.gptp_model.proofs.ActsByLemmas.{reached_up}
 
 -- a port that isn't Disabled is capable
 capable_on : (s : SystemState) (i : ℕ) (h : Held) (q : Port) → AreShown s → slice_get s.held i ≡ Some h

@@ -29,7 +29,7 @@ use Rattle.gptp_invariants.proofs.ChoicePlaceLemmas.{IsPortAt, port_from}
 use Rattle.gptp_invariants.proofs.ChoiceReactLemmas.{received_back}
 use Rattle.gptp_invariants.proofs.ChoiceTouchLemmas.{Ages, grow_back, grown_by, hear_back, heard_in}
 use Rattle.gptp_invariants.proofs.ChoiceSendLemmas.{world_apart}
-use Rattle.gptp_invariants.proofs.WorldActsByLemmas.{expires_due, expires_timely}
+use Rattle.gptp_model.proofs.ActsByLemmas.{expires_due, expires_timely}
 
 -- what is seen as received at a port is too old where its Age timer is due
 age_passed : (s : SystemState) (i : ℕ) (h : Held) (q : Port) (now : ℕ) (x : SeenReception) → slice_get s.held i ≡ Some h

@@ -32,7 +32,7 @@ use Rattle.gptp_invariants.proofs.ChoiceSeenOctetLemmas.{octets_fit}
 use Rattle.gptp_invariants.proofs.DelayEndLemmas.{HearsWhatFits}
 use Rattle.gptp_invariants.proofs.DelayLinkKeptLemmas.{started_measured}
 use Rattle.gptp_invariants.proofs.DelayMeasuredLemmas.{IsKept, calls_kept, entered_fits, queue_fits, sound_kept}
-use Rattle.gptp_invariants.proofs.WorldActsByLemmas.{Elementary, SaysWhatIsKnown, acts_by, starts_by}
+use Rattle.gptp_model.proofs.ActsByLemmas.{Elementary, SaysWhatIsKnown, acts_by, starts_by}
 
 -- ---- what is between the systems
 

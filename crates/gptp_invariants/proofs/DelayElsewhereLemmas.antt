@@ -1,7 +1,6 @@
 -- A change that leaves a link alone leaves it watched, with the times that it had.
-use Rattle.std.proofs.Common.{◌≡◌, ◌≢◌, ◌⊎◌, ℕ, Bool, true, false, List, [], ◌∷◌, map, Option, Some, None, slice_get, slice_set, refl, sym, ap, subst, ◌∙◌, inl, inr, eqb-true}
+use Rattle.std.proofs.Common.{◌≡◌, ◌≢◌, ◌⊎◌, ℕ, Bool, true, false, List, Option, Some, None, slice_get, slice_set, refl, sym, ap, subst, ◌∙◌, inl, inr, eqb-true}
 use Rattle.std.specs.Prelude.{⊤, if◌then◌else◌, ◌==◌}
-use Rattle.std.proofs.lemmas.Option.{same_Some}
 use Rattle.gptp_lists.proofs.MappedLemmas.{same_there}
 use Rattle.gptp_lists.proofs.PlaceLemmas.{get-set_all, get-set_other, get-set_same, same_place}
 use Rattle.gptp_vector.specs.declared.port.PortId.{PortId}
@@ -23,14 +22,13 @@ use Rattle.gptp_pdelay.specs.Peer.{reset_peer}
 use Rattle.gptp_model.specs.declared.done.Done.{Done}
 use Rattle.gptp_model.specs.declared.station.Station.{Station}
 use Rattle.gptp_model.specs.Act.{Calls, all_timers, in_state}
-use Rattle.gptp_model.specs.Ahead.{IsPortAmong}
 use Rattle.gptp_model.specs.Acts.{Acts, Changes, set_to}
-use Rattle.gptp_model.specs.Changing.{CallsAll, CallsIfLive, ComesUpIf, FailsIf, GoesDownIf, InjectsIf, RecoversIf, TellsEnds, brought_up, failed, fresh, lost, taken_down, up_ports, with_bounds, with_setup, with_station}
+use Rattle.gptp_model.specs.Changing.{CallsIfLive, ComesUpIf, FailsIf, GoesDownIf, InjectsIf, RecoversIf, TellsEnds, brought_up, failed, fresh, lost, taken_down, with_bounds, with_setup, with_station}
 use Rattle.gptp_model.specs.Sends.{entered}
 use Rattle.gptp_model.specs.Sound.{IsSound, JoinPorts}
 use Rattle.gptp_model.specs.World.{Channel, Net, WorldState, port_id, receiver, sender}
-use Rattle.gptp_model.proofs.StayLemmas.{JoinTheSame, Stays, begins_same, calls_if_live_stay, calls_stay, join_on, join_same, refreshed_stays, set_join, stays_apart, stays_clocks, stays_setups, with_setup_stays}
-use Rattle.gptp_model.proofs.UpLemmas.{brought_ports}
+use Rattle.gptp_model.proofs.EndLemmas.{each_end_told}
+use Rattle.gptp_model.proofs.StayLemmas.{JoinTheSame, Stays, begins_same, calls_stay, join_on, refreshed_stays, set_join, stays_apart, stays_clocks, stays_setups, with_setup_stays}
 use Rattle.gptp_pdelay_machine.specs.Facts.{Facts, IsGood}
 use Rattle.gptp_pdelay_machine.specs.Measured.{MeterInv}
 use Rattle.gptp_pdelay_machine.specs.Meter.{Meter, act_of}
@@ -47,8 +45,7 @@ use Rattle.gptp_invariants.proofs.DelayWatchLemmas.{watch_kept}
 use Rattle.gptp_invariants.specs.DelayElsewhere.{IsElsewhere, IsOtherLink}
 use Rattle.gptp_invariants.proofs.DelayEndLemmas.{HearsWhatFits}
 use Rattle.gptp_invariants.proofs.DelayLinkCallLemmas.{back_in_time, back_late, back_mute, others_send, out_in_time, out_late, out_mute}
-use Rattle.gptp_invariants.proofs.WorldActsByLemmas.{PortCallsKeep}
-use Rattle.gptp_invariants.proofs.DelayLinkKeptLemmas.{HasAll, all_stay, among_stays}
+use Rattle.gptp_model.proofs.ActsByLemmas.{PortCallsKeep, join_among, start_ports_told}
 use Rattle.gptp_invariants.proofs.DelayLinkLemmas.{IsOrderly, LinkStep, link_called, net_orderly, sender_opposite, sound_orderly}
 use Rattle.gptp_invariants.proofs.DelayPartLemmas.{AsksAsBefore, asks_still}
 use Rattle.gptp_system.proofs.StepLemmas.{steps_sound}
@@ -412,61 +409,6 @@ module _ (at : LinkPlace) (P : WorldState → Type 0) (link_in : (w : WorldState
       apart (sym (orderly.apart at.link place direction way was.old channel was.here here
       (sym (begins_same w.net.channels at.link direction l.channel was) ∙ same)))
 
-  -- both ends of another link are told
-  tells_hold : (input : ℕ → Input) (place : ℕ) (channel : Channel) (w : WorldState)
-      (draws : List Draw) (w' : WorldState) → IsOfPort input
-      → ((direction way : Direction) (v : WorldState) → JoinTheSame w.net.channels v.net.channels → (l : IsLinkOf at v)
-      → sender direction l.channel ≢ sender way channel)
-      → IsPortAmong channel.a w.stations → IsPortAmong channel.b w.stations → StaysWatched w
-      → TellsEnds input channel w draws w' → StaysWatched w'
-  tells_hold input place channel w draws w' of other port_a port_b h k =
-      if_live_hold k.place_b (input channel.b.port) k.between k.second w' timely_b first
-      (aside_of at k.place_b input channel.b k.between (link_in k.between first.watched) of named_b
-      (λ direction. other direction FromB k.between stays.links (link_in k.between first.watched))) k.at_b
-    where
-      named_a : (station : Station) → slice_get w.stations k.place_a ≡ Some station
-          → clock station.system ≡ channel.a.clock
-      named_a station there =
-          ap (λ (x : Station). clock x.system) (same_there w.stations k.place_a station k.station_a there k.is_a.here)
-          ∙ k.is_a.named
-
-      first : StaysWatched k.between
-      first = if_live_hold k.place_a (input channel.a.port) w k.first k.between
-          (λ station there. of.timely station.system w.time channel.a.port
-          (port_a k.place_a station there (named_a station there))) h
-          (aside_of at k.place_a input channel.a w (link_in w h.watched) of named_a
-          (λ direction. other direction FromA w (join_same w.net.channels) (link_in w h.watched))) k.at_a
-
-      stays : Stays w k.between
-      stays = calls_if_live_stay k.place_a (input channel.a.port) w k.first k.between h.orderly.setups k.at_a
-
-      named_b : (station : Station) → slice_get k.between.stations k.place_b ≡ Some station
-          → clock station.system ≡ channel.b.clock
-      named_b station there =
-          let near = stays.stations k.place_b station there in
-          near.same.named
-          ∙ ap (λ (x : Station). clock x.system)
-          (same_there w.stations k.place_b near.old k.station_b near.here k.is_b.here) ∙ k.is_b.named
-
-      timely_b : (station : Station) → slice_get k.between.stations k.place_b ≡ Some station
-          → IsTimely station.system k.between.time (input channel.b.port)
-      timely_b station there =
-          of.timely station.system k.between.time channel.b.port
-          (among_stays w k.between channel.b stays port_b k.place_b station there (named_b station there))
-
-  -- a system at neither end is brought up
-  all_hold : (place : ℕ) (ps : List ℕ) (w : WorldState) (draws : List Draw) (w' : WorldState)
-      → at.asking ≢ place → at.answering ≢ place → HasAll place ps w → StaysWatched w
-      → CallsAll place (map PortUp ps) w draws w' → StaysWatched w'
-  all_hold place [] w draws w' asking answering has h (none, same) = subst StaysWatched (sym same) h
-  all_hold place (p ∷ ps) w draws w' asking answering has h (first, rest, between, answer, split, k, more) =
-      let one = calls_hold place (PortUp p) w first answer between k
-      (has p (inl refl) k.station k.here) h
-      (record { asking = λ same. absurd (asking same); answering = λ same. absurd (answering same) }) in
-      let stays = calls_stay place (PortUp p) w first answer between h.orderly.setups k in
-      all_hold place ps between rest w' asking answering
-      (all_stay place ps w between stays (λ q member. has q (inr member))) one more
-
   -- ---- the changes
 
   -- what is used of the world
@@ -483,19 +425,26 @@ module _ (at : LinkPlace) (P : WorldState → Type 0) (link_in : (w : WorldState
         → net.channels ≡ slice_set w.net.channels place new → new.a ≡ channel.a → new.b ≡ channel.b
         → TellsEnds input channel (record w { net = net }) draws w' → P w'
     other_told input place channel new net draws w' of here apart channels a b k =
-        (tells_hold input place channel (record w { net = net }) draws w' of
-        (λ direction way v on l. ends_other at w v place channel usual.orderly
-        (join_on w.net.channels net.channels v.net.channels joins on) here apart l direction way)
-        (λ other station there named. usual.ports place other FromA channel station here there named)
-        (λ other station there named. usual.ports place other FromB channel station here there named)
-        (record {
-          watched = other_link place new w net channels apart is;
-          orderly = net_orderly w net joins usual.orderly;
-        })
-        k).watched
+        (each_end_told input channel changed StaysWatched
+        (λ direction q v ds answer v' c stays named number h.
+        calls_hold q (input (sender direction channel).port) v ds answer v' c
+        (of.timely c.station.system v.time (sender direction channel).port number) h
+        (aside_of at q input (sender direction channel) v (link_in v h.watched) of
+        (λ station there.
+        ap (λ (x : Station). clock x.system) (same_there v.stations q station c.station there c.here) ∙ named)
+        (λ way. ends_other at w v place channel usual.orderly
+        (join_on w.net.channels net.channels v.net.channels joins stays.links) here apart (link_in v h.watched) way
+        direction))) orderly.setups (join_among w place channel usual.ports here) draws w' k
+        (record { watched = other_link place new w net channels apart is; orderly = orderly })).watched
       where
+        changed : WorldState
+        changed = record w { net = net }
+
         joins : JoinTheSame w.net.channels net.channels
         joins = subst (JoinTheSame w.net.channels) (sym channels) (set_join w.net.channels place channel new here a b)
+
+        orderly : IsOrderly changed
+        orderly = net_orderly w net joins usual.orderly
 
     goes_down : (up : Bool) (place : ℕ) (channel : Channel) (draws : List Draw) (w' : WorldState)
         → slice_get w.net.channels place ≡ Some channel → place ≢ at.link → GoesDownIf up place channel w draws w'
@@ -537,12 +486,11 @@ module _ (at : LinkPlace) (P : WorldState → Type 0) (link_in : (w : WorldState
         → P w'
     recovers true place station draws w' here live (none, same) = subst P (sym same) is
     recovers false place station draws w' here dead k =
-        (all_hold place (up_ports new w.net) begun draws w' (λ same. asking (sym same))
-        (λ same. answering (sym same))
-        (λ p member x there.
-        subst (λ (y : Station). HasPortNumber y.system p)
-        (same_Some new x (sym (get-set_same w.stations place k.station new k.here) ∙ there))
-        (brought_ports new w.net p member))
+        (start_ports_told place (λ ports. StaysWatched)
+        (λ port ports v ds answer v' c of h.
+        calls_hold place (PortUp port) v ds answer v' c of h
+        (record { asking = λ same. absurd (asking (sym same)); answering = λ same. absurd (answering (sym same)) }))
+        w draws w' k
         (record {
           watched = other_system place new w (all_timers place new w.net) refl asking answering is;
           orderly = record {
@@ -552,8 +500,7 @@ module _ (at : LinkPlace) (P : WorldState → Type 0) (link_in : (w : WorldState
             params = get-set_all (λ (x : Station). AreParams x.system.params) w.stations place k.station new k.here
                 (usual.setups place k.station k.here) usual.orderly.params;
           };
-        })
-        k.calls).watched
+        })).watched
       where
         new : Station
         new = fresh w.time k.station

@@ -24,7 +24,7 @@ use Rattle.gptp_model.specs.Sound.{IsWired}
 use Rattle.gptp_model.specs.World.{Channel, WorldState, port_id, receiver}
 use Rattle.gptp_model.proofs.WiredLemmas.{time_wired}
 use Rattle.gptp_invariants.specs.DelayLinked.{MeasureLinks}
-use Rattle.gptp_invariants.proofs.WorldActsByLemmas.{expires_timely}
+use Rattle.gptp_model.proofs.ActsByLemmas.{expires_timely}
 use Rattle.gptp_invariants.proofs.DelayTimersLemmas.{sends_one_links, set_links, takes_links}
 use Rattle.gptp_invariants.proofs.DelayOnLinkLemmas.{calls_measure, net_measure, replaced_measure, station_measure}
 use Rattle.gptp_invariants.proofs.DelayComesUpLemmas.{calls_if_live_measure, comes_up_measures}

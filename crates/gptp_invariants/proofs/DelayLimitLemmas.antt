@@ -22,7 +22,7 @@ use Rattle.gptp_model.specs.Changing.{lost}
 use Rattle.gptp_model.specs.Sends.{SendsAll, SendsOne, entered, written}
 use Rattle.gptp_model.specs.World.{Channel, Net, WorldState, port_id, world_queue, with_queue}
 use Rattle.gptp_lists.proofs.PlaceLemmas.{get-set_all}
-use Rattle.gptp_invariants.proofs.WorldActsByLemmas.{Elementary}
+use Rattle.gptp_model.proofs.ActsByLemmas.{Elementary}
 
 -- ---- queues
 

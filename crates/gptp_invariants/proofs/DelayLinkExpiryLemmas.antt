@@ -38,7 +38,7 @@ use Rattle.gptp_invariants.specs.ChoiceSaid.{said_at}
 use Rattle.gptp_invariants.proofs.DelayLinkLemmas.{IsOrderly, LinkStep, end_fits, end_named, end_next, end_request, link_called, sender_opposite, sound_orderly}
 use Rattle.gptp_invariants.proofs.DelayPartLemmas.{AsksAsBefore, asked_measured, asked_seen, asks_still}
 use Rattle.gptp_invariants.proofs.DelaySentLemmas.{next_of, sends_answer, sends_request}
-use Rattle.gptp_invariants.proofs.WorldActsByLemmas.{expires_due, expires_timely}
+use Rattle.gptp_model.proofs.ActsByLemmas.{expires_due, expires_timely}
 
 -- ---- the ends
 

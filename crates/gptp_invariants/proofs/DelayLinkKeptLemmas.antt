@@ -1,7 +1,6 @@
 -- The ports of systems stay theirs, and a system that starts measures at each of them.
-use Rattle.std.proofs.Common.{◌≡◌, ℕ, zero, suc, Bool, List, Some, slice_get, refl, sym, subst, ◌∙◌, arith}
+use Rattle.std.proofs.Common.{◌≡◌, ℕ, zero, suc, Bool, Some, refl, sym, subst, ◌∙◌, arith}
 use Rattle.std.proofs.lemmas.Option.{none-some}
-use Rattle.gptp_lists.specs.Members.{In}
 use Rattle.gptp_vector.specs.declared.port.PortId.{PortId}
 use Rattle.gptp_roles.specs.Selection.{clock_of}
 use Rattle.gptp_system.specs.declared.port.Port.{Port}
@@ -9,10 +8,8 @@ use Rattle.gptp_setup.specs.declared.setup.Setup.{Setup}
 use Rattle.gptp_system.specs.Measures.{measure_at}
 use Rattle.gptp_system.specs.Start.{started}
 use Rattle.gptp_system.specs.State.{number, own}
-use Rattle.gptp_system.specs.Steps.{HasPortNumber}
 use Rattle.gptp_system.proofs.SpanLemmas.{starts_in_time}
 use Rattle.gptp_system.proofs.StartLemmas.{new_port_at}
-use Rattle.gptp_model.specs.declared.station.Station.{Station}
 use Rattle.gptp_model.specs.Ahead.{IsPortAmong}
 use Rattle.gptp_model.specs.World.{WorldState}
 use Rattle.gptp_model.proofs.StayLemmas.{Stays}
@@ -27,18 +24,6 @@ pub among_stays : (w w' : WorldState) (port : PortId) → Stays w w' → IsPortA
 among_stays w w' port stays among place station there named =
     let near = stays.stations place station there in
     let old = among place near.old near.here (sym near.same.named ∙ named) in
-    let count = near.same.count in
-    record { least = old.least; most = rw count old.most }
-
--- the system at a place has these ports
-abbrev pub HasAll : ℕ → List ℕ → WorldState → Type 0
-HasAll place ps w = (p : ℕ) → In p ps → (station : Station) → slice_get w.stations place ≡ Some station
-    → HasPortNumber station.system p
-
-pub all_stay : (place : ℕ) (ps : List ℕ) (w w' : WorldState) → Stays w w' → HasAll place ps w → HasAll place ps w'
-all_stay place ps w w' stays has p member station there =
-    let near = stays.stations place station there in
-    let old = has p member near.old near.here in
     let count = near.same.count in
     record { least = old.least; most = rw count old.most }
 

@@ -30,7 +30,7 @@ use Rattle.gptp_model.specs.Course.{Begun}
 use Rattle.gptp_model.specs.Initial.{channel_from, initial, setup_of, station_of}
 use Rattle.gptp_model.specs.Sound.{IsItsSetup, IsSound}
 use Rattle.gptp_model.specs.World.{Channel, WorldState, world_queue, receiver, sender}
-use Rattle.gptp_model.proofs.StayLemmas.{calls_stay, starts_all_stay}
+use Rattle.gptp_model.proofs.StayLemmas.{starts_all_stay}
 use Rattle.gptp_model.proofs.UpLemmas.{brings_port, brought_ports}
 use Rattle.gptp_pdelay_machine.specs.Lanes.{AreMute}
 use Rattle.gptp_pdelay_machine.proofs.LaneLemmas.{no_frames_mute}
@@ -44,9 +44,9 @@ use Rattle.gptp_invariants.proofs.ChoiceCalmKeptLemmas.{KeepsNetwork, calls_keep
 use Rattle.gptp_invariants.proofs.DelayCapableKeptLemmas.{known_params, stood_among}
 use Rattle.gptp_invariants.proofs.DelayChangeKeptLemmas.{initially_measured}
 use Rattle.gptp_invariants.proofs.DelayFirstAtLemmas.{Came, IsReady, came_beside, ready_beside, ready_first}
-use Rattle.gptp_invariants.proofs.DelayLinkKeptLemmas.{HasAll, all_stay}
 use Rattle.gptp_invariants.proofs.DelayLinkLemmas.{IsOrderly, sender_opposite, sound_orderly}
 use Rattle.gptp_invariants.proofs.DelayLinkStandLemmas.{end_is}
+use Rattle.gptp_model.proofs.ActsByLemmas.{ports_told}
 
 -- ---- lists
 
@@ -135,49 +135,6 @@ calls_woken place (x ∷ xs) w draws w' (first, rest, between, answer, split, k,
   calls_woken place xs between rest w' more,
 )
 
--- ---- ports come up, one after another
-
-module _ (at : LinkPlace) (time port place : ℕ) where
-  wait_all : (ps : List ℕ) (w : WorldState) (draws : List Draw) (w' : WorldState)
-      → (at.asking ≡ place → In port ps → ⊥) → HasAll place ps w → IsReady at time port w
-      → CallsAll place (map PortUp ps) w draws w' → IsReady at time port w'
-  wait_all [] w draws w' other has is (none, same) = subst (IsReady at time port) (sym same) is
-  wait_all (p ∷ ps) w draws w' other has is (first, rest, between, answer, split, k, more) =
-      let stays = calls_stay place (PortUp p) w first answer between is.orderly.setups k in
-      wait_all ps between rest w' (λ same among. other same (inr among))
-      (all_stay place ps w between stays (λ q member. has q (inr member)))
-      (ready_beside at time port place p w first answer between k (has p (inl refl) k.station k.here)
-      (λ same is_p. other same (inl is_p)) is) more
-
-  past_all : (ps : List ℕ) (w : WorldState) (draws : List Draw) (w' : WorldState)
-      → (at.asking ≡ place → In port ps → ⊥) → HasAll place ps w → Came at time port w
-      → CallsAll place (map PortUp ps) w draws w' → Came at time port w'
-  past_all [] w draws w' other has is (none, same) = subst (Came at time port) (sym same) is
-  past_all (p ∷ ps) w draws w' other has is (first, rest, between, answer, split, k, more) =
-      let stays = calls_stay place (PortUp p) w first answer between is.orderly.setups k in
-      past_all ps between rest w' (λ same among. other same (inr among))
-      (all_stay place ps w between stays (λ q member. has q (inr member)))
-      (came_beside at time port place p w first answer between k (has p (inl refl) k.station k.here)
-      (λ same is_p. other same (inl is_p)) is) more
-
-  reach_all : (ps : List ℕ) (w : WorldState) (draws : List Draw) (w' : WorldState) → Different ps → In port ps
-      → at.asking ≡ place → HasAll place ps w → IsReady at time port w
-      → CallsAll place (map PortUp ps) w draws w' → Came at time port w'
-  reach_all [] w draws w' different among here has is calls = absurd among
-  reach_all (p ∷ ps) w draws w' different (inl is_p) here has is (first, rest, between, answer, split, k, more) =
-      let stays = calls_stay place (PortUp p) w first answer between is.orderly.setups k in
-      past_all ps between rest w' (λ same among. different.0 (subst (λ q. In q ps) is_p among))
-      (all_stay place ps w between stays (λ q member. has q (inr member)))
-      (subst (λ q. Came at time q between) (sym is_p)
-      (ready_first at time place p w first answer between k (has p (inl refl) k.station k.here) here
-      (subst (λ q. IsReady at time q w) is_p is))) more
-  reach_all (p ∷ ps) w draws w' different (inr later) here has is (first, rest, between, answer, split, k, more) =
-      let stays = calls_stay place (PortUp p) w first answer between is.orderly.setups k in
-      reach_all ps between rest w' different.1 later here
-      (all_stay place ps w between stays (λ q member. has q (inr member)))
-      (ready_beside at time port place p w first answer between k (has p (inl refl) k.station k.here)
-      (λ same is_p. different.0 (subst (λ q. In q ps) is_p later)) is) more
-
 -- timers alone
 abbrev timed : ℕ → Station → WorldState → WorldState
 timed place station w = record w { net = all_timers place station w.net }
@@ -244,13 +201,18 @@ module _ (time place : ℕ) (w : WorldState) (draws : List Draw) (w' : WorldStat
   stands_woken : slice_get (woken w).stations place ≡ Some (wake k.station)
   stands_woken = mapped_there wake w.stations place k.station k.here
 
-  has : HasAll place ports (timed place new (woken w))
-  has p member station there =
-      let one : wake k.station ≡ station =
-      same_there (woken w).stations place (wake k.station) station stands_woken there
-      in
-      subst (λ (x : Station). HasPortNumber x.system p) one
-      (subst (λ s. HasPortNumber s p) (sym as_started) (brought_ports new w.net p member))
+  -- its ports come up, one after another
+  through : (Is : List ℕ → WorldState → Type 0)
+      → ((p : ℕ) (ps : List ℕ) (v : WorldState) (ds : List Draw) (answer : Answer) (v' : WorldState)
+      (c : Calls place (PortUp p) v ds answer v') → HasPortNumber c.station.system p → Is (p ∷ ps) v → Is ps v')
+      → Is ports (timed place new (woken w)) → Is [] (woken w')
+  through Is called =
+      ports_told PortUp place new.system Is called ports (timed place new (woken w)) draws (woken w')
+      (λ station there.
+      ap (λ (x : Station). length x.system.ports)
+      (same_there (woken w).stations place station (wake k.station) there stands_woken)
+      ∙ ap (λ (s : SystemState). length s.ports) as_started)
+      (brought_ports new w.net) calls
 
   ports_differ : Different ports
   ports_differ =
@@ -259,19 +221,49 @@ module _ (time place : ℕ) (w : WorldState) (draws : List Draw) (w' : WorldStat
   module _ (at : LinkPlace) (port : ℕ) where
     start_wait : at.asking ≢ place → IsReady at time port (woken w) → IsReady at time port (woken w')
     start_wait apart is =
-        wait_all at time port place ports (timed place new (woken w)) draws (woken w') (λ same. absurd (apart same)) has
-        (ready_timed at time port place new (woken w) is) calls
+        through (λ ps. IsReady at time port)
+        (λ p ps v ds answer v' c of.
+        ready_beside at time port place p v ds answer v' c of (λ same. absurd (apart same)))
+        (ready_timed at time port place new (woken w) is)
 
     start_past : at.asking ≢ place → Came at time port (woken w) → Came at time port (woken w')
     start_past apart is =
-        past_all at time port place ports (timed place new (woken w)) draws (woken w') (λ same. absurd (apart same)) has
-        (came_timed at time port place new (woken w) is) calls
+        through (λ ps. Came at time port)
+        (λ p ps v ds answer v' c of.
+        came_beside at time port place p v ds answer v' c of (λ same. absurd (apart same)))
+        (came_timed at time port place new (woken w) is)
 
     start_reach : at.asking ≡ place → IsReady at time port (woken w) → Came at time port (woken w')
-    start_reach here is =
-        reach_all at time port place ports (timed place new (woken w)) draws (woken w') ports_differ among here has
-        (ready_timed at time port place new (woken w) is) calls
+    start_reach here is = elim (through Reaches reached
+        (inl (ports_differ, among, ready_timed at time port place new (woken w) is))) [
+          | inl (differ, none, ready) ↦ absurd none
+          | inr (past, came) ↦ came
+        ]
       where
+        -- it is still to come up, or has
+        Reaches : List ℕ → WorldState → Type 0
+        Reaches ps v =
+            (Different ps × In port ps × IsReady at time port v) ⊎ ((In port ps → ⊥) × Came at time port v)
+
+        reached : (p : ℕ) (ps : List ℕ) (v : WorldState) (ds : List Draw) (answer : Answer) (v' : WorldState)
+            (c : Calls place (PortUp p) v ds answer v') → HasPortNumber c.station.system p → Reaches (p ∷ ps) v
+            → Reaches ps v'
+        reached p ps v ds answer v' c of (inl (differ, inl is_p, ready)) = inr (
+          λ among. differ.0 (subst (λ q. In q ps) is_p among),
+          subst (λ q. Came at time q v') (sym is_p)
+              (ready_first at time place p v ds answer v' c of here (subst (λ q. IsReady at time q v) is_p ready)),
+        )
+        reached p ps v ds answer v' c of (inl (differ, inr later, ready)) = inl (
+          differ.1,
+          later,
+          ready_beside at time port place p v ds answer v' c of
+              (λ same is_p. differ.0 (subst (λ q. In q ps) is_p later)) ready,
+        )
+        reached p ps v ds answer v' c of (inr (past, came)) = inr (
+          λ among. past (inr among),
+          came_beside at time port place p v ds answer v' c of (λ same is_p. past (inl is_p)) came,
+        )
+
         l : IsLinkOf at (woken w)
         l = is.link
 

@@ -21,7 +21,7 @@ use Rattle.gptp_pdelay_machine.specs.Asker.{asks_now, asker_after_interval as gi
 use Rattle.gptp_pdelay_machine.specs.Silence.{ActsInVain, AsksInVain}
 use Rattle.gptp_invariants.specs.DelayLinkView.{LinkPlace, asked_at, asker_view, progress_view}
 use Rattle.gptp_invariants.proofs.DelayLinkCallLemmas.{asker_timer}
-use Rattle.gptp_invariants.proofs.WorldActsByLemmas.{expires_due}
+use Rattle.gptp_model.proofs.ActsByLemmas.{expires_due}
 use Rattle.gptp_invariants.proofs.DelayPartLemmas.{asked_seen}
 use Rattle.gptp_invariants.specs.FailedUnanswered.{IsOldBy, IsSeenUnanswered, IsUnansweredAt, silent_setting, silent_view}
 use Rattle.gptp_invariants.proofs.FailedUnansweredCallLemmas.{CallStep, asker_is, call_seen, view_stays}

@@ -133,7 +133,6 @@ pub mod SyncFollowOffsetLemmas
 pub mod SyncFollowWorldLemmas
 pub mod SyncFollowMeasureLemmas
 pub mod SyncFollowClaimLemmas
-pub mod WorldActsByLemmas
 pub mod WorldEachLemmas
 pub mod SyncOwnClockLemmas
 pub mod SyncExactLemmas

@@ -43,7 +43,7 @@ use Rattle.gptp_invariants.proofs.ChoiceSendLemmas.{world_apart}
 use Rattle.gptp_invariants.proofs.SyncCallLemmas.{TakesSyncs, kept_stays, slave_takes, timers_step}
 use Rattle.gptp_invariants.proofs.SyncHeardLemmas.{follow_ups_are_used, followed_here, syncs_are_kept}
 use Rattle.gptp_invariants.proofs.SyncTimeStepLemmas.{KeepsSync}
-use Rattle.gptp_invariants.proofs.WorldActsByLemmas.{expires_timely, reached_up}
+use Rattle.gptp_model.proofs.ActsByLemmas.{expires_timely, reached_up}
 
 module _ (p : SettlingParams) (m start : ℕ) (times : SettlingTimes) (w : WorldState) (sound : IsSound w)
     (encodable : IsEncodable w)

@@ -55,7 +55,7 @@ use Rattle.gptp_invariants.proofs.SyncFollowTreeLemmas.{FollowedBefore, followed
 use Rattle.gptp_invariants.proofs.DelayLinkLemmas.{IsOrderly, net_orderly, sender_opposite, sound_orderly}
 use Rattle.gptp_invariants.proofs.DelayPoppedLemmas.{queue_left, queue_set, which_way}
 use Rattle.gptp_invariants.proofs.WorldWayLemmas.{one_way}
-use Rattle.gptp_invariants.proofs.WorldActsByLemmas.{reached_up}
+use Rattle.gptp_model.proofs.ActsByLemmas.{reached_up}
 
 -- ---- directions
 

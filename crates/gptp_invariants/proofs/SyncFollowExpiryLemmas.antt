@@ -42,7 +42,7 @@ use Rattle.gptp_invariants.proofs.SyncFollowRightLemmas.{TellsRight, leader_righ
 use Rattle.gptp_invariants.proofs.SyncFollowSayLemmas.{NoneTells, SendsOn, relays_send, syncs_tell, timer_tells_none}
 use Rattle.gptp_invariants.proofs.SyncFollowStepLemmas.{RelayStops, base_goes_on, inv_on, k as next_setting, step_seen, way_was}
 use Rattle.gptp_invariants.proofs.SyncFollowTreeLemmas.{WasBefore, was_before}
-use Rattle.gptp_invariants.proofs.WorldActsByLemmas.{expires_due, expires_timely}
+use Rattle.gptp_model.proofs.ActsByLemmas.{expires_due, expires_timely}
 use Rattle.gptp_invariants.proofs.SyncTimeStepLemmas.{StaysKnown, Stops, expires}
 
 -- ---- roots

@@ -19,7 +19,7 @@ use Rattle.gptp_model.specs.Course.{Begun, WasDone}
 use Rattle.gptp_model.specs.Initial.{initial, station_of}
 use Rattle.gptp_model.specs.World.{WorldState}
 use Rattle.gptp_invariants.specs.SyncOwnClock.{TellAsSetUp, TellsAsSetUp}
-use Rattle.gptp_invariants.proofs.WorldActsByLemmas.{Elementary, acts_by, starts_by}
+use Rattle.gptp_model.proofs.ActsByLemmas.{Elementary, acts_by, starts_by}
 use Rattle.gptp_invariants.proofs.WorldEachLemmas.{OfEach, each_kept}
 
 -- a system that doesn't go on keeps its base

@@ -30,7 +30,7 @@ use Rattle.gptp_invariants.specs.WorldEncodable.{ChannelFits, IsEncodable, SayWh
 use Rattle.gptp_invariants.specs.WorldEncodableLaws.{SetsAnOctet}
 use Rattle.gptp_invariants.proofs.ChoiceSeenOctetLemmas.{octets_say_what_fits}
 use Rattle.gptp_invariants.proofs.ChoiceTouchLemmas.{InputFits}
-use Rattle.gptp_invariants.proofs.WorldActsByLemmas.{Elementary, SaysWhatIsKnown, acts_by, starts_by}
+use Rattle.gptp_model.proofs.ActsByLemmas.{Elementary, SaysWhatIsKnown, acts_by, starts_by}
 use Rattle.gptp_invariants.proofs.WorldAnsweringLemmas.{CanAnswer, IsAnswering, calls_answering, new_fits, sound_answers}
 use Rattle.gptp_invariants.proofs.WorldEncodableLemmas.{LinksFit, entered_fits, flight_fits, lost_fits, set_fits, takes_fits}
 

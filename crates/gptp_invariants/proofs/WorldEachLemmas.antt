@@ -10,7 +10,7 @@ use Rattle.gptp_model.specs.declared.station.Station.{Station}
 use Rattle.gptp_model.specs.Act.{in_state}
 use Rattle.gptp_model.specs.Changing.{fresh, with_setup}
 use Rattle.gptp_model.specs.World.{WorldState}
-use Rattle.gptp_invariants.proofs.WorldActsByLemmas.{Elementary}
+use Rattle.gptp_model.proofs.ActsByLemmas.{Elementary}
 
 abbrev pub OfEach : (Station → Type 0) → WorldState → Type 0
 OfEach So w = (place : ℕ) (station : Station) → slice_get w.stations place ≡ Some station → So station

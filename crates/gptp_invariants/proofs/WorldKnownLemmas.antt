@@ -30,7 +30,7 @@ use Rattle.gptp_model.proofs.SteadyLemmas.{started_steady}
 use Rattle.gptp_model.specs.Prompt.{DelaysFitIntervals}
 use Rattle.gptp_invariants.specs.WorldKnown.{IsKnown}
 use Rattle.gptp_invariants.specs.DelayLinked.{MeasureLinks}
-use Rattle.gptp_invariants.proofs.WorldActsByLemmas.{acts_by, starts_by}
+use Rattle.gptp_model.proofs.ActsByLemmas.{acts_by, starts_by}
 use Rattle.gptp_invariants.proofs.WorldKnownKeptLemmas.{IsKept, IsKeptStation, fresh_limit, kept_known, known_kept, IsCounted}
 use Rattle.gptp_invariants.proofs.WorldKnownStepLemmas.{IsPromptFor, keeps, started_set}
 use Rattle.gptp_invariants.proofs.WorldShortLemmas.{within}

@@ -25,7 +25,7 @@ use Rattle.gptp_invariants.specs.WorldKnown.{IsSetTo}
 use Rattle.gptp_invariants.proofs.DelayLimitLemmas.{IsLimited, keep_all, lost_keep, sends_one_keep, takes_keep, up_keep}
 use Rattle.gptp_invariants.proofs.DelayMeasuringLemmas.{started_measure}
 use Rattle.gptp_invariants.proofs.SyncTimeStepLemmas.{knows_at_start}
-use Rattle.gptp_invariants.proofs.WorldActsByLemmas.{Elementary}
+use Rattle.gptp_model.proofs.ActsByLemmas.{Elementary}
 use Rattle.gptp_invariants.proofs.WorldKnownKeptLemmas.{IsKept, IsKeptStation, calls_kept, fresh_limit, net_kept, station_kept}
 use Rattle.gptp_invariants.proofs.WorldShortLemmas.{within}
 

@@ -12,7 +12,7 @@ use Rattle.gptp_model.specs.Acts.{Acts, set_to}
 use Rattle.gptp_model.specs.Agrees.{stopped}
 use Rattle.gptp_model.specs.Changing.{StartsAll, brought_up, fresh, taken_down, with_bounds, with_setup}
 use Rattle.gptp_model.specs.World.{Net, WorldState}
-use Rattle.gptp_invariants.proofs.WorldActsByLemmas.{Elementary, acts_by, changes_by, starts_by}
+use Rattle.gptp_model.proofs.ActsByLemmas.{Elementary, acts_by, changes_by, starts_by}
 
 -- how many systems there are
 abbrev pub count : WorldState → ℕ

@@ -14,7 +14,7 @@ use Rattle.gptp_lists.proofs.MappedLemmas.{mapped}
 use Rattle.gptp_invariants.specs.DelayLinkLaws.{InitiallyShort, ShortHoldsLater, ShortIsKept, StartsShort}
 use Rattle.gptp_invariants.specs.WorldShort.{IsShort, IsShortChannel}
 use Rattle.gptp_invariants.proofs.DelayLimitLemmas.{WorldIsLimited, in_queue, keeps_limit}
-use Rattle.gptp_invariants.proofs.WorldActsByLemmas.{Elementary, acts_by, starts_by}
+use Rattle.gptp_model.proofs.ActsByLemmas.{Elementary, acts_by, starts_by}
 
 -- ---- a limit for all links
 

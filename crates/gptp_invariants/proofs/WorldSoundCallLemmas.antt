@@ -29,7 +29,7 @@ use Rattle.gptp_bmca_machine.proofs.SoundEverywhereLemmas.{calls_sound}
 use Rattle.gptp_invariants.proofs.DelayLinkLemmas.{receiver_same}
 use Rattle.gptp_invariants.specs.WorldStanding.{stations_have_clock, channel_is_used, live_stations, snapshot_of, standing_system}
 use Rattle.gptp_invariants.specs.ChoiceView.{frame_view, port_identity_number, lane_place, lane_view, lanes_view, says_announce, station_view, touch_view, view}
-use Rattle.gptp_invariants.proofs.WorldActsByLemmas.{PortCallsKeep, ends_told}
+use Rattle.gptp_model.proofs.ActsByLemmas.{PortCallsKeep, ends_told}
 use Rattle.gptp_invariants.proofs.WorldAnsweringLemmas.{IsAnswering, calls_answering}
 use Rattle.gptp_invariants.proofs.ChoiceCalmFactLemmas.{follows_seen}
 use Rattle.gptp_invariants.proofs.ChoiceCalmKeptLemmas.{KeepsNetwork, calls_keep, keeps_on, net_keeps, same_snapshot}

@@ -53,7 +53,7 @@ use Rattle.gptp_invariants.specs.WorldSoundLaws.{SoundActs, SoundBegins, SoundGa
 use Rattle.gptp_invariants.specs.WorldStanding.{AreBetween, live_stations, snapshot_of, standing_system, used_channels}
 use Rattle.gptp_invariants.specs.ChoiceView.{frame_view, says_announce, station_view, view}
 use Rattle.gptp_invariants.proofs.WorldActEncodableLemmas.{answering_kept, initial_encodable, starts_encodable}
-use Rattle.gptp_invariants.proofs.WorldActsByLemmas.{PortCallsKeep, ends_told, start_told, system_starts}
+use Rattle.gptp_model.proofs.ActsByLemmas.{PortCallsKeep, ends_told, start_told, system_starts}
 use Rattle.gptp_invariants.proofs.WorldAnsweringLemmas.{CanAnswer, IsAnswering, sound_answers}
 use Rattle.gptp_invariants.proofs.WorldBetweenLemmas.{networks_between, starts_between}
 use Rattle.gptp_invariants.proofs.ChoiceCalmFactLemmas.{facts}

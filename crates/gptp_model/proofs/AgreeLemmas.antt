@@ -23,7 +23,7 @@ use Rattle.gptp_model.specs.Pending.{Entry, times_of_item, put, without_first_en
 use Rattle.gptp_model.specs.World.{Channel, Net, WorldState, receiver, world_queue, with_queue, timers_from, station_due}
 use Rattle.gptp_model.specs.Sends.{entered, written, SendsAll, SendsOne}
 use Rattle.gptp_model.specs.Act.{all_timers, in_state, set_timers, Calls, Delivers, TimerRunsOut, Hears, TakesFrame}
-use Rattle.gptp_model.specs.Changing.{with_station, CallsAll, CallsIfLive, TellsEnds}
+use Rattle.gptp_model.specs.Changing.{with_station}
 use Rattle.gptp_model.specs.Agrees.{stopped, Agrees, AgreesBut}
 use Rattle.gptp_model.proofs.OwnTimerLemmas.{only_same_count, only_without_first, set_timers_is, station_timer, timers_agree}
 use Rattle.gptp_model.proofs.PendingLemmas.{times-put_same, times-put_other, times-without_first_same, times-without_first_other}
@@ -283,24 +283,3 @@ pub expires_agree : (place : ℕ) (timer : Timer) (w : WorldState) (draws : List
 expires_agree place timer w draws w' agrees expires =
     calls_agree place (TimerExpires timer) (stopped place timer w) draws expires.answer w' expires.calls
     (stopped_agrees_but place timer w agrees)
-
--- ---- calls one after another
-
-pub calls_if_live_agree : (place : ℕ) (input : Input) (w : WorldState) (draws : List Draw) (w' : WorldState)
-    → Agrees w → CallsIfLive place input w draws w' → Agrees w'
-calls_if_live_agree place input w draws w' agrees (inl (answer, calls)) =
-    calls_agree place input w draws answer w' calls (agrees_but place w agrees)
-calls_if_live_agree place input w draws w' agrees (inr (failed, none, is)) = subst Agrees (sym is) agrees
-
-pub tells_ends_agree : (input : ℕ → Input) (channel : Channel) (w : WorldState) (draws : List Draw) (w' : WorldState)
-    → Agrees w → TellsEnds input channel w draws w' → Agrees w'
-tells_ends_agree input channel w draws w' agrees tells =
-    calls_if_live_agree tells.place_b (input channel.b.port) tells.between tells.second w'
-    (calls_if_live_agree tells.place_a (input channel.a.port) w tells.first tells.between agrees tells.at_a) tells.at_b
-
-pub calls_all_agree : (place : ℕ) (inputs : List Input) (w : WorldState) (draws : List Draw) (w' : WorldState)
-    → Agrees w → CallsAll place inputs w draws w' → Agrees w'
-calls_all_agree place [] w draws w' agrees calls = subst Agrees (sym calls.1) agrees
-calls_all_agree place (input ∷ inputs) w draws w' agrees (first, rest, between, answer, is, calls, more) =
-    calls_all_agree place inputs between rest w'
-    (calls_agree place input w first answer between calls (agrees_but place w agrees)) more

@@ -1,166 +1,55 @@
--- Every change of the network leaves a world on time.
-use Rattle.std.proofs.Common.{◌≡◌, ℕ, suc, zero, ◌+◌, ◌≤◌, Bool, true, false, List, [], ◌∷◌, map, length, Some, slice_get, refl, sym, ap, subst, ◌∙◌, inl, inr, arith}
-use Rattle.std.specs.List.{AllByRecursion, filter, range_with_len}
-use Rattle.std.proofs.lemmas.Option.{none-some, same_Some}
+-- Every act leaves a world on time.
+use Rattle.std.proofs.Common.{◌≡◌, ℕ, true, false, List, Some, slice_get, sym, subst}
+use Rattle.std.proofs.lemmas.Option.{none-some}
+use Rattle.std.specs.Prelude.{⊤}
 use Rattle.gptp_vector.specs.declared.port.PortId.{PortId}
 use Rattle.gptp_links.specs.declared.bounds.Bounds.{Bounds}
 use Rattle.gptp_links.specs.declared.link.Direction.TheVariants.{FromA, FromB}
 use Rattle.gptp_links.specs.Bounds.{Fit}
 use Rattle.gptp_links.specs.Fate.{Draw}
-use Rattle.gptp_system.specs.Input.{Input, IsTimely, PortUp, PortDown}
-use Rattle.gptp_system.specs.State.{SystemState, clock}
-use Rattle.gptp_system.specs.Steps.{HasPortNumber}
-use Rattle.gptp_model.specs.declared.item.Item.TheVariants.{Arrival}
+use Rattle.gptp_model.specs.declared.item.Item.TheVariants.{Arrival, Expiry}
 use Rattle.gptp_model.specs.declared.station.Station.{Station}
-use Rattle.gptp_model.specs.Act.{all_timers}
-use Rattle.gptp_model.specs.Ahead.{HasPorts, IsOnTime, IsPortAmong, IsWorldOnTime}
-use Rattle.gptp_model.specs.Changing.{CallsAll, CallsIfLive, ComesUpIf, FailsIf, GoesDownIf, Injects, RecoversIf, Starts, StartsAll, TellsEnds, brought_up, failed, fresh, is_up_at, lost, taken_down, up_ports, with_bounds, with_channel, with_setup, with_station}
+use Rattle.gptp_model.specs.Ahead.{IsOnTime, IsWorldOnTime}
+use Rattle.gptp_model.specs.Changing.{Injects, StartsAll, brought_up, failed, fresh, lost, taken_down, with_bounds, with_channel, with_setup, with_station}
 use Rattle.gptp_model.specs.Pending.{without}
-use Rattle.gptp_model.specs.Sound.{HaveTheirSetups}
-use Rattle.gptp_model.specs.World.{Channel, WorldState, timers_from}
-use Rattle.gptp_model.proofs.AheadLemmas.{calls_on_time, calls_ports, nothing_before-set_timers, relinked_fit, sent_later}
-use Rattle.gptp_lists.proofs.MappedLemmas.{same_there}
-use Rattle.gptp_model.proofs.MomentLemmas.{nothing_before-without}
-use Rattle.gptp_lists.proofs.PlaceLemmas.{get-set_all, get-set_same}
-use Rattle.gptp_model.proofs.StayLemmas.{starts_stays, stays_setups}
+use Rattle.gptp_model.specs.Sound.{HaveTheirSetups, IsWired}
+use Rattle.gptp_model.specs.World.{Channel, WorldState, timers_from, port_id}
+use Rattle.gptp_model.proofs.AheadLemmas.{calls_on_time, nothing_before-set_timers, relinked_fit, sent_later}
+use Rattle.gptp_model.proofs.MomentLemmas.{nothing_before-without, nothing_before-without_first}
+use Rattle.gptp_lists.proofs.PlaceLemmas.{get-set_all}
+use Rattle.gptp_model.proofs.OnTimeLemmas.{taken_on_time}
+use Rattle.gptp_model.proofs.StayLemmas.{Stays, calls_stay, same_stays, stay_kept, stays_on, stays_setups}
 use Rattle.gptp_model.proofs.SteadyLemmas.{started_none_late, started_steady}
-
--- ---- calls one after another
-
--- a system is called where it is live
-pub calls_if_live_on_time : (place : ℕ) (input : Input) (w : WorldState) (draws : List Draw) (w' : WorldState)
-    → IsWorldOnTime w
-    → ((station : Station) → slice_get w.stations place ≡ Some station → IsTimely station.system w.time input)
-    → CallsIfLive place input w draws w' → IsWorldOnTime w'
-calls_if_live_on_time place input w draws w' on timely (inl (answer, k)) =
-    calls_on_time place input w draws answer w' k on (timely k.station k.here)
-calls_if_live_on_time place input w draws w' on timely (inr (failed, none, is)) = subst IsWorldOnTime (sym is) on
-
-pub calls_if_live_ports : (place : ℕ) (input : Input) (w : WorldState) (draws : List Draw) (w' : WorldState)
-    → CallsIfLive place input w draws w' → (other ports : ℕ) → HasPorts other ports w → HasPorts other ports w'
-calls_if_live_ports place input w draws w' (inl (answer, k)) other ports has =
-    calls_ports place input w draws answer w' k other ports has
-calls_if_live_ports place input w draws w' (inr (failed, none, is)) other ports has =
-    subst (HasPorts other ports) (sym is) has
-
--- an input that is timely at every port of a system
-abbrev pub IsOfPort : (ℕ → Input) → Type 0
-IsOfPort input = (s : SystemState) (now p : ℕ) → HasPortNumber s p → IsTimely s now (input p)
-
-pub tells_on_time : (input : ℕ → Input) (channel : Channel) (w : WorldState) (draws : List Draw) (w' : WorldState)
-    → IsOfPort input → IsWorldOnTime w → IsPortAmong channel.a w.stations → IsPortAmong channel.b w.stations
-    → TellsEnds input channel w draws w' → IsWorldOnTime w'
-tells_on_time input channel w draws w' timely on port_a port_b k =
-    calls_if_live_on_time k.place_b (input channel.b.port) k.between k.second w' first at_b k.at_b
-  where
-    first : IsWorldOnTime k.between
-    first =
-        calls_if_live_on_time k.place_a (input channel.a.port) w k.first k.between on
-        (λ station there. timely station.system w.time channel.a.port
-        (port_a k.place_a station there
-        (ap (λ (x : Station). clock x.system) (same_there w.stations k.place_a station k.station_a there k.is_a.here)
-        ∙ k.is_a.named)))
-        k.at_a
-
-    old : HasPortNumber k.station_b.system channel.b.port
-    old = port_b k.place_b k.station_b k.is_b.here k.is_b.named
-
-    ports : HasPorts k.place_b (length k.station_b.system.ports) k.between
-    ports =
-        calls_if_live_ports k.place_a (input channel.a.port) w k.first k.between k.at_a k.place_b
-        (length k.station_b.system.ports)
-        (λ station there. ap (λ (x : Station). length x.system.ports)
-        (same_there w.stations k.place_b station k.station_b there k.is_b.here))
-
-    at_b : (station : Station) → slice_get k.between.stations k.place_b ≡ Some station
-        → IsTimely station.system k.between.time (input channel.b.port)
-    at_b station there =
-        let count = ports station there in
-        timely station.system k.between.time channel.b.port (record { least = old.least; most = rw count old.most })
-
--- the ports of a live system come up, one after another
-pub calls_all_on_time : (place ports : ℕ) (ps : List ℕ) (w : WorldState) (draws : List Draw) (w' : WorldState)
-    → IsWorldOnTime w → HasPorts place ports w → AllByRecursion (λ p. (1 ≤ p) × (p ≤ ports)) ps
-    → CallsAll place (map PortUp ps) w draws w' → IsWorldOnTime w'
-calls_all_on_time place ports [] w draws w' on has among (none, is) = subst IsWorldOnTime (sym is) on
-calls_all_on_time place ports (p ∷ ps) w draws w' on has among (first, rest, between, answer, is, k, more) =
-    let (here, others) = among in
-    let count = has k.station k.here in
-    let of : HasPortNumber k.station.system p = record { least = here.0; most = rw count here.1 } in
-    calls_all_on_time place ports ps between rest w' (calls_on_time place (PortUp p) w first answer between k on of)
-    (calls_ports place (PortUp p) w first answer between k place ports has) others more
+use Rattle.gptp_scenario.specs.declared.change.Act.{Act}
+use Rattle.gptp_model.specs.Acts.{Acts, set_to}
+use Rattle.gptp_model.specs.declared.done.Done.{Done}
+use Rattle.gptp_model.proofs.ActsByLemmas.{Elementary, acts_by, starts_by}
+use Rattle.gptp_scenario.specs.Allowed.{IsFitAct}
+use Rattle.gptp_model.proofs.AgreeLemmas.{replaced}
 
 -- ---- starts
 
-range_among : (ports a n : ℕ) → 1 ≤ a → a + n ≤ ports + 1
-    → AllByRecursion (λ p. (1 ≤ p) × (p ≤ ports)) (range_with_len a n)
-range_among ports a zero least most = tt
-range_among ports a (suc n) least most = ((least, omega arith), range_among ports (a + 1) n (omega arith) (omega arith))
-
-all_filtered : (P : ℕ → Type 0) (test : ℕ → Bool) (ps : List ℕ) → AllByRecursion P ps
-    → AllByRecursion P (filter test ps)
-all_filtered P test [] all = tt
-all_filtered P test (p ∷ ps) all = by (test p) refl (all_filtered P test ps all.1)
-  where
-    by : (b : Bool) → test p ≡ b → AllByRecursion P (filter test ps) → AllByRecursion P (filter test (p ∷ ps))
-    by true b ih = rw b (all.0, ih)
-    by false b ih = rw b ih
-
 -- A system starts, or starts again.
-pub starts_on_time : (place : ℕ) (w : WorldState) (draws : List Draw) (w' : WorldState) → HaveTheirSetups w
-    → IsWorldOnTime w → Starts place w draws w' → IsWorldOnTime w'
-starts_on_time place w draws w' setups on k =
-    calls_all_on_time place ports (up_ports new w.net) begun draws w' ready has
-    (all_filtered (λ p. (1 ≤ p) × (p ≤ ports)) (λ p. is_up_at w.net.channels (clock new.system) p)
-    (range_with_len 1 ports) (range_among ports 1 ports (omega arith) (omega arith)))
-    k.calls
-  where
-    new : Station
-    new = fresh w.time k.station
-
-    ports : ℕ
-    ports = length new.system.ports
-
-    begun : WorldState
-    begun = record (with_station place new w) { net = all_timers place new w.net }
-
-    setup : IsOnTime w.time k.station
-    setup = on.stations place k.station k.here
-
-    ready : IsWorldOnTime begun
-    ready = record {
-      stations = get-set_all (IsOnTime w.time) w.stations place k.station new k.here (record {
-        setup = setup.setup;
-        steady = started_steady k.station.setup w.time setup.setup (setups place k.station k.here).intervals;
-        timers = λ live. started_none_late k.station.setup w.time;
+fresh_on_time : (place : ℕ) (station : Station) (w : WorldState) → slice_get w.stations place ≡ Some station
+    → HaveTheirSetups w → IsWorldOnTime w → IsWorldOnTime (replaced place (fresh w.time station) w)
+fresh_on_time place station w here setups on =
+    let new : Station = fresh w.time station in
+    let old = on.stations place station here in
+    record {
+      stations = get-set_all (IsOnTime w.time) w.stations place station new here (record {
+        setup = old.setup;
+        steady = started_steady station.setup w.time old.setup (setups place station here).intervals;
+        timers = λ live. started_none_late station.setup w.time;
       }) on.stations;
       links = on.links;
-      pending = nothing_before-set_timers w.time place new (started_none_late k.station.setup w.time)
+      pending = nothing_before-set_timers w.time place new (started_none_late station.setup w.time)
           (timers_from 1 new.system.ports) w.net.pending on.pending;
     }
-
-    has : HasPorts place ports begun
-    has station there =
-        ap (λ (x : Station). length x.system.ports)
-        (sym (same_Some new station (sym (get-set_same w.stations place k.station new k.here) ∙ there)))
-
-pub starts_all_on_time : (places : List ℕ) (w : WorldState) (draws : List Draw) (w' : WorldState) → HaveTheirSetups w
-    → IsWorldOnTime w → StartsAll places w draws w' → IsWorldOnTime w'
-starts_all_on_time [] w draws w' setups on (none, is) = subst IsWorldOnTime (sym is) on
-starts_all_on_time (place ∷ places) w draws w' setups on (first, rest, between, is, k, more) =
-    starts_all_on_time places between rest w'
-    (stays_setups w between (starts_stays place w first between setups k))
-    (starts_on_time place w first between setups on k) more
-
-pub recovers_on_time : (live : Bool) (place : ℕ) (w : WorldState) (draws : List Draw) (w' : WorldState)
-    → HaveTheirSetups w → IsWorldOnTime w → RecoversIf live place w draws w' → IsWorldOnTime w'
-recovers_on_time true place w draws w' setups on (none, is) = subst IsWorldOnTime (sym is) on
-recovers_on_time false place w draws w' setups on k = starts_on_time place w draws w' setups on k
 
 -- ---- failures
 
 -- A system fails.
-pub failed_on_time : (place : ℕ) (station : Station) (w : WorldState) → slice_get w.stations place ≡ Some station
+failed_on_time : (place : ℕ) (station : Station) (w : WorldState) → slice_get w.stations place ≡ Some station
     → IsWorldOnTime w → IsWorldOnTime (failed place station w)
 failed_on_time place station w here on =
     let off : Station = record station { live = false } in
@@ -173,15 +62,8 @@ failed_on_time place station w here on =
           (timers_from 1 station.system.ports) w.net.pending on.pending;
     }
 
-pub fails_on_time : (live : Bool) (place : ℕ) (station : Station) (w : WorldState) (draws : List Draw) (w' : WorldState)
-    → slice_get w.stations place ≡ Some station → IsWorldOnTime w → FailsIf live place station w draws w'
-    → IsWorldOnTime w'
-fails_on_time true place station w draws w' here on (none, is) =
-    subst IsWorldOnTime (sym is) (failed_on_time place station w here on)
-fails_on_time false place station w draws w' here on (none, is) = subst IsWorldOnTime (sym is) on
-
 -- A system is set up with another priority1.
-pub reset_on_time : (value place : ℕ) (station : Station) (w : WorldState) → slice_get w.stations place ≡ Some station
+reset_on_time : (value place : ℕ) (station : Station) (w : WorldState) → slice_get w.stations place ≡ Some station
     → IsWorldOnTime w → IsWorldOnTime (with_station place (with_setup value station) w)
 reset_on_time value place station w here on =
     let old = on.stations place station here in
@@ -205,7 +87,7 @@ module _ (place : ℕ) (channel : Channel) (w : WorldState) (here : slice_get w.
   }
 
   -- It goes down, and all its frames are lost.
-  pub taken_down_on_time : IsWorldOnTime (record w { net = taken_down place channel w.net })
+  taken_down_on_time : IsWorldOnTime (record w { net = taken_down place channel w.net })
   taken_down_on_time = record {
     stations = on.stations;
     links = relinked_fit w.net.channels place channel (lost channel) here (on.links place channel here) on.links;
@@ -214,31 +96,16 @@ module _ (place : ℕ) (channel : Channel) (w : WorldState) (here : slice_get w.
   }
 
   -- It comes up.
-  pub brought_up_on_time : IsWorldOnTime (record w { net = brought_up place channel w.net })
+  brought_up_on_time : IsWorldOnTime (record w { net = brought_up place channel w.net })
   brought_up_on_time = linked (record channel { up = true }) (on.links place channel here)
 
   -- It has other bounds.
-  pub with_bounds_on_time : (bounds : Bounds) → Fit bounds
+  with_bounds_on_time : (bounds : Bounds) → Fit bounds
       → IsWorldOnTime (record w { net = with_bounds bounds place channel w.net })
   with_bounds_on_time bounds fit = linked (record channel { bounds = bounds }) fit
 
-  -- The ends are told of it.
-  pub goes_down_on_time : (up : Bool) (draws : List Draw) (w' : WorldState) → IsPortAmong channel.a w.stations
-      → IsPortAmong channel.b w.stations → GoesDownIf up place channel w draws w' → IsWorldOnTime w'
-  goes_down_on_time false draws w' port_a port_b (none, is) = subst IsWorldOnTime (sym is) on
-  goes_down_on_time true draws w' port_a port_b k =
-      tells_on_time PortDown channel (record w { net = taken_down place channel w.net }) draws w' (λ s now p of. of)
-      taken_down_on_time port_a port_b k
-
-  pub comes_up_on_time : (up : Bool) (draws : List Draw) (w' : WorldState) → IsPortAmong channel.a w.stations
-      → IsPortAmong channel.b w.stations → ComesUpIf up place channel w draws w' → IsWorldOnTime w'
-  comes_up_on_time true draws w' port_a port_b (none, is) = subst IsWorldOnTime (sym is) on
-  comes_up_on_time false draws w' port_a port_b k =
-      tells_on_time PortUp channel (record w { net = brought_up place channel w.net }) draws w' (λ s now p of. of)
-      brought_up_on_time port_a port_b k
-
 -- Octets enter a link.
-pub injects_on_time : (from : PortId) (octets : List ℕ) (w : WorldState) (draws : List Draw) (w' : WorldState)
+injects_on_time : (from : PortId) (octets : List ℕ) (w : WorldState) (draws : List Draw) (w' : WorldState)
     → IsWorldOnTime w → Injects from octets w draws w' → IsWorldOnTime w'
 injects_on_time from octets w draws w' on k =
     let later = sent_later w.time from octets k.draw w.net k.net on.links k.sent in
@@ -247,3 +114,64 @@ injects_on_time from octets w draws w' on k =
       links = later.links;
       pending = later.pending on.pending;
     })
+
+-- ---- all acts
+
+-- Every act leaves a world on time whose systems have their setups.
+on_time_kept : (first : WorldState) → Elementary ⊤ IsFitAct (λ octets. ⊤) (λ w. IsWorldOnTime w × Stays first w)
+on_time_kept first = let stay = stay_kept first in record {
+  system_called = λ place input w draws answer w' k given is. (
+    calls_on_time place input w draws answer w' k is.0 (given.timely tt),
+    stays_on first w w' is.1 (calls_stay place input w draws answer w' (stays_setups first w is.1) k),
+  );
+  frame_taken = λ link direction octets channel w net k is. (
+    (
+      taken_on_time link direction octets channel w net k is.0,
+      (stay.frame_taken link direction octets channel w net k is.1).0,
+    ),
+    tt,
+  );
+  timer_stopped = λ place timer w is. (
+    record {
+      stations = is.0.stations;
+      links = is.0.links;
+      pending = nothing_before-without_first w.time (Expiry place timer) w.net.pending is.0.pending;
+    },
+    stay.timer_stopped place timer w is.1,
+  );
+  link_down = λ place channel w here is.
+      (taken_down_on_time place channel w here is.0, stay.link_down place channel w here is.1);
+  link_up = λ place channel w here is.
+      (brought_up_on_time place channel w here is.0, stay.link_up place channel w here is.1);
+  link_set = λ number port min max loss place channel w here fit now is. (
+    with_bounds_on_time place channel w here is.0 (set_to min max loss channel)
+        (record { positive = fit.positive; ordered = fit.ordered; short = fit.short; share = fit.share }),
+    stay.link_set number port min max loss place channel w here tt now is.1,
+  );
+  system_failed = λ place station w here is.
+      (failed_on_time place station w here is.0, stay.system_failed place station w here is.1);
+  system_started = λ place station w here is. (
+    fresh_on_time place station w here (stays_setups first w is.1) is.0,
+    stay.system_started place station w here is.1,
+  );
+  priority_set = λ number value place station w here allowed is.
+      (reset_on_time value place station w here is.0, stay.priority_set number value place station w here tt is.1);
+  octets_injected = λ number port octets w draws w' allowed k is. (
+    injects_on_time (port_id number port) octets w draws w' is.0 k,
+    stay.octets_injected number port octets w draws w' tt k is.1,
+  );
+  change_counted = λ w is. (
+    record { stations = is.0.stations; links = is.0.links; pending = is.0.pending },
+    stay.change_counted w is.1,
+  );
+}
+
+pub acts_on_time : (act : Act) (w : WorldState) (draws : List Draw) (done : Done) (w' : WorldState) → IsWired w
+    → IsFitAct act → IsWorldOnTime w → Acts act w draws done w' → IsWorldOnTime w'
+acts_on_time act w draws done w' wired fit on k =
+    (acts_by (on_time_kept w) act w draws done w' (λ known. wired) fit k (on, same_stays w wired.setups)).0
+
+pub starts_all_on_time : (places : List ℕ) (w : WorldState) (draws : List Draw) (w' : WorldState) → HaveTheirSetups w
+    → IsWorldOnTime w → StartsAll places w draws w' → IsWorldOnTime w'
+starts_all_on_time places w draws w' setups on k =
+    (starts_by (on_time_kept w) places w draws w' k (on, same_stays w setups)).0

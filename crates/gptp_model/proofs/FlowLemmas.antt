@@ -1,5 +1,6 @@
 -- Frames arrive in the order in which they were sent, nothing is in flight on a link that is down, and acts keep it so.
-use Rattle.std.proofs.Common.{◌≡◌, ℕ, ◌≤◌, Bool, true, false, List, [], ◌∷◌, ◌++◌, map, Option, Some, None, slice_get, slice_set, refl, sym, ap, subst, ◌∙◌, inl, inr, arith}
+use Rattle.std.proofs.Common.{◌≡◌, ℕ, ◌≤◌, true, false, List, [], ◌∷◌, ◌++◌, Option, Some, None, slice_get, slice_set, refl, sym, ap, subst, ◌∙◌, inl, inr, arith}
+use Rattle.std.specs.Prelude.{⊤}
 use Rattle.gptp_vector.specs.declared.port.PortId.{PortId}
 use Rattle.gptp_links.specs.declared.bounds.Bounds.{Bounds}
 use Rattle.gptp_links.specs.declared.link.Direction.{Direction}
@@ -7,25 +8,24 @@ use Rattle.gptp_links.specs.declared.link.Direction.TheVariants.{FromA, FromB}
 use Rattle.gptp_links.specs.Fate.{Draw}
 use Rattle.gptp_links.specs.Queue.{frame, newest_due, AreDueInOrder, Frame, due_after}
 use Rattle.gptp_links.proofs.FlightLemmas.{in_order-push, in_order-tail}
-use Rattle.gptp_system.specs.declared.answer.Answer.{Answer}
 use Rattle.gptp_system.specs.declared.sending.Sending.{Sending}
-use Rattle.gptp_setup.specs.declared.timer.Timer.{Timer}
-use Rattle.gptp_system.specs.Input.{Input, PortUp, PortDown, Frame as FrameHeard, Expires as TimerExpires}
 use Rattle.gptp_system.specs.State.{SystemState, own}
-use Rattle.gptp_model.specs.declared.station.Station.{Station}
-use Rattle.gptp_model.specs.World.{Channel, Net, WorldState, receiver, world_queue, with_queue}
+use Rattle.gptp_model.specs.World.{Channel, Net, WorldState, world_queue, with_queue, port_id}
 use Rattle.gptp_model.specs.Sends.{entered, written, SendsAll, SendsOne}
-use Rattle.gptp_model.specs.Act.{in_state, Calls, Delivers, TimerRunsOut, Hears, TakesFrame}
-use Rattle.gptp_model.specs.Agrees.{stopped}
-use Rattle.gptp_model.specs.Changing.{brought_up, failed, fresh, lost, taken_down, up_ports, with_bounds, CallsAll, CallsIfLive, ComesUpIf, FailsIf, GoesDownIf, RecoversIf, Starts, StartsAll, TellsEnds}
+use Rattle.gptp_model.specs.Act.{in_state, TakesFrame}
+use Rattle.gptp_model.specs.Changing.{brought_up, lost, taken_down, with_bounds, StartsAll}
 use Rattle.gptp_model.specs.Sound.{AllFlow, Flows}
 use Rattle.gptp_model.proofs.AgreeLemmas.{replaced}
 use Rattle.gptp_lists.proofs.PlaceLemmas.{set_each}
+use Rattle.gptp_scenario.specs.declared.change.Act.{Act}
+use Rattle.gptp_model.specs.Acts.{Acts, set_to}
+use Rattle.gptp_model.specs.declared.done.Done.{Done}
+use Rattle.gptp_model.proofs.ActsByLemmas.{Elementary, acts_by, starts_by}
 
 -- ---- what is on a link becomes other
 
 -- one link becomes another on which frames flow
-pub set_flow : (w : WorldState) (place : ℕ) (old new : Channel) (net : Net)
+set_flow : (w : WorldState) (place : ℕ) (old new : Channel) (net : Net)
     → net.channels ≡ slice_set w.net.channels place new → slice_get w.net.channels place ≡ Some old
     → ((direction : Direction) → Flows direction new) → AllFlow w → AllFlow (record w { net = net })
 set_flow w place old new net is here flows flow link direction channel there =
@@ -58,7 +58,7 @@ entered_flow place direction channel now octets (Some delay) w here up flow =
     (entered place direction channel now octets (Some delay) w.net) refl here
     (λ way. queue_flows direction way channel frames order (λ down. absurd cc) (flow place way channel here)) flow
 
-pub sends_one_flow : (now : ℕ) (from : PortId) (octets : List ℕ) (draw : Draw) (w : WorldState) (net' : Net)
+sends_one_flow : (now : ℕ) (from : PortId) (octets : List ℕ) (draw : Draw) (w : WorldState) (net' : Net)
     → AllFlow w → SendsOne now from octets draw w.net net' → AllFlow (record w { net = net' })
 sends_one_flow now from octets draw w net' flow one =
     subst (λ n. AllFlow (record w { net = n })) (sym one.after)
@@ -72,14 +72,7 @@ sends_flow now s (x ∷ xs) draws w net' flow (inl (draw, rest, between, is, one
     (sends_one_flow now (own s x.port) (written s x) draw w between flow one) sends
 sends_flow now s (x ∷ xs) draws w net' flow (inr (unlinked, sends)) = sends_flow now s xs draws w net' flow sends
 
--- ---- acts
-
-pub calls_flow : (place : ℕ) (input : Input) (w : WorldState) (draws : List Draw) (answer : Answer) (w' : WorldState)
-    → AllFlow w → Calls place input w draws answer w' → AllFlow w'
-calls_flow place input w draws answer w' flow calls =
-    subst AllFlow (sym calls.is)
-    (sends_flow w.time calls.after calls.sends draws (replaced place (in_state calls.after calls.station) w) calls.net
-    flow calls.sent)
+-- ---- a delivery
 
 -- the oldest frame leaves
 takes_flow : (place : ℕ) (direction : Direction) (now : ℕ) (octets : List ℕ) (channel : Channel) (w : WorldState)
@@ -94,45 +87,6 @@ takes_flow place direction now octets channel w net' flow takes =
     (λ way. queue_flows direction way channel takes.rest order
     (λ down. let none : frame now octets ∷ takes.rest ≡ [] = sym takes.front ∙ flows.still down in absurd cc)
     (flow place way channel takes.here)) flow
-
-hears_flow : (place port : ℕ) (octets : List ℕ) (w : WorldState) (draws : List Draw) (answer : Option Answer)
-    (w' : WorldState) → AllFlow w → Hears place port octets w draws answer w' → AllFlow w'
-hears_flow place port octets w draws (Some answer) w' flow hears =
-    calls_flow place (FrameHeard port octets) w draws answer w' flow hears
-hears_flow place port octets w draws None w' flow hears = subst AllFlow (sym hears.2) flow
-
-pub delivers_flow : (link : ℕ) (direction : Direction) (octets : List ℕ) (w : WorldState) (draws : List Draw)
-    (answer : Option Answer) (w' : WorldState) → AllFlow w → Delivers link direction octets w draws answer w'
-    → AllFlow w'
-delivers_flow link direction octets w draws answer w' flow delivers =
-    hears_flow delivers.place (receiver direction delivers.channel).port octets (record w { net = delivers.net }) draws
-    answer w' (takes_flow link direction w.time octets delivers.channel w delivers.net flow delivers.takes)
-    delivers.hears
-
-pub expires_flow : (place : ℕ) (timer : Timer) (w : WorldState) (draws : List Draw) (w' : WorldState)
-    → AllFlow w → TimerRunsOut place timer w draws w' → AllFlow w'
-expires_flow place timer w draws w' flow expires =
-    calls_flow place (TimerExpires timer) (stopped place timer w) draws expires.answer w' flow expires.calls
-
--- ---- calls one after another
-
-calls_if_live_flow : (place : ℕ) (input : Input) (w : WorldState) (draws : List Draw) (w' : WorldState)
-    → AllFlow w → CallsIfLive place input w draws w' → AllFlow w'
-calls_if_live_flow place input w draws w' flow (inl (answer, calls)) =
-    calls_flow place input w draws answer w' flow calls
-calls_if_live_flow place input w draws w' flow (inr (failed, none, is)) = subst AllFlow (sym is) flow
-
-pub tells_ends_flow : (input : ℕ → Input) (channel : Channel) (w : WorldState) (draws : List Draw) (w' : WorldState)
-    → AllFlow w → TellsEnds input channel w draws w' → AllFlow w'
-tells_ends_flow input channel w draws w' flow tells =
-    calls_if_live_flow tells.place_b (input channel.b.port) tells.between tells.second w'
-    (calls_if_live_flow tells.place_a (input channel.a.port) w tells.first tells.between flow tells.at_a) tells.at_b
-
-calls_all_flow : (place : ℕ) (inputs : List Input) (w : WorldState) (draws : List Draw) (w' : WorldState)
-    → AllFlow w → CallsAll place inputs w draws w' → AllFlow w'
-calls_all_flow place [] w draws w' flow calls = subst AllFlow (sym calls.1) flow
-calls_all_flow place (input ∷ inputs) w draws w' flow (first, rest, between, answer, is, calls, more) =
-    calls_all_flow place inputs between rest w' (calls_flow place input w first answer between flow calls) more
 
 -- ---- changes of a link
 
@@ -164,47 +118,39 @@ bounds_flows : (bounds : Bounds) (direction : Direction) (channel : Channel) →
 bounds_flows bounds FromA channel flows = record { order = flows.order; still = flows.still }
 bounds_flows bounds FromB channel flows = record { order = flows.order; still = flows.still }
 
-pub with_bounds_flow : (bounds : Bounds) (place : ℕ) (channel : Channel) (w : WorldState)
+with_bounds_flow : (bounds : Bounds) (place : ℕ) (channel : Channel) (w : WorldState)
     → slice_get w.net.channels place ≡ Some channel → AllFlow w
     → AllFlow (record w { net = with_bounds bounds place channel w.net })
 with_bounds_flow bounds place channel w here flow =
     set_flow w place channel (record channel { bounds = bounds }) (with_bounds bounds place channel w.net) refl here
     (λ direction. bounds_flows bounds direction channel (flow place direction channel here)) flow
 
-pub goes_down_flow : (up : Bool) (place : ℕ) (channel : Channel) (w : WorldState) (draws : List Draw) (w' : WorldState)
-    → slice_get w.net.channels place ≡ Some channel → AllFlow w → GoesDownIf up place channel w draws w' → AllFlow w'
-goes_down_flow false place channel w draws w' here flow goes = subst AllFlow (sym goes.1) flow
-goes_down_flow true place channel w draws w' here flow goes =
-    tells_ends_flow PortDown channel (record w { net = taken_down place channel w.net }) draws w'
-    (taken_down_flow place channel w here flow) goes
+-- ---- all acts
 
-pub comes_up_flow : (up : Bool) (place : ℕ) (channel : Channel) (w : WorldState) (draws : List Draw) (w' : WorldState)
-    → slice_get w.net.channels place ≡ Some channel → AllFlow w → ComesUpIf up place channel w draws w' → AllFlow w'
-comes_up_flow true place channel w draws w' here flow comes = subst AllFlow (sym comes.1) flow
-comes_up_flow false place channel w draws w' here flow comes =
-    tells_ends_flow PortUp channel (record w { net = brought_up place channel w.net }) draws w'
-    (brought_up_flow place channel w here flow) comes
+flow_kept : Elementary ⊥ (λ act. ⊤) (λ octets. ⊤) AllFlow
+flow_kept = record {
+  system_called = λ place input w draws answer w' k given flow.
+      subst AllFlow (sym k.is)
+      (sends_flow w.time k.after k.sends draws (replaced place (in_state k.after k.station) w) k.net flow k.sent);
+  frame_taken = λ link direction octets channel w net k flow.
+      (takes_flow link direction w.time octets channel w net flow k, tt);
+  timer_stopped = λ place timer w flow. flow;
+  link_down = taken_down_flow;
+  link_up = brought_up_flow;
+  link_set = λ number port min max loss place channel w here allowed now.
+      with_bounds_flow (set_to min max loss channel) place channel w here;
+  system_failed = λ place station w here flow. flow;
+  system_started = λ place station w here flow. flow;
+  priority_set = λ number value place station w here allowed flow. flow;
+  octets_injected = λ number port octets w draws w' allowed k flow.
+      subst AllFlow (sym k.is) (sends_one_flow w.time (port_id number port) octets k.draw w k.net flow k.sent);
+  change_counted = λ w flow. flow;
+}
 
--- ---- changes of a system
-
-pub fails_flow : (live : Bool) (place : ℕ) (station : Station) (w : WorldState) (draws : List Draw) (w' : WorldState)
-    → AllFlow w → FailsIf live place station w draws w' → AllFlow w'
-fails_flow true place station w draws w' flow fails = subst AllFlow (sym fails.1) flow
-fails_flow false place station w draws w' flow fails = subst AllFlow (sym fails.1) flow
-
-pub starts_flow : (place : ℕ) (w : WorldState) (draws : List Draw) (w' : WorldState) → AllFlow w
-    → Starts place w draws w' → AllFlow w'
-starts_flow place w draws w' flow starts =
-    let new : Station = fresh w.time starts.station in
-    calls_all_flow place (map PortUp (up_ports new w.net)) (replaced place new w) draws w' flow starts.calls
-
-pub recovers_flow : (live : Bool) (place : ℕ) (w : WorldState) (draws : List Draw) (w' : WorldState) → AllFlow w
-    → RecoversIf live place w draws w' → AllFlow w'
-recovers_flow true place w draws w' flow recovers = subst AllFlow (sym recovers.1) flow
-recovers_flow false place w draws w' flow recovers = starts_flow place w draws w' flow recovers
+pub acts_flow : (act : Act) (w : WorldState) (draws : List Draw) (done : Done) (w' : WorldState) → AllFlow w
+    → Acts act w draws done w' → AllFlow w'
+acts_flow act w draws done w' flow k = acts_by flow_kept act w draws done w' (λ none. absurd none) tt k flow
 
 pub starts_all_flow : (places : List ℕ) (w : WorldState) (draws : List Draw) (w' : WorldState) → AllFlow w
     → StartsAll places w draws w' → AllFlow w'
-starts_all_flow [] w draws w' flow starts = subst AllFlow (sym starts.1) flow
-starts_all_flow (place ∷ places) w draws w' flow (first, rest, between, is, one, more) =
-    starts_all_flow places between rest w' (starts_flow place w first between flow one) more
+starts_all_flow places w draws w' flow k = starts_by flow_kept places w draws w' k flow

@@ -1,7 +1,9 @@
 pub mod BareLemmas
+pub mod ActsByLemmas
 pub mod StayLemmas
 pub mod FlowLemmas
 pub mod UpLemmas
+pub mod EndLemmas
 pub mod LinkedLemmas
 pub mod WiredLemmas
 pub mod AgreeLemmas

@@ -8,22 +8,30 @@ use Rattle.gptp_links.specs.declared.link.Direction.TheVariants.{FromA, FromB}
 use Rattle.gptp_links.specs.Fate.{Draw}
 use Rattle.gptp_system.specs.declared.answer.Answer.{Answer}
 use Rattle.gptp_setup.specs.declared.timer.Timer.{Timer}
-use Rattle.gptp_system.specs.Input.{Input, PortUp, PortDown, Frame as FrameHeard, Expires as TimerExpires}
+use Rattle.gptp_system.specs.Input.{Input, PortUp, PortDown, Frame as FrameHeard, Expires as TimerExpires, Priority}
 use Rattle.gptp_system.specs.State.{clock}
 use Rattle.gptp_system.specs.Steps.{HasPortNumber, IsUp}
 use Rattle.gptp_model.specs.declared.station.Station.{Station}
 use Rattle.gptp_model.specs.World.{Channel, Net, WorldState, sender, receiver}
 use Rattle.gptp_model.specs.Act.{all_timers, in_state, Calls, Delivers, TimerRunsOut, Hears, HasFailed}
 use Rattle.gptp_model.specs.Agrees.{stopped}
-use Rattle.gptp_model.specs.Changing.{brought_up, failed, fresh, lost, taken_down, up_ports, with_bounds, with_setup, with_station, CallsAll, CallsIfLive, ComesUpIf, FailsIf, GoesDownIf, Injects, RecoversIf, Starts, StartsAll, TellsEnds}
+use Rattle.gptp_model.specs.Changing.{brought_up, failed, fresh, lost, taken_down, up_ports, with_bounds, with_setup, with_station, CallsAll, CallsIfLive, ComesUpIf, FailsIf, GoesDownIf, RecoversIf, Starts, StartsAll, TellsEnds, InjectsIf}
 use Rattle.gptp_model.specs.World.{port_id}
-use Rattle.gptp_model.specs.Sound.{AreApart, AreLinked, HaveOwnClocks, HaveTheirSetups, JoinPorts}
+use Rattle.gptp_model.specs.Sound.{AreApart, AreLinked, HaveOwnClocks, HaveTheirSetups, JoinPorts, IsWired}
+use Rattle.gptp_model.proofs.ActsByLemmas.{join_among}
 use Rattle.gptp_model.proofs.AgreeLemmas.{replaced}
 use Rattle.gptp_lists.proofs.MappedLemmas.{same_there}
 use Rattle.gptp_lists.proofs.PlaceLemmas.{get-set_same, set_each}
 use Rattle.gptp_model.proofs.SteadyLemmas.{same_clock}
 use Rattle.gptp_model.proofs.StayLemmas.{begins_same, calls_if_live_stay, calls_stay, carry_same, refreshed_stays, sends_carry, sends_one_carry, set_carry, starts_stays, stays_clocks, stays_ports, stays_setups, takes_carry, tells_ends_carry, CarryTheSame, Stays}
+use Rattle.gptp_model.proofs.EndLemmas.{HasPort, among_has, stays_has_port}
 use Rattle.gptp_model.proofs.UpLemmas.{brings_port, brought_ports, comes_up, is_down, stays_up}
+use Rattle.gptp_scenario.specs.declared.change.Act.{Act}
+use Rattle.gptp_model.specs.Acts.{Acts, Changes, set_to}
+use Rattle.gptp_scenario.specs.declared.change.Change.{Change}
+use Rattle.gptp_scenario.specs.declared.change.Act.TheVariants.{Change as Changing, Deliver, Expire}
+use Rattle.gptp_model.specs.declared.done.Done.{Done}
+use Rattle.gptp_scenario.specs.declared.change.Change.TheVariants.{Fail, Inject, LinkDown, LinkSet, LinkUp, Priority1, Recover}
 
 -- ---- all but some ports
 
@@ -144,20 +152,6 @@ calls_kept Excepted place input w draws answer w' calls downs but =
 
 -- ---- the links of ports go down and come up
 
--- the port is one of the system at a place
-abbrev pub HasPort : ℕ → PortId → WorldState → Type 0
-HasPort place port w = (station : Station) → slice_get w.stations place ≡ Some station
-    → (clock station.system ≡ port.clock) × HasPortNumber station.system port.port
-
-pub stays_has_port : (place : ℕ) (port : PortId) (w w' : WorldState) → Stays w w' → HasPort place port w
-    → HasPort place port w'
-stays_has_port place port w w' stays has station there =
-    let one = stays.stations place station there in
-    let old = has one.old one.here in
-    let at = old.1 in
-    let count = one.same.count in
-    (one.same.named ∙ old.0, record { least = at.least; most = rw count at.most })
-
 same_port : (p q : PortId) → p.clock ≡ q.clock → p.port ≡ q.port → p ≡ q
 same_port p q clocks ports = ap (λ c. port_id c p.port) clocks ∙ ap (port_id q.clock) ports
 
@@ -244,7 +238,7 @@ up_if_live Before After place port w draws w' clocks has less but (inr (off, und
 
 -- ---- acts
 
-pub calls_linked : (place : ℕ) (input : Input) (w : WorldState) (draws : List Draw) (answer : Answer) (w' : WorldState)
+calls_linked : (place : ℕ) (input : Input) (w : WorldState) (draws : List Draw) (answer : Answer) (w' : WorldState)
     → ((p : ℕ) → input ≢ PortDown p) → AreLinked w → Calls place input w draws answer w' → AreLinked w'
 calls_linked place input w draws answer w' not_down linked calls =
     none_linked w' (calls_kept NoPort place input w draws answer w' calls (λ port named down. not_down port.port down)
@@ -260,7 +254,7 @@ net_linked : (w : WorldState) (net : Net) → CarryTheSame w.net.channels net.ch
     → AreLinked (record w { net = net })
 net_linked w net carry linked = none_linked (record w { net = net }) (net_but NoPort w net carry (but_none w linked))
 
-pub delivers_linked : (link : ℕ) (direction : Direction) (octets : List ℕ) (w : WorldState) (draws : List Draw)
+delivers_linked : (link : ℕ) (direction : Direction) (octets : List ℕ) (w : WorldState) (draws : List Draw)
     (answer : Option Answer) (w' : WorldState) → AreLinked w → Delivers link direction octets w draws answer w'
     → AreLinked w'
 delivers_linked link direction octets w draws answer w' linked delivers =
@@ -269,7 +263,7 @@ delivers_linked link direction octets w draws answer w' linked delivers =
     (takes_carry link direction w.time octets delivers.channel w.net delivers.net delivers.takes) linked)
     delivers.hears
 
-pub expires_linked : (place : ℕ) (timer : Timer) (w : WorldState) (draws : List Draw) (w' : WorldState)
+expires_linked : (place : ℕ) (timer : Timer) (w : WorldState) (draws : List Draw) (w' : WorldState)
     → AreLinked w → TimerRunsOut place timer w draws w' → AreLinked w'
 expires_linked place timer w draws w' linked expires =
     calls_linked place (TimerExpires timer) (stopped place timer w) draws expires.answer w' (λ p same. absurd cc) linked
@@ -280,16 +274,6 @@ expires_linked place timer w draws w' linked expires =
 -- the port is one that the link joins
 abbrev IsJoined : Channel → PortId → Type 0
 IsJoined channel port = (port ≡ channel.a) ⊎ (port ≡ channel.b)
-
--- the ends of a link are ports of the systems that are told
-joined_has : (place link : ℕ) (direction : Direction) (channel : Channel) (station : Station) (w : WorldState)
-    → JoinPorts w → slice_get w.net.channels link ≡ Some channel → slice_get w.stations place ≡ Some station
-    → clock station.system ≡ (sender direction channel).clock → HasPort place (sender direction channel) w
-joined_has place link direction channel station w ports here there named other at =
-    let one : station ≡ other = same_there w.stations place station other there at in
-    subst (λ (s : Station). (clock s.system ≡ (sender direction channel).clock)
-    × HasPortNumber s.system (sender direction channel).port) one
-    (named, ports link place direction channel station here there named)
 
 -- A link goes down: no link that is up is at its ports any more.
 lost_unused : (place : ℕ) (channel : Channel) (w : WorldState) → slice_get w.net.channels place ≡ Some channel
@@ -332,22 +316,21 @@ goes_down place channel w draws w' here setups ports apart linked tells =
     has_b =
         stays_has_port tells.place_b channel.b down tells.between
         (calls_if_live_stay tells.place_a (PortDown channel.a.port) down tells.first tells.between setups tells.at_a)
-        (joined_has tells.place_b place FromB channel tells.station_b w ports here tells.is_b.here tells.is_b.named)
+        (among_has tells.place_b channel.b tells.station_b down tells.is_b (join_among w place channel ports here FromB))
 
     told : LinkedBut (IsJoined channel) w'
     told =
         down_if_live (IsJoined channel) tells.place_b channel.b tells.between tells.second w' (inr refl) has_b
         (down_if_live (IsJoined channel) tells.place_a channel.a down tells.first tells.between (inl refl)
-        (joined_has tells.place_a place FromA channel tells.station_a w ports here tells.is_a.here tells.is_a.named)
+        (among_has tells.place_a channel.a tells.station_a down tells.is_a (join_among w place channel ports here FromA))
         but tells.at_a) tells.at_b
 
-pub goes_down_linked : (up : Bool) (place : ℕ) (channel : Channel) (w : WorldState) (draws : List Draw)
-    (w' : WorldState) → slice_get w.net.channels place ≡ Some channel → HaveTheirSetups w → JoinPorts w → AreApart w
-    → AreLinked w → GoesDownIf up place channel w draws w' → AreLinked w'
-goes_down_linked false place channel w draws w' here setups ports apart linked goes =
-    subst AreLinked (sym goes.1) linked
-goes_down_linked true place channel w draws w' here setups ports apart linked goes =
-    goes_down place channel w draws w' here setups ports apart linked goes
+goes_down_linked : (up : Bool) (place : ℕ) (channel : Channel) (w : WorldState) (draws : List Draw)
+    (w' : WorldState) → slice_get w.net.channels place ≡ Some channel → IsWired w
+    → GoesDownIf up place channel w draws w' → AreLinked w'
+goes_down_linked false place channel w draws w' here wired goes = subst AreLinked (sym goes.1) wired.linked
+goes_down_linked true place channel w draws w' here wired goes =
+    goes_down place channel w draws w' here wired.setups wired.ports wired.apart wired.linked goes
 
 -- A link comes up: all ports but its own measure their links.
 begins_there : (direction : Direction) (channel : Channel)
@@ -371,10 +354,10 @@ brought_up_linked place channel w draws w' here setups clocks ports linked tells
     (up_if_live (λ port. port ≡ channel.b) NoPort tells.place_b channel.b tells.between tells.second w'
     (stays_clocks at tells.between first clocks)
     (stays_has_port tells.place_b channel.b at tells.between first
-    (joined_has tells.place_b place FromB channel tells.station_b w ports here tells.is_b.here tells.is_b.named))
+    (among_has tells.place_b channel.b tells.station_b at tells.is_b (join_among w place channel ports here FromB)))
     (λ port is. inr is)
     (up_if_live (IsJoined channel) (λ port. port ≡ channel.b) tells.place_a channel.a at tells.first tells.between
-    clocks (joined_has tells.place_a place FromA channel tells.station_a w ports here tells.is_a.here tells.is_a.named)
+    clocks (among_has tells.place_a channel.a tells.station_a at tells.is_a (join_among w place channel ports here FromA))
     less (brought_up_but place channel w here linked) tells.at_a) tells.at_b)
   where
     at : WorldState
@@ -387,24 +370,24 @@ brought_up_linked place channel w draws w' here setups clocks ports linked tells
     less port (inl is) = inr is
     less port (inr is) = inl is
 
-pub comes_up_linked : (up : Bool) (place : ℕ) (channel : Channel) (w : WorldState) (draws : List Draw)
-    (w' : WorldState) → slice_get w.net.channels place ≡ Some channel → HaveTheirSetups w → HaveOwnClocks w
-    → JoinPorts w → AreLinked w → ComesUpIf up place channel w draws w' → AreLinked w'
-comes_up_linked true place channel w draws w' here setups clocks ports linked comes =
-    subst AreLinked (sym comes.1) linked
-comes_up_linked false place channel w draws w' here setups clocks ports linked comes =
-    brought_up_linked place channel w draws w' here setups clocks ports linked comes
+comes_up_linked : (up : Bool) (place : ℕ) (channel : Channel) (w : WorldState) (draws : List Draw)
+    (w' : WorldState) → slice_get w.net.channels place ≡ Some channel → IsWired w
+    → ComesUpIf up place channel w draws w' → AreLinked w'
+comes_up_linked true place channel w draws w' here wired comes = subst AreLinked (sym comes.1) wired.linked
+comes_up_linked false place channel w draws w' here wired comes =
+    brought_up_linked place channel w draws w' here wired.setups wired.clocks wired.ports wired.linked comes
 
-pub with_bounds_linked : (bounds : Bounds) (place : ℕ) (channel : Channel) (w : WorldState)
+with_bounds_linked : (bounds : Bounds) (place : ℕ) (channel : Channel) (w : WorldState)
     → slice_get w.net.channels place ≡ Some channel → AreLinked w
     → AreLinked (record w { net = with_bounds bounds place channel w.net })
 with_bounds_linked bounds place channel w here linked =
     net_linked w (with_bounds bounds place channel w.net)
     (set_carry w.net.channels place channel (record channel { bounds = bounds }) here refl refl (λ up. up)) linked
 
-pub injects_linked : (from : PortId) (octets : List ℕ) (w : WorldState) (draws : List Draw) (w' : WorldState)
-    → AreLinked w → Injects from octets w draws w' → AreLinked w'
-injects_linked from octets w draws w' linked k =
+injects_linked : (up : Bool) (from : PortId) (octets : List ℕ) (w : WorldState) (draws : List Draw) (w' : WorldState)
+    → AreLinked w → InjectsIf up from octets w draws w' → AreLinked w'
+injects_linked false from octets w draws w' linked (none, is) = subst AreLinked (sym is) linked
+injects_linked true from octets w draws w' linked k =
     subst AreLinked (sym k.is)
     (net_linked w k.net (sends_one_carry w.time from octets k.draw w.net k.net k.sent) linked)
 
@@ -419,7 +402,7 @@ same_linked place w old new here same lives linked link other direction channel 
     (λ live named. rw same (linked link place direction channel old at up here (lives live) (rw (← same) named)))
     (λ k x apart stands live named. linked link k direction channel x at up stands live named) other station there
 
-pub fails_linked : (live : Bool) (place : ℕ) (station : Station) (w : WorldState) (draws : List Draw) (w' : WorldState)
+fails_linked : (live : Bool) (place : ℕ) (station : Station) (w : WorldState) (draws : List Draw) (w' : WorldState)
     → slice_get w.stations place ≡ Some station → AreLinked w → FailsIf live place station w draws w' → AreLinked w'
 fails_linked true place station w draws w' here linked fails =
     let new : Station = record station { live = false } in
@@ -428,11 +411,21 @@ fails_linked true place station w draws w' here linked fails =
     (same_linked place w station new here refl (λ live. absurd cc) linked))
 fails_linked false place station w draws w' here linked fails = subst AreLinked (sym fails.1) linked
 
-pub with_setup_linked : (value place : ℕ) (station : Station) (w : WorldState)
+prioritized_linked : (value place : ℕ) (station : Station) (w : WorldState) (draws : List Draw) (w' : WorldState)
     → slice_get w.stations place ≡ Some station → AreLinked w
-    → AreLinked (with_station place (with_setup value station) w)
-with_setup_linked value place station w here linked =
-    same_linked place w station (with_setup value station) here refl (λ live. live) linked
+    → CallsIfLive place (Priority value) (with_station place (with_setup value station) w) draws w' → AreLinked w'
+prioritized_linked value place station w draws w' here linked called = by called
+  where
+    set : WorldState
+    set = with_station place (with_setup value station) w
+
+    ready : AreLinked set
+    ready = same_linked place w station (with_setup value station) here refl (λ live. live) linked
+
+    by : CallsIfLive place (Priority value) set draws w' → AreLinked w'
+    by (inl (answer, calls)) =
+        calls_linked place (Priority value) set draws answer w' (λ p same. absurd cc) ready calls
+    by (inr (off, undrawn, is)) = subst AreLinked (sym is) ready
 
 -- ---- a start
 
@@ -461,7 +454,7 @@ calls_all_up place number (p ∷ ps) w draws w' setups clocks has but (first, re
     less q (named, inr there) = inl (named, there)
 
 -- A system starts: each of its ports whose link is up comes up.
-pub starts_linked : (place : ℕ) (w : WorldState) (draws : List Draw) (w' : WorldState) → HaveTheirSetups w
+starts_linked : (place : ℕ) (w : WorldState) (draws : List Draw) (w' : WorldState) → HaveTheirSetups w
     → HaveOwnClocks w → JoinPorts w → AreLinked w → Starts place w draws w' → AreLinked w'
 starts_linked place w draws w' setups clocks ports linked starts =
     calls_all_up place (clock new.system) (up_ports new w.net) begun draws w' (stays_setups w begun stays)
@@ -501,11 +494,11 @@ starts_linked place w draws w' setups clocks ports linked starts =
         (station_but NoPort Asked w place starts.station new starts.here asked
         (λ other station port apart there named excepted. absurd excepted) (but_none w linked))
 
-pub recovers_linked : (live : Bool) (place : ℕ) (w : WorldState) (draws : List Draw) (w' : WorldState)
-    → HaveTheirSetups w → HaveOwnClocks w → JoinPorts w → AreLinked w → RecoversIf live place w draws w' → AreLinked w'
-recovers_linked true place w draws w' setups clocks ports linked recovers = subst AreLinked (sym recovers.1) linked
-recovers_linked false place w draws w' setups clocks ports linked recovers =
-    starts_linked place w draws w' setups clocks ports linked recovers
+recovers_linked : (live : Bool) (place : ℕ) (w : WorldState) (draws : List Draw) (w' : WorldState) → IsWired w
+    → RecoversIf live place w draws w' → AreLinked w'
+recovers_linked true place w draws w' wired recovers = subst AreLinked (sym recovers.1) wired.linked
+recovers_linked false place w draws w' wired recovers =
+    starts_linked place w draws w' wired.setups wired.clocks wired.ports wired.linked recovers
 
 pub starts_all_linked : (places : List ℕ) (w : WorldState) (draws : List Draw) (w' : WorldState) → HaveTheirSetups w
     → HaveOwnClocks w → JoinPorts w → AreLinked w → StartsAll places w draws w' → AreLinked w'
@@ -514,3 +507,38 @@ starts_all_linked (place ∷ places) w draws w' setups clocks ports linked (firs
     let stays = starts_stays place w first between setups one in
     starts_all_linked places between rest w' (stays_setups w between stays) (stays_clocks w between stays clocks)
     (stays_ports w between stays ports) (starts_linked place w first between setups clocks ports linked one) more
+
+-- ---- all acts
+
+changes_linked : (change : Change) (w : WorldState) (draws : List Draw) (w' : WorldState) → IsWired w
+    → Changes change w draws w' → AreLinked w'
+changes_linked (LinkDown number port) w draws w' wired k =
+    goes_down_linked k.channel.up k.place k.channel w draws w' k.is.here wired k.so
+changes_linked (LinkUp number port) w draws w' wired k =
+    comes_up_linked k.channel.up k.place k.channel w draws w' k.is.here wired k.so
+changes_linked (LinkSet number port min max loss) w draws w' wired k =
+    subst AreLinked (sym k.so.1)
+    (with_bounds_linked (set_to min max loss k.channel) k.place k.channel w k.is.here wired.linked)
+changes_linked (Fail number) w draws w' wired k =
+    fails_linked k.station.live k.place k.station w draws w' k.is.here wired.linked k.so
+changes_linked (Recover number) w draws w' wired k = recovers_linked k.station.live k.place w draws w' wired k.so
+changes_linked (Priority1 number value) w draws w' wired k =
+    prioritized_linked value k.place k.station w draws w' k.is.here wired.linked k.so
+changes_linked (Inject number port octets) w draws w' wired k =
+    injects_linked k.channel.up (port_id number port) octets w draws w' wired.linked k.so
+
+pub acts_linked : (act : Act) (w : WorldState) (draws : List Draw) (done : Done) (w' : WorldState) → IsWired w
+    → Acts act w draws done w' → AreLinked w'
+acts_linked (Deliver link direction) w draws done w' wired k =
+    delivers_linked link direction k.octets w draws k.answer w' wired.linked k.delivers
+acts_linked (Expire number timer) w draws done w' wired k =
+    expires_linked k.1.place timer w draws w' wired.linked k.1.so
+acts_linked (Changing change) w draws done w' wired k =
+    changes_linked change (record w { last_change = w.time }) draws w' (record {
+      setups = wired.setups;
+      clocks = wired.clocks;
+      ports = wired.ports;
+      apart = wired.apart;
+      flow = wired.flow;
+      linked = wired.linked;
+    }) k.1

@@ -1,5 +1,5 @@
 -- Every act leaves a world on time, and less to do by then.
-use Rattle.std.proofs.Common.{◌≡◌, ◌≢◌, ℕ, ◌+◌, ◌≤◌, ◌<◌, Bool, true, false, List, [], map, Option, Some, None, slice_get, refl, sym, ap, subst, ◌∙◌, arith}
+use Rattle.std.proofs.Common.{◌≡◌, ◌≢◌, ℕ, ◌+◌, ◌<◌, Bool, true, false, List, [], map, Option, Some, None, slice_get, refl, sym, ap, subst, ◌∙◌, arith}
 use Rattle.gptp_links.specs.declared.link.Direction.{Direction}
 use Rattle.gptp_links.specs.Fate.{Draw}
 use Rattle.gptp_links.specs.Queue.{Frame}
@@ -7,21 +7,22 @@ use Rattle.gptp_system.specs.declared.answer.Answer.{Answer}
 use Rattle.gptp_setup.specs.declared.timer.Timer.{Timer}
 use Rattle.gptp_system.specs.Input.{Input, Frame as FrameHeard, Expires as TimerExpires}
 use Rattle.gptp_system.specs.State.{due}
-use Rattle.gptp_system.specs.Steps.{IsDue, IsUp}
+use Rattle.gptp_system.specs.Steps.{IsUp}
 use Rattle.gptp_model.specs.declared.item.Item.TheVariants.{Arrival, Expiry}
 use Rattle.gptp_model.specs.declared.station.Station.{Station}
-use Rattle.gptp_model.specs.Act.{Calls, Delivers, TimerRunsOut, Hears}
+use Rattle.gptp_model.specs.Act.{Calls, Delivers, TimerRunsOut, Hears, TakesFrame}
 use Rattle.gptp_model.specs.Ahead.{AllArePending, AreFit, ArePending, IsSteady, IsWorldOnTime, due_by}
 use Rattle.gptp_model.specs.Changing.{failed}
 use Rattle.gptp_model.specs.Item.{same_item}
 use Rattle.gptp_model.specs.Pending.{Entry, NothingBefore, timer_time, times_of_item, without_first_entry}
-use Rattle.gptp_model.specs.World.{Net, WorldState, world_queue, receiver, station_due}
-use Rattle.gptp_model.proofs.AheadLemmas.{calls_due_by, calls_on_time, live_due, pending_none_late, requeued_fit}
+use Rattle.gptp_model.specs.World.{Net, WorldState, world_queue, receiver, station_due, Channel}
+use Rattle.gptp_model.proofs.AheadLemmas.{calls_due_by, live_due, pending_none_late, requeued_fit}
 use Rattle.gptp_model.proofs.DueByLemmas.{due_by-taken}
 use Rattle.gptp_lists.proofs.MappedLemmas.{same_there}
 use Rattle.gptp_model.proofs.MomentLemmas.{nothing_before-without_first}
 use Rattle.gptp_model.proofs.PendingLemmas.{times-without_first_other}
 use Rattle.gptp_model.proofs.TimerLemmas.{no_arrival, same_timer}
+use Rattle.gptp_model.proofs.ActsByLemmas.{expires_timely}
 
 -- ---- time that passes
 
@@ -66,21 +67,6 @@ module _ (place : ℕ) (timer : Timer) (w : WorldState) (draws : List Draw) (w' 
   station_dues : (t : Timer) → station_due t k.station ≡ due t k.calls.station.system
   station_dues t = ap (station_due t) (sym one_station) ∙ live_due k.calls.station t k.calls.live
 
-  out_timely : IsDue k.calls.station.system timer w.time
-  out_timely =
-      let now : due timer k.calls.station.system ≡ Some w.time = sym (station_dues timer) ∙ k.now_due in
-      let least : w.time ≤ w.time = omega arith in rw now least
-
-  pub expires_on_time : IsWorldOnTime w → IsWorldOnTime w'
-  expires_on_time on =
-      calls_on_time place (TimerExpires timer) between draws k.answer w' k.calls
-      (record {
-        stations = on.stations;
-        links = on.links;
-        pending = nothing_before-without_first w.time (Expiry place timer) w.net.pending on.pending;
-      })
-      out_timely
-
   -- the system is the one that agrees, and all its other timers are pending still
   out_steady : IsSteady k.station.system → IsSteady k.calls.station.system
   out_steady = subst (λ (x : Station). IsSteady x.system) (sym one_station)
@@ -101,10 +87,28 @@ module _ (place : ℕ) (timer : Timer) (w : WorldState) (draws : List Draw) (w' 
       due_by-taken w.time (Expiry place timer) w.net.pending w.time [] (agree timer ∙ ap timer_time k.now_due)
       (omega arith) in
       let call = calls_due_by place (TimerExpires timer) between draws k.answer w' k.calls (out_steady steady)
-      out_timely fit (out_pending agree) in
+      (expires_timely place timer w draws w' k) fit (out_pending agree) in
       omega arith
 
 -- ---- a delivery
+
+module _ (link : ℕ) (direction : Direction) (octets : List ℕ) (channel : Channel) (w : WorldState) (net : Net)
+    (k : TakesFrame link direction w.time octets channel w.net net) where
+  taken_pending : net.pending ≡ without_first_entry (Arrival link direction) w.net.pending
+  taken_pending = ap (λ (n : Net). n.pending) k.is
+
+  taken_fit : AreFit w.net.channels → AreFit net.channels
+  taken_fit fit =
+      subst (λ (n : Net). AreFit n.channels) (sym k.is)
+      (requeued_fit w.net.channels link direction k.rest channel k.here fit)
+
+  pub taken_on_time : IsWorldOnTime w → IsWorldOnTime (record w { net = net })
+  taken_on_time on = record {
+    stations = on.stations;
+    links = taken_fit on.links;
+    pending = subst (NothingBefore w.time) (sym taken_pending)
+        (nothing_before-without_first w.time (Arrival link direction) w.net.pending on.pending);
+  }
 
 module _ (link : ℕ) (direction : Direction) (octets : List ℕ) (w : WorldState) (draws : List Draw)
     (answer : Option Answer) (w' : WorldState) (k : Delivers link direction octets w draws answer w') where
@@ -116,20 +120,7 @@ module _ (link : ℕ) (direction : Direction) (octets : List ℕ) (w : WorldStat
   heard = FrameHeard (receiver direction k.channel).port octets
 
   left_is : k.net.pending ≡ without_first_entry (Arrival link direction) w.net.pending
-  left_is = ap (λ (n : Net). n.pending) k.takes.is
-
-  emptied_fit : AreFit w.net.channels → AreFit k.net.channels
-  emptied_fit fit =
-      subst (λ (n : Net). AreFit n.channels) (sym k.takes.is)
-      (requeued_fit w.net.channels link direction k.takes.rest k.channel k.takes.here fit)
-
-  emptied_on_time : IsWorldOnTime w → IsWorldOnTime emptied
-  emptied_on_time on = record {
-    stations = on.stations;
-    links = emptied_fit on.links;
-    pending = subst (NothingBefore w.time) (sym left_is)
-        (nothing_before-without_first w.time (Arrival link direction) w.net.pending on.pending);
-  }
+  left_is = taken_pending link direction octets k.channel w k.net k.takes
 
   -- the frame is timely where the receiver's port is up
   heard_timely : (k.station.live ≡ true → IsUp k.station.system (receiver direction k.channel).port) → (one : Answer)
@@ -141,17 +132,6 @@ module _ (link : ℕ) (direction : Direction) (octets : List ℕ) (w : WorldStat
         subst (λ (x : Station). IsUp x.system (receiver direction k.channel).port) same
             (up (ap (λ (x : Station). x.live) same ∙ c.live)),
       )
-
-  pub delivers_on_time : IsWorldOnTime w
-      → (k.station.live ≡ true → IsUp k.station.system (receiver direction k.channel).port) → IsWorldOnTime w'
-  delivers_on_time on up = by answer k.hears
-    where
-      by : (a : Option Answer) → Hears k.place (receiver direction k.channel).port octets emptied draws a w'
-          → IsWorldOnTime w'
-      by (Some one) c =
-          calls_on_time k.place heard emptied draws one w' c
-          (emptied_on_time on) (heard_timely up one c).1
-      by None (failed, none, is) = subst IsWorldOnTime (sym is) (emptied_on_time on)
 
   -- the timers of the receiver are pending still
   heard_pending : (one : Answer) (c : Calls k.place heard emptied draws one w') → k.station ≡ c.station
@@ -184,7 +164,7 @@ module _ (link : ℕ) (direction : Direction) (octets : List ℕ) (w : WorldStat
       by (Some one) c =
           let timely = heard_timely up one c in
           let call = calls_due_by k.place heard emptied draws one w' c
-          (subst (λ (x : Station). IsSteady x.system) timely.0 steady) timely.1 (emptied_fit fit)
+          (subst (λ (x : Station). IsSteady x.system) timely.0 steady) timely.1 (taken_fit link direction octets k.channel w k.net k.takes fit)
           (heard_pending one c timely.0 agree) in
           let first = less in
           omega arith

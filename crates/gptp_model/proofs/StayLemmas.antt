@@ -1,6 +1,7 @@
 -- What no act changes of a world: the clock, the ports and the parameters of each system, and the ports that each link
 -- joins.
-use Rattle.std.proofs.Common.{◌≡◌, ℕ, Bool, true, false, List, [], ◌∷◌, map, length, Option, Some, None, slice_get, slice_set, refl, sym, ap, subst, ◌∙◌, inl, inr}
+use Rattle.std.proofs.Common.{◌≡◌, ℕ, true, false, List, [], ◌∷◌, length, Option, Some, slice_get, slice_set, refl, sym, ap, subst, ◌∙◌, inl, inr}
+use Rattle.std.specs.Prelude.{⊤}
 use Rattle.gptp_vector.specs.declared.port.PortId.{PortId}
 use Rattle.gptp_links.specs.declared.bounds.Bounds.{Bounds}
 use Rattle.gptp_links.specs.declared.link.Direction.{Direction}
@@ -9,28 +10,25 @@ use Rattle.gptp_links.specs.Fate.{Draw}
 use Rattle.gptp_roles.specs.Selection.{clock_of}
 use Rattle.gptp_system.specs.declared.answer.Answer.{Answer}
 use Rattle.gptp_system.specs.declared.sending.Sending.{Sending}
-use Rattle.gptp_setup.specs.declared.timer.Timer.{Timer}
-use Rattle.gptp_system.specs.Input.{Input, PortUp, PortDown, Priority, Frame as FrameHeard, Expires as TimerExpires}
+use Rattle.gptp_system.specs.Input.{Input}
 use Rattle.gptp_system.specs.Start.{started}
 use Rattle.gptp_system.specs.State.{SystemState, clock}
 use Rattle.gptp_system.proofs.StartLemmas.{length-new_ports}
 use Rattle.gptp_system.proofs.TimersChangedLemmas.{priority_clock}
 use Rattle.gptp_scenario.specs.declared.change.Act.{Act}
-use Rattle.gptp_scenario.specs.declared.change.Act.TheVariants.{Deliver, Expire, Change as Changing}
-use Rattle.gptp_scenario.specs.declared.change.Change.{Change}
-use Rattle.gptp_scenario.specs.declared.change.Change.TheVariants.{LinkDown, LinkUp, LinkSet, Fail, Recover, Priority1, Inject}
 use Rattle.gptp_scenario.specs.declared.change.Timed.{Timed}
 use Rattle.gptp_model.specs.declared.done.Done.{Done}
 use Rattle.gptp_model.specs.declared.station.Station.{Station}
-use Rattle.gptp_model.specs.World.{Channel, Net, WorldState, port_id, sender, receiver}
+use Rattle.gptp_model.specs.World.{Channel, Net, WorldState, port_id, sender}
 use Rattle.gptp_model.specs.Sends.{SendsAll, SendsOne}
-use Rattle.gptp_model.specs.Act.{all_timers, in_state, Calls, Delivers, TimerRunsOut, Hears, TakesFrame}
-use Rattle.gptp_model.specs.Acts.{at, set_to, Acts, Changes}
+use Rattle.gptp_model.specs.Act.{all_timers, in_state, Calls, TakesFrame}
+use Rattle.gptp_model.specs.Acts.{at, set_to, Acts}
 use Rattle.gptp_model.specs.Advancing.{Advanced, Advances, Told}
 use Rattle.gptp_model.specs.Agrees.{stopped}
-use Rattle.gptp_model.specs.Changing.{brought_up, failed, fresh, lost, taken_down, up_ports, with_bounds, with_setup, with_station, CallsAll, CallsIfLive, ComesUpIf, FailsIf, GoesDownIf, Injects, InjectsIf, RecoversIf, Starts, StartsAll, TellsEnds}
+use Rattle.gptp_model.specs.Changing.{brought_up, failed, fresh, lost, taken_down, with_bounds, with_setup, with_station, CallsIfLive, Injects, Starts, StartsAll, TellsEnds}
 use Rattle.gptp_model.specs.Course.{WasDone}
 use Rattle.gptp_model.specs.Sound.{AreApart, HaveOwnClocks, HaveTheirSetups, IsItsSetup, JoinPorts}
+use Rattle.gptp_model.proofs.ActsByLemmas.{Elementary, acts_by, start_by, starts_by}
 use Rattle.gptp_model.proofs.AgreeLemmas.{replaced}
 use Rattle.gptp_model.proofs.BareLemmas.{bare, calls_bare, sends_bare, sends_one_bare, takes_bare, DifferInFlight}
 use Rattle.gptp_lists.proofs.MappedLemmas.{alike}
@@ -301,31 +299,6 @@ calls_stay place input w draws answer w' setups calls =
     (sends_carry w.time calls.after calls.sends draws
     (all_timers place (in_state calls.after calls.station) w.net) calls.net calls.sent)))
 
-pub hears_stay : (place port : ℕ) (octets : List ℕ) (w : WorldState) (draws : List Draw) (answer : Option Answer)
-    (w' : WorldState) → HaveTheirSetups w → Hears place port octets w draws answer w' → Stays w w'
-hears_stay place port octets w draws (Some answer) w' setups hears =
-    calls_stay place (FrameHeard port octets) w draws answer w' setups hears
-hears_stay place port octets w draws None w' setups hears = subst (Stays w) (sym hears.2) (same_stays w setups)
-
-pub delivers_stay : (link : ℕ) (direction : Direction) (octets : List ℕ) (w : WorldState) (draws : List Draw)
-    (answer : Option Answer) (w' : WorldState) → HaveTheirSetups w → Delivers link direction octets w draws answer w'
-    → Stays w w'
-delivers_stay link direction octets w draws answer w' setups delivers =
-    let taken : WorldState = record w { net = delivers.net } in
-    stays_on w taken w'
-    (net_stays w delivers.net setups
-    (carry_join w.net.channels delivers.net.channels
-    (takes_carry link direction w.time octets delivers.channel w.net delivers.net delivers.takes)))
-    (hears_stay delivers.place (receiver direction delivers.channel).port octets taken draws answer w' setups
-    delivers.hears)
-
-pub expires_stay : (place : ℕ) (timer : Timer) (w : WorldState) (draws : List Draw) (w' : WorldState)
-    → HaveTheirSetups w → TimerRunsOut place timer w draws w' → Stays w w'
-expires_stay place timer w draws w' setups expires =
-    let at : WorldState = stopped place timer w in
-    stays_on w at w' (net_stays w at.net setups (join_same w.net.channels))
-    (calls_stay place (TimerExpires timer) at draws expires.answer w' setups expires.calls)
-
 -- ---- calls one after another
 
 pub calls_if_live_stay : (place : ℕ) (input : Input) (w : WorldState) (draws : List Draw) (w' : WorldState)
@@ -334,22 +307,6 @@ calls_if_live_stay place input w draws w' setups (inl (answer, calls)) =
     calls_stay place input w draws answer w' setups calls
 calls_if_live_stay place input w draws w' setups (inr (failed, none, is)) =
     subst (Stays w) (sym is) (same_stays w setups)
-
-pub tells_ends_stay : (input : ℕ → Input) (channel : Channel) (w : WorldState) (draws : List Draw) (w' : WorldState)
-    → HaveTheirSetups w → TellsEnds input channel w draws w' → Stays w w'
-tells_ends_stay input channel w draws w' setups tells =
-    let first = calls_if_live_stay tells.place_a (input channel.a.port) w tells.first tells.between setups tells.at_a in
-    stays_on w tells.between w' first
-    (calls_if_live_stay tells.place_b (input channel.b.port) tells.between tells.second w'
-    (stays_setups w tells.between first) tells.at_b)
-
-pub calls_all_stay : (place : ℕ) (inputs : List Input) (w : WorldState) (draws : List Draw) (w' : WorldState)
-    → HaveTheirSetups w → CallsAll place inputs w draws w' → Stays w w'
-calls_all_stay place [] w draws w' setups calls = subst (Stays w) (sym calls.1) (same_stays w setups)
-calls_all_stay place (input ∷ inputs) w draws w' setups (first, rest, between, answer, is, calls, more) =
-    let one = calls_stay place input w first answer between setups calls in
-    stays_on w between w' one
-    (calls_all_stay place inputs between rest w' (stays_setups w between one) more)
 
 -- ---- changes of a link
 
@@ -365,31 +322,6 @@ brought_up_stays place channel w here setups =
     net_stays w (brought_up place channel w.net) setups
     (set_join w.net.channels place channel (record channel { up = true }) here refl refl)
 
-pub with_bounds_stays : (bounds : Bounds) (place : ℕ) (channel : Channel) (w : WorldState)
-    → slice_get w.net.channels place ≡ Some channel → HaveTheirSetups w
-    → Stays w (record w { net = with_bounds bounds place channel w.net })
-with_bounds_stays bounds place channel w here setups =
-    net_stays w (with_bounds bounds place channel w.net) setups
-    (set_join w.net.channels place channel (record channel { bounds = bounds }) here refl refl)
-
-pub goes_down_stays : (up : Bool) (place : ℕ) (channel : Channel) (w : WorldState) (draws : List Draw) (w' : WorldState)
-    → slice_get w.net.channels place ≡ Some channel → HaveTheirSetups w
-    → GoesDownIf up place channel w draws w' → Stays w w'
-goes_down_stays false place channel w draws w' here setups goes = subst (Stays w) (sym goes.1) (same_stays w setups)
-goes_down_stays true place channel w draws w' here setups goes =
-    let down : WorldState = record w { net = taken_down place channel w.net } in
-    stays_on w down w' (taken_down_stays place channel w here setups)
-    (tells_ends_stay PortDown channel down draws w' setups goes)
-
-pub comes_up_stays : (up : Bool) (place : ℕ) (channel : Channel) (w : WorldState) (draws : List Draw) (w' : WorldState)
-    → slice_get w.net.channels place ≡ Some channel → HaveTheirSetups w
-    → ComesUpIf up place channel w draws w' → Stays w w'
-comes_up_stays true place channel w draws w' here setups comes = subst (Stays w) (sym comes.1) (same_stays w setups)
-comes_up_stays false place channel w draws w' here setups comes =
-    let at : WorldState = record w { net = brought_up place channel w.net } in
-    stays_on w at w' (brought_up_stays place channel w here setups)
-    (tells_ends_stay PortUp channel at draws w' setups comes)
-
 -- what is in flight on a link is neither its ports nor a system
 pub injects_stay : (from : PortId) (octets : List ℕ) (w : WorldState) (draws : List Draw) (w' : WorldState)
     → HaveTheirSetups w → Injects from octets w draws w' → Stays w w'
@@ -397,11 +329,6 @@ injects_stay from octets w draws w' setups k =
     subst (Stays w) (sym k.is)
     (net_stays w k.net setups
     (carry_join w.net.channels k.net.channels (sends_one_carry w.time from octets k.draw w.net k.net k.sent)))
-
-pub injects_if_stay : (up : Bool) (from : PortId) (octets : List ℕ) (w : WorldState) (draws : List Draw)
-    (w' : WorldState) → HaveTheirSetups w → InjectsIf up from octets w draws w' → Stays w w'
-injects_if_stay false from octets w draws w' setups k = subst (Stays w) (sym k.1) (same_stays w setups)
-injects_if_stay true from octets w draws w' setups k = injects_stay from octets w draws w' setups k
 
 -- ---- changes of a system
 
@@ -425,13 +352,6 @@ failed_stays place station w here setups =
       };
     })
     setups (join_same w.net.channels)
-
-pub fails_stays : (live : Bool) (place : ℕ) (station : Station) (w : WorldState) (draws : List Draw) (w' : WorldState)
-    → slice_get w.stations place ≡ Some station → HaveTheirSetups w → FailsIf live place station w draws w'
-    → Stays w w'
-fails_stays true place station w draws w' here setups fails =
-    subst (Stays w) (sym fails.1) (failed_stays place station w here setups)
-fails_stays false place station w draws w' here setups fails = subst (Stays w) (sym fails.1) (same_stays w setups)
 
 -- another priority1 leaves the clock
 pub with_setup_stays : (value place : ℕ) (station : Station) (w : WorldState)
@@ -488,58 +408,55 @@ refreshed_stays place station w here setups =
     station_stays place w station new (all_timers place new w.net) here
     (fresh_same w.time station (setups place station here)) setups (join_same w.net.channels)
 
+-- ---- all acts
+
+-- What stays since a first world stays on.
+later : (first w w' : WorldState) → (HaveTheirSetups w → Stays w w') → Stays first w → Stays first w'
+later first w w' step stays = stays_on first w w' stays (step (stays_setups first w stays))
+
+pub stay_kept : (first : WorldState) → Elementary ⊥ (λ act. ⊤) (λ octets. ⊤) (Stays first)
+stay_kept first = record {
+  system_called = λ place input w draws answer w' k given.
+      later first w w' (λ setups. calls_stay place input w draws answer w' setups k);
+  frame_taken = λ link direction octets channel w net k stays. (
+    later first w (record w { net = net }) (λ setups. net_stays w net setups
+        (carry_join w.net.channels net.channels (takes_carry link direction w.time octets channel w.net net k))) stays,
+    tt,
+  );
+  timer_stopped = λ place timer w.
+      let after : WorldState = stopped place timer w in
+      later first w after (λ setups. net_stays w after.net setups (join_same w.net.channels));
+  link_down = λ place channel w here.
+      later first w (record w { net = taken_down place channel w.net }) (taken_down_stays place channel w here);
+  link_up = λ place channel w here.
+      later first w (record w { net = brought_up place channel w.net }) (brought_up_stays place channel w here);
+  link_set = λ number port min max loss place channel w here allowed now.
+      let net : Net = with_bounds (set_to min max loss channel) place channel w.net in
+      later first w (record w { net = net }) (λ setups. net_stays w net setups
+      (set_join w.net.channels place channel (record channel { bounds = set_to min max loss channel }) here refl refl));
+  system_failed = λ place station w here.
+      later first w (failed place station w) (failed_stays place station w here);
+  system_started = λ place station w here.
+      later first w (replaced place (fresh w.time station) w) (refreshed_stays place station w here);
+  priority_set = λ number value place station w here allowed.
+      later first w (with_station place (with_setup value station) w) (with_setup_stays value place station w here);
+  octets_injected = λ number port octets w draws w' allowed k.
+      later first w w' (λ setups. injects_stay (port_id number port) octets w draws w' setups k);
+  change_counted = λ w stays. record { stations = stays.stations; links = stays.links };
+}
+
 pub starts_stays : (place : ℕ) (w : WorldState) (draws : List Draw) (w' : WorldState) → HaveTheirSetups w
     → Starts place w draws w' → Stays w w'
-starts_stays place w draws w' setups starts =
-    let new : Station = fresh w.time starts.station in
-    let begun : WorldState = replaced place new w in
-    let first = refreshed_stays place starts.station w starts.here setups in
-    stays_on w begun w' first
-    (calls_all_stay place (map PortUp (up_ports new w.net)) begun draws w' (stays_setups w begun first) starts.calls)
-
-pub recovers_stays : (live : Bool) (place : ℕ) (w : WorldState) (draws : List Draw) (w' : WorldState)
-    → HaveTheirSetups w → RecoversIf live place w draws w' → Stays w w'
-recovers_stays true place w draws w' setups recovers = subst (Stays w) (sym recovers.1) (same_stays w setups)
-recovers_stays false place w draws w' setups recovers = starts_stays place w draws w' setups recovers
+starts_stays place w draws w' setups k = start_by (stay_kept w) place w draws w' k (same_stays w setups)
 
 pub starts_all_stay : (places : List ℕ) (w : WorldState) (draws : List Draw) (w' : WorldState) → HaveTheirSetups w
     → StartsAll places w draws w' → Stays w w'
-starts_all_stay [] w draws w' setups starts = subst (Stays w) (sym starts.1) (same_stays w setups)
-starts_all_stay (place ∷ places) w draws w' setups (first, rest, between, is, one, more) =
-    let begun = starts_stays place w first between setups one in
-    stays_on w between w' begun (starts_all_stay places between rest w' (stays_setups w between begun) more)
-
--- ---- all acts
-
-pub changes_stay : (change : Change) (w : WorldState) (draws : List Draw) (w' : WorldState) → HaveTheirSetups w
-    → Changes change w draws w' → Stays w w'
-changes_stay (LinkDown number port) w draws w' setups k =
-    goes_down_stays k.channel.up k.place k.channel w draws w' k.is.here setups k.so
-changes_stay (LinkUp number port) w draws w' setups k =
-    comes_up_stays k.channel.up k.place k.channel w draws w' k.is.here setups k.so
-changes_stay (LinkSet number port min max loss) w draws w' setups k =
-    subst (Stays w) (sym k.so.1)
-    (with_bounds_stays (set_to min max loss k.channel) k.place k.channel w k.is.here setups)
-changes_stay (Fail number) w draws w' setups k =
-    fails_stays k.station.live k.place k.station w draws w' k.is.here setups k.so
-changes_stay (Recover number) w draws w' setups k =
-    recovers_stays k.station.live k.place w draws w' setups k.so
-changes_stay (Priority1 number value) w draws w' setups k =
-    let set : WorldState = with_station k.place (with_setup value k.station) w in
-    let stays = with_setup_stays value k.place k.station w k.is.here setups in
-    stays_on w set w' stays
-    (calls_if_live_stay k.place (Priority value) set draws w' (stays_setups w set stays) k.so)
-changes_stay (Inject number port octets) w draws w' setups k =
-    injects_if_stay k.channel.up (port_id number port) octets w draws w' setups k.so
+starts_all_stay places w draws w' setups k = starts_by (stay_kept w) places w draws w' k (same_stays w setups)
 
 pub acts_stay : (act : Act) (w : WorldState) (draws : List Draw) (done : Done) (w' : WorldState) → HaveTheirSetups w
     → Acts act w draws done w' → Stays w w'
-acts_stay (Deliver link direction) w draws done w' setups k =
-    delivers_stay link direction k.octets w draws k.answer w' setups k.delivers
-acts_stay (Expire number timer) w draws done w' setups k = expires_stay k.1.place timer w draws w' setups k.1.so
-acts_stay (Changing change) w draws done w' setups k =
-    let stays = changes_stay change (record w { last_change = w.time }) draws w' setups k.1 in
-    record { stations = stays.stations; links = stays.links }
+acts_stay act w draws done w' setups k =
+    acts_by (stay_kept w) act w draws done w' (λ none. absurd none) tt k (same_stays w setups)
 
 module _ {F : Type 0} (answers : Bounds → ℕ → F → Option ℕ → F → Type 0) where
   pub done_stays : (timed : Timed) (fate fate_after : F) (w w' : WorldState) (done : Done) → HaveTheirSetups w

@@ -25,7 +25,7 @@ use Rattle.gptp_model.specs.Changing.{CallsIfLive, ComesUpIf, FailsIf, GoesDownI
 use Rattle.gptp_model.specs.declared.done.Done.{Done}
 use Rattle.gptp_model.specs.declared.station.Station.{Station}
 use Rattle.gptp_model.proofs.AgreeLemmas.{replaced}
-use Rattle.gptp_invariants.proofs.WorldActsByLemmas.{PortCallsKeep, ends_told, system_starts, systems_start}
+use Rattle.gptp_model.proofs.ActsByLemmas.{PortCallsKeep, ends_told, system_starts, systems_start}
 use Rattle.gptp_model.specs.Initial.{initial, station_of}
 use Rattle.gptp_model.specs.Sound.{IsSound}
 use Rattle.gptp_model.specs.World.{Channel, WorldState, port_id, receiver}

@@ -12,7 +12,7 @@ use Rattle.gptp_setup.specs.Intervals.{interval_of}
 use Rattle.gptp_system.specs.declared.answer.Answer.{Answer}
 use Rattle.gptp_system.specs.Input.{PortUp}
 use Rattle.gptp_system.specs.Measures.{IsPartAfter, Part, measure_at, part_asked}
-use Rattle.gptp_system.specs.State.{clock, number}
+use Rattle.gptp_system.specs.State.{number}
 use Rattle.gptp_system.specs.Steps.{HasPortNumber}
 use Rattle.gptp_model.specs.declared.done.Done.{Done}
 use Rattle.gptp_model.specs.Act.{Calls}
@@ -26,9 +26,8 @@ use Rattle.gptp_invariants.specs.FailedUnanswered.{StandsUnanswered}
 use Rattle.gptp_invariants.proofs.DelayLinkCallLemmas.{at_own}
 use Rattle.gptp_invariants.proofs.DelayLinkLemmas.{IsOrderly, net_orderly, sound_orderly}
 use Rattle.gptp_invariants.proofs.DelayElsewhereLemmas.{orderly_too}
-use Rattle.gptp_invariants.proofs.WorldActsByLemmas.{PortCallsKeep, ends_told}
-use Rattle.gptp_invariants.proofs.WorldBeforeLemmas.{stood}
-use Rattle.gptp_invariants.proofs.FailedSilentElsewhereLemmas.{changed_stood, live_before}
+use Rattle.gptp_model.proofs.ActsByLemmas.{PortCallsKeep, ends_told, join_among}
+use Rattle.gptp_invariants.proofs.FailedSilentElsewhereLemmas.{changed_stood, stood_up}
 use Rattle.gptp_settling_time.proofs.BetweenFailedLemmas.{AreGoneBetween, IsGoneBetween, gone_still, gone_up}
 use Rattle.gptp_settling_time.proofs.AskedInTimeLemmas.{AreAskedInTime, AsksAfter, IsAskedInTime, called_in_time}
 use Rattle.std.proofs.lemmas.Option.{none-some, slice_get_within}
@@ -174,16 +173,13 @@ module _ (p : SettlingParams) (gone number port : ℕ) (w : WorldState) (draws :
         → IsOrderly w' × So w'
     raised_told So called so =
         ends_told ⊤ (λ v. IsOrderly v × So v) PortUp called k.channel brought draws w'
-        (λ known direction place station there named.
-        sound.wired.ports k.place place direction k.channel station k.is.here there named) told (orderly, so)
+        (λ known. join_among w k.place k.channel sound.wired.ports k.is.here) told (orderly, so)
 
     module _ (asked : AreAskedInTime gone w) (at : LinkPlace) (s : StandsUnanswered at w') where
       before : StandsUnanswered at brought
-      unfolding told
       before =
-          stood at brought told.between
-          (live_before told.place_a k.channel.a.port brought told.first told.between told.at_a)
-          (stood at told.between w' (live_before told.place_b k.channel.b.port told.between told.second w' told.at_b) s)
+          ends_told ⊥ (λ v. StandsUnanswered at v → StandsUnanswered at brought) PortUp (stood_up at brought) k.channel
+          brought draws w' (λ none. absurd none) told (λ stands. stands) s
 
       -- nothing is in flight yet over the link
       begun_here : at.link ≡ k.place → IsAskedInTime gone at brought

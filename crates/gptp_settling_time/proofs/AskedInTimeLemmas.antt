@@ -42,7 +42,7 @@ use Rattle.gptp_invariants.specs.WorldShort.{IsShort}
 use Rattle.gptp_invariants.proofs.DelayEndLemmas.{HearsWhatFits}
 use Rattle.gptp_invariants.proofs.DelayLinkLaneLemmas.{GrowsIn, IsAlone, sends_grow}
 use Rattle.gptp_invariants.proofs.DelayLinkCallLemmas.{asker_timer, at_own}
-use Rattle.gptp_invariants.proofs.WorldActsByLemmas.{expires_timely, reached_up}
+use Rattle.gptp_model.proofs.ActsByLemmas.{expires_timely, reached_up}
 use Rattle.gptp_invariants.proofs.DelayLinkLemmas.{IsOrderly, net_orderly, one_end, sender_opposite, sound_orderly}
 use Rattle.gptp_invariants.proofs.DelayPartLemmas.{heard_asked}
 use Rattle.gptp_invariants.proofs.DelaySentLemmas.{asks_nothing}

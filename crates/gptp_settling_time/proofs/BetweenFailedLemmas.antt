@@ -32,7 +32,7 @@ use Rattle.gptp_invariants.proofs.DelayLinkLemmas.{IsOrderly, receiver_same, sen
 use Rattle.gptp_invariants.proofs.FailedUnansweredCallLemmas.{failed_apart}
 use Rattle.gptp_invariants.proofs.FailedUnansweredLaneLemmas.{calls_shrink, takes_shrink}
 use Rattle.gptp_invariants.proofs.DelayElsewhereLemmas.{orderly_too}
-use Rattle.gptp_invariants.proofs.WorldActsByLemmas.{PortCallsKeep}
+use Rattle.gptp_model.proofs.ActsByLemmas.{PortCallsKeep}
 use Rattle.gptp_settling_time.proofs.AsksSoonLemmas.{both_ways}
 
 -- a link that is up stands there between two systems that have failed

@@ -35,7 +35,9 @@ use Rattle.gptp_model.specs.declared.station.Station.{Station}
 use Rattle.gptp_model.specs.Sends.{SendsAll}
 use Rattle.gptp_model.specs.Sound.{HaveOwnClocks}
 use Rattle.gptp_model.specs.World.{Channel, Net, WorldState, port_id, receiver, sender}
-use Rattle.gptp_model.proofs.StayLemmas.{JoinTheSame, Stays, begins_same, calls_if_live_stay, join_on, set_join, stays_clocks}
+use Rattle.gptp_model.proofs.ActsByLemmas.{join_among}
+use Rattle.gptp_model.proofs.EndLemmas.{each_end_told}
+use Rattle.gptp_model.proofs.StayLemmas.{JoinTheSame, begins_same, join_on, set_join, stays_clocks}
 use Rattle.gptp_pdelay_machine.specs.Setting.{Setting}
 use Rattle.gptp_pdelay_machine.specs.Silence.{InvUnanswered}
 use Rattle.gptp_bmca_machine.specs.Frame.{AnnounceFrame, Lane}
@@ -57,7 +59,7 @@ use Rattle.gptp_invariants.proofs.ChoiceSeenLaneLemmas.{lane_from, lane_there}
 use Rattle.gptp_invariants.proofs.DelayClaimedCapableLemmas.{clock_has, used_if}
 use Rattle.gptp_invariants.proofs.FailedUnansweredCallLemmas.{CallStep, call_seen, view_stays}
 use Rattle.gptp_invariants.proofs.WorldWayLemmas.{way_of}
-use Rattle.gptp_invariants.proofs.FailedNeverAnsweredLemmas.{told_never}
+use Rattle.gptp_invariants.proofs.FailedNeverAnsweredLemmas.{never_called}
 use Rattle.gptp_invariants.proofs.WorldNewsLemmas.{silent_off}
 use Rattle.gptp_settling_time.proofs.AlwaysClaimedLemmas.{IsClaimedAlways, lane_at, same_start}
 use Rattle.gptp_settling_time.proofs.FailedUpLemmas.{delay_set, used_set}
@@ -68,6 +70,7 @@ use Rattle.gptp_settling_time.proofs.SameLinkLemmas.{IsSameLink}
 use Rattle.gptp_settling_time.proofs.SamePartsLemmas.{of_down, tells_parts}
 use Rattle.gptp_settling_time.proofs.StandsLikeLemmas.{StandsLike, claims_like, expects_none, news_like}
 use Rattle.gptp_settling_time.proofs.StandsStillLemmas.{StandsStill, changed_still, claims_stand, news_stands}
+use Rattle.gptp_model.specs.Ahead.{IsPortAmong}
 
 -- ---- a port that takes no part goes down
 
@@ -192,10 +195,6 @@ module _ (gone : ℕ) (at : LinkPlace) (place : ℕ) (port : PortId) (w : WorldS
       inv = subst (λ (x : Setting). InvUnanswered x gone (silent_view at w' step.after)) (sym step.settled)
           (subst (InvUnanswered (silent_setting at w is.link) gone) (sym same_view) is.inv);
     }
-
-  told_silent : CallsIfLive place (PortDown port.port) w draws w' → IsSilent gone at w'
-  told_silent (inl (answer, k)) = called_silent answer k
-  told_silent (inr (failed, none, same)) = subst (IsSilent gone at) (sym same) is
 
 -- ---- the link goes down
 
@@ -435,59 +434,38 @@ module _ (p : SettlingParams) (start : ℕ) (w : WorldState) (news : IsNews p st
           apart (is.sound.wired.apart at.link place at.direction way was.old channel was.here here
           (sym (begins_same w.net.channels at.link at.direction l.channel was) ∙ same))
 
-      stays : Stays taken k.between
-      stays = calls_if_live_stay k.place_a (PortDown channel.a.port) taken k.first k.between
-          is.sound.wired.setups k.at_a
+      ports : (direction : Direction) → IsPortAmong (sender direction channel) taken.stations
+      ports = join_among w place channel is.sound.wired.ports here
+
+      link_taken : (l : IsUnansweredAt at w) → IsUnansweredAt at taken
+      link_taken l = record {
+        channel = l.channel;
+        here = get-set_other w.net.channels place at.link (lost channel) apart ∙ l.here;
+        up = l.up;
+        asking = l.asking;
+        answering = l.answering;
+      }
 
       silent_at : (gone : ℕ) → IsSilent gone at w → IsSilent gone at w'
       silent_at gone one =
-          told_silent gone at k.place_b channel.b k.between k.second w'
+          each_end_told PortDown channel taken (IsSilent gone at)
+          (λ direction q v ds answer v' c stays named number so.
+          called_silent gone at q (sender direction channel) v ds v'
           (λ station there.
-          ap (λ (x : Station). clock x.system)
-          (same_there k.between.stations k.place_b station k.station_b there still_b) ∙ k.is_b.named)
-          (stays_clocks taken k.between stays is.sound.wired.clocks) first
-          (no_end k.between (join_on w.net.channels taken.net.channels k.between.net.channels joins stays.links)
-          first.link FromB) k.at_b
-        where
-          begun : IsSilent gone at taken
-          begun = record {
-            link = record {
-              channel = one.link.channel;
-              here = get-set_other w.net.channels place at.link (lost channel) apart ∙ one.link.here;
-              up = one.link.up;
-              asking = one.link.asking;
-              answering = one.link.answering;
-            };
-            old = one.old;
-            inv = one.inv;
-          }
-
-          first : IsSilent gone at k.between
-          first =
-              told_silent gone at k.place_a channel.a taken k.first k.between
-              (λ station there.
-              ap (λ (x : Station). clock x.system)
-              (same_there w.stations k.place_a station k.station_a there k.is_a.here) ∙ k.is_a.named)
-              is.sound.wired.clocks begun (no_end taken joins begun.link FromA) k.at_a
+          ap (λ (x : Station). clock x.system) (same_there v.stations q station c.station there c.here) ∙ named)
+          (stays_clocks taken v stays is.sound.wired.clocks) so
+          (no_end v (join_on w.net.channels taken.net.channels v.net.channels joins stays.links) so.link direction)
+          answer c) is.sound.wired.setups ports draws w' k
+          (record { link = link_taken one.link; old = one.old; inv = one.inv })
 
       never_at : IsNeverAnswered at w → IsNeverAnswered at w'
       never_at one =
-          told_never at k.place_b (PortDown channel.b.port) (λ n. tt) (λ n. tt) k.between k.second w'
-          (stays_clocks taken k.between stays is.sound.wired.clocks)
-          (told_never at k.place_a (PortDown channel.a.port) (λ n. tt) (λ n. tt) taken k.first k.between
-          is.sound.wired.clocks
-          (record {
-            link = record {
-              channel = one.link.channel;
-              here = get-set_other w.net.channels place at.link (lost channel) apart ∙ one.link.here;
-              up = one.link.up;
-              asking = one.link.asking;
-              answering = one.link.answering;
-            };
-            mute = one.mute;
-            unmeasured = one.unmeasured;
-          })
-          k.at_a) k.at_b
+          each_end_told PortDown channel taken (IsNeverAnswered at)
+          (λ direction q v ds answer v' c stays named number so.
+          never_called at q (PortDown (sender direction channel).port) v ds answer v' c
+          (stays_clocks taken v stays is.sound.wired.clocks) so (λ same. tt) (λ same. tt)) is.sound.wired.setups ports
+          draws w' k
+          (record { link = link_taken one.link; mute = one.mute; unmeasured = one.unmeasured })
 
     pub down_silent : AreSilentBy p start w'
     down_silent at s = elim (news.silent at (before at s)) [

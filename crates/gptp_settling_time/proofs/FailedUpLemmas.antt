@@ -322,8 +322,7 @@ module _ (p : SettlingParams) (w : WorldState) (is : IsWorld p w) (place : ℕ) 
     pub up_silent : (start : ℕ) → FailedNeighboursAreSilent p w' → AreSilentBy p start w → AreSilentBy p start w'
     up_silent start silent' silent at s = elim (same_place at.link place) [
       | inl same ↦ inl (never_answered at same s (w'.last_change + largest_interval p) (silent' at s))
-      | inr apart ↦ up_silences p start at place channel w draws w' is.sound.wired.clocks is.sound.wired.setups
-          is.sound.wired.apart here apart k silent s
+      | inr apart ↦ up_silences p start at place channel w draws w' is.sound.wired here apart k silent s
     ]
 
 -- ---- the claims

@@ -1,5 +1,5 @@
 -- A failed system recovers that uses no link: claims made of all links always stay.
-use Rattle.std.proofs.Common.{◌≡◌, ◌≢◌, ◌⊎◌, ◌<◌, ◌≤◌, ◌*◌, ℕ, zero, suc, pos, true, false, List, [], ◌∷◌, map, Some, None, slice_get, refl, sym, ap, subst, ◌∙◌, inl, inr, arith}
+use Rattle.std.proofs.Common.{◌≡◌, ◌≢◌, ◌⊎◌, ◌<◌, ◌≤◌, ◌*◌, ℕ, zero, suc, pos, true, false, List, Some, None, slice_get, refl, sym, ap, subst, ◌∙◌, inl, inr, arith}
 use Rattle.std.specs.Option.{option_map_or}
 use Rattle.std.proofs.Math.Nat.{mul-le-mul_left}
 use Rattle.std.proofs.lemmas.Option.{same_Some}
@@ -24,12 +24,13 @@ use Rattle.gptp_system.specs.State.{clock, number as port_number}
 use Rattle.gptp_system.specs.Steps.{HasPortNumber}
 use Rattle.gptp_model.specs.Act.{Calls, all_timers, in_state}
 use Rattle.gptp_model.specs.Acts.{Acts, AtSystem}
-use Rattle.gptp_model.specs.Changing.{CallsAll, RecoversIf, Starts, fresh, up_ports, with_station}
+use Rattle.gptp_model.specs.Changing.{RecoversIf, Starts, fresh, with_station}
 use Rattle.gptp_model.specs.declared.done.Done.{Done}
 use Rattle.gptp_model.specs.declared.station.Station.{Station}
 use Rattle.gptp_model.specs.World.{Channel, WorldState, receiver, sender}
 use Rattle.gptp_model.proofs.BareLemmas.{bare}
-use Rattle.gptp_model.proofs.StayLemmas.{calls_stay, fresh_same, sender_same}
+use Rattle.gptp_model.proofs.ActsByLemmas.{start_ports_told}
+use Rattle.gptp_model.proofs.StayLemmas.{fresh_same, sender_same}
 use Rattle.gptp_model.proofs.SteadyLemmas.{same_clock}
 use Rattle.gptp_bmca_machine.specs.Calm.{Calm}
 use Rattle.gptp_bmca_machine.specs.Frame.{Lane}
@@ -56,7 +57,6 @@ use Rattle.gptp_invariants.proofs.ChoiceSettlesAsMachineLemmas.{kept_back}
 use Rattle.gptp_invariants.proofs.ChoiceTakeUpLemmas.{BeginApart, begin_apart}
 use Rattle.gptp_invariants.proofs.DelayClaimedCapableLemmas.{clock_has, used_if}
 use Rattle.gptp_invariants.proofs.DelayElsewhereLemmas.{calls_orderly}
-use Rattle.gptp_invariants.proofs.DelayLinkKeptLemmas.{HasAll, all_stay}
 use Rattle.gptp_invariants.proofs.DelayLinkLemmas.{IsOrderly, sender_opposite}
 use Rattle.gptp_invariants.proofs.SyncFollowWorldLemmas.{used_within}
 use Rattle.gptp_invariants.proofs.WorldGreatestDelayLemmas.{delay_of_used}
@@ -72,7 +72,7 @@ use Rattle.gptp_settling_time.proofs.HeardLemmas.{IsHeardAt, heard_elsewhere, st
 use Rattle.gptp_settling_time.proofs.OrderedLemmas.{opposite}
 use Rattle.gptp_settling_time.proofs.QuietUpLemmas.{RaisesAlone, raises}
 use Rattle.gptp_settling_time.proofs.ReactsLemmas.{logs_set, places_set}
-use Rattle.gptp_settling_time.proofs.RecoverLemmas.{has, keeps, orderly, stood_alone}
+use Rattle.gptp_settling_time.proofs.RecoverLemmas.{keeps, orderly, stood_alone}
 use Rattle.gptp_settling_time.proofs.SameLinkLemmas.{IsSameLink, told_same}
 use Rattle.gptp_settling_time.proofs.SamePartsLemmas.{HasSameParts, called_parts, of_up, parts_on}
 use Rattle.gptp_settling_time.proofs.UntoldLemmas.{HasMeasuredNothing, called_unmeasured, started_unmeasured}
@@ -144,45 +144,46 @@ module _ (number place p : ℕ) (w : WorldState) (draws : List Draw) (answer : A
             (called_unmeasured place (PortUp p) w draws answer w' k tt (is_fresh.unmeasured k.station k.here));
       }
 
-raises_all : (number place : ℕ) (ps : List ℕ) (w : WorldState) (draws : List Draw) (w' : WorldState)
-    → HasAll place ps w → IsOrderly w → IsFreshAt number place w → BeginApart (lanes_view w.net.channels)
-    → CallsAll place (map PortUp ps) w draws w' → RaisesOwn number w w'
-raises_all number place [] w draws w' has_all usual is_fresh apart (none, same) =
-    subst (RaisesOwn number w) (sym same)
-    (record {
-      time = refl;
-      stations = refl;
-      lanes = λ j l' at other. at;
-      parts = λ at l other. record {
-        after = l;
-        settled = refl;
-        asking = refl;
-        answering = refl;
-        setup = refl;
-        bounds = refl;
-        begins = λ direction. refl;
-      };
-    })
-raises_all number place (p ∷ ps) w draws w' has_all usual is_fresh apart
-    (first, rest, between, answer, split, k, more) =
-    let of = has_all p (inl refl) k.station k.here in
-    let one = raises_own number place p w first answer between k is_fresh of usual apart in
-    let stays = calls_stay place (PortUp p) w first answer between usual.setups k in
-    let others =
-    raises_all number place ps between rest w' (all_stay place ps w between stays (λ q member. has_all q (inr member)))
-    (calls_orderly place (PortUp p) w first answer between usual k)
-    (fresh_then number place p w first answer between k is_fresh of usual apart)
-    (begin_apart (lanes_view w.net.channels) (lanes_view between.net.channels)
-    (alone number place p w first answer between k is_fresh of usual apart).begin apart) more in
-    record {
-      time = others.time ∙ one.time;
-      stations = others.stations ∙ one.stations;
-      lanes = λ j l' at other. one.lanes j l' (others.lanes j l' at other) other;
-      parts = λ at l other.
-          let then = one.parts at l other in
-          parts_on at w between w' l then (others.parts at then.after (λ direction same.
-          other direction (ap (λ (q : PortId). q.clock) (sym (then.begins direction)) ∙ same)));
-    }
+-- the ports that have come up since a first world raised their own lanes alone
+abbrev HaveRaised : ℕ → ℕ → WorldState → WorldState → Type 0
+HaveRaised number place first w =
+    RaisesOwn number first w × IsOrderly w × IsFreshAt number place w × BeginApart (lanes_view w.net.channels)
+
+raised_none : (number : ℕ) (w : WorldState) → RaisesOwn number w w
+raised_none number w = record {
+  time = refl;
+  stations = refl;
+  lanes = λ j l' at other. at;
+  parts = λ at l other. record {
+    after = l;
+    settled = refl;
+    asking = refl;
+    answering = refl;
+    setup = refl;
+    bounds = refl;
+    begins = λ direction. refl;
+  };
+}
+
+raised_more : (number place : ℕ) (first : WorldState) (p : ℕ) (w : WorldState) (draws : List Draw) (answer : Answer)
+    (w' : WorldState) (k : Calls place (PortUp p) w draws answer w') → HasPortNumber k.station.system p
+    → HaveRaised number place first w → HaveRaised number place first w'
+raised_more number place first p w draws answer w' k of (so, usual, is_fresh, apart) =
+    let one = raises_own number place p w draws answer w' k is_fresh of usual apart in (
+      record {
+        time = one.time ∙ so.time;
+        stations = one.stations ∙ so.stations;
+        lanes = λ j l' at other. so.lanes j l' (one.lanes j l' at other) other;
+        parts = λ at l other.
+            let then = so.parts at l other in
+            parts_on at first w w' l then (one.parts at then.after (λ direction same.
+            other direction (ap (λ (q : PortId). q.clock) (sym (then.begins direction)) ∙ same)));
+      },
+      calls_orderly place (PortUp p) w draws answer w' usual k,
+      fresh_then number place p w draws answer w' k is_fresh of usual apart,
+      begin_apart (lanes_view w.net.channels) (lanes_view w'.net.channels)
+          (alone number place p w draws answer w' k is_fresh of usual apart).begin apart,
+    )
 
 -- ---- what is in use
 
@@ -270,12 +271,14 @@ module _ (p : SettlingParams) (start next number : ℕ) (w : WorldState) (draws 
 
     raised : RaisesOwn number begun w'
     raised =
-        raises_all number k.place (up_ports new w.net) begun draws w'
-        (has p next next number w draws done w' is.news.pace world world' is.news.measured measured' acts dead)
-        (orderly p next next number w draws done w' is.news.pace world world' is.news.measured measured' acts dead)
-        is_fresh
-        (lanes_apart w world.sound.wired.apart
-        (λ link channel here. (world.encodable.links link channel here).ends)) starts.calls
+        (start_ports_told k.place (λ qs. HaveRaised number k.place begun)
+        (λ q qs. raised_more number k.place begun q) now draws w' starts (
+          raised_none number begun,
+          orderly p next next number w draws done w' is.news.pace world world' is.news.measured measured' acts dead,
+          is_fresh,
+          lanes_apart w world.sound.wired.apart
+              (λ link channel here. (world.encodable.links link channel here).ends),
+        )).0
 
     kept : KeepsNetwork begun w'
     kept = keeps p next next number w draws done w' is.news.pace world world' is.news.measured measured' acts dead

@@ -1,7 +1,7 @@
 -- A failed system recovers, whose links that are up lead to live systems: its ports ask at once, and those at their
 -- other ends an interval between requests later at most.
 use Rattle.std.proofs.Common.{◌≡◌, ◌⊎◌, ◌≢◌, ◌<◌, ◌≤◌, ◌+◌, ◌*◌, ℕ, zero, suc, Bool, true, false, List, Some, None, slice_get, refl, sym, ap, subst, ◌∙◌, inl, inr, arith}
-use Rattle.std.proofs.lemmas.Option.{none-some, same_Some}
+use Rattle.std.proofs.lemmas.Option.{none-some}
 use Rattle.std.specs.Prelude.{⊤}
 use Rattle.gptp_lists.specs.Members.{In}
 use Rattle.gptp_lists.proofs.MappedLemmas.{same_there, some_same}
@@ -32,7 +32,7 @@ use Rattle.gptp_model.specs.Acts.{Acts, AtSystem}
 use Rattle.gptp_model.specs.Changing.{Nothing, RecoversIf, Starts, fresh, up_ports, with_station}
 use Rattle.gptp_model.specs.World.{Channel, WorldState, receiver, sender, world_queue}
 use Rattle.gptp_model.proofs.StayLemmas.{Stays, refreshed_stays, stays_apart, stays_clocks, starts_stays, stays_ports, stays_setups}
-use Rattle.gptp_model.proofs.UpLemmas.{brings_port, brought_ports}
+use Rattle.gptp_model.proofs.UpLemmas.{brings_port}
 use Rattle.gptp_pdelay_machine.specs.Asker.{Asker}
 use Rattle.gptp_pdelay_machine.specs.Lanes.{LaneFrame}
 use Rattle.gptp_pdelay_machine.specs.Messages.{Request}
@@ -48,14 +48,14 @@ use Rattle.gptp_invariants.specs.WorldSound.{IsSoundWorld}
 use Rattle.gptp_invariants.proofs.ChoiceCalmKeptLemmas.{KeepsNetwork, net_keeps}
 use Rattle.gptp_invariants.proofs.DelayCapableKeptLemmas.{HaveParams, known_params, stood_among}
 use Rattle.gptp_invariants.proofs.DelayLinkCallLemmas.{at_own, seen_from}
-use Rattle.gptp_invariants.proofs.DelayLinkKeptLemmas.{HasAll, started_measured}
+use Rattle.gptp_invariants.proofs.DelayLinkKeptLemmas.{started_measured}
 use Rattle.gptp_invariants.proofs.DelayLinkLemmas.{IsOrderly, sender_opposite, sound_orderly}
 use Rattle.gptp_invariants.proofs.DelayLinkStandLemmas.{end_is}
 use Rattle.gptp_invariants.proofs.FailedNeverAnsweredLemmas.{never_called}
 use Rattle.gptp_invariants.proofs.FailedUnansweredCallLemmas.{asker_is, call_seen, view_stays}
 use Rattle.gptp_invariants.proofs.DelayElsewhereLemmas.{orderly_too}
-use Rattle.gptp_invariants.proofs.WorldActsByLemmas.{PortCallsKeep, start_told}
-use Rattle.gptp_invariants.proofs.WorldBeforeLemmas.{calls_before, stood}
+use Rattle.gptp_model.proofs.ActsByLemmas.{PortCallsKeep, start_ports_told, start_told}
+use Rattle.gptp_invariants.proofs.FailedSilentElsewhereLemmas.{stood_up}
 use Rattle.gptp_invariants.proofs.WorldNewsLemmas.{news_begin, ready_goes_through}
 use Rattle.gptp_invariants.proofs.WorldOutlineLemmas.{acts_time}
 use Rattle.gptp_invariants.proofs.WorldSoundCallLemmas.{up_keeps}
@@ -66,7 +66,7 @@ use Rattle.gptp_settling_time.proofs.AsksSoonLemmas.{alone_asks, asked_before, b
 use Rattle.gptp_settling_time.proofs.BetweenFailedLemmas.{AreGoneBetween, IsGoneBetween, StandsFailed, gone_still, gone_up}
 use Rattle.gptp_settling_time.proofs.NewsSoonLemmas.{AreComing, IsComing, IsNewsSoon, coming_goes_through}
 use Rattle.gptp_settling_time.proofs.OrderedLemmas.{opposite, turned}
-use Rattle.gptp_settling_time.proofs.RestartLemmas.{AskedAlone, HasAskedNow, IsPrompt, alone_all, asks_all}
+use Rattle.gptp_settling_time.proofs.RestartLemmas.{AskedAlone, AsksIn, HasAskedNow, IsPrompt, alone_up, asks_in}
 use Rattle.gptp_settling_time.proofs.WillAskLemmas.{WillAsk}
 
 -- a port that comes up leaves one beside a failed system silent
@@ -220,11 +220,6 @@ module _ (p : SettlingParams) (by next number : ℕ) (w : WorldState) (draws : L
       named = x.named;
     }
 
-    pub has : HasAll k.place ports begun
-    has q member station there =
-        subst (λ (x : Station). HasPortNumber x.system q) (same_Some new station (sym here_new ∙ there))
-        (brought_ports new w.net q member)
-
     pub keeps : KeepsNetwork begun w'
     keeps =
         start_told ⊥ (KeepsNetwork begun) (up_keeps begun) k.place now draws w' starts (net_keeps begun begun.net refl)
@@ -306,11 +301,15 @@ module _ (p : SettlingParams) (by next number : ℕ) (w : WorldState) (draws : L
       asks : AreDueSoon → at.asking ≡ k.place → HasAskedNow at w.time port w'
       asks due_soon here =
           let station : s.asking.station ≡ new = is_new at.asking s.asking.station here s.asking.here in
-          asks_all at w.time port k.place ports begun draws w'
-          (brings_port new w.net at.link at.direction s.channel s.here s.up
+          let among : In port ports =
+          brings_port new w.net at.link at.direction s.channel s.here s.up
           (ap (λ (x : Station). clock x.system) (sym station) ∙ s.asking.named)
-          (subst (λ (x : Station). HasPortNumber x.system port) station (of at.asking at.direction s.asking)))
-          here has (prompt due_soon) starts.calls
+          (subst (λ (x : Station). HasPortNumber x.system port) station (of at.asking at.direction s.asking)) in
+          elim (start_ports_told k.place (AsksIn at w.time port) (asks_in at w.time port k.place here) now draws w' starts
+          (inl (among, prompt due_soon))) [
+            | inl (none, is_prompt) ↦ absurd none
+            | inr asked ↦ asked
+          ]
 
       -- its neighbour's port asked before
       module _ (here : at.answering ≡ k.place) (gone : ℕ) (past : gone < w.time) (asked : AreAskedInTime gone w) where
@@ -403,8 +402,10 @@ module _ (p : SettlingParams) (by next number : ℕ) (w : WorldState) (draws : L
 
         alone : AskedAlone at w.time port (pair at begun link).asker.asked w'
         alone =
-            alone_all at w.time port k.place (pair at begun link).asker.asked ports begun draws w' other has
-            alone_before starts.calls
+            start_ports_told k.place (λ qs. AskedAlone at w.time port (pair at begun link).asker.asked)
+            (λ q qs v ds answer v' c numbered.
+            alone_up at w.time port k.place q v ds answer v' c numbered (pair at begun link).asker.asked other)
+            now draws w' starts alone_before
 
     -- ---- each link
 
@@ -515,10 +516,8 @@ module _ (p : SettlingParams) (by next number : ℕ) (w : WorldState) (draws : L
     module _ (at : LinkPlace) (s : StandsUnanswered at w') where
       stood_begun : StandsUnanswered at begun
       stood_begun =
-          start_told ⊥ (λ v. StandsUnanswered at v → StandsUnanswered at begun)
-          (λ place port v ds answer v' c of back stands.
-          back (stood at v v' (calls_before place (PortUp port) v ds answer v' c) stands)) k.place now draws w' starts
-          (λ stands. stands) s
+          start_told ⊥ (λ v. StandsUnanswered at v → StandsUnanswered at begun) (stood_up at begun) k.place now draws w'
+          starts (λ stands. stands) s
 
       -- what is failed is another system than the one that recovers
       answering_apart : at.answering ≢ k.place

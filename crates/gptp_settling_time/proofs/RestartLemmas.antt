@@ -1,5 +1,5 @@
 -- What is seen at a link as the ports of a system come up that starts anew, one after another.
-use Rattle.std.proofs.Common.{◌≡◌, ◌≢◌, ◌≤◌, ◌+◌, ◌++◌, ℕ, List, [], ◌∷◌, map, Some, None, refl, sym, ap, subst, ◌∙◌, inl, inr, arith}
+use Rattle.std.proofs.Common.{◌≡◌, ◌⊎◌, ◌≢◌, ◌≤◌, ◌+◌, ◌++◌, ℕ, List, ◌∷◌, map, Some, None, sym, ap, subst, ◌∙◌, inl, inr, arith}
 use Rattle.gptp_lists.specs.Members.{In}
 use Rattle.gptp_lists.proofs.PlaceLemmas.{same_place}
 use Rattle.gptp_vector.specs.declared.port.PortId.{PortId}
@@ -12,9 +12,8 @@ use Rattle.gptp_system.specs.Input.{PortUp}
 use Rattle.gptp_system.specs.Measures.{Part, measure_at, part_asked}
 use Rattle.gptp_system.specs.Steps.{HasPortNumber}
 use Rattle.gptp_model.specs.Act.{Calls}
-use Rattle.gptp_model.specs.Changing.{CallsAll}
 use Rattle.gptp_model.specs.World.{WorldState, sender}
-use Rattle.gptp_model.proofs.StayLemmas.{calls_stay, sender_same}
+use Rattle.gptp_model.proofs.StayLemmas.{sender_same}
 use Rattle.gptp_pdelay_machine.specs.Asker.{Asker}
 use Rattle.gptp_pdelay_machine.specs.Facts.{IsSentInTime}
 use Rattle.gptp_pdelay_machine.specs.Lanes.{AreMute, LaneFrame}
@@ -25,7 +24,6 @@ use Rattle.gptp_invariants.specs.DelayLinkView.{IsLinkOf, LinkPlace, asked_at, a
 use Rattle.gptp_invariants.proofs.DelayElsewhereLemmas.{calls_orderly}
 use Rattle.gptp_invariants.proofs.DelayFirstAtLemmas.{up_step, up_waits_still}
 use Rattle.gptp_invariants.proofs.DelayLinkCallLemmas.{asker_is, at_own, back_in_time, back_is, back_mute, out_in_time, out_stays}
-use Rattle.gptp_invariants.proofs.DelayLinkKeptLemmas.{HasAll, all_stay}
 use Rattle.gptp_invariants.proofs.DelayLinkLemmas.{IsOrderly}
 
 -- where all that is in flight is due within the greatest delay it is so after a call too
@@ -147,7 +145,7 @@ module _ (at : LinkPlace) (time port place p : ℕ) (w : WorldState) (draws : Li
   ]
 
   -- it is one of the system that answers
-  alone_up : (asked_then : ℕ) → at.asking ≢ place → AskedAlone at time port asked_then w
+  pub alone_up : (asked_then : ℕ) → at.asking ≢ place → AskedAlone at time port asked_then w
       → AskedAlone at time port asked_then w'
   unfolding prompt_up
   alone_up asked_then apart is =
@@ -174,36 +172,16 @@ module _ (at : LinkPlace) (time port place p : ℕ) (w : WorldState) (draws : Li
 
 -- ---- all ports come up
 
-module _ (at : LinkPlace) (time port place : ℕ) where
-  past_all : (ps : List ℕ) (w : WorldState) (draws : List Draw) (w' : WorldState) → HasAll place ps w
-      → HasAskedNow at time port w → CallsAll place (map PortUp ps) w draws w' → HasAskedNow at time port w'
-  past_all [] w draws w' has is (none, same) = subst (HasAskedNow at time port) (sym same) is
-  past_all (p ∷ ps) w draws w' has is (first, rest, between, answer, split, k, more) =
-      let stays = calls_stay place (PortUp p) w first answer between is.prompt.orderly.setups k in
-      past_all ps between rest w' (all_stay place ps w between stays (λ q member. has q (inr member)))
-      (asked_up at time port place p w first answer between k (has p (inl refl) k.station k.here) is) more
+-- it is still to come up, or has asked
+abbrev pub AsksIn : LinkPlace → ℕ → ℕ → List ℕ → WorldState → Type 0
+AsksIn at time port ps w = (In port ps × IsPrompt at time port w) ⊎ HasAskedNow at time port w
 
-  pub asks_all : (ps : List ℕ) (w : WorldState) (draws : List Draw) (w' : WorldState) → In port ps
-      → at.asking ≡ place → HasAll place ps w → IsPrompt at time port w
-      → CallsAll place (map PortUp ps) w draws w' → HasAskedNow at time port w'
-  asks_all [] w draws w' among here has is calls = absurd among
-  asks_all (p ∷ ps) w draws w' (inl is_p) here has is (first, rest, between, answer, split, k, more) =
-      let stays = calls_stay place (PortUp p) w first answer between is.orderly.setups k in
-      past_all ps between rest w' (all_stay place ps w between stays (λ q member. has q (inr member)))
-      (own_asks at time port place p w first answer between k (has p (inl refl) k.station k.here) here is_p is) more
-  asks_all (p ∷ ps) w draws w' (inr later) here has is (first, rest, between, answer, split, k, more) =
-      let stays = calls_stay place (PortUp p) w first answer between is.orderly.setups k in
-      asks_all ps between rest w' later here (all_stay place ps w between stays (λ q member. has q (inr member)))
-      (prompt_up at time port place p w first answer between k (has p (inl refl) k.station k.here) is) more
-
-  pub alone_all : (asked_then : ℕ) (ps : List ℕ) (w : WorldState) (draws : List Draw) (w' : WorldState)
-      → at.asking ≢ place → HasAll place ps w → AskedAlone at time port asked_then w
-      → CallsAll place (map PortUp ps) w draws w' → AskedAlone at time port asked_then w'
-  alone_all asked_then [] w draws w' apart has is (none, same) =
-      subst (AskedAlone at time port asked_then) (sym same) is
-  alone_all asked_then (p ∷ ps) w draws w' apart has is (first, rest, between, answer, split, k, more) =
-      let stays = calls_stay place (PortUp p) w first answer between is.prompt.orderly.setups k in
-      alone_all asked_then ps between rest w' apart
-      (all_stay place ps w between stays (λ q member. has q (inr member)))
-      (alone_up at time port place p w first answer between k (has p (inl refl) k.station k.here) asked_then apart is)
-      more
+pub asks_in : (at : LinkPlace) (time port place : ℕ) → at.asking ≡ place → (p : ℕ) (ps : List ℕ) (w : WorldState)
+    (draws : List Draw) (answer : Answer) (w' : WorldState) (k : Calls place (PortUp p) w draws answer w')
+    → HasPortNumber k.station.system p → AsksIn at time port (p ∷ ps) w → AsksIn at time port ps w'
+asks_in at time port place here p ps w draws answer w' k of (inl (inl is_p, is)) =
+    inr (own_asks at time port place p w draws answer w' k of here is_p is)
+asks_in at time port place here p ps w draws answer w' k of (inl (inr later, is)) =
+    inl (later, prompt_up at time port place p w draws answer w' k of is)
+asks_in at time port place here p ps w draws answer w' k of (inr is) =
+    inr (asked_up at time port place p w draws answer w' k of is)

@@ -4,7 +4,6 @@ use Rattle.gptp_lists.proofs.MappedLemmas.{same_there}
 use Rattle.gptp_lists.proofs.PlaceLemmas.{get-set_other}
 use Rattle.gptp_vector.specs.declared.port.PortId.{PortId}
 use Rattle.gptp_links.specs.declared.link.Direction.{Direction}
-use Rattle.gptp_links.specs.declared.link.Direction.TheVariants.{FromA, FromB}
 use Rattle.gptp_links.specs.Fate.{Draw}
 use Rattle.gptp_pdelay.specs.Peer.{reset_peer}
 use Rattle.gptp_setup.specs.SettlingParams.{SettlingParams}
@@ -14,16 +13,17 @@ use Rattle.gptp_system.specs.Measures.{IsPartAfter, Part, measure_at, part_asked
 use Rattle.gptp_system.specs.State.{SystemState, clock}
 use Rattle.gptp_system.specs.Steps.{HasPortNumber}
 use Rattle.gptp_model.specs.Act.{Calls}
-use Rattle.gptp_model.specs.Changing.{CallsIfLive, TellsEnds}
+use Rattle.gptp_model.specs.Changing.{TellsEnds}
 use Rattle.gptp_model.specs.declared.station.Station.{Station}
 use Rattle.gptp_model.specs.World.{Channel, Net, WorldState, receiver, sender}
-use Rattle.gptp_model.proofs.StayLemmas.{JoinTheSame, Stays, begins_same, calls_if_live_stay, join_on, sender_same, set_join}
+use Rattle.gptp_model.proofs.ActsByLemmas.{join_among}
+use Rattle.gptp_model.proofs.EndLemmas.{EndCallsKeep, each_end_told}
+use Rattle.gptp_model.proofs.StayLemmas.{JoinTheSame, begins_same, join_on, sender_same, set_join}
 use Rattle.gptp_invariants.specs.ChoiceSettlesAsMachine.{IsWorld}
 use Rattle.gptp_invariants.specs.DelayLinkView.{IsLinkOf, LinkPlace, link_setting, other_direction}
 use Rattle.gptp_invariants.proofs.DelayElsewhereLemmas.{calls_orderly}
 use Rattle.gptp_invariants.proofs.DelayEndLemmas.{HearsWhatFits}
 use Rattle.gptp_invariants.proofs.DelayLinkCallLemmas.{at_own}
-use Rattle.gptp_invariants.proofs.DelayLinkKeptLemmas.{among_stays}
 use Rattle.gptp_invariants.proofs.DelayLinkLemmas.{IsOrderly, LinkStep, link_called, net_orderly, sender_opposite, sound_orderly}
 
 -- ---- an input of a port
@@ -64,19 +64,6 @@ pub record HasSameParts (at : LinkPlace) (w w' : WorldState) (l : IsLinkOf at w)
   pub setup : after.asking.station.setup ≡ l.asking.station.setup
   pub bounds : after.channel.bounds ≡ l.channel.bounds
   pub begins : (direction : Direction) → sender direction after.channel ≡ sender direction l.channel
-
-parts_itself : (at : LinkPlace) (w w' : WorldState) (l : IsLinkOf at w) → w' ≡ w → HasSameParts at w w' l
-parts_itself at w w' l same =
-    subst (λ v. HasSameParts at w v l) (sym same)
-    (record {
-      after = l;
-      settled = refl;
-      asking = refl;
-      answering = refl;
-      setup = refl;
-      bounds = refl;
-      begins = λ direction. refl;
-    })
 
 pub parts_on : (at : LinkPlace) (w v u : WorldState) (l : IsLinkOf at w) (first : HasSameParts at w v l)
     → HasSameParts at v u first.after → HasSameParts at w u l
@@ -139,16 +126,6 @@ module _ (input : ℕ → Input) (own : IsOfPort input) where
         begins = λ direction. sender_same direction l.channel step.after.channel step.grows.a step.grows.b;
       }
 
-    told_parts : CallsIfLive place (input port.port) w draws w' → HasSameParts at w w' l
-    told_parts (inl (answer, k)) = called_parts answer k
-    told_parts (inr (failed, none, same)) = parts_itself at w w' l same
-
-  told_orderly : (place port : ℕ) (w : WorldState) (draws : List Draw) (w' : WorldState) → IsOrderly w
-      → CallsIfLive place (input port) w draws w' → IsOrderly w'
-  told_orderly place port w draws w' orderly (inl (answer, k)) =
-      calls_orderly place (input port) w draws answer w' orderly k
-  told_orderly place port w draws w' orderly (inr (failed, none, same)) = subst IsOrderly (sym same) orderly
-
   -- ---- both ends of a link are told, which becomes another
 
   module _ (p : SettlingParams) (w : WorldState) (is : IsWorld p w) (place : ℕ) (channel new : Channel) (net : Net)
@@ -201,41 +178,25 @@ module _ (input : ℕ → Input) (own : IsOfPort input) where
         beside (orderly.apart at.link place direction way was.old channel was.here here
         (sym (begins_same w.net.channels at.link direction m.channel was) ∙ same))
 
-    named_a : (station : Station) → slice_get v.stations k.place_a ≡ Some station
-        → clock station.system ≡ channel.a.clock
-    named_a station there =
-        ap (λ (x : Station). clock x.system) (same_there v.stations k.place_a station k.station_a there k.is_a.here)
-        ∙ k.is_a.named
+    abbrev SoFar : WorldState → Type 0
+    SoFar u = HasSameParts at w u l × IsOrderly u
 
-    first : HasSameParts at v k.between begun.after
-    first =
-        told_parts at k.place_a channel.a v k.first k.between begun_orderly named_a
-        (λ station there.
-        is.sound.wired.ports place k.place_a FromA channel station here there (named_a station there)) begun.after
-        (λ direction. ends_other v joins begun.after direction FromA) k.at_a
-
-    stays : Stays v k.between
-    stays = calls_if_live_stay k.place_a (input channel.a.port) v k.first k.between begun_orderly.setups k.at_a
-
-    named_b : (station : Station) → slice_get k.between.stations k.place_b ≡ Some station
-        → clock station.system ≡ channel.b.clock
-    named_b station there =
-        let near = stays.stations k.place_b station there in
-        near.same.named
-        ∙ ap (λ (x : Station). clock x.system)
-        (same_there v.stations k.place_b near.old k.station_b near.here k.is_b.here) ∙ k.is_b.named
-
-    second : HasSameParts at k.between w' first.after
-    second =
-        told_parts at k.place_b channel.b k.between k.second w'
-        (told_orderly k.place_a channel.a.port v k.first k.between begun_orderly k.at_a) named_b
-        (λ station there.
-        among_stays v k.between channel.b stays
-        (λ other x stands named. is.sound.wired.ports place other FromB channel x here stands named) k.place_b station
-        there (named_b station there)) first.after
-        (λ direction.
-        ends_other k.between (join_on w.net.channels v.net.channels k.between.net.channels joins stays.links)
-        first.after direction FromB) k.at_b
+    told : EndCallsKeep input channel v SoFar
+    told direction q u ds answer u' c stays named number (parts, usual) = (
+      parts_on at w u u' l parts
+          (called_parts at q (sender direction channel) u ds u' usual
+          (λ station there.
+          ap (λ (x : Station). clock x.system) (same_there u.stations q station c.station there c.here) ∙ named)
+          (λ station there.
+          subst (λ (x : Station). HasPortNumber x.system (sender direction channel).port)
+          (same_there u.stations q c.station station c.here there) number) parts.after
+          (λ way.
+          ends_other u (join_on w.net.channels v.net.channels u.net.channels joins stays.links) parts.after way direction)
+          answer c),
+      calls_orderly q (input (sender direction channel).port) u ds answer u' usual c,
+    )
 
     pub tells_parts : HasSameParts at w w' l
-    tells_parts = parts_on at w v w' l begun (parts_on at v k.between w' begun.after first second)
+    tells_parts =
+        (each_end_told input channel v SoFar told begun_orderly.setups
+        (join_among w place channel is.sound.wired.ports here) draws w' k (begun, begun_orderly)).0

@@ -14,7 +14,7 @@ use Rattle.gptp_model.specs.World.{WorldState}
 use Rattle.gptp_invariants.specs.ChoiceSeenLaws.{IsNoChange}
 use Rattle.gptp_invariants.specs.ChoiceSettlesAsMachine.{IsWorld}
 use Rattle.gptp_invariants.proofs.DelayLimitLemmas.{AreLimited, WorldIsLimited, keeps_limit}
-use Rattle.gptp_invariants.proofs.WorldActsByLemmas.{Elementary, acts_by, changes_by}
+use Rattle.gptp_model.proofs.ActsByLemmas.{Elementary, acts_by, changes_by}
 use Rattle.gptp_invariants.proofs.WorldKnownKeptLemmas.{fresh_limit, known_kept}
 use Rattle.gptp_invariants.proofs.WorldOutlineLemmas.{acts_time}
 use Rattle.gptp_theorem.proofs.EventLemmas.{last_behind}

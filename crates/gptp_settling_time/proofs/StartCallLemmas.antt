@@ -50,7 +50,7 @@ use Rattle.gptp_invariants.proofs.ChoiceTouchLemmas.{InputFits}
 use Rattle.gptp_invariants.proofs.DelayLinkOctetLemmas.{replies_not}
 use Rattle.gptp_invariants.proofs.DelaySentLemmas.{answering_input}
 use Rattle.gptp_invariants.proofs.WorldActEncodableLemmas.{answering_kept, initial_encodable}
-use Rattle.gptp_invariants.proofs.WorldActsByLemmas.{Elementary, IsGiven, SaysWhatIsKnown, acts_by, starts_by}
+use Rattle.gptp_model.proofs.ActsByLemmas.{Elementary, IsGiven, SaysWhatIsKnown, acts_by, starts_by}
 use Rattle.gptp_invariants.proofs.WorldAnsweringLemmas.{IsAnswering, sound_answers}
 use Rattle.gptp_invariants.proofs.WorldSoundCallLemmas.{setups_of}
 use Rattle.gptp_invariants.specs.FailedUnanswered.{IsNeverAnswered, IsUnansweredAt, IsUnmeasured}

@@ -104,8 +104,8 @@ module _ (p : SettlingParams) (by next number port : ℕ) (w : WorldState) (draw
         go : (b : Bool) → k.channel.up ≡ b → AreSilentBy p next w'
         go true is_up = subst (AreSilentBy p next) (sym (same is_up)) (changed_silent p next w silent)
         go false is_down = λ at s.
-            up_silences p next at k.place k.channel w draws w' is.sound.wired.clocks is.sound.wired.setups
-            is.sound.wired.apart k.is.here (λ e. apart at s k.place k.channel k.is (sym e)) (told is_down) silent s
+            up_silences p next at k.place k.channel w draws w' is.sound.wired k.is.here
+            (λ e. apart at s k.place k.channel k.is (sym e)) (told is_down) silent s
 
     pub up_soon : IsSoundWorld w → w.time ≤ by → by < next → IsNewsSoon p next w'
     up_soon sound early before_next =

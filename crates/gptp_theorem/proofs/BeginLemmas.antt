@@ -15,7 +15,7 @@ use Rattle.gptp_model.specs.World.{WorldState}
 use Rattle.gptp_lists.proofs.MappedLemmas.{mapped_there, same_there}
 use Rattle.gptp_lists.proofs.PlaceLemmas.{map-set}
 use Rattle.gptp_model.proofs.AgreeLemmas.{replaced}
-use Rattle.gptp_invariants.proofs.WorldActsByLemmas.{start_told}
+use Rattle.gptp_model.proofs.ActsByLemmas.{start_told}
 use Rattle.gptp_theorem.specs.Reached.{Shape, StandsAsPlanned, shape, channel_wire}
 use Rattle.gptp_theorem.proofs.KeptLemmas.{KeepLinks, Keeps, port_calls_keep, same_keeps}
 

@@ -22,7 +22,7 @@ use Rattle.gptp_model.proofs.BareLemmas.{DifferInFlight, calls_bare, same_but_fl
 use Rattle.gptp_lists.proofs.PlaceLemmas.{map-set_same}
 use Rattle.gptp_invariants.specs.ChoiceSeenLaws.{IsNoChange}
 use Rattle.gptp_theorem.specs.Reached.{StandsAsPlanned, shape, channel_wire}
-use Rattle.gptp_invariants.proofs.WorldActsByLemmas.{PortCallsKeep, ends_told}
+use Rattle.gptp_model.proofs.ActsByLemmas.{PortCallsKeep, ends_told}
 
 -- ---- links
 

@@ -8,7 +8,7 @@ use Rattle.gptp_model.specs.World.{WorldState}
 use Rattle.gptp_model.specs.declared.done.Done.{Done}
 use Rattle.gptp_links.specs.Fate.{Draw}
 use Rattle.gptp_scenario.specs.declared.change.Act.{Act}
-use Rattle.gptp_invariants.proofs.WorldActsByLemmas.{Elementary, acts_by}
+use Rattle.gptp_model.proofs.ActsByLemmas.{Elementary, acts_by}
 use Rattle.gptp_invariants.proofs.WorldEachLemmas.{OfEach, each_kept}
 use Rattle.gptp_system.specs.Facts.{AreHeld, IsAtRest}
 use Rattle.gptp_system.specs.Start.{started}

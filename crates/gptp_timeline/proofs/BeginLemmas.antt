@@ -8,7 +8,7 @@ use Rattle.gptp_model.specs.Changing.{fresh, StartsAll}
 use Rattle.gptp_model.specs.Course.{Begun}
 use Rattle.gptp_model.specs.Initial.{initial, setup_of, station_of}
 use Rattle.gptp_model.specs.World.{WorldState}
-use Rattle.gptp_invariants.proofs.WorldActsByLemmas.{PortCallsKeep, systems_start}
+use Rattle.gptp_model.proofs.ActsByLemmas.{PortCallsKeep, systems_start}
 use Rattle.gptp_links.specs.declared.bounds.Bounds.{Bounds}
 use Rattle.gptp_links.specs.Fate.{Draw}
 use Rattle.gptp_lists.proofs.MappedLemmas.{mapped}

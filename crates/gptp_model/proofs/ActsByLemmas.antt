@@ -8,6 +8,7 @@ use Rattle.gptp_lists.proofs.PlaceLemmas.{get-set_same}
 use Rattle.gptp_links.specs.declared.link.Direction.{Direction}
 use Rattle.gptp_links.specs.declared.link.Direction.TheVariants.{FromA, FromB}
 use Rattle.gptp_links.specs.Fate.{Draw}
+use Rattle.gptp_links.specs.Queue.{Frame}
 use Rattle.gptp_setup.specs.declared.timer.Timer.{Timer}
 use Rattle.gptp_system.specs.declared.answer.Answer.{Answer}
 use Rattle.gptp_system.specs.Input.{Input, IsTimely, Expires as TimerExpires, Frame as FrameHeard, PortDown, PortUp, Priority}
@@ -25,14 +26,27 @@ use Rattle.gptp_model.specs.Agrees.{stopped}
 use Rattle.gptp_model.specs.Ahead.{HasPorts, IsPortAmong}
 use Rattle.gptp_model.specs.Changing.{CallsAll, CallsIfLive, ComesUpIf, FailsIf, GoesDownIf, Injects, InjectsIf, RecoversIf, Starts, StartsAll, TellsEnds, brought_up, failed, fresh, taken_down, up_ports, with_bounds, with_setup, with_station}
 use Rattle.gptp_model.specs.Sound.{IsWired, JoinPorts}
-use Rattle.gptp_model.specs.World.{Channel, Net, WorldState, port_id, receiver, sender, station_due}
+use Rattle.gptp_model.specs.World.{Channel, Net, WorldState, port_id, receiver, sender, station_due, world_queue}
 use Rattle.gptp_model.proofs.AgreeLemmas.{replaced}
 use Rattle.gptp_model.proofs.AheadLemmas.{calls_ports, live_due}
-use Rattle.gptp_model.proofs.ChangeOnTimeLemmas.{calls_if_live_ports}
-use Rattle.gptp_model.proofs.SoundLemmas.{delivered_up}
 use Rattle.gptp_model.proofs.UpLemmas.{brought_ports}
 
 -- ---- ports that come up or go down
+
+-- the ports at the ends of a link are those of systems
+pub join_among : (w : WorldState) (link : ℕ) (channel : Channel) → JoinPorts w
+    → slice_get w.net.channels link ≡ Some channel → (direction : Direction)
+    → IsPortAmong (sender direction channel) w.stations
+join_among w link channel ports here direction place station there named =
+    ports link place direction channel station here there named
+
+-- a system has as many ports as before
+calls_if_live_ports : (place : ℕ) (input : Input) (w : WorldState) (draws : List Draw) (w' : WorldState)
+    → CallsIfLive place input w draws w' → (other ports : ℕ) → HasPorts other ports w → HasPorts other ports w'
+calls_if_live_ports place input w draws w' (inl (answer, k)) other ports has =
+    calls_ports place input w draws answer w' k other ports has
+calls_if_live_ports place input w draws w' (inr (failed, none, is)) other ports has =
+    subst (HasPorts other ports) (sym is) has
 
 -- every call that gives a port such an input keeps this; that the port is one of the system follows from what is known
 abbrev pub PortCallsKeep : Type 0 → (ℕ → Input) → (WorldState → Type 0) → Type 0
@@ -73,31 +87,45 @@ module _ (Known : Type 0) (Is : WorldState → Type 0) (input : ℕ → Input) (
           station there in
           record { least = old.least; most = rw count old.most }
 
-  -- ports of the system at a place, which has as many as this one, are told one after another
-  ports_told : (s : SystemState) (place : ℕ) (ps : List ℕ) (w : WorldState) (draws : List Draw) (w' : WorldState)
-      → HasPorts place (length s.ports) w → ((p : ℕ) → In p ps → HasPortNumber s p)
-      → CallsAll place (map input ps) w draws w' → Is w → Is w'
-  ports_told s place [] w draws w' has among (none, same) is = subst Is (sym same) is
-  ports_told s place (p ∷ ps) w draws w' has among (first, rest, between, answer, split, k, more) is =
+-- Ports of the system at a place, which has as many as this one, are told one after another. What is so: with those
+-- that are still to be told.
+module _ (input : ℕ → Input) (place : ℕ) (s : SystemState) (Is : List ℕ → WorldState → Type 0)
+    (called : (port : ℕ) (ports : List ℕ) (w : WorldState) (draws : List Draw) (answer : Answer) (w' : WorldState)
+    (k : Calls place (input port) w draws answer w') → HasPortNumber k.station.system port → Is (port ∷ ports) w
+    → Is ports w') where
+  pub ports_told : (ports : List ℕ) (w : WorldState) (draws : List Draw) (w' : WorldState)
+      → HasPorts place (length s.ports) w → ((port : ℕ) → In port ports → HasPortNumber s port)
+      → CallsAll place (map input ports) w draws w' → Is ports w → Is [] w'
+  ports_told [] w draws w' has among (none, same) is = subst (Is []) (sym same) is
+  ports_told (p ∷ ps) w draws w' has among (first, rest, between, answer, split, k, more) is =
       let of = among p (inl refl) in
       let count = has k.station k.here in
       let there : HasPortNumber k.station.system p = record { least = of.least; most = rw count of.most } in
-      ports_told s place ps between rest w'
-      (calls_ports place (input p) w first answer between k place (length s.ports) has)
-      (λ q member. among q (inr member)) more (called place p w first answer between k (λ known. there) is)
+      ports_told ps between rest w' (calls_ports place (input p) w first answer between k place (length s.ports) has)
+      (λ q member. among q (inr member)) more (called p ps w first answer between k there is)
 
 -- ---- starts
 
 -- a system stands at its place as it starts, and then its ports come up
-pub start_told : (Known : Type 0) (Is : WorldState → Type 0) → PortCallsKeep Known PortUp Is → (place : ℕ)
-    (w : WorldState) (draws : List Draw) (w' : WorldState) → (k : Starts place w draws w')
-    → Is (replaced place (fresh w.time k.station) w) → Is w'
-start_told Known Is called place w draws w' k =
+pub start_ports_told : (place : ℕ) (Is : List ℕ → WorldState → Type 0)
+    → ((port : ℕ) (ports : List ℕ) (w : WorldState) (draws : List Draw) (answer : Answer) (w' : WorldState)
+    (k : Calls place (PortUp port) w draws answer w') → HasPortNumber k.station.system port → Is (port ∷ ports) w
+    → Is ports w')
+    → (w : WorldState) (draws : List Draw) (w' : WorldState) → (k : Starts place w draws w')
+    → Is (up_ports (fresh w.time k.station) w.net) (replaced place (fresh w.time k.station) w) → Is [] w'
+start_ports_told place Is called w draws w' k =
     let new : Station = fresh w.time k.station in
-    ports_told Known Is PortUp called new.system place (up_ports new w.net) (replaced place new w) draws w'
+    ports_told PortUp place new.system Is called (up_ports new w.net) (replaced place new w) draws w'
     (λ station there. ap (λ (x : Station). length x.system.ports)
     (sym (same_Some new station (sym (get-set_same w.stations place k.station new k.here) ∙ there))))
     (brought_ports new w.net) k.calls
+
+pub start_told : (Known : Type 0) (Is : WorldState → Type 0) → PortCallsKeep Known PortUp Is → (place : ℕ)
+    (w : WorldState) (draws : List Draw) (w' : WorldState) → (k : Starts place w draws w')
+    → Is (replaced place (fresh w.time k.station) w) → Is w'
+start_told Known Is called place =
+    start_ports_told place (λ ports. Is)
+    (λ port ports w draws answer w' k of. called place port w draws answer w' k (λ known. of))
 
 module _ (Known : Type 0) (Is : WorldState → Type 0) (called : PortCallsKeep Known PortUp Is)
     (started : (place : ℕ) (station : Station) (w : WorldState) → slice_get w.stations place ≡ Some station → Is w
@@ -171,7 +199,31 @@ pub expires_timely : (place : ℕ) (timer : Timer) (w : WorldState) (draws : Lis
 expires_timely place timer w draws w' k =
     let least : w.time ≤ w.time = omega arith in rw (expires_due place timer w draws w' k) least
 
--- the port that a frame reaches is up, where its system lives
+-- a frame is in flight on a link that is up, so that the port at its end measures that link
+opposite_up : (w : WorldState) (link place : ℕ) (direction : Direction) (channel : Channel) (station : Station)
+    → IsWired w
+    → slice_get w.net.channels link ≡ Some channel → channel.up ≡ true → slice_get w.stations place ≡ Some station
+    → station.live ≡ true → clock station.system ≡ (receiver direction channel).clock
+    → IsUp station.system (receiver direction channel).port
+opposite_up w link place FromA channel station is here up there live named =
+    is.linked link place FromB channel station here up there live named
+opposite_up w link place FromB channel station is here up there live named =
+    is.linked link place FromA channel station here up there live named
+
+in_flight_up : (up : Bool) (frames : List Frame) (oldest : Frame) (rest : List Frame) → (up ≡ false → frames ≡ [])
+    → frames ≡ oldest ∷ rest → up ≡ true
+in_flight_up true frames oldest rest still front = refl
+in_flight_up false frames oldest rest still front = let none = still refl in absurd cc
+
+pub delivered_up : (link : ℕ) (direction : Direction) (octets : List ℕ) (w : WorldState) (draws : List Draw)
+    (answer : Option Answer) (w' : WorldState) (k : Delivers link direction octets w draws answer w') → IsWired w
+    → k.station.live ≡ true → IsUp k.station.system (receiver direction k.channel).port
+delivered_up link direction octets w draws answer w' k is live =
+    let up = in_flight_up k.channel.up (world_queue direction k.channel) _ k.takes.rest
+    (is.flow link direction k.channel k.takes.here).still k.takes.front in
+    opposite_up w link k.place direction k.channel k.station is k.takes.here up k.there live k.is_end
+
+-- and so where it stands at that place
 pub reached_up : (link : ℕ) (direction : Direction) (octets : List ℕ) (w : WorldState) (draws : List Draw)
     (answer : Option Answer) (w' : WorldState) (k : Delivers link direction octets w draws answer w') → IsWired w
     → (station : Station) → slice_get w.stations k.place ≡ Some station → station.live ≡ true
@@ -193,17 +245,15 @@ module _ {Known : Type 0} {Allows : Act → Type 0} {Says : List ℕ → Type 0}
   port_down place port w draws answer w' k of =
       e.system_called place (PortDown port) w draws answer w' k (record { timely = of; says = tt })
 
+  pub start_by : (place : ℕ) (w : WorldState) (draws : List Draw) (w' : WorldState) → Starts place w draws w' → Is w
+      → Is w'
+  start_by = system_starts Known Is port_up e.system_started
+
   pub starts_by : (places : List ℕ) (w : WorldState) (draws : List Draw) (w' : WorldState)
       → StartsAll places w draws w' → Is w → Is w'
   starts_by = systems_start Known Is port_up e.system_started
 
   -- ---- changes
-
-  -- the ports at the ends of a link are those of systems
-  ends_among : (place : ℕ) (channel : Channel) (w : WorldState) → slice_get w.net.channels place ≡ Some channel
-      → (Known → JoinPorts w) → Known → (direction : Direction) → IsPortAmong (sender direction channel) w.stations
-  ends_among place channel w here joins known direction other station there named =
-      joins known place other direction channel station here there named
 
   goes_down : (up : Bool) (place : ℕ) (channel : Channel) (w : WorldState) (draws : List Draw) (w' : WorldState)
       → slice_get w.net.channels place ≡ Some channel → (Known → JoinPorts w)
@@ -211,7 +261,7 @@ module _ {Known : Type 0} {Allows : Act → Type 0} {Says : List ℕ → Type 0}
   goes_down false place channel w draws w' here joins (none, same) is = subst Is (sym same) is
   goes_down true place channel w draws w' here joins k is =
       ends_told Known Is PortDown port_down channel (record w { net = taken_down place channel w.net }) draws w'
-      (ends_among place channel w here joins) k (e.link_down place channel w here is)
+      (λ known. join_among w place channel (joins known) here) k (e.link_down place channel w here is)
 
   comes_up : (up : Bool) (place : ℕ) (channel : Channel) (w : WorldState) (draws : List Draw) (w' : WorldState)
       → slice_get w.net.channels place ≡ Some channel → (Known → JoinPorts w)
@@ -219,7 +269,7 @@ module _ {Known : Type 0} {Allows : Act → Type 0} {Says : List ℕ → Type 0}
   comes_up true place channel w draws w' here joins (none, same) is = subst Is (sym same) is
   comes_up false place channel w draws w' here joins k is =
       ends_told Known Is PortUp port_up channel (record w { net = brought_up place channel w.net }) draws w'
-      (ends_among place channel w here joins) k (e.link_up place channel w here is)
+      (λ known. join_among w place channel (joins known) here) k (e.link_up place channel w here is)
 
   fails : (live : Bool) (place : ℕ) (station : Station) (w : WorldState) (draws : List Draw) (w' : WorldState)
       → slice_get w.stations place ≡ Some station → FailsIf live place station w draws w' → Is w → Is w'
@@ -230,7 +280,7 @@ module _ {Known : Type 0} {Allows : Act → Type 0} {Says : List ℕ → Type 0}
   recovers : (live : Bool) (place : ℕ) (w : WorldState) (draws : List Draw) (w' : WorldState)
       → RecoversIf live place w draws w' → Is w → Is w'
   recovers true place w draws w' (none, same) is = subst Is (sym same) is
-  recovers false place w draws w' k is = system_starts Known Is port_up e.system_started place w draws w' k is
+  recovers false place w draws w' k is = start_by place w draws w' k is
 
   priority_told : (number value place : ℕ) (w : WorldState) (draws : List Draw) (w' : WorldState)
       → Allows (Changing (Priority1 number value)) → CallsIfLive place (Priority value) w draws w' → Is w → Is w'
