@@ -6,7 +6,6 @@ use Rattle.std.specs.List.{range_with_len, AllByRecursion}
 use Rattle.std.proofs.lemmas.Bool.{cases_lt}
 use Rattle.std.proofs.lemmas.List.{take-append-drop, length-take, length-drop, drop-drop, nil_from_length, get_or-drop, get_or-take, get_or_past, take_more, take_at, drop_at, length-take-le, append-nil}
 use Rattle.std.proofs.lemmas.Grind.{flat_map-append}
-use Rattle.std.proofs.Math.Seq.{take-add}
 use Rattle.std.proofs.lemmas.List.FromFn.{length-map-range_with_len, get_or-map-range_with_len, fill_by_all}
 use Rattle.std.proofs.lemmas.Nat.{be_bytes_8}
 use Rattle.std.proofs.lemmas.Option.{slice_get-get_or}
@@ -32,6 +31,12 @@ pub slice_get-clocks : (octets : List ℕ) (i : ℕ) → i < length octets / 8
 slice_get-clocks octets i within =
     let inside : i < length (clocks octets) = omega (arith, length-clocks octets) in
     slice_get-get_or (clocks octets) i 0 inside ∙ ap Some (get_or-clocks octets i 0 within)
+
+-- the number that eight octets spell is read at their place
+pub clocks-read : (octets : List ℕ)
+    → map (λ k. big_number 8 (drop (8 * k) octets)) (range_with_len 0 (length octets / 8)) ≡ clocks octets
+unfolding clocks field
+clocks-read octets = refl
 
 -- a number stands in front of its own octets
 pub field-big_bytes : (n x : ℕ) (rest : List ℕ) → x < 256 ^ n → field n 0 (big_bytes n x ++ rest) ≡ x
@@ -116,21 +121,6 @@ pub path_octets-clocks : (octets : List ℕ) → length octets % 8 ≡ 0 → ((i
     → path_octets (clocks octets) ≡ octets
 unfolding clocks
 path_octets-clocks octets whole fit = path_octets-map (length octets / 8) octets (omega arith) fit
-
--- one clock more of a path
-pub take-clocks : (octets : List ℕ) (i : ℕ) → i < length octets / 8
-    → take (i + 1) (clocks octets) ≡ take i (clocks octets) ++ field 8 (8 * i) octets ∷ []
-take-clocks octets i within =
-    let inside : i < length (clocks octets) = omega (arith, length-clocks octets) in
-    take_more (clocks octets) i 0 inside
-    ∙ ap (λ (c : ℕ). take i (clocks octets) ++ c ∷ []) (get_or-clocks octets i 0 within)
-
--- sixteen clocks more of a path
-pub take-sixteen : (path : List ℕ) (block : ℕ)
-    → take (16 * (block + 1)) path ≡ take (16 * block) path ++ take 16 (drop (16 * block) path)
-take-sixteen path block =
-    let behind : 16 * (block + 1) ≡ 16 * block + 16 = omega arith in
-    rw behind (take-add (16 * block) 16 path)
 
 -- where no clock stands at a place, the path ends before it
 pub ends_before : (path : List ℕ) (i : ℕ) → slice_get path i ≡ None → length path ≤ i

@@ -1,6 +1,6 @@
 //! The path trace of an Announce, as it stands in the frame.
 
-ghost use Rattle.std.specs.Prelude.{◌≡◌, ◌+◌, ◌/◌, ◌%◌, ◌≤◌, ◌↔◌, ◌++◌, IsTrue, Contains, drop, length, slice_get, take};
+ghost use Rattle.std.specs.Prelude.{◌≡◌, ◌/◌, ◌%◌, ◌≤◌, ◌↔◌, IsTrue, Contains, length, slice_get};
 ghost use Rattle.gptp_messages.specs.Path.{clocks, path_octets};
 
 use crate::frame::clock_at;
@@ -65,8 +65,7 @@ impl<'a> PathView<'a> {
         if let Some(clock) = clock_of(self.octets, TRACE_CAPACITY) {
             return Err(Full::Full(clock));
         }
-        trace.clear();
-        append_clocks(self.octets, trace);
+        read_clocks(self.octets, trace);
         Ok(())
     }
 
@@ -136,30 +135,10 @@ fn as_spelled(octets: &[u8]) -> &[u8]
     octets
 }
 
-/// Adds the clocks at the end of a trace that has room for them, sixteen at once.
-fn append_clocks(octets: &[u8], trace: &mut Trace)
-    requires { length trace.old + length octets.now / 8 ≤ 256 }
-    ensures { trace.new ≡ trace.old ++ clocks octets.now }
+/// Puts the clocks that the octets spell, at most 256, in place of those of a trace.
+fn read_clocks(octets: &[u8], trace: &mut Trace)
+    requires { length octets.now / 8 ≤ 256 }
+    ensures { trace.new ≡ clocks octets.now }
 {
-    let count = octets.len() / 8;
-    let mut block = [ClockId::default(); 16];
-    for number in 0..count / 16 {
-        read_sixteen(octets, 16 * number, &mut block);
-        trace.extend(&block).unwrap();
-    }
-    for place in count / 16 * 16..count {
-        trace.append(clock_at(octets, 8 * place)).unwrap();
-    }
-}
-
-/// Reads the sixteen clocks from a place on.
-fn read_sixteen(octets: &[u8], first: usize, block: &mut [ClockId; 16])
-    requires { first + 16 ≤ length octets.now / 8 }
-    ensures { block.new ≡ take 16 (drop first (clocks octets.now)) }
-{
-    // Where the compiler doesn't know that it is sixteen, it reads several clocks at once.
-    let count = octets.len() / 8 - first;
-    for place in 0..count.min(16) {
-        block[place] = clock_at(octets, 8 * (first + place));
-    }
+    trace.read_octets(octets);
 }

@@ -16,11 +16,15 @@ use Rattle.gptp_receipt.specs.Qualification.{Qualified}
 use Rattle.gptp_roles.specs.Choice.{path_vectors}
 use Rattle.gptp_roles.specs.Role.{each_from, held_after_selection, is_master, chosen_role}
 use Rattle.gptp_roles.proofs.RoleLemmas.{held_after-kept, held_after-master}
+use Rattle.gptp_setup.specs.declared.timer.Timer.TheVariants as timers
+use Rattle.gptp_system.specs.declared.port.Port.{Port}
 use Rattle.gptp_system.specs.declared.sending.Sending.{Sending}
-use Rattle.gptp_system.specs.Announcing.{SaysAgain, compared, replaces_held}
+use Rattle.gptp_system.specs.Announcing.{HearsAgain, SaysAgain, compared, replaces_held}
 use Rattle.gptp_system.specs.Facts.{AreHeld, IsAtRest}
+use Rattle.gptp_system.specs.Reach.{Leaves, same_timer}
 use Rattle.gptp_system.specs.Selection.{Becomes, Selects, SelectsIf}
-use Rattle.gptp_system.specs.State.{SystemState, change_at, clock, held_at, number, on_held, own}
+use Rattle.gptp_system.specs.State.{SystemState, announce_due, change_at, clock, held_at, number, on_held, own}
+use Rattle.gptp_system.proofs.DueLemmas.{on_held_leaves}
 use Rattle.gptp_system.proofs.RestLemmas.{selects_itself}
 use Rattle.gptp_system.proofs.TimersChangedLemmas.{compared_touches}
 
@@ -134,6 +138,39 @@ compared_rest p a now s says r =
     says_still h (own s p) a now (subst (λ x. SaysAgain x (own s p) a) here says))
     r
 
+-- what a port received doesn't let it announce
+received_silent : (q : Port) (h : Held) (r : Reception) → received h ≡ Some r → announce_due q h ≡ None
+received_silent q helds.Disabled r is = absurd (none-some r is)
+received_silent q helds.Aged r is = absurd (none-some r is)
+received_silent q (helds.Mine root steps) r is = absurd (none-some r is)
+received_silent q (helds.Received x) r is = refl
+
+-- so it leaves all timers but the Age timer of the port
+pub again_leaves : (p : ℕ) (a : AnnounceView) (now : ℕ) (s s' : SystemState) → HearsAgain p a now s s'
+    → Leaves (same_timer (timers.Age p)) s s'
+again_leaves p a now s s' k =
+    let hear : Held → Held = λ h. held_when_heard (comparison h (own s p) a) h (reception a (own s p) now) in
+    subst (Leaves (same_timer (timers.Age p)) s) (sym k.state)
+    (on_held_leaves p hear s
+    (λ h q there.
+    let here : held_at s p ≡ h = ap (λ o. option_map_or (λ x. x) o helds.Disabled) there in
+    let still = says_still h (own s p) a now (subst (λ x. SaysAgain x (own s p) a) here k.says) in
+    received_silent q (hear h) still.after still.is ∙ sym (received_silent q h still.before still.was)))
+
+-- nothing is selected where it says it again
+pub again_becomes : (p : ℕ) (a : AnnounceView) (now : ℕ) (s s' : SystemState) (sends : List Sending) (again : Bool)
+    → again ≡ true
+    → SelectsIf (replaces_held (comparison (held_at s p) (own s p) a) && not again) now (compared p a now s) s' sends
+    → Becomes (compared p a now s) s' sends
+again_becomes p a now s s' sends again is selects =
+    subst (λ b. SelectsIf b now (compared p a now s) s' sends)
+    (ap (λ b. replaces_held (comparison (held_at s p) (own s p) a) && not b) is
+    ∙ out (replaces_held (comparison (held_at s p) (own s p) a))) selects
+  where
+    out : (b : Bool) → (b && not true) ≡ false
+    out true = refl
+    out false = refl
+
 -- A system at rest counts as having selected where selection is left out after an Announce that says again what the
 -- port received last.
 pub selects_again_or_not : (p : ℕ) (a : AnnounceView) (now : ℕ) (s s' : SystemState) (sends : List Sending)
@@ -150,18 +187,13 @@ selects_again_or_not p a now s s' sends again says qualified held rest selects =
     left true = refl
     left false = refl
 
-    out : (b : Bool) → (b && not true) ≡ false
-    out true = refl
-    out false = refl
-
     go : (b : Bool) → again ≡ b → SelectsIf heard now (compared p a now s) s' sends
     go false isn't =
         subst (λ b. SelectsIf b now (compared p a now s) s' sends) (ap (λ b. heard && not b) isn't ∙ left heard) selects
     go true is =
         let taken : heard ≡ true =
         ap replaces_held (repeated (held_at s p) (own s p) a (said (held_at s p) (own s p) a (says is))) in
-        let k : Becomes (compared p a now s) s' sends =
-        subst (λ b. SelectsIf b now (compared p a now s) s' sends) (ap (λ b. heard && not b) is ∙ out heard) selects in
+        let k = again_becomes p a now s s' sends again is selects in
         let itself : Selects now (compared p a now s) (compared p a now s) [] =
         selects_itself now (compared p a now s) ((compared_touches p a now s qualified).held held)
         (compared_rest p a now s (says is) rest) in

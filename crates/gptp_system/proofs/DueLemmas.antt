@@ -1,16 +1,16 @@
 -- Which changes of a state leave which timers due when they were.
-use Rattle.std.proofs.Common.{◌≡◌, ℕ, zero, suc, Bool, false, List, [], ◌∷◌, map, Option, slice_get, refl, sym, ap, subst, ◌∙◌}
-use Rattle.std.specs.Option.{option_and_then}
+use Rattle.std.proofs.Common.{◌≡◌, ℕ, zero, suc, Bool, false, List, [], ◌∷◌, map, Option, Some, None, slice_get, refl, sym, ap, subst, ◌∙◌, eq-eqb}
+use Rattle.std.specs.Option.{option_and_then, option_map_or}
 use Rattle.gptp_receipt.specs.declared.held.Held.{Held}
 use Rattle.gptp_receipt.specs.declared.held.Held.TheVariants as helds
 use Rattle.gptp_system.specs.declared.port.Port.{Port}
 use Rattle.gptp_system.specs.declared.sending.Sending.{Sending}
 use Rattle.gptp_setup.specs.declared.timer.Timer.{Timer}
 use Rattle.gptp_setup.specs.declared.timer.Timer.TheVariants as timers
-use Rattle.gptp_system.specs.State.{SystemState, age_due, announce_due, change, change_at, held_at, number, on_port}
+use Rattle.gptp_system.specs.State.{SystemState, age_due, announce_due, change, change_at, held_at, number, on_held, on_port}
 use Rattle.gptp_system.specs.Selection.{Selects, all_announced, choosing, fresh_ports}
 use Rattle.gptp_system.specs.Syncing.{counted_by_rates, telling}
-use Rattle.gptp_system.specs.Reach.{Leaves, is_selected}
+use Rattle.gptp_system.specs.Reach.{Leaves, is_selected, same_timer}
 use Rattle.gptp_system.proofs.PortLemmas.{all_announced-map, counted-map, with_sync}
 
 -- ---- places
@@ -29,21 +29,21 @@ same_number g xs ys same (suc i) =
     at_map g xs i ∙ ap (λ zs. option_and_then (λ y. y) (slice_get zs i)) same ∙ sym (at_map g ys i)
 
 changed_at : {X : Type 0} (g : X → Option ℕ) (f : X → X) (j : ℕ) (xs : List X) (i : ℕ)
-    → ((x : X) → i ≡ j → g (f x) ≡ g x)
+    → ((x : X) → i ≡ j → slice_get xs i ≡ Some x → g (f x) ≡ g x)
     → option_and_then g (slice_get (change_at f j xs) i) ≡ option_and_then g (slice_get xs i)
 changed_at g f j [] i same = refl
-changed_at g f zero (x ∷ xs) zero same = same x refl
+changed_at g f zero (x ∷ xs) zero same = same x refl refl
 changed_at g f zero (x ∷ xs) (suc i) same = refl
 changed_at g f (suc j) (x ∷ xs) zero same = refl
-changed_at g f (suc j) (x ∷ xs) (suc i) same = changed_at g f j xs i (λ y here. same y (ap suc here))
+changed_at g f (suc j) (x ∷ xs) (suc i) same = changed_at g f j xs i (λ y here there. same y (ap suc here) there)
 
 -- where the member at the number gives the same, so does every other
 changed_number : {X : Type 0} (g : X → Option ℕ) (f : X → X) (p : ℕ) (xs : List X) (n : ℕ)
-    → ((x : X) → n ≡ p → g (f x) ≡ g x)
+    → ((x : X) → n ≡ p → number xs n ≡ Some x → g (f x) ≡ g x)
     → option_and_then g (number (change f p xs) n) ≡ option_and_then g (number xs n)
 changed_number g f zero xs n same = refl
 changed_number g f (suc j) xs zero same = refl
-changed_number g f (suc j) xs (suc i) same = changed_at g f j xs i (λ x here. same x (ap suc here))
+changed_number g f (suc j) xs (suc i) same = changed_at g f j xs i (λ x here there. same x (ap suc here) there)
 
 -- ---- one port
 
@@ -63,19 +63,58 @@ pub on_port_leaves : (touched : Timer → Bool) (p : ℕ) (f : Port → Port) �
     → Leaves touched s (on_port p f s)
 on_port_leaves touched p f k s (timers.Announce n) off =
     changed_number (λ q. announce_due q (held_at s n)) f p s.ports n
-    (λ q here. same_announce q (f q) (held_at s n)
+    (λ q here there. same_announce q (f q) (held_at s n)
     (k.announce (subst (λ m. touched (timers.Announce m) ≡ false) here off) q))
 on_port_leaves touched p f k s (timers.Age n) off =
-    changed_number (λ (q : Port). age_due s.params s.largest (held_at s n)) f p s.ports n (λ q here. refl)
+    changed_number (λ (q : Port). age_due s.params s.largest (held_at s n)) f p s.ports n (λ q here there. refl)
 on_port_leaves touched p f k s (timers.Pdelay n) off =
     changed_number (λ (q : Port). q.pdelay) f p s.ports n
-    (λ q here. k.pdelay (subst (λ m. touched (timers.Pdelay m) ≡ false) here off) q)
+    (λ q here there. k.pdelay (subst (λ m. touched (timers.Pdelay m) ≡ false) here off) q)
 on_port_leaves touched p f k s (timers.Respond n) off =
     changed_number (λ (q : Port). q.respond) f p s.ports n
-    (λ q here. k.respond (subst (λ m. touched (timers.Respond m) ≡ false) here off) q)
+    (λ q here there. k.respond (subst (λ m. touched (timers.Respond m) ≡ false) here off) q)
 on_port_leaves touched p f k s timers.Sync off = refl
 on_port_leaves touched p f k s timers.Relay off = refl
 on_port_leaves touched p f k s timers.Lapse off = refl
+
+-- what a port holds gives a time, as Disabled does not
+time_of : (time : Held → Option ℕ) → time helds.Disabled ≡ None → (o : Option Held)
+    → time (option_map_or (λ h. h) o helds.Disabled) ≡ option_and_then time o
+time_of time none None = none
+time_of time none (Some h) = refl
+
+-- a change of what a port holds leaves a time that its own change leaves
+held_time : (time : Held → Option ℕ) → time helds.Disabled ≡ None → (p : ℕ) (g : Held → Held) (s : SystemState) (n : ℕ)
+    → ((h : Held) → n ≡ p → number s.held n ≡ Some h → time (g h) ≡ time h)
+    → time (held_at (on_held p g s) n) ≡ time (held_at s n)
+held_time time none p g s n same =
+    time_of time none (number (change g p s.held) n) ∙ changed_number time g p s.held n same
+    ∙ sym (time_of time none (number s.held n))
+
+same_then : (f g : Port → Option ℕ) → ((q : Port) → f q ≡ g q) → (o : Option Port)
+    → option_and_then f o ≡ option_and_then g o
+same_then f g same None = refl
+same_then f g same (Some q) = same q
+
+-- a change of what a port holds that leaves its Announce timer leaves all timers but its Age timer
+pub on_held_leaves : (p : ℕ) (g : Held → Held) (s : SystemState)
+    → ((h : Held) (q : Port) → number s.held p ≡ Some h → announce_due q (g h) ≡ announce_due q h)
+    → Leaves (same_timer (timers.Age p)) s (on_held p g s)
+on_held_leaves p g s same (timers.Announce n) off =
+    same_then (λ q. announce_due q (held_at (on_held p g s) n)) (λ q. announce_due q (held_at s n))
+    (λ q. held_time (announce_due q) refl p g s n
+    (λ h here there. same h q (subst (λ m. number s.held m ≡ Some h) here there)))
+    (number s.ports n)
+on_held_leaves p g s same (timers.Age n) off =
+    let time : Held → Option ℕ = age_due s.params s.largest in
+    same_then (λ q. time (held_at (on_held p g s) n)) (λ q. time (held_at s n))
+    (λ q. held_time time refl p g s n (λ h here there. absurd (let e = eq-eqb p n (sym here) in cc)))
+    (number s.ports n)
+on_held_leaves p g s same (timers.Pdelay n) off = refl
+on_held_leaves p g s same (timers.Respond n) off = refl
+on_held_leaves p g s same timers.Sync off = refl
+on_held_leaves p g s same timers.Relay off = refl
+on_held_leaves p g s same timers.Lapse off = refl
 
 -- ---- all ports
 

@@ -17,7 +17,7 @@ use Rattle.gptp_setup.specs.declared.timer.Timer.{Timer}
 use Rattle.gptp_setup.specs.declared.timer.Timer.TheVariants as timers
 use Rattle.gptp_system.specs.declared.timers_changed.TimersChanged.{TimersChanged}
 use Rattle.gptp_system.specs.declared.timers_changed.TimersChanged.TheVariants as touches
-use Rattle.gptp_system.specs.Announcing.{answer_to_heard, compared, replaces_held, HearsQualified}
+use Rattle.gptp_system.specs.Announcing.{answer_to_heard, compared, replaces_held, HearsAgain, HearsQualified}
 use Rattle.gptp_system.specs.Input.{Input, Frame, Expires}
 use Rattle.gptp_system.specs.Measuring.{is_turned, TurnsIf}
 use Rattle.gptp_system.specs.Reach.{is_of_time, is_selected, is_touched, is_touched_by, same_timer, stops_at, Leaves}
@@ -25,7 +25,8 @@ use Rattle.gptp_system.specs.Selection.{SelectsIf}
 use Rattle.gptp_system.specs.State.{SystemState, held_at, is_capable_at, number, own}
 use Rattle.gptp_system.specs.Syncing.{delay_at, forgetting, root_rate_at, said_on, HearsFollowUpIf, KnowsBy, KnowsIf}
 use Rattle.gptp_system.specs.Steps.{Expires as TimerExpires, HearsMessage, HasPortNumber, IsTimerOf}
-use Rattle.gptp_system.specs.TimersChanged.{asking_touches, holds, is_used, message_touches, selected_if, takes_place, timed_if, timer_touches, IsTouchedOf, Touches}
+use Rattle.gptp_system.specs.TimersChanged.{asking_touches, heard_touches, holds, is_used, message_touches, selected_if, takes_place, timed_if, timer_touches, IsTouchedOf, MessageTouches, Touches}
+use Rattle.gptp_system.proofs.AgainLemmas.{again_leaves}
 use Rattle.gptp_system.proofs.CalmLemmas.{calm_apart, calm_peer}
 use Rattle.gptp_system.proofs.ReachLemmas.{hears_message, steps_reach}
 use Rattle.gptp_system.proofs.TimersChangedLemmas.{compared_same}
@@ -140,15 +141,30 @@ message_leaves p (messages.Announce a) now s s' sends answer (inr (inr k)) leave
 
 pub message_touches_these : (p : ℕ) (octets : List ℕ) (m : Message) (now : ℕ) (s s' : SystemState)
     (sends : List Sending) (answer : Answer) (touched : TimersChanged) → HasPortNumber s p
-    → HearsMessage p m now s s' sends answer → touched ≡ message_touches s p m answer
+    → HearsMessage p m now s s' sends answer → MessageTouches p m now s s' answer touched
     → Touches (Frame p octets) touched s s'
-message_touches_these p octets m now s s' sends answer touched of k are =
+message_touches_these p octets m now s s' sends answer touched of k (inr age) =
+    subst (λ t. Touches (Frame p octets) t s s') (sym age.alone)
+    (record {
+      own = of;
+      always = λ timer off. refl;
+      leaves = again_leaves p age.announce now s s' age.again;
+    })
+message_touches_these p octets m now s s' sends answer touched of k (inl are) =
     subst (λ t. Touches (Frame p octets) t s s') (sym are)
     (record {
       own = message_own p m s answer of;
       always = λ timer off. refl;
       leaves = message_leaves p m now s s' sends answer k (hears_message p m now s s' sends answer k).leaves;
     })
+
+-- what an Announce touches that is heard
+pub announce_touches : (again : Bool) (p : ℕ) (a : AnnounceView) (now : ℕ) (s s' : SystemState) (answer : Answer)
+    (touched : TimersChanged) → (again ≡ true → HearsAgain p a now s s') → touched ≡ heard_touches again answer p
+    → MessageTouches p (messages.Announce a) now s s' answer touched
+announce_touches true p a now s s' answer touched says is =
+    inr (record { announce = a; is = refl; again = says refl; alone = is })
+announce_touches false p a now s s' answer touched says is = inl is
 
 -- ---- a timer
 

@@ -70,6 +70,11 @@ pub record HearsQualified (p : ℕ) (a : AnnounceView) (now : ℕ) (s s' : Syste
   pub selects : SelectsIf (replaces_held (comparison (held_at s p) (own s p) a)) now (compared p a now s) s' sends
   pub answer_is : answer ≡ answer_to_heard (comparison (held_at s p) (own s p) a)
 
+-- a qualified Announce that says again what the port received last: only that is received anew
+pub record HearsAgain (p : ℕ) (a : AnnounceView) (now : ℕ) (s s' : SystemState) : Type 0 where
+  pub says : SaysAgain (held_at s p) (own s p) a
+  pub state : s' ≡ compared p a now s
+
 -- ---- timers
 
 -- what a port received is dropped where it is too old

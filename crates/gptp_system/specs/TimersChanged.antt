@@ -1,5 +1,6 @@
 -- The timers that a step of a system sets or stops at most.
-use Rattle.std.specs.Prelude.{◌≡◌, ℕ, ⊤, Bool, true, false, if◌then◌else◌}
+use Rattle.std.specs.Prelude.{◌≡◌, ◌⊎◌, ℕ, ⊤, Bool, true, false, if◌then◌else◌}
+use Rattle.gptp_messages.specs.declared.announce.AnnounceView.{AnnounceView}
 use Rattle.gptp_messages.specs.declared.message.Message.{Message}
 use Rattle.gptp_messages.specs.declared.message.Message.TheVariants as messages
 use Rattle.gptp_pdelay.specs.Peer.{after_follow_up}
@@ -9,6 +10,7 @@ use Rattle.gptp_setup.specs.declared.timer.Timer.{Timer}
 use Rattle.gptp_setup.specs.declared.timer.Timer.TheVariants as timers
 use Rattle.gptp_system.specs.declared.timers_changed.TimersChanged.{TimersChanged}
 use Rattle.gptp_system.specs.declared.timers_changed.TimersChanged.TheVariants as touches
+use Rattle.gptp_system.specs.Announcing.{HearsAgain}
 use Rattle.gptp_system.specs.Input.{Input, Frame, Expires}
 use Rattle.gptp_system.specs.Measuring.{is_turned}
 use Rattle.gptp_system.specs.Reach.{is_of_time, is_selected, same_timer, stops_at, Leaves}
@@ -70,6 +72,22 @@ message_touches s p (messages.PdelayRespFollowUp m) answer =
     selected_if (is_turned (after_follow_up m) (number s.ports p))
 message_touches s p (messages.Announce a) answer = selected_if (takes_place answer)
 message_touches s p message answer = touches.Nothing
+
+-- those of an Announce that is heard: the Age timer of the port alone where it says again what the port received last
+abbrev pub heard_touches : Bool → Answer → ℕ → TimersChanged
+heard_touches again answer p = if again then touches.One (timers.Age p) else selected_if (takes_place answer)
+
+-- an Announce says again what the port received last, and the Age timer of the port alone is touched
+pub record TouchesAge (p : ℕ) (m : Message) (now : ℕ) (s s' : SystemState) (touched : TimersChanged) : Type 0 where
+  pub announce : AnnounceView
+  pub is : m ≡ messages.Announce announce
+  pub again : HearsAgain p announce now s s'
+  pub alone : touched ≡ touches.One (timers.Age p)
+
+-- a message touches these, or fewer where it says again what the port received last
+abbrev pub MessageTouches : ℕ → Message → ℕ → SystemState → SystemState → Answer → TimersChanged → Type 0
+MessageTouches p m now s s' answer touched =
+    (touched ≡ message_touches s p m answer) ⊎ TouchesAge p m now s s' touched
 
 -- a port asks its neighbour; any timer may change where it stops being asCapable before that
 abbrev pub asking_touches : Bool → ℕ → TimersChanged

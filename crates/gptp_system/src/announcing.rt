@@ -152,7 +152,7 @@ fn announce_at(
 impl State {
     ghost use Rattle.std.specs.Prelude.{◌≡◌, ◌≢◌, ◌⊎◌, ◌↔◌, ◌≤◌, length, true, [], IsTrue};
     ghost use Rattle.gptp_receipt.specs.declared.held.Held.TheVariants.{Disabled};
-    ghost use Rattle.gptp_system.specs.Announcing.{AgeExpires, AnnounceExpires, ChangesPriority, HearsOff, HearsQualified, HearsUnqualified, SaysAgain};
+    ghost use Rattle.gptp_system.specs.Announcing.{AgeExpires, AnnounceExpires, ChangesPriority, HearsAgain, HearsOff, HearsQualified, HearsUnqualified, SaysAgain};
     ghost use Rattle.gptp_system.specs.Facts.{AreHeld, IsAtRest};
     ghost use Rattle.gptp_setup.specs.Intervals.{IsMoment};
     ghost use Rattle.gptp_system.specs.Ready.{IsReady, state_of};
@@ -202,14 +202,15 @@ impl State {
         says_again(&self.held[usize::from(port) - 1], own, announce)
     }
 
-    /// A port hears an Announce (IEEE 802.1AS-2020, 10.3.11 and 10.3.12).
+    /// A port hears an Announce (IEEE 802.1AS-2020, 10.3.11 and 10.3.12): whether it says again what the port received
+    /// last, so that nothing is selected, and what became of it.
     pub(crate) fn hear_announce(
         &mut self,
         port: u8,
         announce: &AnnounceView<'_>,
         now: u64,
         outbox: &mut Outbox,
-    ) -> Answer
+    ) -> (bool, Answer)
         requires ready { IsReady (state_of self.old) }
         requires moment { IsMoment now }
         requires least { 1 ≤ port }
@@ -218,22 +219,23 @@ impl State {
         requires held { AreHeld (state_of self.old) }
         requires rest { IsAtRest (state_of self.old) }
         requires empty { outbox.old.items ≡ [] }
-        ensures step { HearsOff port (state_of self.old) (state_of self.new) outbox.new.items result
-            ⊎ (HearsUnqualified port announce.now (state_of self.old) (state_of self.new) outbox.new.items result
-            ⊎ HearsQualified port announce.now now (state_of self.old) (state_of self.new) outbox.new.items result) }
+        ensures step { HearsOff port (state_of self.old) (state_of self.new) outbox.new.items result.1
+            ⊎ (HearsUnqualified port announce.now (state_of self.old) (state_of self.new) outbox.new.items result.1
+            ⊎ HearsQualified port announce.now now (state_of self.old) (state_of self.new) outbox.new.items result.1) }
+        ensures again { IsTrue result.0 → HearsAgain port announce.now now (state_of self.old) (state_of self.new) }
         ensures ready { IsReady (state_of self.new) }
     {
         if !self.is_capable(port) {
-            return Answer::Disabled;
+            return (false, Answer::Disabled);
         }
         let own = self.own(port);
         if let Err(why) = qualify(announce, own.clock) {
-            return answer_to_why(why);
+            return (false, answer_to_why(why));
         }
         let again = self.hears_again(port, announce);
         let heard = hear_at(self.held.as_mut_slice(), own, announce, now);
         self.select_if(can_change(heard, again), now, outbox);
-        answer_to_heard(heard)
+        (again, answer_to_heard(heard))
     }
 
     /// What a port received is too old (IEEE 802.1AS-2020, 10.3.11).

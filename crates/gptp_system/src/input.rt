@@ -6,7 +6,7 @@ use crate::answer::Answer;
 use crate::sending::Outbox;
 use crate::state::State;
 use crate::timers_changed::{
-    TimersChanged, asking_touches, is_used, selected_if, takes_place, timed_if,
+    TimersChanged, asking_touches, heard_touches, is_used, selected_if, timed_if,
 };
 use gptp_messages::{Message, decode};
 use gptp_setup::Timer;
@@ -59,7 +59,7 @@ impl State {
     ghost use Rattle.gptp_system.specs.Ready.{IsReady, state_of};
     ghost use Rattle.gptp_system.specs.State.{held_at, is_capable_at};
     ghost use Rattle.gptp_system.specs.Steps.{Expires, HearsFrame, HearsMessage, HasPortNumber, IsDue, IsTimerOf};
-    ghost use Rattle.gptp_system.specs.TimersChanged.{message_touches, timer_touches, Touches};
+    ghost use Rattle.gptp_system.specs.TimersChanged.{MessageTouches, timer_touches, Touches};
 
     /// A port hears a message.
     fn hear(&mut self, port: u8, message: &Message<'_>, now: u64, outbox: &mut Outbox) -> Stepped
@@ -72,7 +72,8 @@ impl State {
         requires empty { outbox.old.items ≡ [] }
         ensures step { HearsMessage port message.now now (state_of self.old)
             (state_of self.new) outbox.new.items result.answer }
-        ensures touched { result.touched ≡ message_touches (state_of self.old) port message.now result.answer }
+        ensures touched { MessageTouches port message.now now (state_of self.old)
+            (state_of self.new) result.answer result.touched }
         ensures ready { IsReady (state_of self.new) }
     {
         match message {
@@ -99,8 +100,8 @@ impl State {
                 Stepped { answer, touched }
             }
             Message::Announce(announce) => {
-                let answer = self.hear_announce(port, announce, now, outbox);
-                let touched = selected_if(takes_place(answer));
+                let (again, answer) = self.hear_announce(port, announce, now, outbox);
+                let touched = heard_touches(again, answer, port);
                 Stepped { answer, touched }
             }
         }

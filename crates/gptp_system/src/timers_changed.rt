@@ -1,7 +1,7 @@
 //! The timers that a step of a system sets or stops.
 
 ghost use Rattle.std.specs.Prelude.{◌≡◌};
-ghost use Rattle.gptp_system.specs.TimersChanged.{asking_touches, is_used, selected_if, takes_place, timed_if};
+ghost use Rattle.gptp_system.specs.TimersChanged.{asking_touches, heard_touches, is_used, selected_if, takes_place, timed_if};
 
 use crate::answer::Answer;
 use gptp_setup::Timer;
@@ -42,12 +42,23 @@ pub(crate) fn asking_touches(stops: bool, port: u8) -> TimersChanged
 }
 
 /// Whether an Announce that is answered so took the place of what the port held.
-pub(crate) fn takes_place(answer: Answer) -> bool
+fn takes_place(answer: Answer) -> bool
     ensures { result ≡ takes_place answer }
 {
     match answer {
         Answer::Superior | Answer::Repeated => true,
         _ => false,
+    }
+}
+
+/// Those of an Announce that is answered so: the Age timer of the port alone where it says again what the port received
+/// last.
+pub(crate) fn heard_touches(again: bool, answer: Answer, port: u8) -> TimersChanged
+    ensures { result ≡ heard_touches again answer port }
+{
+    match again {
+        true => TimersChanged::One(Timer::Age(port)),
+        false => selected_if(takes_place(answer)),
     }
 }
 

@@ -1,9 +1,11 @@
 //! The clocks that an announcement passed.
 
-ghost use Rattle.std.specs.Prelude.{◌≡◌, ◌<◌, ◌≤◌, ◌↔◌, ◌+◌, ◌-◌, ℕ, [], ◌∷◌, ◌++◌, length, slice_get, Contains, IsTrue, IsOk, IfErr, OnOk, OnErr};
+ghost use Rattle.std.specs.Prelude.{◌≡◌, ◌*◌, ◌/◌, drop, length, map};
+ghost use Rattle.std.specs.List.{range_with_len};
+ghost use Rattle.byteorder.specs.Endian.{big_number};
 
 use crate::port::ClockId;
-use arrayvec::ArrayVec;
+use byteorder::{BigEndian, ByteOrder};
 use std::error::Error;
 use std::fmt;
 use std::marker::Model;
@@ -16,17 +18,18 @@ pub const TRACE_CAPACITY: usize = 256;
 /// [`TRACE_CAPACITY`], and takes no memory beyond itself.
 #[derive(Debug, Drop)]
 pub struct Trace {
-    clocks: ArrayVec<ClockId, TRACE_CAPACITY>,
+    clocks: [ClockId; TRACE_CAPACITY],
+    count: usize,
 }
 
 impl Model for Trace {
-    ghost use Rattle.std.specs.Prelude.{◌≤◌, ℕ, List, length};
+    ghost use Rattle.std.specs.Prelude.{◌≡◌, ◌≤◌, ℕ, List, length, take};
 
     ghost Value = { List ℕ };
 
-    ghost view = { λ t. t.clocks.items };
+    ghost view = { λ t. take t.count t.clocks };
 
-    ghost invariant = { λ t. length t.clocks.items ≤ 256 };
+    ghost invariant = { λ t. (t.count ≤ 256) × (length t.clocks ≡ 256) };
 }
 
 /// A trace has no room for one more clock: this one.
@@ -48,6 +51,9 @@ impl fmt::Display for Full {
 impl Error for Full {}
 
 impl Trace {
+    ghost use Rattle.std.specs.Prelude.{◌≡◌, ◌<◌, ◌≤◌, ◌↔◌, ◌+◌, ◌-◌, ◌*◌, ◌/◌, ℕ, [], ◌∷◌, ◌++◌, drop, length, map, slice_get, Contains, IsTrue, IsOk, IfErr, OnOk, OnErr};
+    ghost use Rattle.std.specs.List.{range_with_len};
+    ghost use Rattle.byteorder.specs.Endian.{big_number};
     ghost use Rattle.gptp_vector.specs.Trace.{clock_left_out};
 
     /// The trace with no clock.
@@ -55,7 +61,8 @@ impl Trace {
         ensures { result ≡ [] }
     {
         Trace {
-            clocks: ArrayVec::new(),
+            clocks: [ClockId::default(); TRACE_CAPACITY],
+            count: 0,
         }
     }
 
@@ -64,35 +71,35 @@ impl Trace {
         ensures count { result ≡ length self.now }
         ensures bound { length self.now ≤ 256 }
     {
-        self.clocks.len()
+        self.count
     }
 
     /// Whether the trace has no clock.
     pub fn is_empty(&self) -> bool
         ensures { IsTrue result ↔ (self.now ≡ []) }
     {
-        self.clocks.is_empty()
+        self.count == 0
     }
 
     /// The clock at a place, counted from 0, or nothing past the end.
     pub fn get(&self, place: usize) -> Option<ClockId>
         ensures { result ≡ slice_get self.now place }
     {
-        self.clocks.as_slice().get(place).copied()
+        self.as_slice().get(place).copied()
     }
 
     /// The clocks, the root first.
     pub fn as_slice(&self) -> &[ClockId]
         ensures { result.now ≡ self.now }
     {
-        &self.clocks
+        &self.clocks[..self.count]
     }
 
     /// Whether the trace has this clock.
     pub fn holds(&self, clock: ClockId) -> bool
         ensures { IsTrue result ↔ Contains self.now clock }
     {
-        self.clocks.as_slice().contains(&clock)
+        self.as_slice().contains(&clock)
     }
 
     /// Adds a clock at the end. A trace of [`TRACE_CAPACITY`] clocks is [`Full`], with the clock
@@ -103,10 +110,12 @@ impl Trace {
         ensures full { IfErr result (λ e. e ≡ Full.Full clock) }
         ensures err { OnErr result (self.new ≡ self.old) }
     {
-        match self.clocks.try_push(clock) {
-            Ok(()) => Ok(()),
-            Err(_) => Err(Full::Full(clock)),
+        if self.count == TRACE_CAPACITY {
+            return Err(Full::Full(clock));
         }
+        self.clocks[self.count] = clock;
+        self.count += 1;
+        Ok(())
     }
 
     /// Adds clocks at the end, in their order, all of them or none. Where they don't all fit the trace
@@ -117,28 +126,52 @@ impl Trace {
         ensures full { IfErr result (λ e. slice_get clocks.now (256 - length self.old) ≡ Some (clock_left_out e)) }
         ensures err { OnErr result (self.new ≡ self.old) }
     {
-        match clocks.get(self.clocks.remaining_capacity()) {
-            Some(clock) => Err(Full::Full(*clock)),
-            None => {
-                let _ = self.clocks.try_extend_from_slice(clocks);
-                Ok(())
-            }
+        if let Some(clock) = clocks.get(TRACE_CAPACITY - self.count) {
+            return Err(Full::Full(*clock));
         }
+        let start = self.count;
+        let end = start + clocks.len();
+        let all = &mut self.clocks[..];
+        all[start..end].copy_from_slice(clocks);
+        self.count = end;
+        Ok(())
+    }
+
+    /// Puts the clocks that octets spell in place of its own: eight octets for each, the most significant first.
+    pub fn read_octets(&mut self, octets: &[u8])
+        requires { length octets.now / 8 ≤ 256 }
+        ensures { self.new ≡ map (λ k. big_number 8 (drop (8 * k) octets.now)) (range_with_len 0 (length octets.now / 8)) }
+    {
+        self.count = octets.len() / 8;
+        read_clocks(octets, &mut self.clocks[..self.count]);
     }
 
     /// Removes every clock.
     pub fn clear(&mut self)
         ensures { self.new ≡ [] }
     {
-        self.clocks.clear();
+        self.count = 0;
     }
 
     /// Another trace of the same clocks. Costs what the trace has, not its capacity.
     pub fn copy(&self) -> Self
         ensures { result ≡ self.now }
     {
-        let mut clocks = ArrayVec::new();
-        let _ = clocks.try_extend_from_slice(self.clocks.as_slice());
-        Trace { clocks }
+        let mut clocks = [ClockId::default(); TRACE_CAPACITY];
+        clocks[..self.count].copy_from_slice(self.as_slice());
+        Trace {
+            clocks,
+            count: self.count,
+        }
+    }
+}
+
+/// Writes the clocks that octets spell over these, of which there are as many.
+fn read_clocks(octets: &[u8], clocks: &mut [ClockId])
+    requires { length clocks.old ≡ length octets.now / 8 }
+    ensures { clocks.new ≡ map (λ k. big_number 8 (drop (8 * k) octets.now)) (range_with_len 0 (length octets.now / 8)) }
+{
+    for place in 0..clocks.len() {
+        clocks[place] = ClockId::from(BigEndian::read_u64(&octets[8 * place..]));
     }
 }

@@ -3,12 +3,12 @@ use Rattle.gptp_messages.specs.Path.{clocks}
 use Rattle.gptp_messages.proofs.PathLemmas.{length-clocks, ends_before}
 use Rattle.gptp_messages.proofs.path.PathView.copy_to.Goals as goal
 
-pub append_clocks-requires : goal.append_clocks-requires
-append_clocks-requires c =
+pub read_clocks-requires : goal.read_clocks-requires
+read_clocks-requires c =
     let octets = c.self.inside.octets.now in
     let room : length (clocks octets)
     ≤ 256 = ends_before (clocks octets) 256 (sym c.clock_of.ensures ∙ c.in_default.is) in
-    rw c.clear.ensures (omega (arith, length-clocks octets))
+    omega (arith, length-clocks octets)
 
 pub returns-clause-room : goal.returns-clause-room
 returns-clause-room c =
