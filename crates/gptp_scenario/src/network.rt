@@ -97,8 +97,8 @@ impl Network {
 
     /// Adds a system with that identity and so many ports, 0 to 16, whose local clock is that phase ahead at time 0, 0
     /// to 10^18 ns, and runs faster by that drift, -219,902,325 to 219,902,325 in units of 2^-41. It goes on with the
-    /// time that it read where it becomes grandmaster, or doesn't. Its ports announce at these intervals, one for each in
-    /// their order, as logarithms to base 2 of seconds, -4 to 4.
+    /// time that it read where it becomes grandmaster, or doesn't. Its ports announce at these intervals, one for each
+    /// in their order, as logarithms to base 2 of seconds, -4 to 4.
     ///
     /// Refused, in this order, with `TooMany` where there are 512 systems, `OutOfRange` also where the intervals aren't
     /// as many as the ports, `Timing` where the interval of requests is above one of them, `DuplicateClock` where
@@ -217,8 +217,8 @@ impl Network {
         }
     }
 
-    /// Whether the system at a place, from 0, goes on with the time that it read where it becomes grandmaster, as it was
-    /// given.
+    /// Whether the system at a place, from 0, goes on with the time that it read where it becomes grandmaster, as it
+    /// was given.
     pub fn continues_at(&self, place: usize) -> Option<bool>
         ensures { result ≡ option_map (λ m. m.continues) (slice_get self.now.systems place) }
     {

@@ -161,16 +161,16 @@ impl System {
         self.state.offset
     }
 
-    /// What it reads of the root's time by the Follow_Up that it used last, where an offset is known. It is read so from
-    /// that Follow_Up on until the next one is used.
+    /// What it reads of the root's time by the Follow_Up that it used last, where an offset is known. It is read so
+    /// from that Follow_Up on until the next one is used.
     pub fn held_reading(&self) -> Option<Reading>
         ensures { result ≡ held_reading self.now }
     {
         self.state.held_reading()
     }
 
-    /// What it reads time by: the Follow_Up that it used last, whatever became of its root since, or its own clock where
-    /// it took over. None from each start to the first of both.
+    /// What it reads time by: the Follow_Up that it used last, whatever became of its root since, or its own clock
+    /// where it took over. None from each start to the first of both.
     pub fn reads(&self) -> Option<TimeRead>
         ensures { result ≡ self.now.reads }
     {

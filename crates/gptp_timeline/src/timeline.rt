@@ -514,9 +514,9 @@ fn summary_with(times: bool) -> TimelineOptions
     }
 }
 
-/// Lets the world of a document run up to a time, at most 10^15 ns, and answers how the last stretches between the times
-/// of events ended, three where there are so many: also what systems read in them, where that is asked, of which some are
-/// set aside. Nothing is written, and how exact systems are isn't asked. Refused for want of memory alone.
+/// Lets the world of a document run up to a time, at most 10^15 ns, and answers how the last stretches between the
+/// times of events ended, three where there are so many: also what systems read in them, where that is asked, of which
+/// some are set aside. Nothing is written, and how exact systems are isn't asked. Refused for want of memory alone.
 pub fn last_stretches<F: Fate + Drop>(
     alloc: Global,
     document: &Document,

@@ -50,8 +50,8 @@ fn put_item(
     let _ = queue.put(kind, place, time).unwrap();
 }
 
-/// Makes one more place for arrivals, at which nothing is due, behind those of so many timers. There is room to keep all
-/// places of arrivals then.
+/// Makes one more place for arrivals, at which nothing is due, behind those of so many timers. There is room to keep
+/// all places of arrivals then.
 fn make_place(
     queue: &mut Queue,
     items: &mut Vec<Item>,

@@ -257,8 +257,8 @@ impl<F: Fate + Drop> World<F> {
         self.world_core.local(clock, t)
     }
 
-    /// By how much the time that a system tells, live or not, is ahead of its clock, in 2^-16 ns; `None` where there is no
-    /// such system. A system that has failed keeps it until it starts again.
+    /// By how much the time that a system tells, live or not, is ahead of its clock, in 2^-16 ns; `None` where there is
+    /// no such system. A system that has failed keeps it until it starts again.
     pub fn base(&self, clock: ClockId) -> Option<ScaledNs>
         ensures some { IfSome result (λ base. AtSystem clock self.now.world_core (HasBase base)) }
         ensures none { IfNone result ((base : ℤ) → AtSystem clock self.now.world_core (HasBase base) → ⊥) }
