@@ -89,12 +89,12 @@ fn output_of<P: Sink>(
 /// Reads a document, lets each link in use and each live system fail and come back, and writes what becomes of its
 /// network, the worst case first. A line is written to `progress` before each case, where that is asked for.
 ///
-/// Where the network without what fails in a case is calm, and the case stays down as long as that network takes at most
-/// to settle, its `follow` lines are those of the settled choice of the network without it.
+/// Where the network without what fails in a case is calm, and the case stays down as long as that network takes at
+/// most to settle, its `follow` lines are those of the settled choice of the network without it.
 ///
 /// A document that is refused, also with the two events of some run, is the one line `refused` with the number and name
-/// of [`gptp_network::DocumentFault`]. Of an input of more than 33,554,432 octets no more than one further octet is read,
-/// and it is `refused 11 TooMany`. The whole text is held before its first octet is written.
+/// of [`gptp_network::DocumentFault`]. Of an input of more than 33,554,432 octets no more than one further octet is
+/// read, and it is `refused 11 TooMany`. The whole text is held before its first octet is written.
 ///
 /// The answer is [`Status::Refused`] where the document was refused, or where a limit is given that the worst of all
 /// exceeds. Errors: [`SimError::Read`] exactly where a read failed, with nothing written; [`SimError::Memory`] with

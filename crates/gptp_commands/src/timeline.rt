@@ -73,9 +73,9 @@ impl DocumentCommand for TimelineOrder {
 /// became of it.
 ///
 /// The acts are those of [`run`](crate::run::run) to the same end, and the last line of each system and port tells what
-/// it shows there. Where the network is calm where a stretch begins, it settles within the span; where it lasts as long,
-/// each near system follows the best of its component where it ends. Once what systems use has come down the settled
-/// tree after that, no error of a receipt is above the bound of its `accuracy` line.
+/// it shows there. Where the network is calm where a stretch begins, it settles within the span; where it lasts as
+/// long, each near system follows the best of its component where it ends. Once what systems use has come down the
+/// settled tree after that, no error of a receipt is above the bound of its `accuracy` line.
 ///
 /// A document that is refused is the one line `refused` with the number and name of [`gptp_network::DocumentFault`]. Of
 /// an input of more than 33,554,432 octets no more than one further octet is read, and it is `refused 11 TooMany`. The

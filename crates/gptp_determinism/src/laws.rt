@@ -24,9 +24,9 @@ pub fn steps_have_one_outcome()
 {}
 
 /// Whether a system goes on with the time that it read (`continues`) touches time alone. Two systems that start with
-/// setups that differ in it are the same but for the time that they read and tell, and a step with one input leaves them
-/// so: they send and answer the same but for the origin and the correction of Follow_Ups, and their timers run out at the
-/// same times. That is for steps in which the numbers on the way of time fit in both systems or in neither.
+/// setups that differ in it are the same but for the time that they read and tell, and a step with one input leaves
+/// them so: they send and answer the same but for the origin and the correction of Follow_Ups, and their timers run out
+/// at the same times. That is for steps in which the numbers on the way of time fit in both systems or in neither.
 pub fn continues_touches_time_alone()
     ensures starts { StartsBesideTime }
     ensures steps { StepsBesideTime }

@@ -8,8 +8,8 @@
 //! answer in one way, as generators and lists do. So the lines of a run that stopped before its end are the first of
 //! all its lines (`specs/SoFar.antt`).
 //!
-//! What a step makes of a system, and what happens in a world, doesn't depend on whether systems go on with the time that
-//! they read, but for that time itself (`specs/ContinuesLaws.antt`, `specs/WorldsBesideLaws.antt`).
+//! What a step makes of a system, and what happens in a world, doesn't depend on whether systems go on with the time
+//! that they read, but for that time itself (`specs/ContinuesLaws.antt`, `specs/WorldsBesideLaws.antt`).
 //!
 //! That there is an answer is said too (`specs/ExistenceLaws.antt`), of systems and worlds that have what every call
 //! keeps (`specs/GoingOn.antt`), and for fates that answer all that they are asked: each frame is judged, each step is

@@ -189,9 +189,9 @@ fn table_of<P: Sink>(
 }
 
 /// Lets each link in use and each live system of a document fail at several moments and come back, as far as they are
-/// asked for and belong to the part that is, and answers what becomes of the network: for each case the worst of its runs,
-/// the worst case first. Where that is asked for, a line `case K of N` is written to `progress` before each case, of
-/// those that belong to the part the Kth of N.
+/// asked for and belong to the part that is, and answers what becomes of the network: for each case the worst of its
+/// runs, the worst case first. Where that is asked for, a line `case K of N` is written to `progress` before each case,
+/// of those that belong to the part the Kth of N.
 ///
 /// Errors: [`Cut::Write`] exactly where a write to `progress` failed, after which nothing more happens; [`Cut::Memory`]
 /// as the timeline of a document has it.

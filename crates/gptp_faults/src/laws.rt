@@ -3,9 +3,9 @@
 ghost use Rattle.gptp_faults.specs.EveryLaws.{EachHasFaults};
 ghost use Rattle.gptp_faults.specs.Laws.{FollowLinesSettle, LinesSettleWithin, NeverRefused, OneRefusal, OneTable};
 
-/// Where the network without what fails in a case is calm, and the case stays down for longer than is told of its choice
-/// then, as it does by default, its `follow` lines are those of the settled choice: so many near systems have this best
-/// in their component.
+/// Where the network without what fails in a case is calm, and the case stays down for longer than is told of its
+/// choice then, as it does by default, its `follow` lines are those of the settled choice: so many near systems have
+/// this best in their component.
 pub fn follow_lines_settle()
     ensures { FollowLinesSettle }
 {}

@@ -1,8 +1,9 @@
 //! What becomes of the network of a document where a link or a system fails and comes back (profile).
 //!
-//! [`fail_each`] lets each link in use go down and each live system hang or lose its power, at several moments, and come
-//! back once the network has settled, and tells of each the worst of its runs: `specs/Faults.antt` says what, by what the timelines of these runs
-//! say (`specs/LastStretches.antt` of gptp_timeline). One run after the other is made, in one world at a time.
+//! [`fail_each`] lets each link in use go down and each live system hang or lose its power, at several moments, and
+//! come back once the network has settled, and tells of each the worst of its runs: `specs/Faults.antt` says what, by
+//! what the timelines of these runs say (`specs/LastStretches.antt` of gptp_timeline). One run after the other is made,
+//! in one world at a time.
 #![tactic(auto)]
 
 mod astray;

@@ -32,8 +32,8 @@ pub(crate) fn amount_or_0(amount: Option<u128>) -> u128
     }
 }
 
-/// What cases are compared by, the weightiest first: astray, holdover in whole ms, choice and cut, of each the greater of
-/// down and back.
+/// What cases are compared by, the weightiest first: astray, holdover in whole ms, choice and cut, of each the greater
+/// of down and back.
 fn weight_of(outcome: &Outcome) -> [u128; 6]
     ensures { result ≡ weight (worst_of outcome.now) }
 {

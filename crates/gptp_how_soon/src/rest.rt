@@ -50,8 +50,8 @@ fn are_recoveries_followed(longest: u64, last: u64, at: u64, told: &[Told]) -> b
     is_later(last, longest, at) && !any_lowers_unused(told)
 }
 
-/// Whether a choice that stood so much later than a time, in ns, would have stood by another where a link is wider by so
-/// much, and a way goes over these paths.
+/// Whether a choice that stood so much later than a time, in ns, would have stood by another where a link is wider by
+/// so much, and a way goes over these paths.
 fn stood_by(
     last: u64,
     choice: u64,

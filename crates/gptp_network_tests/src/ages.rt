@@ -68,9 +68,9 @@ fn second_age<F: Fate + Drop>(world: &World<F>) -> Option<u64>
     Some((SETTLED + LAPSE_SPAN).saturating_sub(due))
 }
 
-/// How long ago the Lapse timer of the second was started 27 s after both began, whatever is drawn for frames: no longer
-/// than it waits for the next Sync, a sync interval, a residence and the delay of the link. Each Follow_Up that it uses
-/// starts the timer. Refused for want of memory alone.
+/// How long ago the Lapse timer of the second was started 27 s after both began, whatever is drawn for frames: no
+/// longer than it waits for the next Sync, a sync interval, a residence and the delay of the link. Each Follow_Up that
+/// it uses starts the timer. Refused for want of memory alone.
 pub fn age_in_time<F: Fate + Drop>(alloc: Global, fate: F) -> Result<Option<u64>, NetworkFault>
     ensures { IfOk result (λ age. IfSome age (λ a. a ≤ 125001500)) }
 {

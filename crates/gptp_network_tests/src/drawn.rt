@@ -388,8 +388,8 @@ fn second_offset<F: Fate + Drop>(world: &World<F>, done: &Done) -> Option<Scaled
     }
 }
 
-/// The next act is done. The offset that it leaves the second, where that used a Follow_Up: in units of 2^-16 ns, and no
-/// more than rounding, as both clocks show the same.
+/// The next act is done. The offset that it leaves the second, where that used a Follow_Up: in units of 2^-16 ns, and
+/// no more than rounding, as both clocks show the same.
 #[tactic(auto, using(crate::proofs::ExactLemmas::second_is_exact))]
 fn receive<F: Fate + Drop>(world: &mut World<F>) -> Result<Option<ScaledNs>, NetworkFault>
     requires { IsPairSince 27000000000 world.old.world_core }

@@ -11,14 +11,14 @@ pub fn worlds_are_recent()
 {}
 
 /// In every run of a document that has a syncReceiptTimeout time comes, once its network has settled: each near system
-/// that has a Slave port, and a root that may be grandmaster, used a Follow_Up no longer ago than a settled system waits
-/// for a Sync.
+/// that has a Slave port, and a root that may be grandmaster, used a Follow_Up no longer ago than a settled system
+/// waits for a Sync.
 pub fn runs_hear_in_time<F: Fate>()
     ensures { RunsHearInTime F.answers }
 {}
 
-/// Once a Sync has had the time to come down the way of such a system, and that wait is over, it reads within its reading
-/// error for the wait of what the best tells.
+/// Once a Sync has had the time to come down the way of such a system, and that wait is over, it reads within its
+/// reading error for the wait of what the best tells.
 pub fn runs_read_lately<F: Fate>()
     ensures { RunsReadLately F.answers }
 {}

@@ -1,5 +1,5 @@
-//! What the tests of several crates begin with: identities, ports, traces, one frame of each message, octet by octet, and
-//! documents.
+//! What the tests of several crates begin with: identities, ports, traces, one frame of each message, octet by octet,
+//! and documents.
 #![tactic(auto)]
 
 mod announces;

@@ -4,9 +4,9 @@ ghost use Rattle.gptp_settling_time.specs.Unchanged.{ActsLeaveShown};
 
 use gptp_links::Fate;
 
-/// No act of a run leaves a system another once its document has settled, whatever is drawn for the frames: neither as to
-/// whether it lives, its root, its steps and its Slave port, nor as to role and capability of a port. That is so where
-/// every live system is near.
+/// No act of a run leaves a system another once its document has settled, whatever is drawn for the frames: neither as
+/// to whether it lives, its root, its steps and its Slave port, nor as to role and capability of a port. That is so
+/// where every live system is near.
 pub fn acts_leave_shown<F: Fate>()
     ensures { ActsLeaveShown F.answers }
 {}

@@ -28,7 +28,8 @@ pub fn holds_what_qualified()
 {}
 
 /// No step changes the parameters, the local clock, whether the system goes on with the time that it read, the
-/// clockIdentity, how many ports there are or their announce intervals; none but a change of priority1 changes the identity.
+/// clockIdentity, how many ports there are or their announce intervals; none but a change of priority1 changes the
+/// identity.
 pub fn keeps_its_setup()
     ensures keeps { KeepsLaw }
     ensures identity { IdentityLaw }
@@ -90,9 +91,9 @@ pub fn counts_what_it_sends()
     ensures { CountersLaw }
 {}
 
-/// Every step leaves what the system reads time by and its base, but for a receipt at its Slave port, and for the expiry
-/// of its Sync timer: then one that leads takes over, where it didn't yet. As long as it has no Slave port it goes on to
-/// tell the same then.
+/// Every step leaves what the system reads time by and its base, but for a receipt at its Slave port, and for the
+/// expiry of its Sync timer: then one that leads takes over, where it didn't yet. As long as it has no Slave port it
+/// goes on to tell the same then.
 pub fn goes_on_with_time()
     ensures kept { TimeKeptLaw }
     ensures tells { GoesOnLaw }

@@ -5,8 +5,8 @@
 //! another of what its systems show; then, where a stretch between the times of events ends, how long the choice took
 //! to stand, how long a system went without time, and how far the time that came was off. `specs/Timeline.antt` says
 //! what is written, over the acts of the run (`Courses` of gptp_report). [`last_stretches`] lets it run so and answers
-//! how the last stretches ended, by `specs/LastStretches.antt`, and writes nothing; it can set systems aside, whose time
-//! isn't looked at (`specs/Aside.antt`).
+//! how the last stretches ended, by `specs/LastStretches.antt`, and writes nothing; it can set systems aside, whose
+//! time isn't looked at (`specs/Aside.antt`).
 #![tactic(auto)]
 
 mod all_readings;

@@ -5,8 +5,8 @@ ghost use Rattle.gptp_timeline_laws.specs.Age.{TimelinesHearAgainInTime, Timelin
 
 use gptp_links::Fate;
 
-/// Where a network has a syncReceiptTimeout time keeps coming in a stretch that begins where it is calm, once the span is
-/// over: each near system that isn't the best of its component received time no longer ago than it waits for a Sync,
+/// Where a network has a syncReceiptTimeout time keeps coming in a stretch that begins where it is calm, once the span
+/// is over: each near system that isn't the best of its component received time no longer ago than it waits for a Sync,
 /// where the best can be grandmaster.
 pub fn timelines_hear_in_time<F: Fate>()
     ensures { TimelinesHearInTime F.answers }

@@ -4,8 +4,8 @@
 //! laws of this crate say what follows of all moments between. `specs/Looks.antt` says why such looks suffice.
 //! `specs/Moments.antt` is what the `times` line of a stretch says of each of its moments, and `specs/Exact.antt` what
 //! `accuracy` lines say of what is read from a receipt on. `specs/Sources.antt` says from when on sources stand, and
-//! that they are roots. `specs/Age.antt` says how old what is read may be. `specs/Apart.antt` says how far apart systems
-//! do read. `specs/Right.antt` has all of it at once.
+//! that they are roots. `specs/Age.antt` says how old what is read may be. `specs/Apart.antt` says how far apart
+//! systems do read. `specs/Right.antt` has all of it at once.
 //!
 //! `specs/Soon.antt` says by when a stretch has settled, as it is computed for the document, and `specs/ExactSoon.antt`
 //! from when on what is received and read is exact.
