@@ -9,8 +9,8 @@ use slab::Slab;
 use std::alloc::{AllocError, Global};
 use std::marker::Model;
 
-/// Queues, each at a place, from 0. They are seen as the list of them, each a list of values in order of putting, and how
-/// many more values can be put.
+/// Queues, each at a place, from 0. They are seen as the list of them, each a list of values in order of putting, and
+/// how many more values can be put.
 #[derive(Drop)]
 pub struct Queues<T> {
     // The values of all queues.

@@ -5,14 +5,14 @@ ghost use Rattle.gptp_settling_time.specs.InTurn.{ActsFindSettledInTurn};
 use gptp_links::Fate;
 
 /// Each event of a document leads from what its network came from to the next: any past, a gain from a start or from
-/// rest, or one after which all that is told is heard. By the last of them the world after each act of a run is settled,
-/// once the document has had the time for it: from any past the span; else its ports become capable, perhaps an announce
-/// interval passes, and then the greatest delay for each system of a path but one. So no announce interval has to pass
-/// after a link has come up between live systems of a network that had settled, where its greatest delay is below twice
-/// its least: what was held and in flight elsewhere is sound and stays at its stage, and the first Announce over the new
-/// link comes to a port that is capable already. Nor has one after a better priority1, which its system tells at once.
-/// And an event that changes nothing asks for no time in a network that had settled, whatever it came from; nor does a
-/// priority1 by which no system is moved.
+/// rest, or one after which all that is told is heard. By the last of them the world after each act of a run is
+/// settled, once the document has had the time for it: from any past the span; else its ports become capable, perhaps
+/// an announce interval passes, and then the greatest delay for each system of a path but one. So no announce interval
+/// has to pass after a link has come up between live systems of a network that had settled, where its greatest delay is
+/// below twice its least: what was held and in flight elsewhere is sound and stays at its stage, and the first Announce
+/// over the new link comes to a port that is capable already. Nor has one after a better priority1, which its system
+/// tells at once. And an event that changes nothing asks for no time in a network that had settled, whatever it came
+/// from; nor does a priority1 by which no system is moved.
 pub fn documents_settle_in_turn<F: Fate>()
     ensures { ActsFindSettledInTurn F.answers }
 {}

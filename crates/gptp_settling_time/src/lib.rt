@@ -13,8 +13,8 @@
 //! (`specs/Starts.antt`), and event by event after links come up and a priority1 gets better. An event that changes
 //! nothing asks for no time (`specs/InTurn.antt`), nor does a priority1 by which no system is moved
 //! (`specs/Losses.antt`). Once a document has settled no act leaves a system another (`specs/Unchanged.antt`), and
-//! offsets are exact as soon as a Sync has come down a way (`specs/ExactInTurn.antt`). So the choice stands by the bound
-//! that `specs/HowSoon.antt` has for each time of a document (`specs/ChoiceBounds.antt`).
+//! offsets are exact as soon as a Sync has come down a way (`specs/ExactInTurn.antt`). So the choice stands by the
+//! bound that `specs/HowSoon.antt` has for each time of a document (`specs/ChoiceBounds.antt`).
 //!
 //! Each function of this crate is a law: it does nothing, and its contract is a theorem about the definitions.
 #![tactic(auto)]
