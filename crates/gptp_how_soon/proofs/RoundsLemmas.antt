@@ -1,9 +1,13 @@
 -- After so many rounds each system has the best that so few links lead to.
-use Rattle.std.proofs.Common.{◌≡◌, ◌⊎◌, ◌<◌, ◌≤◌, ◌+◌, ◌-◌, ◌++◌, ◌==◌, ◌&&◌, ℕ, zero, suc, Bool, true, false, List, [], ◌∷◌, drop, map, nat_lt, Option, Some, None, slice_get, slice_set, refl, sym, ap, ap₂, subst, ◌∙◌, inl, inr, arith}
+use Rattle.std.proofs.Common.{◌≡◌, ◌⊎◌, ◌<◌, ◌≤◌, ◌+◌, ◌-◌, ◌++◌, ◌==◌, ◌&&◌, ℕ, zero, suc, Bool, true, false, List, [], ◌∷◌, append_assoc, drop, get_or, length, map, nat_lt, Option, Some, None, slice_get, slice_set, refl, sym, ap, ap₂, subst, ◌∙◌, inl, inr, arith}
 use native.Mathlib.Decide.{dec_lt}
+use Rattle.std.specs.Bool.{Decides}
+use Rattle.std.specs.Cmp.Lexicographic.{pointwise}
 use Rattle.std.specs.List.{AllByRecursion}
 use Rattle.std.proofs.lemmas.Bool.{and_parts, eq-eqb, eqb-true, or_cases, or_parts}
 use Rattle.std.proofs.lemmas.Bool.Decides.{nat_tests}
+use Rattle.std.proofs.lemmas.Option.{slice_get-get_or}
+use Rattle.std.proofs.lemmas.Slice.Eq.{slice_eq-Decides}
 use Rattle.gptp_lists.specs.Members.{In}
 use Rattle.gptp_lists.proofs.MappedLemmas.{same_there, some_same}
 use Rattle.gptp_lists.proofs.PlaceLemmas.{get-set_other, get-set_same, same_place}
@@ -338,6 +342,20 @@ settles links (suc count) cs inside =
 
 -- ---- one round after another
 
+-- choices that are equal one by one are the same
+one_choice : (a b : Chosen) → Decides ((a.root == b.root) && (a.steps == b.steps)) (a ≡ b)
+one_choice a b = (
+  λ is.
+      let (root, steps) = and_parts (a.root == b.root) (a.steps == b.steps) is in
+      λ i. record { root = eqb-true a.root b.root root i; steps = eqb-true a.steps b.steps steps i },
+  λ same. ap₂ (λ x y. x && y) (eq-eqb a.root b.root (ap (λ (c : Chosen). c.root) same))
+      (eq-eqb a.steps b.steps (ap (λ (c : Chosen). c.steps) same)),
+)
+
+pub same_choices : (cs ds : List Chosen) (equal : Bool)
+    → equal ≡ pointwise (λ (a b : Chosen). (a.root == b.root) && (a.steps == b.steps)) cs ds → equal ≡ true → cs ≡ ds
+same_choices cs ds equal is = (slice_eq-Decides one_choice cs ds equal is).0
+
 -- where a round changes nothing, no more of them do
 pub stays_still : (links : List Ends) (count : ℕ) (cs : List Chosen) → round links cs ≡ cs → rounds links count cs ≡ cs
 stays_still links zero cs same = refl
@@ -410,7 +428,7 @@ gone_at (u ∷ us) (suc i) is =
     (here, ap (λ k. drop k (u ∷ us)) step ∙ behind)
 
 -- one link more is looked at
-pub used_more : (es : List Ends) (us : List Bool) (place : ℕ) (e : Ends) → slice_get es place ≡ Some e
+used_more : (es : List Ends) (us : List Bool) (place : ℕ) (e : Ends) → slice_get es place ≡ Some e
     → used_one e (is_used_at us place) ++ ends_in_use (drop (place + 1) es) (drop (place + 1) us)
     ≡ ends_in_use (drop place es) (drop place us)
 used_more es us place e there = by (slice_get us place) refl
@@ -423,3 +441,17 @@ used_more es us place e there = by (slice_get us place) refl
         let (here, behind) = gone_at us place is in
         ap (ends_in_use (drop (place + 1) es)) behind
         ∙ sym (ap₂ ends_in_use (drop_at es place e there) here)
+
+-- so they are with those before
+pub used_so_far : (es : List Ends) (us : List Bool) (place : ℕ) (d : Ends) (used : Bool) (links after all : List Ends)
+    → place < length es → used ≡ is_used_at us place → after ≡ links ++ used_one (get_or es place d) used
+    → links ++ ends_in_use (drop place es) (drop place us) ≡ all
+    → after ++ ends_in_use (drop (place + 1) es) (drop (place + 1) us) ≡ all
+used_so_far es us place d used links after all less is pushed so =
+    let e = get_or es place d in
+    let rest = ends_in_use (drop (place + 1) es) (drop (place + 1) us) in
+    ap (λ ls. ls ++ rest) pushed
+    ∙ ap (λ u. (links ++ used_one e u) ++ rest) is
+    ∙ append_assoc links (used_one e (is_used_at us place)) rest
+    ∙ ap (λ ls. links ++ ls) (used_more es us place e (slice_get-get_or es place d less))
+    ∙ so

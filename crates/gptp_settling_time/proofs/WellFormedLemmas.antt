@@ -1,5 +1,5 @@
 -- The network of a document that can be played is well formed after any of its events.
-use Rattle.std.proofs.Common.{◌<◌, ◌^◌, ℕ, List, [], ◌∷◌, sym, subst, inl, inr}
+use Rattle.std.proofs.Common.{◌<◌, ◌^◌, ℕ, true, List, [], ◌∷◌, refl, sym, subst, inl, inr}
 use Rattle.gptp_graph.specs.Snapshot.{IsWellFormed, Snapshot, System}
 use Rattle.gptp_invariants.specs.WorldEncodableLaws.{SetsAnOctet}
 use Rattle.gptp_lists.specs.Members.{In}

@@ -3,7 +3,7 @@ use Rattle.std.proofs.Common.{rules, ◌≡◌, ◌<◌, ◌+◌, ◌-◌, lengt
 use Rattle.std.specs.List.{AllByRecursion}
 use Rattle.gptp_how_soon.specs.Chosen.{round, rounds}
 use Rattle.gptp_how_soon.specs.declared.chosen.Chosen.{Chosen}
-use Rattle.gptp_how_soon.proofs.RoundsLemmas.{AreWithin, none_away, one_round, stays_still, steps_fit, steps_more}
+use Rattle.gptp_how_soon.proofs.RoundsLemmas.{AreWithin, none_away, one_round, same_choices, stays_still, steps_fit, steps_more}
 use Rattle.gptp_how_soon.proofs.chosen.choose.Goals as goal
 
 pub loop-turn-init : goal.loop-turn-init
@@ -39,7 +39,9 @@ pub returns-then-eq : goal.returns-then-eq
 returns-then-eq c =
     let links = c.args.links.now in
     let items = c.loop-turn.chosen.items in
-    let same : c.in_ok-next.next.items ≡ items = search rules in
+    let slices = same_choices c.as_slice.result.now c.as_slice-in-loop-turn.result.now c.eq.result c.eq.ensures
+    c.if-eq.true in
+    let same : c.in_ok-next.next.items ≡ items = search (rules, slices) in
     let next : c.in_ok-next.next.items ≡ round links items =
     c.in_ok-next.ensures ∙ ap (round links) c.deref.ensures.value in
     sym (stays_still links (length c.args.systems.now - c.loop-turn.turn) items (sym next ∙ same))
