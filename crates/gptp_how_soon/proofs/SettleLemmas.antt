@@ -10,11 +10,11 @@ use Rattle.gptp_topology.specs.declared.course.Standing.{Standing}
 use Rattle.gptp_how_soon.specs.Bounds.{heard_by, ready, times_by, way_span}
 use Rattle.gptp_how_soon.specs.Kinds.{begins_wider, is_loss, makes_nothing, sets_link}
 use Rattle.gptp_how_soon.specs.Links.{new_among}
-use Rattle.gptp_how_soon.specs.Rest.{are_losses_followed, heard_at_once, is_from_rest, row_of}
+use Rattle.gptp_how_soon.specs.Rest.{are_losses_followed, asks_who_is_moved, heard_at_once, is_from_rest, is_lowering_followed, row_of}
 use Rattle.gptp_how_soon.specs.Times.{settling_time}
 use Rattle.gptp_how_soon.specs.Walk.{moves_seen, view_seen}
 use Rattle.gptp_how_soon.specs.declared.bounds.Row.{Row}
-use Rattle.gptp_how_soon.specs.declared.bounds.Row.TheVariants.{AnyPast, Gained, Unchanged}
+use Rattle.gptp_how_soon.specs.declared.bounds.Row.TheVariants.{AnyPast, Gained, Lowered, Unchanged}
 use Rattle.gptp_how_soon.specs.declared.bounds.SettlingTime.{SettlingTime}
 use Rattle.gptp_how_soon.specs.declared.kinds.Told.{Told}
 use Rattle.gptp_how_soon.specs.declared.walk.Walk.{Walk}
@@ -24,29 +24,33 @@ turned a true is = rw is refl
 turned a false is = rw is refl
 
 -- whether a system is moved counts where it is asked
-same_row : (from_rest first : Bool) (paths : SyncPaths) (told : List Told) (moved : Bool)
-    → row_of from_rest first paths told ((from_rest && are_losses_followed paths told) && moved)
-    ≡ row_of from_rest first paths told moved
-same_row from_rest first paths told moved =
-    by from_rest (list_all makes_nothing told || begins_wider told) (are_losses_followed paths told)
+same_row : (from_rest first : Bool) (before paths : SyncPaths) (told : List Told) (moved : Bool)
+    → row_of from_rest first before paths told (asks_who_is_moved from_rest before paths told && moved)
+    ≡ row_of from_rest first before paths told moved
+same_row from_rest first before paths told moved =
+    by from_rest (list_all makes_nothing told || begins_wider told) (are_losses_followed before told)
+    (is_lowering_followed before paths told)
   where
-    by : (rest idle followed : Bool)
+    by : (rest idle followed lowering : Bool)
         → (if not rest then AnyPast else if first then Gained else if idle then Unchanged
-        else if followed && not ((rest && followed) && moved) then Unchanged
+        else if followed && not ((rest && (followed || lowering)) && moved) then Unchanged
+        else if lowering && not ((rest && (followed || lowering)) && moved) then Lowered
         else if list_any is_loss told then AnyPast else Gained)
         ≡ (if not rest then AnyPast else if first then Gained else if idle then Unchanged
         else if followed && not moved then Unchanged
+        else if lowering && not moved then Lowered
         else if list_any is_loss told then AnyPast else Gained)
-    by false idle followed = refl
-    by true idle true = refl
-    by true idle false = refl
+    by false idle followed lowering = refl
+    by true idle true lowering = refl
+    by true idle false true = refl
+    by true idle false false = refl
 
 pub settled_so : (n : NetworkState) (w : Walk) (at : ℕ) (first followed from_rest calm sets moved : Bool)
     (paths : SyncPaths) (told : List Told) (standings : List Standing) (used : List Bool) (new : List Cable)
     (soon heard way : ℕ) (row : Row) (time : SettlingTime)
     → time ≡ times_by n at w.last_set paths calm sets row (soon + heard + way)
-    → row ≡ row_of from_rest first w.paths_before told moved
-    → moved ≡ ((from_rest && are_losses_followed w.paths_before told) && moves_seen w)
+    → row ≡ row_of from_rest first w.paths_before paths told moved
+    → moved ≡ (asks_who_is_moved from_rest w.paths_before paths told && moves_seen w)
     → from_rest ≡ is_from_rest w.longest at w.paths_before paths told w.before
     → way ≡ way_span paths
     → heard ≡ heard_by n followed told new
@@ -63,7 +67,7 @@ pub settled_so : (n : NetworkState) (w : Walk) (at : ℕ) (first followed from_r
     → time ≡ settling_time n (view_seen n w at)
 settled_so n w at first followed from_rest calm sets moved paths told standings used new soon heard way row time e0 e1
     e2 e3 e4 e5 e6 e7 e8 e9 e10 e11 e12 e13 e14 e15 =
-    let row_is : row ≡ row_of from_rest first w.paths_before told (moves_seen w) =
-    e1 ∙ ap (row_of from_rest first w.paths_before told) e2
-    ∙ same_row from_rest first w.paths_before told (moves_seen w) in
+    let row_is : row ≡ row_of from_rest first w.paths_before paths told (moves_seen w) =
+    e1 ∙ ap (row_of from_rest first w.paths_before paths told) e2
+    ∙ same_row from_rest first w.paths_before paths told (moves_seen w) in
     rw (e0, row_is, e3, e4, e5, e6, e7, e8, e9, e10, e11, e12, e13, e14, e15) refl

@@ -1,25 +1,46 @@
 -- A time is watched for longer than its choice.
-use Rattle.std.proofs.Common.{◌≡◌, ◌<◌, ℕ, Bool, true, false, List, [], ◌∷◌, Option, Some, sym, subst, inl, inr, arith}
+use Rattle.std.proofs.Common.{◌≡◌, ◌<◌, ◌≤◌, ℕ, Bool, true, false, cond, List, [], ◌∷◌, Option, Some, sym, subst, inl, inr, arith}
+use Rattle.std.specs.Prelude.{◌==◌, not}
 use Rattle.std.proofs.lemmas.Option.{same_Some}
 use Rattle.gptp_lists.specs.Members.{In}
 use Rattle.gptp_network.specs.Document.{DocumentState}
-use Rattle.gptp_scenario.specs.Network.{NetworkState}
+use Rattle.gptp_scenario.specs.Network.{NetworkState, pace_of}
+use Rattle.gptp_scenario.specs.SettlingAtOnce.{settling_span_at_once}
+use Rattle.gptp_scenario.specs.SettlingTime.{settling_span_with}
 use Rattle.gptp_scenario.specs.declared.sync_wait.SyncPaths.{SyncPaths}
-use Rattle.gptp_how_soon.specs.Bounds.{choice_by, settled, settling_by, watch}
+use Rattle.gptp_how_soon.specs.Bounds.{choice_by, settled, settling_by, sound_row, watch}
 use Rattle.gptp_how_soon.specs.Kinds.{sets_link}
 use Rattle.gptp_how_soon.specs.Times.{View, events_at, events_before, gained_at, row_at, settling_times, settling_times_from, time_at, view_at}
 use Rattle.gptp_how_soon.specs.declared.bounds.Row.{Row}
+use Rattle.gptp_how_soon.specs.declared.bounds.Row.TheVariants.{AnyPast, Gained, Lowered, Unchanged}
 use Rattle.gptp_how_soon.specs.declared.bounds.Settling.{Settling}
 use Rattle.gptp_how_soon.specs.declared.bounds.SettlingTime.{SettlingTime}
+
+-- the choice stands as soon as all that is held is sound
+sound_later : (n : NetworkState) (paths : SyncPaths) (row : Row) (gained : ℕ)
+    → choice_by n paths row gained ≤ choice_by n paths (sound_row row) gained
+sound_later n paths AnyPast gained = omega arith
+sound_later n paths Unchanged gained = omega arith
+sound_later n paths Gained gained = omega arith
+sound_later n paths Lowered gained = by (n.params.sync_timeout == 0)
+  where
+    span : ℕ
+    span = settling_span_with (pace_of n) paths paths.systems
+
+    by : (off : Bool) → cond (not off) span 0 ≤ cond (not off) span (settling_span_at_once (pace_of n) paths)
+    by true = omega arith
+    by false = omega arith
 
 watched_longer : (n : NetworkState) (at last_set : ℕ) (paths : SyncPaths) (calm sets : Bool) (row : Row) (gained : ℕ)
     (s : Settling) → settling_by n at last_set paths calm sets row gained ≡ Some s
     → s.choice < watch n at paths (settling_by n at last_set paths calm sets row gained)
 watched_longer n at last_set paths false sets row gained s is = absurd cc
 watched_longer n at last_set paths true sets row gained s is =
-    let told : Settling = settled n at last_set paths sets (choice_by n paths row gained) in
+    let sound = sound_later n paths row gained in
+    let told : Settling =
+    settled n at last_set paths sets (choice_by n paths row gained) (choice_by n paths (sound_row row) gained) in
     let same : told ≡ s = same_Some told s is in
-    subst (λ (x : Settling). x.choice < watch n at paths (Some told)) same (omega arith)
+    subst (λ (x : Settling). x.choice < watch n at paths (Some told)) same (omega (arith, sound))
 
 watched_longer_then : (d : DocumentState) (before : Option SettlingTime) (at : ℕ) (s : Settling)
     → (time_at d before at).settling ≡ Some s → s.choice < (time_at d before at).watch

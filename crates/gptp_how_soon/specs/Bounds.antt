@@ -12,7 +12,7 @@ use Rattle.gptp_topology.specs.declared.course.Cable.{Cable}
 use Rattle.gptp_how_soon.specs.Kinds.{recovers}
 use Rattle.gptp_how_soon.specs.Links.{varies}
 use Rattle.gptp_how_soon.specs.declared.bounds.Row.{Row}
-use Rattle.gptp_how_soon.specs.declared.bounds.Row.TheVariants.{AnyPast, Unchanged, Gained}
+use Rattle.gptp_how_soon.specs.declared.bounds.Row.TheVariants.{AnyPast, Unchanged, Lowered, Gained}
 use Rattle.gptp_how_soon.specs.declared.bounds.Settling.{Settling}
 use Rattle.gptp_how_soon.specs.declared.bounds.SettlingTime.{SettlingTime}
 use Rattle.gptp_how_soon.specs.declared.kinds.Told.{Told}
@@ -59,6 +59,7 @@ heard_by n followed told new =
 abbrev pub choice_of_row : NetworkState → SyncPaths → Row → ℕ → ℕ
 choice_of_row n paths AnyPast gained = settling_span_at_once (pace_of n) paths
 choice_of_row n paths Unchanged gained = 0
+choice_of_row n paths Lowered gained = 0
 choice_of_row n paths Gained gained = gained
 
 abbrev pub choice_by : NetworkState → SyncPaths → Row → ℕ → ℕ
@@ -66,13 +67,21 @@ choice_by n paths row gained =
     if not (n.params.sync_timeout == 0) then settling_span_with (pace_of n) paths paths.systems
     else choice_of_row n paths row gained
 
+-- All that is held is sound as soon as the choice stands. But after a link went down it may name that link, and then it
+-- is sound as soon as the choice stands from any past.
+abbrev pub sound_row : Row → Row
+sound_row AnyPast = AnyPast
+sound_row Unchanged = Unchanged
+sound_row Lowered = AnyPast
+sound_row Gained = Gained
+
 -- a port at a link whose bounds are set measures it anew
 abbrev pub set_span : Params → SyncPaths → Bool → ℕ
 set_span p paths sets = if sets then asked_again p paths else 0
 
--- rest: the choice stands, what was in flight is gone, and links are measured
+-- rest: all that is held is sound, what was in flight is gone, and links are measured
 abbrev pub rest_by : Params → SyncPaths → Bool → ℕ → ℕ
-rest_by p paths sets choice = max (choice + paths.delay) (set_span p paths sets)
+rest_by p paths sets sound = max (sound + paths.delay) (set_span p paths sets)
 
 -- A rate is measured over a whole window: it has one interval between two requests already. Then what a system uses
 -- comes down the settled tree: a threshold and a residence for each system of a path.
@@ -87,11 +96,12 @@ exact_from n at last_set paths sets choice =
     + exact_span n.params paths
 
 -- roles stand as soon as the choice does
-abbrev pub settled : NetworkState → ℕ → ℕ → SyncPaths → Bool → ℕ → Settling
-settled n at last_set paths sets choice = record {
+abbrev pub settled : NetworkState → ℕ → ℕ → SyncPaths → Bool → ℕ → ℕ → Settling
+settled n at last_set paths sets choice sound = record {
   choice = choice;
   roles = choice;
-  rest = rest_by n.params paths sets choice;
+  sound = sound;
+  rest = rest_by n.params paths sets sound;
   exact_from = exact_from n at last_set paths sets choice;
 }
 
@@ -107,7 +117,10 @@ watch n at paths settling = needed_watch n at paths settling + 8 * interval_of n
 -- what is told of a time
 abbrev pub settling_by : NetworkState → ℕ → ℕ → SyncPaths → Bool → Bool → Row → ℕ → Option Settling
 settling_by n at last_set paths calm sets row gained =
-    if calm then Some (settled n at last_set paths sets (choice_by n paths row gained)) else None
+    if calm
+    then Some (settled n at last_set paths sets (choice_by n paths row gained)
+    (choice_by n paths (sound_row row) gained))
+    else None
 
 abbrev pub times_by : NetworkState → ℕ → ℕ → SyncPaths → Bool → Bool → Row → ℕ → SettlingTime
 times_by n at last_set paths calm sets row gained = record {

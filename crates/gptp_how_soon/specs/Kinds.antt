@@ -149,6 +149,10 @@ is_recovery_of clock e = (e.clock == clock) && is_recovery e
 abbrev pub makes_nothing : Told → Bool
 makes_nothing e = is_idle e || is_unused e
 
+-- a link in use goes down
+abbrev pub is_lowering : Told → Bool
+is_lowering e = is_loss e && is_link_down e
+
 -- it makes nothing of what stands, or a live system worse
 abbrev pub leaves_links : Told → Bool
 leaves_links e = makes_nothing e || (is_loss e && is_priority1 e)
@@ -174,6 +178,12 @@ begins_wider (e ∷ es) = is_wider e && list_all is_idle es
 abbrev pub first_wider_by : List Told → ℕ
 first_wider_by [] = 0
 first_wider_by (e ∷ es) = wider_by e
+
+-- one event comes, by which a link in use goes down
+abbrev pub lowers_one : List Told → Bool
+lowers_one [] = false
+lowers_one (e ∷ []) = is_lowering e
+lowers_one (e ∷ f ∷ es) = false
 
 -- the system with this clock recovers
 abbrev pub recovers : List Told → ℕ → Bool

@@ -2,13 +2,13 @@
 --
 -- Each word that ends in `followed` says where this is proved, and no more: elsewhere the network may come from any
 -- past.
-use Rattle.std.specs.Prelude.{ℕ, ◌+◌, ◌*◌, ◌&&◌, ◌||◌, nat_le, nat_lt, not, Bool, false, if◌then◌else◌, List, Option, Some, None}
+use Rattle.std.specs.Prelude.{ℕ, ◌+◌, ◌*◌, ◌==◌, ◌&&◌, ◌||◌, nat_le, nat_lt, not, Bool, false, if◌then◌else◌, List, Option, Some, None}
 use Rattle.std.specs.List.{list_all, list_any}
 use Rattle.gptp_scenario.specs.declared.sync_wait.SyncPaths.{SyncPaths}
 use Rattle.gptp_how_soon.specs.Bounds.{way_span}
-use Rattle.gptp_how_soon.specs.Kinds.{are_heard, begins_wider, fails_and_recovers, first_wider_by, is_better, is_gain, is_loss, is_other, is_recovery, is_wider, leaves_links, lowers_unused, makes_nothing, tells_nothing}
+use Rattle.gptp_how_soon.specs.Kinds.{are_heard, begins_wider, fails_and_recovers, first_wider_by, is_better, is_gain, is_loss, is_other, is_recovery, is_wider, leaves_links, lowers_one, lowers_unused, makes_nothing, tells_nothing}
 use Rattle.gptp_how_soon.specs.declared.bounds.Row.{Row}
-use Rattle.gptp_how_soon.specs.declared.bounds.Row.TheVariants.{AnyPast, Unchanged, Gained}
+use Rattle.gptp_how_soon.specs.declared.bounds.Row.TheVariants.{AnyPast, Unchanged, Lowered, Gained}
 use Rattle.gptp_how_soon.specs.declared.bounds.Settling.{Settling}
 use Rattle.gptp_how_soon.specs.declared.bounds.SettlingTime.{SettlingTime}
 use Rattle.gptp_how_soon.specs.declared.kinds.Told.{Told}
@@ -41,16 +41,24 @@ are_recoveries_followed longest last at told = nat_lt (last + longest) at && not
 abbrev pub settles_wider_by : SettlingTime → ℕ → SyncPaths → SyncPaths → ℕ → Option Settling → Bool
 settles_wider_by b at paths_before paths by None = false
 settles_wider_by b at paths_before paths by (Some s) =
-    nat_lt (b.at + s.choice + 2 * by + way_span paths) (at + way_span paths_before)
+    nat_lt (b.at + s.sound + 2 * by + way_span paths) (at + way_span paths_before)
 
 abbrev pub is_wider_followed : SettlingTime → ℕ → SyncPaths → SyncPaths → List Told → Bool
 is_wider_followed b at paths_before paths told =
     begins_wider told && settles_wider_by b at paths_before paths (first_wider_by told) b.settling
 
 -- Losses are followed where each is a priority1, no other event makes something of what stands, and no path had more
--- than 255 systems before.
+-- than 255 systems before. The other loss that is followed is a link that goes down by the one event of a time: then the
+-- greatest delay of a link in use stays, and no path gets longer.
 abbrev pub are_losses_followed : SyncPaths → List Told → Bool
 are_losses_followed paths_before told = nat_le paths_before.systems 255 && list_all leaves_links told
+
+abbrev pub is_lowering_followed : SyncPaths → SyncPaths → List Told → Bool
+is_lowering_followed paths_before paths told =
+    nat_le paths_before.systems 255
+    && (paths.delay == paths_before.delay)
+    && nat_le paths.systems paths_before.systems
+    && lowers_one told
 
 -- Time 0 is from rest where its events, if any, leave it so that nothing is told.
 abbrev pub is_from_rest : ℕ → ℕ → SyncPaths → SyncPaths → List Told → Option SettlingTime → Bool
@@ -67,13 +75,19 @@ is_from_rest longest at paths_before paths told (Some b) =
 -- Not from rest, or after a loss, the network may come from any past. Events that make nothing of what stands leave it
 -- as it was. So does a link that gets wider, and so do losses that are followed, where no system is moved. At the start
 -- nothing was, and so nothing is lost.
-abbrev pub row_of : Bool → Bool → SyncPaths → List Told → Bool → Row
-row_of from_rest first paths_before told moved =
+abbrev pub row_of : Bool → Bool → SyncPaths → SyncPaths → List Told → Bool → Row
+row_of from_rest first paths_before paths told moved =
     if not from_rest then AnyPast
     else if first then Gained
     else if list_all makes_nothing told || begins_wider told then Unchanged
     else if are_losses_followed paths_before told && not moved then Unchanged
+    else if is_lowering_followed paths_before paths told && not moved then Lowered
     else if list_any is_loss told then AnyPast else Gained
+
+-- it counts whether a system is moved
+abbrev pub asks_who_is_moved : Bool → SyncPaths → SyncPaths → List Told → Bool
+asks_who_is_moved from_rest paths_before paths told =
+    from_rest && (are_losses_followed paths_before told || is_lowering_followed paths_before paths told)
 
 -- It is followed that all is heard at once at the start, and later where it is so of each event. Who gets better is
 -- heard so where no path had more than 255 systems before.

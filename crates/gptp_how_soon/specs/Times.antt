@@ -62,8 +62,8 @@ gained_at n v = ready_at n v + heard_at n v + way_span v.paths
 
 abbrev pub row_at : View → Row
 row_at v =
-    row_of (is_from_rest v.longest v.at v.paths_before v.paths v.told v.before) (is_first v) v.paths_before v.told
-    v.moved
+    row_of (is_from_rest v.longest v.at v.paths_before v.paths v.told v.before) (is_first v) v.paths_before v.paths
+    v.told v.moved
 
 abbrev pub settling_time : NetworkState → View → SettlingTime
 settling_time n v = times_by n v.at v.last_set v.paths v.calm (sets_link v.told) (row_at v) (gained_at n v)

@@ -5,7 +5,7 @@ ghost use Rattle.std.specs.List.{list_any};
 ghost use Rattle.gptp_network.specs.declared.keys.TheConstants.{LATEST_EVENT};
 ghost use Rattle.gptp_scenario.specs.Network.{pace_of};
 ghost use Rattle.gptp_scenario.specs.SettlingAtOnce.{settling_span_at_once};
-ghost use Rattle.gptp_how_soon.specs.Bounds.{asked_again, choice_by, exact_from, exact_span, heard_by, is_again, is_hard_to_hear, ready, rest_by, set_span, settled, settling_by, times_by, two_exchanges, watch, way_span};
+ghost use Rattle.gptp_how_soon.specs.Bounds.{asked_again, choice_by, exact_from, exact_span, heard_by, is_again, is_hard_to_hear, ready, rest_by, set_span, settled, settling_by, sound_row, times_by, two_exchanges, watch, way_span};
 
 use crate::kinds::{Told, recovers};
 use crate::links::varies;
@@ -20,6 +20,8 @@ pub struct Settling {
     pub choice: u64,
     /// By how much later each port has its settled role.
     pub roles: u64,
+    /// By how much later all that is held is sound: it names no link that is gone.
+    pub sound: u64,
     /// How much later the network rests: events that come later still find nothing of what was before.
     pub rest: u64,
     /// The time from which on offsets are exact.
@@ -44,6 +46,8 @@ pub enum Row {
     AnyPast,
     /// It is from rest, and its events change nothing.
     Unchanged,
+    /// It is from rest, and a link goes down by its one event that changes no choice.
+    Lowered,
     /// It is from rest, and none of its events is a loss.
     Gained,
 }
@@ -166,8 +170,19 @@ fn choice_by(network: &Network, paths: SyncPaths, row: Row, gained: u64) -> u64
     }
     match row {
         Row::AnyPast => settling_span_at_once(network, paths),
-        Row::Unchanged => 0,
+        Row::Unchanged | Row::Lowered => 0,
         Row::Gained => gained,
+    }
+}
+
+/// By which row all that is held is sound.
+fn sound_row(row: Row) -> Row
+    ensures { result ≡ sound_row row }
+{
+    match row {
+        Row::AnyPast | Row::Lowered => Row::AnyPast,
+        Row::Unchanged => Row::Unchanged,
+        Row::Gained => Row::Gained,
     }
 }
 
@@ -192,7 +207,7 @@ fn exact_span(network: &Network, paths: SyncPaths) -> u64
     window + paths.systems as u64 * (params.threshold + params.residence)
 }
 
-/// The bounds at a time, by that of the choice, where a link was last set at another.
+/// The bounds at a time, by those of the choice and of what is held, where a link was last set at another.
 fn settled(
     network: &Network,
     at: u64,
@@ -200,13 +215,15 @@ fn settled(
     paths: SyncPaths,
     sets: bool,
     choice: u64,
+    sound: u64,
 ) -> Settling
     requires few { paths.systems ≤ 512 }
     requires short { paths.delay ≤ 16000000000 }
     requires early { at ≤ LATEST_EVENT }
     requires set { last_set ≤ at }
     requires choice { choice ≤ 195000000000000 }
-    ensures is { result ≡ settled network.now at last_set paths sets choice }
+    requires sound { sound ≤ 195000000000000 }
+    ensures is { result ≡ settled network.now at last_set paths sets choice sound }
     ensures rest { result.rest ≤ 195016000000000 }
     ensures exact { result.exact_from ≤ at + 196264000000000 }
 {
@@ -216,7 +233,8 @@ fn settled(
     Settling {
         choice,
         roles: choice,
-        rest: (choice + paths.delay).max(set),
+        sound,
+        rest: (sound + paths.delay).max(set),
         exact_from: (at + choice.max(set)).max(last_set + interval) + exact_span(network, paths),
     }
 }
@@ -259,7 +277,8 @@ pub(crate) fn times_by(
 {
     let settling = if calm {
         let choice = choice_by(network, paths, row, gained);
-        Some(settled(network, at, last_set, paths, sets, choice))
+        let sound = choice_by(network, paths, sound_row(row), gained);
+        Some(settled(network, at, last_set, paths, sets, choice, sound))
     } else {
         None
     };

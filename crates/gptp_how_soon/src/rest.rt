@@ -1,14 +1,14 @@
 //! Whether a time is from rest, so that what its events do says how soon the choice stands.
 
-ghost use Rattle.std.specs.Prelude.{◌≡◌, ◌≤◌, ◌&&◌, ◌+◌, ◌*◌, nat_lt};
+ghost use Rattle.std.specs.Prelude.{◌≡◌, ◌≤◌, ◌+◌, ◌*◌, nat_lt};
 ghost use Rattle.gptp_how_soon.specs.Bounds.{way_span};
-ghost use Rattle.gptp_how_soon.specs.Rest.{are_events_followed, are_losses_followed, are_recoveries_followed, are_turns_followed, heard_at_once, is_from_rest, is_wider_followed, rested, row_of, settles_wider_by};
+ghost use Rattle.gptp_how_soon.specs.Rest.{are_events_followed, are_losses_followed, are_recoveries_followed, are_turns_followed, asks_who_is_moved, heard_at_once, is_from_rest, is_lowering_followed, is_wider_followed, rested, row_of, settles_wider_by};
 
 use crate::bounds::{Row, SettlingTime, way_span};
 use crate::kinds::{
     Told, all_leave_links, all_make_nothing, all_tell_nothing, any_better, any_gain, any_loss,
     any_lowers_unused, any_other, any_recovery, any_wider, are_heard, begins_wider,
-    fails_and_recovers, first_wider_by,
+    fails_and_recovers, first_wider_by, lowers_one,
 };
 use gptp_scenario::SyncPaths;
 
@@ -50,11 +50,11 @@ fn are_recoveries_followed(longest: u64, last: u64, at: u64, told: &[Told]) -> b
     is_later(last, longest, at) && !any_lowers_unused(told)
 }
 
-/// Whether a choice that stood so much later than a time, in ns, would have stood by another where a link is wider by
-/// so much, and a way goes over these paths.
+/// Whether what was sound so much later than a time, in ns, would have been so by another where a link is wider by so
+/// much, and a way goes over these paths.
 fn stood_by(
     last: u64,
-    choice: u64,
+    sound: u64,
     by: u64,
     paths: SyncPaths,
     at: u64,
@@ -62,11 +62,11 @@ fn stood_by(
 ) -> bool
     requires few { paths.systems ≤ 512 }
     requires short { paths.delay ≤ 16000000000 }
-    ensures { result ≡ nat_lt (last + choice + 2 * by + way_span paths) (at + way_span paths_before) }
+    ensures { result ≡ nat_lt (last + sound + 2 * by + way_span paths) (at + way_span paths_before) }
 {
     let further = (paths_before.systems as u64).saturating_sub(1);
     let way_before = u128::from(further) * u128::from(paths_before.delay);
-    let stood = u128::from(last) + u128::from(choice);
+    let stood = u128::from(last) + u128::from(sound);
     stood + 2 * u128::from(by) + u128::from(way_span(paths)) < u128::from(at) + way_before
 }
 
@@ -83,7 +83,7 @@ fn settles_wider_by(
     ensures { result ≡ settles_wider_by before.now at paths_before paths by before.now.settling }
 {
     match before.settling {
-        Some(settling) => stood_by(before.at, settling.choice, by, paths, at, paths_before),
+        Some(settling) => stood_by(before.at, settling.sound, by, paths, at, paths_before),
         None => false,
     }
 }
@@ -135,11 +135,28 @@ fn are_losses_followed(paths_before: SyncPaths, told: &[Told]) -> bool
     paths_before.systems <= 255 && all_leave_links(told)
 }
 
-/// Whether it counts if its events move a system.
-pub(crate) fn asks_who_is_moved(from_rest: bool, paths_before: SyncPaths, told: &[Told]) -> bool
-    ensures { result ≡ (from_rest && are_losses_followed paths_before told.now) }
+/// Whether a link that goes down is followed.
+fn is_lowering_followed(paths_before: SyncPaths, paths: SyncPaths, told: &[Told]) -> bool
+    ensures { result ≡ is_lowering_followed paths_before paths told.now }
 {
-    from_rest && are_losses_followed(paths_before, told)
+    paths_before.systems <= 255
+        && paths.delay == paths_before.delay
+        && paths.systems <= paths_before.systems
+        && lowers_one(told)
+}
+
+/// Whether it counts if its events move a system.
+pub(crate) fn asks_who_is_moved(
+    from_rest: bool,
+    paths_before: SyncPaths,
+    paths: SyncPaths,
+    told: &[Told],
+) -> bool
+    ensures { result ≡ asks_who_is_moved from_rest paths_before paths told.now }
+{
+    from_rest
+        && (are_losses_followed(paths_before, told)
+            || is_lowering_followed(paths_before, paths, told))
 }
 
 /// What is known of a time, where it is from rest or isn't, and its events move a system or don't.
@@ -147,10 +164,11 @@ pub(crate) fn row_of(
     from_rest: bool,
     first: bool,
     paths_before: SyncPaths,
+    paths: SyncPaths,
     told: &[Told],
     moved: bool,
 ) -> Row
-    ensures { result ≡ row_of from_rest first paths_before told.now moved }
+    ensures { result ≡ row_of from_rest first paths_before paths told.now moved }
 {
     if !from_rest {
         Row::AnyPast
@@ -160,6 +178,8 @@ pub(crate) fn row_of(
         Row::Unchanged
     } else if are_losses_followed(paths_before, told) && !moved {
         Row::Unchanged
+    } else if is_lowering_followed(paths_before, paths, told) && !moved {
+        Row::Lowered
     } else if any_loss(told) {
         Row::AnyPast
     } else {

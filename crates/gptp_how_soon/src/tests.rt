@@ -58,6 +58,7 @@ fn a_ring_settles_after_its_start_and_after_a_loss(rt: HostRuntime) -> Result<()
             settling: Some(Settling {
                 choice: 1_000_003_050,
                 roles: 1_000_003_050,
+                sound: 1_000_003_050,
                 rest: 1_000_003_460,
                 exact_from: 1_000_010_250,
             }),
@@ -71,6 +72,7 @@ fn a_ring_settles_after_its_start_and_after_a_loss(rt: HostRuntime) -> Result<()
             settling: Some(Settling {
                 choice: 15_000_002_870,
                 roles: 15_000_002_870,
+                sound: 15_000_002_870,
                 rest: 15_000_003_280,
                 exact_from: 45_000_010_070,
             }),
@@ -88,6 +90,7 @@ fn start(choice: u64, rest: u64, exact_from: u64, watch: u64) -> Option<Settling
         settling: Some(Settling {
             choice,
             roles: choice,
+            sound: choice,
             rest,
             exact_from,
         }),
@@ -204,6 +207,34 @@ fn a_priority1_by_which_no_system_is_moved_costs_nothing(rt: HostRuntime) -> Res
     assert_eq!(rt;
         soon(&times, 60_000_000_000),
         Some((15_000_002_870, 75_000_010_070))
+    );
+    Ok(())
+}
+
+#[test]
+fn a_link_that_goes_down_and_moves_no_system_costs_nothing(rt: HostRuntime) -> Result<(), Fail> {
+    // It comes up again before the network rests.
+    let times = ring(
+        rt.alloc(),
+        "[[event]]\nat = 30000000000\nkind = \"link_down\"\nclock = \"000000000000000b\"\nport = 2\n[[event]]\nat = 40000000000\nkind = \"link_up\"\nclock = \"000000000000000b\"\nport = 2\n",
+    )?;
+    assert_eq!(rt;
+        settling_at(&times, 30_000_000_000),
+        Some(SettlingTime {
+            at: 30_000_000_000,
+            settling: Some(Settling {
+                choice: 0,
+                roles: 0,
+                sound: 15_000_002_870,
+                rest: 15_000_003_280,
+                exact_from: 30_000_007_200,
+            }),
+            watch: 16_000_003_281,
+        })
+    );
+    assert_eq!(rt;
+        soon(&times, 40_000_000_000),
+        Some((15_000_002_870, 55_000_010_070))
     );
     Ok(())
 }

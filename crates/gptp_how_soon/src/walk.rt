@@ -151,7 +151,7 @@ impl Walk {
         let gained = ready + heard(network, followed, told, new) + way_span(paths);
         let paths_before = self.paths_before;
         let from_rest = is_from_rest(self.longest, at, paths_before, paths, told, self.before);
-        let asked = asks_who_is_moved(from_rest, paths_before, told);
+        let asked = asks_who_is_moved(from_rest, paths_before, paths, told);
         let moved = self.moves_if(alloc, asked)?;
         Ok(times_by(
             network,
@@ -160,7 +160,7 @@ impl Walk {
             paths,
             self.tables.is_calm(network, paths),
             sets_link(told),
-            row_of(from_rest, first, paths_before, told, moved),
+            row_of(from_rest, first, paths_before, paths, told, moved),
             gained,
         ))
     }

@@ -1,5 +1,6 @@
--- What is told of each time of a document is so: its choice is a choice bound, and roles stand as soon.
-use Rattle.std.proofs.Common.{◌≡◌, ◌<◌, ◌≤◌, inl, inr, ◌+◌, ◌*◌, max, ℕ, Bool, true, false, cond, List, [], ◌∷◌, ◌++◌, Some, None, refl, sym, ap, subst, arith}
+-- What is told of each time of a document is so: its choice is a choice bound or a loss bound, and roles stand as soon.
+-- All that is held is sound by another choice bound.
+use Rattle.std.proofs.Common.{◌≡◌, ◌<◌, ◌≤◌, ◌⊎◌, inl, inr, ◌+◌, ◌*◌, max, ℕ, Bool, true, false, cond, List, [], ◌∷◌, ◌++◌, Some, None, refl, sym, ap, subst, ◌∙◌, arith}
 use Rattle.std.specs.Prelude.{◌==◌, nat_le}
 use Rattle.std.proofs.lemmas.Bool.{eqb-false, eqb-true}
 use Rattle.std.proofs.lemmas.Bool.Decides.{nat_tests}
@@ -13,14 +14,15 @@ use Rattle.gptp_network.specs.Document.{DocumentState}
 use Rattle.gptp_network.specs.Snapshot.{events_by}
 use Rattle.gptp_network.proofs.SnapshotLemmas.{from_filter}
 use Rattle.gptp_theorem.specs.PlayedLaws.{IsPlayable}
-use Rattle.gptp_how_soon.specs.Times.{View, events_at, gained_at, last_set, ready_at, row_at, settling_times, settling_times_from, time_at, view_at}
+use Rattle.gptp_how_soon.specs.Bounds.{choice_by}
+use Rattle.gptp_how_soon.specs.Times.{View, events_at, gained_at, last_set, ready_at, row_at, settling_time, settling_times, settling_times_from, time_at, view_at}
 use Rattle.gptp_how_soon.specs.declared.bounds.Settling.{Settling}
 use Rattle.gptp_how_soon.specs.declared.bounds.SettlingTime.{SettlingTime}
-use Rattle.gptp_settling_time.specs.HowSoon.{BoundsChoice, BoundsEvents, BoundsStart, IsChoiceBoundAfter, NoneBetween}
+use Rattle.gptp_settling_time.specs.HowSoon.{BoundsChoice, BoundsEvents, BoundsStart, IsChoiceBoundAfter, IsLossBoundAfter, NoneBetween}
 use Rattle.gptp_settling_time.proofs.MomentLemmas.{parted}
 use Rattle.gptp_settling_time.proofs.WellFormedLemmas.{after_well}
 use Rattle.gptp_how_soon_laws.specs.Choice.{SettlingsAreChoiceBounds}
-use Rattle.gptp_how_soon_laws.proofs.RowLemmas.{HasComeToRest, bounds_choice, gained, never_unchanged, started, tells, unchanged}
+use Rattle.gptp_how_soon_laws.proofs.RowLemmas.{HasComeToRest, bounds_choice, choice_or_none, first_sound, gained, lowered, never_unchanged, started, tells, unchanged}
 use Rattle.gptp_how_soon_laws.proofs.UnmovedLemmas.{AreWell}
 use Rattle.gptp_how_soon_laws.proofs.TimesLemmas.{AreTimes, later_times, times_after, times_parts}
 
@@ -52,9 +54,10 @@ module _ (d : DocumentState) (playable : IsPlayable d) where
 
   -- what is told of a time is so, by the times before it
   pub record IsSo (earlier : List ℕ) (at : ℕ) (s : Settling) : Type 0 where
-    pub choice : IsChoiceBoundAfter n all earlier at s.choice
+    pub choice : IsChoiceBoundAfter n all earlier at s.choice ⊎ IsLossBoundAfter n all earlier at s.choice
+    pub sound : IsChoiceBoundAfter n all earlier at s.sound
     pub roles : s.roles ≡ s.choice
-    pub rest : s.choice ≤ s.rest
+    pub rest : s.sound ≤ s.rest
     pub exact : max (at + s.choice) (last_set (events_by at all) + largest_interval (pace_of n))
         + (sync_paths n (events_by at all)).systems * (n.params.threshold + n.params.residence)
         ≤ s.exact_from
@@ -70,12 +73,16 @@ module _ (d : DocumentState) (playable : IsPlayable d) where
       let bound =
       bounds_choice n (λ choice. BoundsStart n now choice) now (row_at v) (gained_at n v) it.calm
       (λ row. absurd (never_unchanged n now row)) (λ row off. started n now row) in
+      let sound : IsChoiceBoundAfter n all [] 0 s.sound = (
+        refl,
+        subst (λ es. BoundsChoice n (BoundsStart n es s.sound) es s.sound) (sym (begin_at all))
+            (subst (λ choice. BoundsChoice n (BoundsStart n now choice) now choice) (sym it.sound) bound),
+      ) in
+      let same : s.sound ≡ s.choice =
+      it.sound ∙ ap (λ row. choice_by n v.paths row (gained_at n v)) (sym (first_sound n now)) ∙ sym it.choice in
       record {
-        choice = (
-          refl,
-          subst (λ es. BoundsChoice n (BoundsStart n es s.choice) es s.choice) (sym (begin_at all))
-              (subst (λ choice. BoundsChoice n (BoundsStart n now choice) now choice) (sym it.choice) bound),
-        );
+        choice = inl (subst (IsChoiceBoundAfter n all [] 0) same sound);
+        sound = sound;
         roles = it.roles;
         rest = it.rest;
         exact = subst (λ es. max (0 + s.choice) (last_set es + largest_interval (pace_of n))
@@ -98,13 +105,19 @@ module _ (d : DocumentState) (playable : IsPlayable d) where
     Sharp choice = (choice_then : ℕ) × IsChoiceBoundAfter n all earlier b.at choice_then × (b.at + choice_then < at)
         × BoundsEvents n made now (b.at + choice_then) at choice
 
-    sharp : (choice : ℕ) → (rest : HasComeToRest b at)
-        → BoundsEvents n made now (b.at + rest.settling.choice) at choice → Sharp choice
-    sharp choice rest bounds =
+    -- all that was held at the time before is sound
+    sound_before : (rest : HasComeToRest b at)
+        → IsChoiceBoundAfter n all earlier b.at rest.settling.sound × (b.at + rest.settling.sound < at)
+    sound_before rest =
         let then = so rest.settling rest.is in
         let less = then.rest in
         let passed = rest.passed in
-        (rest.settling.choice, then.choice, omega (arith, less, passed), bounds)
+        (then.sound, omega (arith, less, passed))
+
+    sharp : (choice : ℕ) → (rest : HasComeToRest b at)
+        → BoundsEvents n made now (b.at + rest.settling.sound) at choice → Sharp choice
+    sharp choice rest bounds =
+        let (bound, past) = sound_before rest in (rest.settling.sound, bound, past, bounds)
 
     made_or_now : (t : Timed) → In t (made ++ now) → In t all
     made_or_now t member = elim (In-parts t made now member) [
@@ -117,23 +130,50 @@ module _ (d : DocumentState) (playable : IsPlayable d) where
         after_well d playable events
         (λ t member. made_or_now t (subst (In t) are (In-left t events left member)))
 
-    later_so : TellsSo (b.at ∷ earlier) (time_at d (Some b) at)
-    later_so s is =
+    sound_so : (s : Settling) → (settling_time n v).settling ≡ Some s
+        → IsChoiceBoundAfter n all (b.at ∷ earlier) at s.sound
+    sound_so s is =
         let it = tells n v s is in
         let bound =
         bounds_choice n Sharp (made ++ now) (row_at v) (gained_at n v) it.calm
         (λ row. let (rest, still) = unchanged n playable.network all b at late well row in
         sharp 0 rest (elim still [ inl each ↦ inl (each, refl) | inr wider ↦ inr (inl (wider, refl)) ]))
         (λ row off. let (rest, gains) = gained n playable.network all b at late row off in
-        sharp (gained_at n v) rest (inr (inr (ready_at n v, gains)))) in
+        sharp (gained_at n v) rest (inr (inr (ready_at n v, gains)))) in (
+          late,
+          between,
+          subst (λ es. BoundsChoice n (Sharp s.sound) es s.sound)
+              (sym (parted all b.at at playable.events.in_order late between))
+              (subst (λ choice. BoundsChoice n (Sharp choice) (made ++ now) choice) (sym it.sound) bound),
+        )
+
+    choice_so : (s : Settling) → (settling_time n v).settling ≡ Some s
+        → IsChoiceBoundAfter n all (b.at ∷ earlier) at s.choice ⊎ IsLossBoundAfter n all (b.at ∷ earlier) at s.choice
+    choice_so s is =
+        let it = tells n v s is in
+        let sound = sound_so s is in
+        elim (choice_or_none n v.paths (row_at v) (gained_at n v)) [
+          | inl same ↦ inl (subst (IsChoiceBoundAfter n all (b.at ∷ earlier) at)
+              (it.sound ∙ sym same ∙ sym it.choice) sound)
+          | inr (row, off, none) ↦
+              let (rest, lowers) = lowered n playable.network all b at late well row in
+              let (bound, past) = sound_before rest in inr (
+                late,
+                between,
+                sound.1.1.0,
+                off,
+                (rest.settling.sound, bound, past),
+                lowers,
+                it.choice ∙ none,
+              )
+        ]
+
+    later_so : TellsSo (b.at ∷ earlier) (time_at d (Some b) at)
+    later_so s is =
+        let it = tells n v s is in
         record {
-          choice = (
-            late,
-            between,
-            subst (λ es. BoundsChoice n (Sharp s.choice) es s.choice)
-                (sym (parted all b.at at playable.events.in_order late between))
-                (subst (λ choice. BoundsChoice n (Sharp choice) (made ++ now) choice) (sym it.choice) bound),
-          );
+          choice = choice_so s is;
+          sound = sound_so s is;
           roles = it.roles;
           rest = it.rest;
           exact = subst (λ es. max (at + s.choice) (last_set es + largest_interval (pace_of n))

@@ -6,7 +6,7 @@ use Rattle.std.proofs.lemmas.Bool.{eqb-false, eqb-true}
 use Rattle.std.proofs.lemmas.Bool.Decides.{nat_tests}
 use Rattle.gptp_vector.specs.declared.port.PortId.{PortId}
 use Rattle.gptp_roles.specs.Selection.{clock_of}
-use Rattle.gptp_scenario.specs.Calm.{IsLive}
+use Rattle.gptp_scenario.specs.Calm.{IsLive, IsUsed}
 use Rattle.gptp_scenario.specs.Change.{is_at, link_after, system_after}
 use Rattle.gptp_scenario.specs.InUse.{lives}
 use Rattle.gptp_scenario.specs.Network.{IsEnd, IsNetwork, NetworkState}
@@ -80,6 +80,18 @@ module _ (clock : ℕ) (what : What) where
           → is_idle (told clock what (if not up then Idle else if live then Loss else Unused)) ≡ true → up ≡ false
       by false live is = refl
       by true true is = absurd cc
+      by true false is = absurd cc
+
+  loss_down : (o : Option Standing) → is_loss (told clock what (kind_of_link_down o)) ≡ true
+      → (s : Standing) × (o ≡ Some s) × (cable_is_used s ≡ true)
+  loss_down None is = absurd cc
+  loss_down (Some s) is = (s, refl, by s.cable.up (s.a_lives && s.b_lives) is)
+    where
+      by : (up alive : Bool)
+          → is_loss (told clock what (if not up then Idle else if alive then Loss else Unused)) ≡ true
+          → (up && alive) ≡ true
+      by false alive is = absurd cc
+      by true true is = refl
       by true false is = absurd cc
 
   never_down : (o : Option Standing) → is_gain (told clock what (kind_of_link_down o)) ≡ true → ⊥
@@ -481,6 +493,18 @@ module _ (n : NetworkState) (network : IsNetwork n) (made : List Timed) where
       × (value * 2 ^ 104 + (system_after made w).identity % 2 ^ 104 ≤ (system_after made w).identity)) (sym same)
       (subst (λ (o : System). (o.lives ≡ true) × (identity_with value o ≤ o.identity)) (sym one.is) (live, lower))
   gain_gains (acts.Change (changes.Inject clock port octets)) is = absurd cc
+
+  -- a link in use goes down
+  pub loss_lowers : (clock port : ℕ) → is_loss (told_at n made (acts.Change (changes.LinkDown clock port))) ≡ true
+      → (place : ℕ) (v : LinkSpec) → slice_get n.links place ≡ Some v
+      → IsEnd (port_id clock port) (link_after made v) → IsUsed n.systems made (link_after made v)
+  loss_lowers clock port is place v there end =
+      let act = acts.Change (changes.LinkDown clock port) in
+      let (s, found_is, used) = loss_down clock (what_of act) (link_at act) is in
+      let one = named_link n network made clock port act (λ x passed. passed) s found_is in
+      subst (λ (w : LinkSpec). IsUsed n.systems made (link_after made w))
+      (sym (one.only place v there (end_first made (port_id clock port) v end)))
+      (cable_used n made one.link (ap cable_is_used one.is ∙ used))
 
   -- a live system gets worse
   pub record Worsens (number value : ℕ) : Type 0 where

@@ -4,6 +4,7 @@ mod KindLemmas
 mod MoreLemmas
 mod GainedLemmas
 mod UnmovedLemmas
+mod LoweredLemmas
 mod RowLemmas
 pub mod ChoiceLemmas
 pub mod StepLemmas

@@ -20,18 +20,19 @@ use Rattle.gptp_scenario.specs.declared.change.Act.TheVariants as acts
 use Rattle.gptp_scenario.specs.declared.change.Change.TheVariants as changes
 use Rattle.gptp_scenario.specs.declared.change.Timed.{Timed}
 use Rattle.gptp_scenario.specs.declared.network.LinkSpec.{LinkSpec}
+use Rattle.gptp_scenario.specs.declared.sync_wait.SyncPaths.{SyncPaths}
 use Rattle.gptp_network.specs.Snapshot.{events_by}
 use Rattle.gptp_network.proofs.PassLemmas.{kept}
 use Rattle.gptp_topology.specs.After.{is_calm}
 use Rattle.gptp_topology.specs.Course.{cable_of}
 use Rattle.gptp_topology.specs.declared.course.Cable.{Cable}
-use Rattle.gptp_how_soon.specs.Bounds.{asked_again, choice_by, choice_of_row, is_again, is_hard_to_hear, ready, settled, two_exchanges}
-use Rattle.gptp_how_soon.specs.Kinds.{are_heard, fails_and_recovers, is_better, is_gain, is_idle, is_loss, is_other, is_recover, is_recovery, is_recovery_of, leaves_links, lowers_unused, makes_nothing, recovers, sets_link, tells_nothing, begins_wider, first_wider_by, is_wider}
+use Rattle.gptp_how_soon.specs.Bounds.{asked_again, choice_by, choice_of_row, is_again, is_hard_to_hear, ready, settled, sound_row, two_exchanges}
+use Rattle.gptp_how_soon.specs.Kinds.{are_heard, fails_and_recovers, is_better, is_gain, is_idle, is_loss, is_other, is_recover, is_recovery, is_recovery_of, leaves_links, lowers_one, lowers_unused, makes_nothing, recovers, sets_link, tells_nothing, begins_wider, first_wider_by, is_wider}
 use Rattle.gptp_how_soon.specs.Links.{delay_set, is_new, longest_among, longest_delay, longest_set, new_links, varies}
-use Rattle.gptp_how_soon.specs.Rest.{are_events_followed, are_losses_followed, are_recoveries_followed, are_turns_followed, heard_at_once, is_from_rest, rested, rested_by, is_wider_followed, settles_wider_by}
+use Rattle.gptp_how_soon.specs.Rest.{are_events_followed, are_losses_followed, are_recoveries_followed, are_turns_followed, heard_at_once, is_from_rest, is_lowering_followed, rested, rested_by, is_wider_followed, settles_wider_by}
 use Rattle.gptp_how_soon.specs.Times.{View, events_at, gained_at, ready_at, row_at, settling_time, told_at, told_of, view_at}
 use Rattle.gptp_how_soon.specs.declared.bounds.Row.{Row}
-use Rattle.gptp_how_soon.specs.declared.bounds.Row.TheVariants.{AnyPast, Unchanged, Gained}
+use Rattle.gptp_how_soon.specs.declared.bounds.Row.TheVariants.{AnyPast, Unchanged, Lowered, Gained}
 use Rattle.gptp_how_soon.specs.declared.bounds.Settling.{Settling}
 use Rattle.gptp_how_soon.specs.declared.bounds.SettlingTime.{SettlingTime}
 use Rattle.gptp_how_soon.specs.declared.kinds.Kind.{Kind}
@@ -39,7 +40,7 @@ use Rattle.gptp_how_soon.specs.declared.kinds.Told.{Told}
 use Rattle.gptp_how_soon.specs.declared.kinds.What.{What}
 use Rattle.gptp_how_soon.specs.declared.kinds.What.TheVariants as whats
 use Rattle.gptp_settling_time.specs.Gains.{HasDelaysWithin}
-use Rattle.gptp_settling_time.specs.HowSoon.{AreReadyAtStart, AreStartEvents, BoundsChoice, BoundsGains, BoundsStart, EachEvent, IsStillEvent, way_span, AreWiderEvents}
+use Rattle.gptp_settling_time.specs.HowSoon.{AreReadyAtStart, AreStartEvents, BoundsChoice, BoundsGains, BoundsStart, EachEvent, IsStillEvent, LowersOneLink, way_span, AreWiderEvents}
 use Rattle.gptp_settling_time.specs.InTurn.{NoneUsed, TellsNothing, UsedVaryLittle}
 use Rattle.gptp_settling_time.proofs.CutLemmas.{IsBy, all_by}
 use Rattle.gptp_settling_time.proofs.FollowedLemmas.{all_still}
@@ -47,15 +48,16 @@ use Rattle.gptp_settling_time.proofs.MomentLemmas.{all_at}
 use Rattle.gptp_topology.proofs.RestLemmas.{calm_from, used_cable}
 use Rattle.gptp_how_soon_laws.proofs.GainedLemmas.{AreFollowed, AreTurnsFollowed, all_gained, all_heard, all_idle, all_wider, none_any, not_none}
 use Rattle.gptp_how_soon_laws.proofs.KindLemmas.{told}
+use Rattle.gptp_how_soon_laws.proofs.LoweredLemmas.{lowers_one_link}
 use Rattle.gptp_how_soon_laws.proofs.UnmovedLemmas.{AreWell, all_still_unmoved}
 
 -- ---- what is told
 
--- by its row the choice of a calm network is bounded
+-- by its row it is bounded how soon all that a calm network holds is sound
 pub bounds_choice : (n : NetworkState) (Sharp : ℕ → Type 0) (events : List Timed) (row : Row) (gained : ℕ)
     → is_calm n events ≡ true → (row ≡ Unchanged → Sharp 0) → (row ≡ Gained → NothingLapses n.params → Sharp gained)
-    → BoundsChoice n (Sharp (choice_by n (sync_paths n events) row gained)) events
-    (choice_by n (sync_paths n events) row gained)
+    → BoundsChoice n (Sharp (choice_by n (sync_paths n events) (sound_row row) gained)) events
+    (choice_by n (sync_paths n events) (sound_row row) gained)
 bounds_choice n Sharp events row gained calm unchanged is_gained =
     (calm_from n events calm, by (n.params.sync_timeout == 0) refl)
   where
@@ -63,28 +65,49 @@ bounds_choice n Sharp events row gained calm unchanged is_gained =
     span = settling_span_with (pace_of n) (sync_paths n events) (sync_paths n events).systems
 
     by_row : NothingLapses n.params → (r : Row) → row ≡ r
-        → (choice_of_row n (sync_paths n events) r gained ≡ settling_span_at_once (pace_of n) (sync_paths n events))
-        ⊎ Sharp (choice_of_row n (sync_paths n events) r gained)
+        → (choice_of_row n (sync_paths n events) (sound_row r) gained
+        ≡ settling_span_at_once (pace_of n) (sync_paths n events))
+        ⊎ Sharp (choice_of_row n (sync_paths n events) (sound_row r) gained)
     by_row off AnyPast is = inl refl
+    by_row off Lowered is = inl refl
     by_row off Unchanged is = inr (unchanged is)
     by_row off Gained is = inr (is_gained is off)
 
     by : (off : Bool) → (n.params.sync_timeout == 0) ≡ off
         → ((NothingLapses n.params → ⊥)
-        × (cond (not off) span (choice_of_row n (sync_paths n events) row gained) ≡ span))
+        × (cond (not off) span (choice_of_row n (sync_paths n events) (sound_row row) gained) ≡ span))
         ⊎ (NothingLapses n.params
-        × ((cond (not off) span (choice_of_row n (sync_paths n events) row gained)
+        × ((cond (not off) span (choice_of_row n (sync_paths n events) (sound_row row) gained)
         ≡ settling_span_at_once (pace_of n) (sync_paths n events))
-        ⊎ Sharp (cond (not off) span (choice_of_row n (sync_paths n events) row gained))))
+        ⊎ Sharp (cond (not off) span (choice_of_row n (sync_paths n events) (sound_row row) gained))))
     by true is = let off = eqb-true n.params.sync_timeout 0 is in inr (off, by_row off row refl)
     by false is = inl (eqb-false n.params.sync_timeout 0 is, refl)
+
+-- the choice stands by the same bound, or at once after a link went down where nothing lapses
+pub choice_or_none : (n : NetworkState) (paths : SyncPaths) (row : Row) (gained : ℕ)
+    → (choice_by n paths row gained ≡ choice_by n paths (sound_row row) gained)
+    ⊎ ((row ≡ Lowered) × NothingLapses n.params × (choice_by n paths row gained ≡ 0))
+choice_or_none n paths AnyPast gained = inl refl
+choice_or_none n paths Unchanged gained = inl refl
+choice_or_none n paths Gained gained = inl refl
+choice_or_none n paths Lowered gained = by (n.params.sync_timeout == 0) refl
+  where
+    span : ℕ
+    span = settling_span_with (pace_of n) paths paths.systems
+
+    by : (off : Bool) → (n.params.sync_timeout == 0) ≡ off
+        → (cond (not off) span 0 ≡ cond (not off) span (settling_span_at_once (pace_of n) paths))
+        ⊎ ((Lowered ≡ Lowered) × NothingLapses n.params × (cond (not off) span 0 ≡ 0))
+    by true is = inr (refl, eqb-true n.params.sync_timeout 0 is, refl)
+    by false is = inl refl
 
 -- what is told of a calm network
 pub record IsTelling (n : NetworkState) (v : View) (s : Settling) : Type 0 where
   pub calm : v.calm ≡ true
   pub choice : s.choice ≡ choice_by n v.paths (row_at v) (gained_at n v)
+  pub sound : s.sound ≡ choice_by n v.paths (sound_row (row_at v)) (gained_at n v)
   pub roles : s.roles ≡ s.choice
-  pub rest : s.choice ≤ s.rest
+  pub rest : s.sound ≤ s.rest
   pub exact : max (v.at + s.choice) (v.last_set + largest_interval (pace_of n))
       + v.paths.systems * (n.params.threshold + n.params.residence)
       ≤ s.exact_from
@@ -93,7 +116,9 @@ pub tells : (n : NetworkState) (v : View) (s : Settling) → (settling_time n v)
 tells n v s is = by v.calm refl is
   where
     it : Settling
-    it = settled n v.at v.last_set v.paths (sets_link v.told) (choice_by n v.paths (row_at v) (gained_at n v))
+    it =
+        settled n v.at v.last_set v.paths (sets_link v.told) (choice_by n v.paths (row_at v) (gained_at n v))
+        (choice_by n v.paths (sound_row (row_at v)) (gained_at n v))
 
     by : (calm : Bool) → v.calm ≡ calm → (if calm then Some it else None) ≡ Some s → IsTelling n v s
     by true calm told =
@@ -101,8 +126,9 @@ tells n v s is = by v.calm refl is
         record {
           calm = calm;
           choice = ap (λ (x : Settling). x.choice) (sym same);
+          sound = ap (λ (x : Settling). x.sound) (sym same);
           roles = subst (λ (x : Settling). x.roles ≡ x.choice) same refl;
-          rest = subst (λ (x : Settling). x.choice ≤ x.rest) same (omega arith);
+          rest = subst (λ (x : Settling). x.sound ≤ x.rest) same (omega arith);
           exact = subst (λ (x : Settling). max (v.at + x.choice) (v.last_set + largest_interval (pace_of n))
               + v.paths.systems * (n.params.threshold + n.params.residence)
               ≤ x.exact_from) same (omega arith);
@@ -111,25 +137,38 @@ tells n v s is = by v.calm refl is
 
 -- ---- rows
 
-unchanged_from : (rest idle left loss : Bool)
-    → (if not rest then AnyPast else if idle then Unchanged else if left then Unchanged
+unchanged_from : (rest idle left lowers loss : Bool)
+    → (if not rest then AnyPast else if idle then Unchanged else if left then Unchanged else if lowers then Lowered
     else if loss then AnyPast else Gained) ≡ Unchanged
     → (rest ≡ true) × ((idle ≡ true) ⊎ (left ≡ true))
-unchanged_from false idle left loss is = absurd cc
-unchanged_from true true left loss is = (refl, inl refl)
-unchanged_from true false true loss is = (refl, inr refl)
-unchanged_from true false false true is = absurd cc
-unchanged_from true false false false is = absurd cc
+unchanged_from false idle left lowers loss is = absurd cc
+unchanged_from true true left lowers loss is = (refl, inl refl)
+unchanged_from true false true lowers loss is = (refl, inr refl)
+unchanged_from true false false true loss is = absurd cc
+unchanged_from true false false false true is = absurd cc
+unchanged_from true false false false false is = absurd cc
 
-gained_from : (rest idle left loss : Bool)
-    → (if not rest then AnyPast else if idle then Unchanged else if left then Unchanged
+lowered_from : (rest idle left lowers loss : Bool)
+    → (if not rest then AnyPast else if idle then Unchanged else if left then Unchanged else if lowers then Lowered
+    else if loss then AnyPast else Gained) ≡ Lowered
+    → (rest ≡ true) × (lowers ≡ true)
+lowered_from false idle left lowers loss is = absurd cc
+lowered_from true true left lowers loss is = absurd cc
+lowered_from true false true lowers loss is = absurd cc
+lowered_from true false false true loss is = (refl, refl)
+lowered_from true false false false true is = absurd cc
+lowered_from true false false false false is = absurd cc
+
+gained_from : (rest idle left lowers loss : Bool)
+    → (if not rest then AnyPast else if idle then Unchanged else if left then Unchanged else if lowers then Lowered
     else if loss then AnyPast else Gained) ≡ Gained
     → (rest ≡ true) × (loss ≡ false) × (idle ≡ false)
-gained_from false idle left loss is = absurd cc
-gained_from true true left loss is = absurd cc
-gained_from true false true loss is = absurd cc
-gained_from true false false true is = absurd cc
-gained_from true false false false is = (refl, refl, refl)
+gained_from false idle left lowers loss is = absurd cc
+gained_from true true left lowers loss is = absurd cc
+gained_from true false true lowers loss is = absurd cc
+gained_from true false false true loss is = absurd cc
+gained_from true false false false true is = absurd cc
+gained_from true false false false false is = (refl, refl, refl)
 
 begun_from : (rest : Bool) → (if not rest then AnyPast else Gained) ≡ Gained → rest ≡ true
 begun_from false is = absurd cc
@@ -138,6 +177,11 @@ begun_from true is = refl
 never_begun : (rest : Bool) → (if not rest then AnyPast else Gained) ≡ Unchanged → ⊥
 never_begun false is = absurd cc
 never_begun true is = absurd cc
+
+begun_sound : (rest : Bool) → (if not rest then AnyPast else Gained)
+    ≡ sound_row (if not rest then AnyPast else Gained)
+begun_sound false = refl
+begun_sound true = refl
 
 -- ---- at the start
 
@@ -266,6 +310,13 @@ pub never_unchanged : (n : NetworkState) (now : List Timed) → row_at (view_at 
 never_unchanged n now row =
     let v = view_at n [] now None 0 in
     never_begun (is_from_rest v.longest v.at v.paths_before v.paths v.told v.before) row
+
+-- all that is held then is sound as soon as the choice stands
+pub first_sound : (n : NetworkState) (now : List Timed)
+    → row_at (view_at n [] now None 0) ≡ sound_row (row_at (view_at n [] now None 0))
+first_sound n now =
+    let v = view_at n [] now None 0 in
+    begun_sound (is_from_rest v.longest v.at v.paths_before v.paths v.told v.before)
 
 -- ---- later
 
@@ -405,13 +456,13 @@ module _ (n : NetworkState) (network : IsNetwork n) (events : List Timed) (b : S
 
   settles_so : (s : Settling) (o : Option Settling) → o ≡ Some s
       → settles_wider_by b at v.paths_before v.paths (first_wider_by v.told) o ≡ true
-      → b.at + s.choice + 2 * first_wider_by v.told + way_span v.paths < at + way_span v.paths_before
+      → b.at + s.sound + 2 * first_wider_by v.told + way_span v.paths < at + way_span v.paths_before
   settles_so s None same is = absurd cc
   settles_so s (Some t) same is =
       let one : t ≡ s = some_same t s same in
-      subst (λ (x : Settling). b.at + x.choice + 2 * first_wider_by v.told + way_span v.paths
+      subst (λ (x : Settling). b.at + x.sound + 2 * first_wider_by v.told + way_span v.paths
       < at + way_span v.paths_before) one
-      (below (b.at + t.choice + 2 * first_wider_by v.told + way_span v.paths) (at + way_span v.paths_before) is)
+      (below (b.at + t.sound + 2 * first_wider_by v.told + way_span v.paths) (at + way_span v.paths_before) is)
     where
       below : (x y : ℕ) → nat_lt x y ≡ true → x < y
       below x y test = grind (arith, nat_tests)
@@ -427,12 +478,12 @@ module _ (n : NetworkState) (network : IsNetwork n) (events : List Timed) (b : S
 
   pub unchanged : AreWell n (made ++ now) → row_at v ≡ Unchanged
       → (rest : HasComeToRest b at)
-      × (EachEvent (IsStillEvent n) made now ⊎ AreWiderEvents n (b.at + rest.settling.choice) at made now)
+      × (EachEvent (IsStillEvent n) made now ⊎ AreWiderEvents n (b.at + rest.settling.sound) at made now)
   unchanged well row =
       let (from, which) =
       unchanged_from (is_from_rest v.longest at v.paths_before v.paths v.told (Some b))
       (list_all makes_nothing v.told || begins_wider v.told) (are_losses_followed v.paths_before v.told && not v.moved)
-      (list_any is_loss v.told) row in
+      (is_lowering_followed v.paths_before v.paths v.told && not v.moved) (list_any is_loss v.told) row in
       let facts = from_rest from in (
         facts.rested,
         elim which [
@@ -444,7 +495,7 @@ module _ (n : NetworkState) (network : IsNetwork n) (events : List Timed) (b : S
                 (and_parts (begins_wider v.told)
                 (settles_wider_by b at v.paths_before v.paths (first_wider_by v.told) b.settling)
                 (facts.wider (begins_some v.told begins))).1 in
-                inr (all_wider n network at made now (b.at + facts.rested.settling.choice) made now begins
+                inr (all_wider n network at made now (b.at + facts.rested.settling.sound) made now begins
                 (settles_so facts.rested.settling b.settling facts.rested.is settles))
           ]
           | inr left ↦ inl (unmoved well left)
@@ -470,7 +521,7 @@ module _ (n : NetworkState) (network : IsNetwork n) (events : List Timed) (b : S
       let (from, none, which) =
       gained_from (is_from_rest v.longest at v.paths_before v.paths v.told (Some b))
       (list_all makes_nothing v.told || begins_wider v.told) (are_losses_followed v.paths_before v.told && not v.moved)
-      (list_any is_loss v.told) row in
+      (is_lowering_followed v.paths_before v.paths v.told && not v.moved) (list_any is_loss v.told) row in
       let facts = from_rest from in
       let (some, narrow) = or_parts (list_all makes_nothing v.told) (begins_wider v.told) which in (
         facts.rested,
@@ -512,4 +563,24 @@ module _ (n : NetworkState) (network : IsNetwork n) (events : List Timed) (b : S
         all_gained n network at made now (all_at at events) off facts.turns (followed facts) (omega (arith, late)) none
             narrow facts.others some,
         refl,
+      )
+
+  -- what stands goes on, as a link goes down by the one event and no system is moved
+  pub lowered : AreWell n (made ++ now) → row_at v ≡ Lowered → HasComeToRest b at × LowersOneLink n made now
+  lowered well row =
+      let few_test : Bool = nat_le v.paths_before.systems 255 in
+      let delay_test : Bool = v.paths.delay == v.paths_before.delay in
+      let paths_test : Bool = nat_le v.paths.systems v.paths_before.systems in
+      let (from, lowers) =
+      lowered_from (is_from_rest v.longest at v.paths_before v.paths v.told (Some b))
+      (list_all makes_nothing v.told || begins_wider v.told) (are_losses_followed v.paths_before v.told && not v.moved)
+      (is_lowering_followed v.paths_before v.paths v.told && not v.moved) (list_any is_loss v.told) row in
+      let (followed, none) = and_parts (is_lowering_followed v.paths_before v.paths v.told) (not v.moved) lowers in
+      let (three, one) = and_parts (few_test && delay_test && paths_test) (lowers_one v.told) followed in
+      let (two, paths) = and_parts (few_test && delay_test) paths_test three in
+      let (few, delay) = and_parts few_test delay_test two in (
+        (from_rest from).rested,
+        lowers_one_link n network made now well (not-true v.moved none)
+            (eqb-true v.paths.delay v.paths_before.delay delay)
+            (at_most v.paths.systems v.paths_before.systems paths) (at_most v.paths_before.systems 255 few) one,
       )

@@ -37,7 +37,7 @@ use Rattle.gptp_how_soon.specs.Chosen.{chosen_after, differs, is_moved, is_moved
 use Rattle.gptp_how_soon.specs.Kinds.{is_idle, is_loss, is_priority1, is_unused, leaves_links, makes_nothing}
 use Rattle.gptp_how_soon.specs.Times.{told_at, told_of}
 use Rattle.gptp_how_soon.specs.declared.chosen.Chosen.{Chosen}
-use Rattle.gptp_how_soon.proofs.ChosenLemmas.{IsAt, at_clock, chosen_there, link_stands, settled_choice, used_then}
+use Rattle.gptp_how_soon.proofs.ChosenLemmas.{IsAt, IsSettledChoice, at_clock, chosen_there, link_stands, settled_choice, used_then}
 use Rattle.gptp_settling_time.specs.Gains.{ChangesNothing}
 use Rattle.gptp_settling_time.specs.HowSoon.{EachEvent, IsStillEvent, TurnsUnused}
 use Rattle.gptp_settling_time.specs.Losses.{MovesNone}
@@ -237,19 +237,22 @@ module _ (n : NetworkState) (network : IsNetwork n) (made : List Timed) (event :
 
 -- ---- snapshots
 
--- the same systems and links stand
+-- the same systems stand
+pub clock_over : (n : NetworkState) (network : IsNetwork n) (events more : List Timed)
+    → ((m : SystemSpec) → In m n.systems → (system_after more m).live ≡ (system_after events m).live)
+    → (g h : Snapshot) → StandsAfter n events g → StandsAfter n more h → (v : ℕ) → In v (clocks g) → In v (clocks h)
+clock_over n network events more systems g h stands stands' v known =
+    let (s, live, same) = from_map (λ (t : System). t.clock) v g.systems known in
+    let has : has_clock g.systems v ≡ true =
+    passes_at (λ (t : System). t.clock == v) g.systems s live (eq-eqb s.clock v same) in
+    let then : lives n.systems more v ≡ true =
+    lives_same n events more systems v ∙ there_live n network events g stands v has in
+    let (t, there, is) = with_clock h.systems v (live_there n network more h stands' v then) in
+    subst (λ c. In c (clocks h)) is (In-clocks h t there)
+
+-- and the same links
 module _ (n : NetworkState) (network : IsNetwork n) (events more : List Timed) (alike : StandAlike n events more)
     (g h : Snapshot) (stands : StandsAfter n events g) (stands' : StandsAfter n more h) (well' : IsWellFormed h) where
-  clock_over : (v : ℕ) → In v (clocks g) → In v (clocks h)
-  clock_over v known =
-      let (s, live, same) = from_map (λ (t : System). t.clock) v g.systems known in
-      let has : has_clock g.systems v ≡ true =
-      passes_at (λ (t : System). t.clock == v) g.systems s live (eq-eqb s.clock v same) in
-      let then : lives n.systems more v ≡ true =
-      lives_same n events more alike.systems v ∙ there_live n network events g stands v has in
-      let (t, there, is) = with_clock h.systems v (live_there n network more h stands' v then) in
-      subst (λ c. In c (clocks h)) is (In-clocks h t there)
-
   link_over : (l : Link) → In l g.links → In l h.links
   link_over l member =
       let r = runs n network events g stands l member in
@@ -310,7 +313,7 @@ reach_over g h systems links v w (us, path) = (
 )
 
 -- a system of two snapshots with one identity is one
-same_system : (n : NetworkState) (network : IsNetwork n) (events more : List Timed) (g h : Snapshot)
+pub same_system : (n : NetworkState) (network : IsNetwork n) (events more : List Timed) (g h : Snapshot)
     → StandsAfter n events g → StandsAfter n more h → (s t : System) → In s g.systems → In t h.systems
     → s.identity ≡ t.identity → s ≡ t
 same_system n network events more g h stands stands' s t live there same =
@@ -335,6 +338,64 @@ in_range first (suc count) place least most = elim (same_place place first) [
   | inr apart ↦ inr (in_range (first + 1) count place (omega (arith, least, apart)) (omega (arith, most)))
 ]
 
+-- ---- what a system chose at first and at last
+
+module _ (n : NetworkState) (network : IsNetwork n) (first all : List Timed) (unmoved : moves_some n first all ≡ false)
+    (g0 gk : Snapshot) (stands0 : StandsAfter n first g0) (standsk : StandsAfter n all gk) (well0 : IsWellFormed g0)
+    (wellk : IsWellFormed gk) (v : ℕ) (known0 : In v (clocks g0)) (known : In v (clocks gk)) where
+  -- it is the same where no system is moved
+  pub record ChoosesSo : Type 0 where
+    pub before : Chosen
+    pub now : Chosen
+    pub was : IsSettledChoice n network first g0 stands0 well0 v before
+    pub is : IsSettledChoice n network all gk standsk wellk v now
+    pub root : before.root ≡ now.root
+    pub steps : before.steps ≡ now.steps
+
+  lives_at : (i : ℕ) (at : IsAt n i v) → (system_after all at.system).live ≡ true
+  lives_at i at =
+      let (s, live, named) = from_map (λ (t : System). t.clock) v gk.systems known in
+      lives_of n network all gk standsk s live i at.system at.there (at.clock ∙ sym named)
+
+  both_stay : (o : ours.System) (before now : Chosen) → (o.lives && differs before now) ≡ false → o.lives ≡ true
+      → (before.root ≡ now.root) × (before.steps ≡ now.steps)
+  both_stay o before now none live =
+      let same : differs before now ≡ false =
+      ap (λ b. b && differs before now) (sym live) ∙ none in
+      let both = not-false ((before.root == now.root) && (before.steps == now.steps)) same in
+      let (root, steps) = and_parts (before.root == now.root) (before.steps == now.steps) both in
+      (eqb-true before.root now.root root, eqb-true before.steps now.steps steps)
+
+  pub chooses_so : ChoosesSo
+  chooses_so =
+      let (i, at) = at_clock n network all gk standsk wellk v known in
+      let (b, there0) = chosen_there n network first g0 stands0 well0 i v at in
+      let (c, therek) = chosen_there n network all gk standsk wellk i v at in
+      let o : ours.System = system_then all at.system in
+      let there : slice_get (systems_after n all) i ≡ Some o =
+      mapped_there (system_then all) n.systems i at.system at.there in
+      let less = bound (systems_after n all) i o there in
+      let within : In i (range_with_len 0 (length (systems_after n all))) =
+      in_range 0 (length (systems_after n all)) i (omega arith) (omega (arith, less)) in
+      let none = none_any (is_moved_at (systems_after n all) (chosen_after n first) (chosen_after n all))
+      (range_with_len 0 (length (systems_after n all))) i unmoved within in
+      let here : (o.lives && differs b c) ≡ false =
+      (λ k. is_moved (sym there k) (sym there0 k) (sym therek k)) ∙ none in
+      let (root, steps) = both_stay o b c here (lives_at i at) in
+      record {
+        before = b;
+        now = c;
+        was = settled_choice n network first g0 stands0 well0 i v at known0 b there0;
+        is = settled_choice n network all gk standsk wellk i v at known c therek;
+        root = root;
+        steps = steps;
+      }
+    where
+      bound : (os : List ours.System) (place : ℕ) (o : ours.System) → slice_get os place ≡ Some o → place < length os
+      bound [] place o is = absurd cc
+      bound (p ∷ os) zero o is = omega arith
+      bound (p ∷ os) (suc place) o is = let rest = bound os place o is in omega (arith, rest)
+
 -- ---- where no system is moved between first and last
 
 module _ (n : NetworkState) (network : IsNetwork n) (first all : List Timed) (worsen : OnlyWorsen n first all)
@@ -348,52 +409,18 @@ module _ (n : NetworkState) (network : IsNetwork n) (first all : List Timed) (wo
     pub last_lives : In last gk.systems
     pub same : best.identity ≡ last.identity
 
-  lives_at : (i v : ℕ) (at : IsAt n i v) → In v (clocks gk) → (system_after all at.system).live ≡ true
-  lives_at i v at known =
-      let (s, live, named) = from_map (λ (t : System). t.clock) v gk.systems known in
-      lives_of n network all gk standsk s live i at.system at.there (at.clock ∙ sym named)
-
-  -- who isn't moved has one root
-  root_stays : (o : ours.System) (before now : Chosen) → (o.lives && differs before now) ≡ false → o.lives ≡ true
-      → before.root ≡ now.root
-  root_stays o before now none live =
-      let same : differs before now ≡ false =
-      ap (λ b. b && differs before now) (sym live) ∙ none in
-      let both = not-false ((before.root == now.root) && (before.steps == now.steps)) same in
-      eqb-true before.root now.root (and_parts (before.root == now.root) (before.steps == now.steps) both).0
-
   stays : (v : ℕ) → In v (clocks gk) → Stays v
   stays v known =
-      let (i, at) = at_clock n network all gk standsk wellk v known in
-      let (b, there0) = chosen_there n network first g0 stands0 well0 i v at in
-      let (c, therek) = chosen_there n network all gk standsk wellk i v at in
-      let known0 = clock_over n network all first (alike_back n first all worsen.alike) gk g0 standsk stands0 well0 v
-      known in
-      let x = settled_choice n network first g0 stands0 well0 i v at known0 b there0 in
-      let y = settled_choice n network all gk standsk wellk i v at known c therek in
-      let o : ours.System = system_then all at.system in
-      let there : slice_get (systems_after n all) i ≡ Some o =
-      mapped_there (system_then all) n.systems i at.system at.there in
-      let less = bound (systems_after n all) i o there in
-      let within : In i (range_with_len 0 (length (systems_after n all))) =
-      in_range 0 (length (systems_after n all)) i (omega arith) (omega (arith, less)) in
-      let none = none_any (is_moved_at (systems_after n all) (chosen_after n first) (chosen_after n all))
-      (range_with_len 0 (length (systems_after n all))) i unmoved within in
-      let here : (o.lives && differs b c) ≡ false =
-      (λ k. is_moved (sym there k) (sym there0 k) (sym therek k)) ∙ none in
-      let root = root_stays o b c here (lives_at i v at known) in
+      let known0 =
+      clock_over n network all first (alike_back n first all worsen.alike).systems gk g0 standsk stands0 v known in
+      let x = chooses_so n network first all unmoved g0 gk stands0 standsk well0 wellk v known0 known in
       record {
-        best = x.best;
-        is_best = x.is_best;
-        last = y.best;
-        last_lives = y.is_best.live;
-        same = sym x.root ∙ root ∙ y.root;
+        best = x.was.best;
+        is_best = x.was.is_best;
+        last = x.is.best;
+        last_lives = x.is.is_best.live;
+        same = sym x.was.root ∙ x.root ∙ x.is.root;
       }
-    where
-      bound : (os : List ours.System) (place : ℕ) (o : ours.System) → slice_get os place ≡ Some o → place < length os
-      bound [] place o is = absurd cc
-      bound (p ∷ os) zero o is = omega arith
-      bound (p ∷ os) (suc place) o is = let rest = bound os place o is in omega (arith, rest)
 
   -- so it is in between
   module _ (events : List Timed) (before : OnlyWorsen n first events) (after : OnlyWorsen n events all) (g : Snapshot)
@@ -419,12 +446,12 @@ module _ (n : NetworkState) (network : IsNetwork n) (first all : List Timed) (wo
 
     pub has_best : (v : ℕ) → In v (clocks g) → HasBest v
     has_best v member =
-        let known = clock_over n network events all after.alike g gk stands standsk wellk v member in
+        let known = clock_over n network events all after.alike.systems g gk stands standsk v member in
         let x = stays v known in
         let b = x.best in
         let back_alike = alike_back n first events before.alike in
-        let over = clock_over n network first events before.alike g0 g stands0 stands well in
-        let back = clock_over n network events first back_alike g g0 stands stands0 well0 in
+        let over = clock_over n network first events before.alike.systems g0 g stands0 stands in
+        let back = clock_over n network events first back_alike.systems g g0 stands stands0 in
         let links = joins_over n network first events before.alike g0 g stands0 stands well in
         let links_back = joins_over n network events first back_alike g g0 stands stands0 well0 in
         let (s, live, clock) = from_map (λ (t : System). t.clock) b.clock g.systems
@@ -466,7 +493,7 @@ module _ (n : NetworkState) (network : IsNetwork n) (first all : List Timed) (wo
         best : (u : ℕ) (b : System) → IsBest g u b → IsBest h u b
         best u b is =
             let here = is.reached.1.begins in
-            let there = clock_over n network made later one.alike g h stands stands' (well' h stands') u here in
+            let there = clock_over n network made later one.alike.systems g h stands stands' u here in
             let x = has_best made before (worsen_both n made later all one after) g stands (well g stands) u here in
             let begun = worsen_both n first made later before one in
             let y = has_best later begun after h stands' (well' h stands') u there in
@@ -480,7 +507,7 @@ module _ (n : NetworkState) (network : IsNetwork n) (first all : List Timed) (wo
 
         same : HaveSameBests g h
         same = record {
-          clocks = clock_over n network made later one.alike g h stands stands' (well' h stands');
+          clocks = clock_over n network made later one.alike.systems g h stands stands';
           links = joins_over n network made later one.alike g h stands stands' (well' h stands');
           links_back = joins_over n network later made back h g stands' stands (well g stands);
           best = best;

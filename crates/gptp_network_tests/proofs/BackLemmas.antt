@@ -132,7 +132,7 @@ down_bound = (omega arith, before, (record { links = rest_down; lapses = inl ref
 pub back_bound : IsChoiceBound back_document 20000000000 1000002500
 back_bound = (
   2000000000 ∷ 0 ∷ [],
-  (
+  inl (
     omega arith,
     between,
     (
@@ -149,4 +149,4 @@ back_bound = (
     way_up = subst (λ (x : SyncPaths). 1000002500 ≡ 1000002000 + way_span x) (sym paths_up) refl
 
 pub lost_bound : IsChoiceBound back_document 2000000000 15000000000
-lost_bound = (0 ∷ [], down_bound)
+lost_bound = (0 ∷ [], inl down_bound)

@@ -63,7 +63,7 @@ little (suc place) v there used = absurd (none-some v there)
 pub early_bound : IsChoiceBound early_document 0 1000002500
 early_bound = (
   [],
-  (
+  inl (
     refl,
     (
       record { links = links_rest; lapses = inl refl },

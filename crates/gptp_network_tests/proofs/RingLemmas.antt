@@ -45,7 +45,7 @@ little v (inr (inr (inr (inr none)))) = absurd none
 pub ring_bound : IsChoiceBound ring_document 0 1000003050
 ring_bound = (
   [],
-  (
+  inl (
     refl,
     (
       record { links = links_rest; lapses = inl refl },

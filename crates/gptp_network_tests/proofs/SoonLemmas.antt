@@ -119,7 +119,7 @@ followed_soon w number (Some (root, steps, port)) named k some none =
 -- by two exchanges and the delay of the link after they began
 pub pair_bound : IsChoiceBound pair_document 0 1000002500
 pair_bound =
-    ([], (refl, (is_calm, inr (refl, inr (tt, (1000002000, inl ready, inl (used_vary pair_network [] few, is)))))))
+    ([], inl (refl, (is_calm, inr (refl, inr (tt, (1000002000, inl ready, inl (used_vary pair_network [] few, is)))))))
   where
     ready : 1000002000 ≡ two_exchanges (pace_of pair_network) (sync_paths pair_network [])
     ready =

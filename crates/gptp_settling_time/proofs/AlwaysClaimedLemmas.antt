@@ -12,6 +12,7 @@ use Rattle.gptp_links.specs.Fate.{Draw}
 use Rattle.gptp_pdelay.specs.Peer.{is_capable}
 use Rattle.gptp_setup.specs.SettlingParams.{SettlingParams}
 use Rattle.gptp_scenario.specs.Calm.{NothingLapses}
+use Rattle.gptp_scenario.specs.Params.{KeepPace}
 use Rattle.gptp_scenario.specs.declared.change.Act.{Act}
 use Rattle.gptp_system.specs.declared.port.Port.{Port}
 use Rattle.gptp_system.specs.Facts.{IsShown}
@@ -30,7 +31,7 @@ use Rattle.gptp_bmca_machine.specs.Facts.{StationFacts}
 use Rattle.gptp_bmca_machine.specs.Frame.{Announce, AnnounceFrame as SeenFrame, Lane}
 use Rattle.gptp_bmca_machine.specs.Levels.{Invariant}
 use Rattle.gptp_bmca_machine.specs.Network.{IsSettlingNetwork, Network, network_setting}
-use Rattle.gptp_bmca_machine.specs.SoundLaws.{IsSoundOnLinks}
+use Rattle.gptp_bmca_machine.specs.Sound.{ReceivedFits}
 use Rattle.gptp_bmca_machine.specs.Station.{Disabled, Port as SeenPort, Station as SeenStation}
 use Rattle.gptp_bmca_machine.proofs.LevelLemmas.{invariant_kept}
 use Rattle.gptp_bmca_machine.proofs.SoundEverywhereLemmas.{on_links}
@@ -41,9 +42,9 @@ use Rattle.gptp_invariants.specs.ChoiceSeenLaws.{IsNoChange}
 use Rattle.gptp_invariants.specs.ChoiceSettlesAsMachine.{IsWorld}
 use Rattle.gptp_invariants.specs.ChoiceView.{lane_place, frame_view, held_view, lane_view, lanes_view, port_identity_number, says_announce, span_at, view}
 use Rattle.gptp_invariants.specs.DelayLinkView.{IsLinkOf, LinkPlace, link_frame_view, other_direction, pair}
-use Rattle.gptp_invariants.specs.DelayMeasured.{LinkStandsAt}
+use Rattle.gptp_invariants.specs.DelayMeasured.{LinkIsMeasured, LinkStandsAt}
 use Rattle.gptp_invariants.specs.WorldEncodableLaws.{SetsAnOctet}
-use Rattle.gptp_invariants.specs.WorldNews.{IsNews, at_news, news_network}
+use Rattle.gptp_invariants.specs.WorldNews.{AreSilentBy, IsNews, at_news, news_network}
 use Rattle.gptp_invariants.specs.WorldStanding.{channel_is_used, live_stations, snapshot_of}
 use Rattle.gptp_invariants.proofs.ChoiceCalmKeptLemmas.{KeepsNetwork, acts_keep, delay_kept, links_quiet, same_network_with}
 use Rattle.gptp_invariants.proofs.ChoiceCalmLemmas.{calm, nothing_lapses}
@@ -248,13 +249,25 @@ same_start p m start w w' keeps =
     (delay_kept w w' keeps)
     ∙ same_network_with w w' keeps p m start (at_news p w))
 
+-- ---- a world whose ports are capable from a start on, whatever it holds
+
+pub record IsStanding (p : SettlingParams) (start : ℕ) (w : WorldState) : Type 0 where
+  pub pace : KeepPace p
+  pub world : IsWorld p w
+  pub measured : LinkIsMeasured w
+  pub silent : AreSilentBy p start w
+
+-- such is a world since news
+abbrev pub standing : {p : SettlingParams} {start : ℕ} {w : WorldState} → IsNews p start w → IsStanding p start w
+standing news = record { pace = news.pace; world = news.world; measured = news.measured; silent = news.silent }
+
 -- ---- ports are capable from the start on
 
 -- over each link that is up between two live systems, loses nothing and is good, what is told is heard
 abbrev pub AreHeard : SettlingParams → ℕ → WorldState → Type 0
 AreHeard p start w = (at : LinkPlace) → LinkStandsAt at w → IsHeardAt p start at w
 
-module _ (p : SettlingParams) (start : ℕ) (w : WorldState) (news : IsNews p start w) (heard : AreHeard p start w)
+module _ (p : SettlingParams) (start : ℕ) (w : WorldState) (news : IsStanding p start w) (heard : AreHeard p start w)
     (quiet : HaveQuietLinks p.params w) where
   world : IsWorld p w
   world = news.world
@@ -304,7 +317,7 @@ module _ (p : SettlingParams) (start : ℕ) (w : WorldState) (news : IsNews p st
 
 -- ---- what is known of a world since its start
 
-module _ (p : SettlingParams) (start : ℕ) (w : WorldState) (news : IsNews p start w) (heard : AreHeard p start w)
+module _ (p : SettlingParams) (start : ℕ) (w : WorldState) (news : IsStanding p start w) (heard : AreHeard p start w)
     (quiet : HaveQuietLinks p.params w) where
   is : IsWorld p w
   is = news.world
@@ -428,7 +441,7 @@ turned_queue FromB c d same = ap (λ x. map link_frame_view (world_queue FromB x
 
 -- ---- early ports hear what comes, and stay on
 
-module _ (p : SettlingParams) (start m : ℕ) (w : WorldState) (news : IsNews p start w) (heard : AreHeard p start w)
+module _ (p : SettlingParams) (start m : ℕ) (w : WorldState) (news : IsStanding p start w) (heard : AreHeard p start w)
     (quiet : HaveQuietLinks p.params w) where
   abbrev now_world : IsWorld p w
   now_world = news.world
@@ -468,7 +481,7 @@ module _ (p : SettlingParams) (start m : ℕ) (w : WorldState) (news : IsNews p 
       (heard_now p start at w now_world x (link_frame_view first) rest comes tells_now)
 
 -- time that passes leaves each port as it is
-early_later : (p : SettlingParams) (start m time : ℕ) (w : WorldState) → IsNews p start w → AreHeard p start w
+pub early_later : (p : SettlingParams) (start m time : ℕ) (w : WorldState) → IsStanding p start w → AreHeard p start w
     → HaveQuietLinks p.params w
     → EarlyPortsHear says_announce (start_network p m start w) (view w) (view (at_time time w))
 early_later p start m time w news heard quiet = record {
@@ -482,8 +495,8 @@ early_later p start m time w news heard quiet = record {
 }
 
 module _ (p : SettlingParams) (start m : ℕ) (act : Act) (w : WorldState) (draws : List Draw) (done : Done)
-    (w' : WorldState) (none : IsNoChange act) (acts : Acts act w draws done w') (news : IsNews p start w)
-    (news' : IsNews p start w') (heard : AreHeard p start w) (quiet : HaveQuietLinks p.params w) where
+    (w' : WorldState) (none : IsNoChange act) (acts : Acts act w draws done w') (news : IsStanding p start w)
+    (news' : IsStanding p start w') (heard : AreHeard p start w) (quiet : HaveQuietLinks p.params w) where
   keeps : KeepsNetwork w w'
   keeps = acts_keep act w draws done w' none acts
 
@@ -515,7 +528,7 @@ module _ (p : SettlingParams) (start m : ℕ) (act : Act) (w : WorldState) (draw
       (subst (λ k. slice_get (view w').stations k ≡ Some s') (sym (keeps.places u)) there') port'
       (then.stays (on_is_capable p w news.world at link u i asks_there s q there port on))
 
-  early_acts : EarlyPortsHear says_announce (start_network p m start w) (view w) (view w')
+  pub early_acts : EarlyPortsHear says_announce (start_network p m start w) (view w) (view w')
   early_acts = record {
     hears = λ d from u i joins claims early l f fs a s q on_lane frames due said there port.
         hears p start m w news heard quiet from u i joins l f fs a s q on_lane frames said there port;
@@ -541,29 +554,36 @@ little_back w w' k little link channel here used =
     ∙ ap (λ s. channel_is_used s channel) k.systems ∙ used in
     subst (λ (b : Bounds). b.max < 2 * b.min) (ap (λ (c : Channel). c.bounds) same) (little link old stands uses)
 
--- a step of the machine keeps the stages
-step_settles : (p : SettlingParams) (start m : ℕ) (w w' : WorldState) → IsClaimedAlways p start w → IsNews p start w'
-    → AreHeard p start w' → KeepsNetwork w w'
+-- a step of the machine keeps the stages, where what is received fits
+pub steps_settle : (p : SettlingParams) (start m : ℕ) (w w' : WorldState) → IsStanding p start w
+    → IsStanding p start w' → AreHeard p start w → AreHeard p start w' → KeepsNetwork w w'
     → MachineSteps says_announce (view w) (view w')
     → (HaveQuietLinks p.params w
     → EarlyPortsHear says_announce (start_network p m start w) (view w) (view w'))
+    → ReceivedFits (snapshot_of w') (view w')
+    → (BoundsPaths (snapshot_of w) m → HaveQuietLinks p.params w
+    → Invariant says_announce (start_network p m start w) (view w))
     → BoundsPaths (snapshot_of w') m → HaveQuietLinks p.params w' → NothingLapses p.params
     → Invariant says_announce (start_network p m start w') (view w')
-step_settles p start m w w' is news' heard' keeps step early bounded' quiet' off =
+steps_settle p start m w w' is is' heard heard' keeps step early fits settled bounded' quiet' off =
     let n = start_network p m start w in
     let same = same_start p m start w w' keeps in
     let bounded : BoundsPaths (snapshot_of w) m = subst (λ (x : Network). BoundsPaths x.graph m) same bounded' in
     let quiet = links_quiet w' w (kept_back w w' keeps) p.params quiet' in
-    let net = start_net p m start w is.news.world bounded in
-    let before = start_calm p start w is.news is.heard quiet m in
-    let after : Calm n (view w') =
-    subst (λ x. Calm x (view w')) same (start_calm p start w' news' heard' quiet' m) in
-    let all = subst (λ (x : Network). IsSoundOnLinks says_announce x.graph (view w')) same
-    (on_links says_announce (snapshot_of w') (view w') news'.sound) in
+    let net = start_net p m start w is.world bounded in
+    let before = start_calm p start w is heard quiet m in
+    let after : Calm n (view w') = subst (λ x. Calm x (view w')) same (start_calm p start w' is' heard' quiet' m) in
     subst (λ x. Invariant says_announce x (view w')) (sym same)
     (invariant_kept says_announce n net (view w) (view w') before after
-    (nothing_lapses p n w is.news.world.known off) (early quiet) step
-    (λ late. received_fits says_announce n.graph (view w') net.graph all) (is.settling m bounded quiet off))
+    (nothing_lapses p n w is.world.known off) (early quiet) step
+    (λ late. subst (λ (x : Network). ReceivedFits x.graph (view w')) same fits) (settled bounded quiet))
+
+-- what a world since news received fits
+news_fits : (p : SettlingParams) (start : ℕ) (w : WorldState) → IsNews p start w → ReceivedFits (snapshot_of w) (view w)
+news_fits p start w news =
+    let world = news.world in
+    received_fits says_announce (snapshot_of w) (view w) (stands_well w world.sound world.between world.encodable)
+    (on_links says_announce (snapshot_of w) (view w) news.sound)
 
 pub since_later : (p : SettlingParams) (start time : ℕ) (w : WorldState) → w.time ≤ time
     → NothingBefore time w.net.pending → IsClaimedAlways p start w → IsClaimedAlways p start (at_time time w)
@@ -577,10 +597,11 @@ since_later p start time w later first is =
       news = news';
       heard = heard';
       settling = λ m bounded quiet off.
-          step_settles p start m w (at_time time w) is news' heard' keeps
+          steps_settle p start m w (at_time time w) (standing is.news) (standing news') is.heard heard' keeps
           (inl (record { time = time; later = later; is = refl }))
-          (λ quiet_then. early_later p start m time w is.news is.heard quiet_then) bounded
-          quiet off;
+          (λ quiet_then. early_later p start m time w (standing is.news) is.heard quiet_then)
+          (news_fits p start (at_time time w) news') (λ bounded_then quiet_then.
+          is.settling m bounded_then quiet_then off) bounded quiet off;
     }
 
 pub since_acts : (p : SettlingParams) (start : ℕ) (act : Act) (w : WorldState) (draws : List Draw) (done : Done)
@@ -598,9 +619,10 @@ since_acts p start act w draws done w' none octet acts is =
       news = news';
       heard = heard';
       settling = λ m bounded quiet off.
-          step_settles p start m w w' is news' heard' keeps'
+          steps_settle p start m w w' (standing is.news) (standing news') is.heard heard' keeps'
           (inr (acts_seen act w draws done w' none world.sound world.encodable acts))
           (λ quiet_then.
-          early_acts p start m act w draws done w' none acts is.news news' is.heard quiet_then) bounded
+          early_acts p start m act w draws done w' none acts (standing is.news) (standing news') is.heard quiet_then)
+          (news_fits p start w' news') (λ bounded_then quiet_then. is.settling m bounded_then quiet_then off) bounded
           quiet off;
     }

@@ -37,7 +37,7 @@ use Rattle.gptp_invariants.proofs.WorldSoundCallLemmas.{links_more}
 use Rattle.gptp_invariants.proofs.WorldSystemLemmas.{clock_from, clock_lives, clock_there}
 use Rattle.gptp_invariants.proofs.WorldWayLemmas.{way_of}
 use Rattle.gptp_invariants.proofs.ChoiceCalmKeptLemmas.{delay_bare, lane_bare}
-use Rattle.gptp_settling_time.proofs.AlwaysClaimedLemmas.{AreHeard, IsClaimedAlways, asks_back, capable_is_on, place_of_way, start_calm, start_net, start_network, way_back, way_stands}
+use Rattle.gptp_settling_time.proofs.AlwaysClaimedLemmas.{AreHeard, IsClaimedAlways, asks_back, capable_is_on, place_of_way, standing, start_calm, start_net, start_network, way_back, way_stands}
 use Rattle.gptp_settling_time.proofs.HeardLemmas.{StaysCapableAt, stays_elsewhere, stays_link, stays_on}
 use Rattle.gptp_settling_time.specs.Idle.{Lives}
 use Rattle.gptp_settling_time.proofs.PriorityNewsLemmas.{stood}
@@ -181,7 +181,7 @@ module _ (p : SettlingParams) (start next owner value : ℕ) (w : WorldState) (d
     net = start_net p m next w' world' bounded'
 
     calm : Calm n (view w')
-    calm = start_calm p next w' news' heard' quiet' m
+    calm = start_calm p next w' (standing news') heard' quiet' m
 
     sound : IsSoundOnLinks says_announce n.graph (view w')
     sound = on_links says_announce (snapshot_of w') (view w') news'.sound

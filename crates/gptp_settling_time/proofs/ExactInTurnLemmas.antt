@@ -32,12 +32,13 @@ use Rattle.gptp_theorem.proofs.PlayedLemmas.{no_change}
 use Rattle.gptp_theorem.proofs.SettlingInvariantLemmas.{events_fit, events_made}
 use Rattle.gptp_settling_time.specs.ExactInTurn.{ActsAreExactInTurn, last_set}
 use Rattle.gptp_settling_time.specs.Exactly.{AreExactFrom}
-use Rattle.gptp_settling_time.specs.InTurn.{AnyPast, Gained, Heard, Past, SettlesAfter, SettlesByEvents, Starting}
+use Rattle.gptp_settling_time.specs.InTurn.{AnyPast, Gained, Heard, Left, Past, SettlesAfter, SettlesByEvents, Starting}
 use Rattle.gptp_settling_time.proofs.AsIfChangedLemmas.{changed_at, exact_so, known_so, measured_links_so, measured_so, was_done_so, world_so}
 use Rattle.gptp_settling_time.proofs.BegunLemmas.{begun_last}
 use Rattle.gptp_settling_time.proofs.DocumentLemmas.{run_to}
 use Rattle.gptp_settling_time.proofs.InTurnLemmas.{IsAfter, after_act, after_keeps, after_later, after_settles, begins_after, in_turn}
 use Rattle.gptp_settling_time.proofs.LaterLemmas.{AreSteps}
+use Rattle.gptp_settling_time.proofs.LeftClaimedLemmas.{left_measured}
 use Rattle.gptp_settling_time.proofs.NewsMeasuredLemmas.{news_measured}
 use Rattle.gptp_settling_time.proofs.NewsSoonLemmas.{news_now}
 use Rattle.gptp_settling_time.proofs.SoonOffsetLemmas.{CarriesRight, carried_exact}
@@ -79,6 +80,7 @@ module _ (d : DocumentState) (playable : IsPlayable d) (all : List Timed) (calm 
       by (inr (short, late)) = omega (arith, late, on)
   have_measured (Heard start) w so (off, late) links on =
       news_measured p start w so.since.news links (omega (arith, late, on))
+  have_measured (Left start) w so (off, late) links on = left_measured p so.before start w so.since links
 
   settled_from : (w : WorldState) → IsAfter d all last w → settled ≤ w.time → w.time ≤ 10 ^ 18
       → IsSettledFrom p settled p.params.threshold (seen w)

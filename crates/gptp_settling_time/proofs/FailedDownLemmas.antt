@@ -1,11 +1,10 @@
 -- A link of which an end has failed goes down, whose port takes no part: what is claimed of the world stays.
-use Rattle.std.proofs.Common.{◌≡◌, ◌≢◌, ◌≤◌, ◌+◌, ℕ, zero, suc, Bool, true, false, List, [], ◌∷◌, map, Some, slice_get, slice_set, refl, sym, ap, subst, ◌∙◌, inl, inr, arith}
+use Rattle.std.proofs.Common.{◌≡◌, ◌≢◌, ◌≤◌, ℕ, zero, suc, Bool, true, false, List, [], ◌∷◌, map, Some, slice_get, slice_set, refl, sym, ap, subst, ◌∙◌, inl, inr, arith}
 use Rattle.std.proofs.lemmas.Option.{same_Some}
 use Rattle.gptp_lists.specs.Members.{In}
-use Rattle.gptp_lists.proofs.MappedLemmas.{mapped, mapped_there, same_there}
+use Rattle.gptp_lists.proofs.MappedLemmas.{same_there}
 use Rattle.gptp_lists.proofs.PlaceLemmas.{get-set_other, get-set_same, map-set_same, member_there, same_place}
 use Rattle.gptp_graph.specs.Snapshot.{Joins, PortIdentity, System}
-use Rattle.gptp_vector.specs.declared.port.PortId.{PortId}
 use Rattle.gptp_links.specs.declared.link.Direction.{Direction}
 use Rattle.gptp_links.specs.declared.link.Direction.TheVariants.{FromA, FromB}
 use Rattle.gptp_links.specs.Fate.{Draw}
@@ -17,60 +16,48 @@ use Rattle.gptp_scenario.specs.declared.change.Act.TheVariants.{Change as Changi
 use Rattle.gptp_scenario.specs.declared.change.Change.TheVariants.{LinkDown}
 use Rattle.gptp_setup.specs.declared.setup.Params.{Params}
 use Rattle.gptp_setup.specs.Intervals.{interval_of}
-use Rattle.gptp_setup.specs.SettlingParams.{SettlingParams, largest_interval}
-use Rattle.gptp_system.specs.declared.answer.Answer.{Answer}
+use Rattle.gptp_setup.specs.SettlingParams.{SettlingParams}
 use Rattle.gptp_system.specs.declared.sending.Sending.{Sending}
 use Rattle.gptp_system.specs.Facts.{AreHeld, IsAtRest}
 use Rattle.gptp_system.specs.Input.{PortDown}
-use Rattle.gptp_system.specs.Measures.{measure_at}
 use Rattle.gptp_system.specs.Measuring.{GoesDown, down, silenced}
 use Rattle.gptp_system.specs.State.{SystemState, change_at, clock, number, on_port}
 use Rattle.gptp_system.specs.Steps.{HasPortNumber}
 use Rattle.gptp_system.proofs.RestLemmas.{selects_again}
-use Rattle.gptp_model.specs.Act.{Calls, all_timers, in_state}
+use Rattle.gptp_model.specs.Act.{all_timers, in_state}
 use Rattle.gptp_model.specs.Acts.{Acts, AtLink}
 use Rattle.gptp_model.specs.Changing.{CallsIfLive, GoesDownIf, IsChannel, TellsEnds, lost, taken_down}
 use Rattle.gptp_model.specs.declared.done.Done.{Done}
 use Rattle.gptp_model.specs.declared.station.Station.{Station}
 use Rattle.gptp_model.specs.Sends.{SendsAll}
-use Rattle.gptp_model.specs.Sound.{HaveOwnClocks}
 use Rattle.gptp_model.specs.World.{Channel, Net, WorldState, port_id, receiver, sender}
-use Rattle.gptp_model.proofs.ActsByLemmas.{join_among}
-use Rattle.gptp_model.proofs.EndLemmas.{each_end_told}
-use Rattle.gptp_model.proofs.StayLemmas.{JoinTheSame, begins_same, join_on, set_join, stays_clocks}
-use Rattle.gptp_pdelay_machine.specs.Setting.{Setting}
-use Rattle.gptp_pdelay_machine.specs.Silence.{InvUnanswered}
 use Rattle.gptp_bmca_machine.specs.Frame.{AnnounceFrame, Lane}
 use Rattle.gptp_bmca_machine.specs.Network.{Network}
 use Rattle.gptp_bmca_machine.specs.SoundEverywhere.{IsSoundEverywhere, LaneIsSound}
-use Rattle.gptp_bmca_machine.specs.Station.{Station as SeenStation}
 use Rattle.gptp_invariants.specs.ChoiceCalm.{HaveQuietLinks, lane_of}
 use Rattle.gptp_invariants.specs.ChoiceSettlesAsMachine.{IsWorld}
 use Rattle.gptp_invariants.specs.ChoiceView.{lane_view, says_announce, span_at, station_view, system_view, view}
 use Rattle.gptp_invariants.specs.DelayLinkView.{IsLinkOf, LinkPlace, asker_view, link_lane_view, other_direction, waits_view}
-use Rattle.gptp_invariants.specs.DelayMeasured.{LinkStandsAt, StationIsLiveAt}
-use Rattle.gptp_invariants.specs.FailedUnanswered.{IsFailedAmong, IsNeverAnswered, IsSilent, IsUnansweredAt, StandsUnanswered, silent_setting, silent_view}
+use Rattle.gptp_invariants.specs.DelayMeasured.{LinkStandsAt}
 use Rattle.gptp_invariants.specs.WorldNews.{AreSilentBy, IsNews}
 use Rattle.gptp_invariants.specs.WorldSettlingInvariant.{KeepsAll}
 use Rattle.gptp_invariants.specs.WorldSound.{IsSoundWorld}
 use Rattle.gptp_invariants.specs.WorldStanding.{channel_is_used, live_stations, snapshot_of}
-use Rattle.gptp_invariants.proofs.ChoiceCalmKeptLemmas.{KeepsNetwork, calls_keep, delay_kept, keeps_on, net_keeps, same_snapshot}
+use Rattle.gptp_invariants.proofs.ChoiceCalmKeptLemmas.{KeepsNetwork, delay_kept, same_snapshot}
 use Rattle.gptp_invariants.proofs.ChoiceSeenLaneLemmas.{lane_from, lane_there}
 use Rattle.gptp_invariants.proofs.DelayClaimedCapableLemmas.{clock_has, used_if}
-use Rattle.gptp_invariants.proofs.FailedUnansweredCallLemmas.{CallStep, call_seen, view_stays}
 use Rattle.gptp_invariants.proofs.WorldWayLemmas.{way_of}
-use Rattle.gptp_invariants.proofs.FailedNeverAnsweredLemmas.{never_called}
 use Rattle.gptp_invariants.proofs.WorldNewsLemmas.{silent_off}
 use Rattle.gptp_settling_time.proofs.AlwaysClaimedLemmas.{IsClaimedAlways, lane_at, same_start}
 use Rattle.gptp_settling_time.proofs.FailedUpLemmas.{delay_set, used_set}
-use Rattle.gptp_settling_time.proofs.LinkStoodLemmas.{second_still, stood_in, stood_untold, used_elsewhere}
+use Rattle.gptp_settling_time.proofs.LinkStoodLemmas.{second_still, used_elsewhere}
 use Rattle.gptp_settling_time.proofs.LinkUpLemmas.{lane_set}
 use Rattle.gptp_settling_time.proofs.QuietUpLemmas.{unseen_at}
 use Rattle.gptp_settling_time.proofs.SameLinkLemmas.{IsSameLink}
 use Rattle.gptp_settling_time.proofs.SamePartsLemmas.{of_down, tells_parts}
 use Rattle.gptp_settling_time.proofs.StandsLikeLemmas.{StandsLike, claims_like, expects_none, news_like}
 use Rattle.gptp_settling_time.proofs.StandsStillLemmas.{StandsStill, changed_still, claims_stand, news_stands}
-use Rattle.gptp_model.specs.Ahead.{IsPortAmong}
+use Rattle.gptp_settling_time.proofs.TakenDownLemmas.{silent_down, stood_down, told_keeps}
 
 -- ---- a port that takes no part goes down
 
@@ -127,14 +114,13 @@ record IsUnseen (w w' : WorldState) : Type 0 where
   time : w'.time ≡ w.time
   stations : (view w').stations ≡ (view w).stations
   channels : w'.net.channels ≡ w.net.channels
-  keeps : KeepsNetwork w w'
 
 down_unseen : (place port : ℕ) (w : WorldState) (draws : List Draw) (w' : WorldState)
     → ((station : Station) → slice_get w.stations place ≡ Some station → station.live ≡ true → CanGoDown station port)
     → CallsIfLive place (PortDown port) w draws w' → IsUnseen w w'
 down_unseen place port w draws w' can (inr (failed, none, same)) =
     subst (IsUnseen w) (sym same)
-    (record { time = refl; stations = refl; channels = refl; keeps = net_keeps w w.net refl })
+    (record { time = refl; stations = refl; channels = refl })
 down_unseen place port w draws w' can (inl (answer, c)) =
     let x = can c.station c.here c.live in
     let (i, is, off) = x.off in
@@ -150,7 +136,6 @@ down_unseen place port w draws w' can (inl (answer, c)) =
           ∙ map-set_same station_view w.stations place c.station (in_state c.after c.station) c.here
           (unseen w.time i c.station.system c.after c.sends x.held x.rest off steps c.station.live);
       channels = ap (λ (v : WorldState). v.net.channels) c.is ∙ ap (λ (n : Net). n.channels) net;
-      keeps = calls_keep place (PortDown port) w draws answer w' (λ value same. absurd cc) c;
     }
 
 unseen_on : (w v u : WorldState) → IsUnseen w v → IsUnseen v u → IsUnseen w u
@@ -158,43 +143,7 @@ unseen_on w v u first second = record {
   time = second.time ∙ first.time;
   stations = second.stations ∙ first.stations;
   channels = second.channels ∙ first.channels;
-  keeps = keeps_on w v u first.keeps second.keeps;
 }
-
--- ---- a port beside a failed system
-
-module _ (gone : ℕ) (at : LinkPlace) (place : ℕ) (port : PortId) (w : WorldState) (draws : List Draw) (w' : WorldState)
-    (named : (station : Station) → slice_get w.stations place ≡ Some station → clock station.system ≡ port.clock)
-    (clocks : HaveOwnClocks w) (is : IsSilent gone at w) (apart : sender at.direction is.link.channel ≢ port) where
-  module _ (answer : Answer) (k : Calls place (PortDown port.port) w draws answer w') where
-    step : CallStep place (PortDown port.port) gone at w w' is.link
-    step = call_seen gone at place (PortDown port.port) w draws answer w' k clocks is.link is.old (λ same. tt)
-
-    other : at.asking ≡ place → (sender at.direction is.link.channel).port ≢ port.port
-    other same number_is =
-        let clock_is : (sender at.direction is.link.channel).clock ≡ port.clock =
-        sym is.link.asking.named
-        ∙ named is.link.asking.station (ap (slice_get w.stations) (sym same) ∙ is.link.asking.here) in
-        apart (λ i. record { clock = clock_is i; port = number_is i })
-
-    same_part : measure_at step.after.asking.state ≡ measure_at is.link.asking.state
-    same_part = elim step.part [
-      | inl called ↦ of_down.leaves is.link.asking.station.system w.time port.port
-          (sender at.direction is.link.channel).port (measure_at is.link.asking.state)
-          (measure_at step.after.asking.state) (other called.0) called.1
-      | inr left ↦ left.1
-    ]
-
-    same_view : silent_view at w' step.after ≡ silent_view at w is.link
-    same_view = view_stays step (ap (asker_view (interval_of is.link.asking.station.setup.params.pdelay)) same_part)
-
-    called_silent : IsSilent gone at w'
-    called_silent = record {
-      link = step.after;
-      old = step.old;
-      inv = subst (λ (x : Setting). InvUnanswered x gone (silent_view at w' step.after)) (sym step.settled)
-          (subst (InvUnanswered (silent_setting at w is.link) gone) (sym same_view) is.inv);
-    }
 
 -- ---- the link goes down
 
@@ -281,6 +230,9 @@ module _ (p : SettlingParams) (start : ℕ) (w : WorldState) (news : IsNews p st
         (k.is_b.here ∙ ap (λ x. Some x) (sym one))
         (ap (λ (x : Station). clock x.system) one ∙ k.is_b.named) k.is_a.here k.is_a.named live) k.at_b)
 
+    keeps : KeepsNetwork taken w'
+    keeps = told_keeps channel taken draws w' k
+
     channels_now : w'.net.channels ≡ slice_set w.net.channels place (lost channel)
     channels_now = told.channels
 
@@ -311,7 +263,7 @@ module _ (p : SettlingParams) (start : ℕ) (w : WorldState) (news : IsNews p st
     quiet_before : (params : Params) → HaveQuietLinks params w' → HaveQuietLinks params w
     quiet_before params calm link other there used =
         calm link other (stands_so link other there (used_apart link other there used))
-        (ap (λ s. channel_is_used s other) told.keeps.systems ∙ used)
+        (ap (λ s. channel_is_used s other) keeps.systems ∙ used)
 
     same_link : (at : LinkPlace) (l : IsLinkOf at w) → IsSameLink at w w' l
     same_link at l =
@@ -344,40 +296,24 @@ module _ (p : SettlingParams) (start : ℕ) (w : WorldState) (news : IsNews p st
           bounds = whole.bounds;
         }
 
-    -- what is up is another link
-    up_apart : (link : ℕ) (other : Channel) → slice_get w'.net.channels link ≡ Some other → other.up ≡ true
-        → link ≢ place
-    up_apart link other there is_up same =
-        let one : other ≡ lost channel =
-        same_Some other (lost channel)
-        (sym there ∙ ap (λ cs. slice_get cs link) channels_now
-        ∙ ap (slice_get (slice_set w.net.channels place (lost channel))) same
-        ∙ get-set_same w.net.channels place channel (lost channel) here) in
-        let both : true ≡ false = sym is_up ∙ ap (λ (c : Channel). c.up) one in
-        cc
-
     stood : (at : LinkPlace) → LinkStandsAt at w' → LinkStandsAt at w
-    stood at s =
-        let old = stood_untold p w (taken_down place channel w.net) w' is is' told.keeps at s in
-        let apart = up_apart at.link old.channel
-        (ap (λ cs. slice_get cs at.link) channels_now ∙ old.here) old.up in
-        stood_in at taken w old refl (sym (get-set_other w.net.channels place at.link (lost channel) apart) ∙ old.here)
+    stood = stood_down p w is place channel here draws w' is' k channels_now
 
     pub down_like : StandsLike w w'
     down_like = record {
       time = told.time;
       stations = told.stations;
-      snapshot = same_snapshot taken w' told.keeps
+      snapshot = same_snapshot taken w' keeps
           ∙ (λ i. record {
             systems = systems;
             links = used_set systems w.net.channels place channel (lost channel) here dead refl i;
           });
-      delay = delay_kept taken w' told.keeps
+      delay = delay_kept taken w' keeps
           ∙ delay_set systems w.net.channels place channel (lost channel) here dead refl;
-      places = told.keeps.places;
-      logs = λ port. ap (λ (n : Network). n.log_of port) (same_start p 0 0 taken w' told.keeps);
+      places = keeps.places;
+      logs = λ port. ap (λ (n : Network). n.log_of port) (same_start p 0 0 taken w' keeps);
       lane_places = λ port.
-          ap (λ (n : Network). n.lane port) (same_start p 0 0 taken w' told.keeps)
+          ap (λ (n : Network). n.lane port) (same_start p 0 0 taken w' keeps)
           ∙ lane_set w.net.channels place channel (lost channel) port here refl refl;
       lanes = lanes;
       quiet = quiet_before;
@@ -387,91 +323,8 @@ module _ (p : SettlingParams) (start : ℕ) (w : WorldState) (news : IsNews p st
 
     -- ---- ports beside failed systems
 
-    lived : (at number : ℕ) → StationIsLiveAt at number w' → StationIsLiveAt at number w
-    lived at number x =
-        let (old, old_here, same) = mapped station_view w.stations at (station_view x.station)
-        (ap (λ xs. slice_get xs at) (sym told.stations) ∙ mapped_there station_view w'.stations at x.station x.here) in
-        record {
-          station = old;
-          here = old_here;
-          live = ap (λ (y : SeenStation). y.live) same ∙ x.live;
-          named = ap (λ (y : SeenStation). y.clock) same ∙ x.named;
-        }
-
-    had_failed : (at number : ℕ) → IsFailedAmong at number w'.stations → IsFailedAmong at number w.stations
-    had_failed at number x =
-        let (old, old_here, same) = mapped station_view w.stations at (station_view x.station)
-        (ap (λ xs. slice_get xs at) (sym told.stations) ∙ mapped_there station_view w'.stations at x.station x.here) in
-        record {
-          station = old;
-          here = old_here;
-          failed = ap (λ (y : SeenStation). y.live) same ∙ x.failed;
-          named = ap (λ (y : SeenStation). y.clock) same ∙ x.named;
-        }
-
-    module _ (at : LinkPlace) (s : StandsUnanswered at w') where
-      apart : at.link ≢ place
-      apart = up_apart at.link s.channel s.here s.up
-
-      before : StandsUnanswered at w
-      before = record {
-        channel = s.channel;
-        here = sym (get-set_other w.net.channels place at.link (lost channel) apart)
-            ∙ ap (λ cs. slice_get cs at.link) (sym channels_now) ∙ s.here;
-        up = s.up;
-        asking = lived at.asking (sender at.direction s.channel).clock s.asking;
-        answering = had_failed at.answering (receiver at.direction s.channel).clock s.answering;
-      }
-
-      joins : JoinTheSame w.net.channels taken.net.channels
-      joins = set_join w.net.channels place channel (lost channel) here refl refl
-
-      -- its port is none of the link that goes down
-      no_end : (v : WorldState) → JoinTheSame w.net.channels v.net.channels → (l : IsUnansweredAt at v)
-          (way : Direction) → sender at.direction l.channel ≢ sender way channel
-      no_end v on l way same =
-          let was = on at.link l.channel l.here in
-          apart (is.sound.wired.apart at.link place at.direction way was.old channel was.here here
-          (sym (begins_same w.net.channels at.link at.direction l.channel was) ∙ same))
-
-      ports : (direction : Direction) → IsPortAmong (sender direction channel) taken.stations
-      ports = join_among w place channel is.sound.wired.ports here
-
-      link_taken : (l : IsUnansweredAt at w) → IsUnansweredAt at taken
-      link_taken l = record {
-        channel = l.channel;
-        here = get-set_other w.net.channels place at.link (lost channel) apart ∙ l.here;
-        up = l.up;
-        asking = l.asking;
-        answering = l.answering;
-      }
-
-      silent_at : (gone : ℕ) → IsSilent gone at w → IsSilent gone at w'
-      silent_at gone one =
-          each_end_told PortDown channel taken (IsSilent gone at)
-          (λ direction q v ds answer v' c stays named number so.
-          called_silent gone at q (sender direction channel) v ds v'
-          (λ station there.
-          ap (λ (x : Station). clock x.system) (same_there v.stations q station c.station there c.here) ∙ named)
-          (stays_clocks taken v stays is.sound.wired.clocks) so
-          (no_end v (join_on w.net.channels taken.net.channels v.net.channels joins stays.links) so.link direction)
-          answer c) is.sound.wired.setups ports draws w' k
-          (record { link = link_taken one.link; old = one.old; inv = one.inv })
-
-      never_at : IsNeverAnswered at w → IsNeverAnswered at w'
-      never_at one =
-          each_end_told PortDown channel taken (IsNeverAnswered at)
-          (λ direction q v ds answer v' c stays named number so.
-          never_called at q (PortDown (sender direction channel).port) v ds answer v' c
-          (stays_clocks taken v stays is.sound.wired.clocks) so (λ same. tt) (λ same. tt)) is.sound.wired.setups ports
-          draws w' k
-          (record { link = link_taken one.link; mute = one.mute; unmeasured = one.unmeasured })
-
     pub down_silent : AreSilentBy p start w'
-    down_silent at s = elim (news.silent at (before at s)) [
-      | inl never ↦ inl (never_at at s never)
-      | inr (change, one, soon) ↦ inr (change, silent_at at s (change + largest_interval p) one, soon)
-    ]
+    down_silent = silent_down p w is place channel here draws w' is' k channels_now start news.silent
 
     -- ---- what is held and in flight
 

@@ -1,8 +1,8 @@
 -- A choice bound of a time gives what the network came from then, and when it has settled by that.
-use Rattle.std.proofs.Common.{◌≡◌, ◌⊎◌, inl, inr, ◌<◌, ◌≤◌, ◌+◌, ◌-◌, ◌*◌, ℕ, suc, pred, List, [], ◌∷◌, ◌++◌, refl, sym, subst, ◌∙◌, append_assoc, append-nil, arith}
+use Rattle.std.proofs.Common.{◌≡◌, ◌⊎◌, inl, inr, ◌<◌, ◌≤◌, ◌+◌, ◌-◌, ◌*◌, ℕ, zero, suc, pred, List, [], ◌∷◌, ◌++◌, refl, sym, subst, ◌∙◌, append_assoc, append-nil, arith}
 use Rattle.std.specs.Prelude.{max}
 use Rattle.std.specs.List.{AllByRecursion}
-use Rattle.std.proofs.Math.Nat.{le-max_left, le-max_right}
+use Rattle.std.proofs.Math.Nat.{le-max_left, le-max_right, mul-le-mul_right}
 use Rattle.gptp_setup.specs.SettlingParams.{largest_interval, longest_span}
 use Rattle.gptp_scenario.specs.Calm.{IsCalm, NothingLapses, last_change}
 use Rattle.gptp_scenario.specs.Network.{IsNetwork, NetworkState, pace_of}
@@ -17,8 +17,8 @@ use Rattle.gptp_scenario.specs.declared.sync_wait.SyncPaths.{SyncPaths}
 use Rattle.gptp_network.specs.Document.{DocumentState}
 use Rattle.gptp_network.specs.Events.{AreInOrder}
 use Rattle.gptp_network.specs.Snapshot.{events_by}
-use Rattle.gptp_settling_time.specs.HowSoon.{AfterIdleEvents, AreGainEvents, AreHeardEvents, AreReadyAtStart, AreStartEvents, BoundsEvents, BoundsStart, EachEvent, IsChoiceBound, IsChoiceBoundAfter, IsGainEvent, IsGainToo, IsHeardEvent, IsHeardToo, IsIdleEvent, IsStillEvent, TurnsUnused, events_at, way_span, AreWiderEvents}
-use Rattle.gptp_settling_time.specs.InTurn.{AnyPast, AreCapableSoon, BeginsBy, EventLeads, Gained, HasSettledAnyhow, HasSettledHeard, HasSettledSince, Heard, LeadOn, LeavesSettled, MakesNothing, Past, SettlesAfter, SettlesByEvents, Starting, StartsWith, TellsNothing, TurnsInVain, UsedVaryLittle, WidensLink}
+use Rattle.gptp_settling_time.specs.HowSoon.{AfterIdleEvents, AreGainEvents, AreHeardEvents, AreReadyAtStart, AreStartEvents, BoundsEvents, BoundsStart, EachEvent, IsChoiceBound, IsChoiceBoundAfter, IsGainEvent, IsGainToo, IsHeardEvent, IsHeardToo, IsIdleEvent, IsLossBoundAfter, IsStillEvent, LowersOneLink, TurnsUnused, events_at, way_span, AreWiderEvents}
+use Rattle.gptp_settling_time.specs.InTurn.{AnyPast, AreCapableSoon, BeginsBy, EventLeads, Gained, HasSettledAnyhow, HasSettledHeard, HasSettledSince, Heard, LeadOn, LeavesSettled, Left, LowersCalm, MakesNothing, Past, SettlesAfter, SettlesByEvents, Starting, StartsWith, TellsNothing, TurnsInVain, UsedVaryLittle, WidensLink}
 use Rattle.gptp_settling_time.specs.Losses.{LeavesChoice}
 use Rattle.gptp_settling_time.proofs.CutLemmas.{IsBy, all_by}
 use Rattle.gptp_settling_time.proofs.MadeLemmas.{adds_later}
@@ -46,12 +46,13 @@ leads_on n made first mid last (event ∷ events) more (next, leads, is) then = 
       (subst (λ es. LeadOn n es mid more last) (sym (append_assoc made (event ∷ []) events)) then),
 )
 
--- by a time it has settled, whatever it came from
+-- by a time it has come to rest, whatever it came from
 abbrev HasSettled : NetworkState → List Timed → Past → ℕ → Type 0
 HasSettled n events AnyPast time = HasSettledAnyhow n events time
 HasSettled n events Starting time = ⊥
 HasSettled n events (Gained start) time = HasSettledSince n events start time
 HasSettled n events (Heard start) time = HasSettledHeard n events start time
+HasSettled n events (Left start) time = ⊥
 
 settled_later : (n : NetworkState) (events : List Timed) (past : Past) (time later : ℕ) → time ≤ later
     → HasSettled n events past time → HasSettled n events past later
@@ -60,6 +61,7 @@ settled_later n events AnyPast time later less is =
 settled_later n events Starting time later less is = absurd is
 settled_later n events (Gained start) time later less is = omega (arith, is, less)
 settled_later n events (Heard start) time later less is = omega (arith, is, less)
+settled_later n events (Left start) time later less is = absurd is
 
 settled_so : (n : NetworkState) (events : List Timed) (past : Past) (time : ℕ) → NothingLapses n.params
     → HasSettled n events past time → SettlesAfter n events past time
@@ -67,6 +69,7 @@ settled_so n events AnyPast time off is = inl (off, is.passed)
 settled_so n events Starting time off is = absurd is
 settled_so n events (Gained start) time off is = inl (off, is)
 settled_so n events (Heard start) time off is = (off, is)
+settled_so n events (Left start) time off is = absurd is
 
 -- ---- an event leads from a network that has settled
 
@@ -99,6 +102,7 @@ module _ (n : NetworkState) (made : List Timed) (event : Timed) where
       inl (takes, inl (inr (omega (arith, settled, less), leaves)))
   gain_leads (Heard start) next settled less (takes, leaves) =
       inl (takes, inl (inr (omega (arith, settled, less), leaves)))
+  gain_leads (Left start) next settled less gain = absurd settled
 
   heard_leads : (past : Past) (next : ℕ) → HasSettled n made past event.at → IsHeardEvent n next made event
       → EventLeads n made past event (Heard next)
@@ -110,6 +114,7 @@ module _ (n : NetworkState) (made : List Timed) (event : Timed) where
   heard_leads (Heard start) next settled (inl adds) =
       let later = adds_later n made event next adds in inl (omega (arith, settled, later), adds)
   heard_leads (Heard start) next settled (inr better) = inr (inl (settled, inl better))
+  heard_leads (Left start) next settled heard = absurd settled
 
   -- what makes nothing of what stands leads from a network that has settled to one that has settled by then, as if its
   -- ports had been capable from a time on
@@ -128,6 +133,7 @@ module _ (n : NetworkState) (made : List Timed) (event : Timed) where
     way_over Starting settled = absurd settled
     way_over (Gained start) settled = omega (arith, settled)
     way_over (Heard start) settled = omega (arith, settled)
+    way_over (Left start) settled = absurd settled
 
     same_paths : IsStillEvent n made event → sync_paths n more ≡ sync_paths n made
     same_paths (inl (inl nothing)) = idle_paths n network made event nothing
@@ -162,6 +168,7 @@ module _ (n : NetworkState) (made : List Timed) (event : Timed) where
       idle_leads Starting settled = absurd settled
       idle_leads (Gained start) settled = (settled, inr (inr (inl (leaves_so (way_over (Gained start) settled)))))
       idle_leads (Heard start) settled = inr (inl (settled, inr (inl (leaves_so (way_over (Heard start) settled)))))
+      idle_leads (Left start) settled = absurd settled
 
       pub idle_settled : (past : Past) → HasSettled n made past event.at → HasSettled n more (Heard since) event.at
       idle_settled past settled =
@@ -292,6 +299,7 @@ module _ (n : NetworkState) (network : IsNetwork n) where
       )),
       omega (arith, is, soon),
     )
+    widens_leads made event (Left start) settled by here calm is late widens soon = absurd is
 
     wider_led : (made now : List Timed) (past : Past) (settled : ℕ) → AllNow now → IsCalm n made
         → HasSettled n made past (suc settled) → settled < time → AreWiderEvents n settled time made now
@@ -529,6 +537,42 @@ module _ (n : NetworkState) (network : IsNetwork n) (off : NothingLapses n.param
           (gains_led n network off time ready (events_by last all ++ events_at time all) choice is)
           (events_by last all) (events_at time all) past refl (all_at time all) (by_now past settled) each
 
+-- ---- a loss
+
+module _ (n : NetworkState) (made : List Timed) (event : Timed) where
+  -- a link goes down by which no system is moved: the network is left so that its choice stands
+  record IsLowered (past : Past) : Type 0 where
+    start : ℕ
+    leads : EventLeads n made past event (Left start)
+    over : start + way_span (sync_paths n made) ≤ event.at
+
+  lowers_leads : (past : Past) → HasSettled n made past event.at → LowersCalm n made event → IsLowered past
+  lowers_leads AnyPast settled lowers =
+      let passed = settled.passed in
+      let over = le-max_left (capability_span (pace_of n)) (2 * largest_interval (pace_of n)
+      + (sync_paths n made).systems * (longest_span (pace_of n) + (sync_paths n made).delay)) in
+      record {
+        start = last_change made + capability_span (pace_of n);
+        leads = (settled, lowers, refl);
+        over = omega (arith, passed, over);
+      }
+  lowers_leads Starting settled lowers = absurd settled
+  lowers_leads (Gained start) settled lowers =
+      record { start = start; leads = (settled, lowers, refl); over = omega (arith, settled) }
+  lowers_leads (Heard start) settled lowers =
+      record { start = start; leads = (settled, lowers, refl); over = settled }
+  lowers_leads (Left start) settled lowers = absurd settled
+
+-- the way that is left is no longer
+less_way : (systems fewer delay same : ℕ) → fewer ≤ systems → same ≡ delay → pred fewer * same ≤ pred systems * delay
+less_way systems fewer delay same few is =
+    subst (λ d. pred fewer * d ≤ pred systems * delay) (sym is) (mul-le-mul_right delay (by fewer systems few))
+  where
+    by : (a b : ℕ) → a ≤ b → pred a ≤ pred b
+    by zero b less = omega arith
+    by (suc a) zero less = absurd (omega (arith, less))
+    by (suc a) (suc b) less = omega (arith, less)
+
 -- A choice bound of a document at a time: by then it settles after all events up to any time before the next.
 module _ (d : DocumentState) (network : IsNetwork d.network) (order : AreInOrder d.events)
     (time choice until settled : ℕ) (same : events_by until d.events ≡ events_by time d.events)
@@ -573,5 +617,39 @@ module _ (d : DocumentState) (network : IsNetwork d.network) (order : AreInOrder
       follow_settles calm off
       (followed n network off d.events order (last ∷ earlier) time choice (later, between, (calm, inr (off, rest))))
 
+  -- after a loss
+  loss_settles : (last choice_then : ℕ) (now : List Timed) → NothingLapses n.params
+      → events_at time d.events ≡ now → made ≡ events_by last d.events ++ now → IsCalm n (events_by last d.events)
+      → IsCalm n made → IsFollowedTo n (events_by last d.events) last choice_then → last + choice_then < time
+      → LowersOneLink n (events_by last d.events) now → SettlesByEvents d until settled
+  loss_settles last choice_then [] off is parts calm_then calm before soon none = absurd none
+  loss_settles last choice_then (event ∷ other ∷ now) off is parts calm_then calm before soon none = absurd none
+  loss_settles last choice_then (event ∷ []) off is parts calm_then calm before soon lowers =
+      let earlier = events_by last d.events in
+      let here : event.at ≡ time =
+      (subst (AllByRecursion (λ (t : Timed). t.at ≡ time)) is (all_at time d.events)).0 in
+      let then = settled_later n earlier before.last (suc (last + choice_then)) event.at (omega (arith, soon, here))
+      before.settles in
+      let x = lowers_leads n earlier event before.last then (record { lowers = lowers; calm = calm_then; off = off }) in
+      let way = less_way (sync_paths n earlier).systems (sync_paths n (earlier ++ event ∷ [])).systems
+      (sync_paths n earlier).delay (sync_paths n (earlier ++ event ∷ [])).delay lowers.paths lowers.delay in
+      let over = x.over in
+      settles_so before.first (Left x.start) before.begins
+      (subst (λ es. LeadOn n [] before.first es (Left x.start)) (sym parts)
+      (leads_on n [] before.first before.last (Left x.start) earlier (event ∷ []) before.lead
+      (Left x.start, x.leads, refl))) calm (
+        off,
+        subst (λ es. x.start + way_span (sync_paths n es) ≤ settled) (sym parts)
+            (omega (arith, over, way, here, late)),
+      )
+
+  lost_settles : (earlier : List ℕ) → IsLossBoundAfter n d.events earlier time choice → SettlesByEvents d until settled
+  lost_settles [] none = absurd none
+  lost_settles (last ∷ earlier) (less, between, calm, off, (choice_then, bound, soon), lowers, none) =
+      loss_settles last choice_then (events_at time d.events) off refl
+      (parted d.events last time order less between) (bound_calm n network off d.events order earlier last choice_then
+      bound) calm (followed n network off d.events order earlier last choice_then bound) soon lowers
+
   pub bound_settles : IsChoiceBound d time choice → SettlesByEvents d until settled
-  bound_settles (earlier, bound) = settles_after earlier bound
+  bound_settles (earlier, inl bound) = settles_after earlier bound
+  bound_settles (earlier, inr lost) = lost_settles earlier lost

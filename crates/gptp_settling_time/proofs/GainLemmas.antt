@@ -88,7 +88,7 @@ module _ (n : NetworkState) (events : List Timed) (w : WorldState) (so : StandsA
       subst (λ (b : Bounds). b.max < 2 * b.min) (ap (λ (x : LinkSpec). x.bounds) same)
       (little place v there (subst (IsEnd port) (sym same) end))
 
-  up_so : (port : PortId) → IsUpAfter n events port → IsUpAt port w
+  pub up_so : (port : PortId) → IsUpAfter n events port → IsUpAt port w
   up_so port up place channel is =
       let (v, there, same) = alike (link_after events) channel_wire n.links w.net.channels (sym so.links) place channel
       is.here in

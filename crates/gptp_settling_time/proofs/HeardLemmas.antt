@@ -225,15 +225,19 @@ module _ (p : SettlingParams) (start : ℕ) (act : Act) (w : WorldState) (draws 
       } in
       record { after = inr (inr (inl (gone, calm, then))); stays = λ was. watched_on p gone calm at w' is' then }
 
+  pub first_acted : (first by : ℕ) → IsFirstLong first by at w → IsFirstLong first by at w'
+  first_acted first by x =
+      let same = acts_time act w draws done w' acts in
+      let late = x.late in
+      record {
+        is = by_goes_through at first by act w w' draws done is.sound measured (alone act none) acts x.is;
+        late = omega (arith, late, same);
+      }
+
   first_then : (first by : ℕ) (x : IsFirstLong first by at w)
       → HeardThen p start at w w' (inr (inr (inr (first, by, x))))
   first_then first by x =
-      let same = acts_time act w draws done w' acts in
-      let late = x.late in
-      let then : IsFirstLong first by at w' = record {
-        is = by_goes_through at first by act w w' draws done is.sound measured (alone act none) acts x.is;
-        late = omega (arith, late, same);
-      } in
+      let then = first_acted first by x in
       record { after = inr (inr (inr (first, by, then))); stays = λ was. first_on first by at w' then }
 
   pub heard_acts : (x : IsHeardAt p start at w) → HeardThen p start at w w' x
@@ -243,6 +247,13 @@ module _ (p : SettlingParams) (start : ℕ) (act : Act) (w : WorldState) (draws 
   heard_acts (inr (inr (inr (first, by, x)))) = first_then first by x
 
 -- ---- time
+
+pub first_later : (p : SettlingParams) (first by : ℕ) (at : LinkPlace) (time : ℕ) (w : WorldState) → IsWorld p w
+    → w.time ≤ time → NothingBefore time w.net.pending → IsFirstLong first by at w
+    → IsFirstLong first by at (at_time time w)
+first_later p first by at time w is later nothing x =
+    let late = x.late in
+    record { is = by_goes_on at first by time w is.sound later nothing x.is; late = omega (arith, late, later) }
 
 pub heard_later : (p : SettlingParams) (start : ℕ) (at : LinkPlace) (time : ℕ) (w : WorldState) → IsWorld p w
     → w.time ≤ time
@@ -276,12 +287,7 @@ heard_later p start at time w is later nothing (inr (inr (inl (gone, calm, x))))
       },
     )))
 heard_later p start at time w is later nothing (inr (inr (inr (first, by, x)))) =
-    let late = x.late in
-    inr (inr (inr (
-      first,
-      by,
-      record { is = by_goes_on at first by time w is.sound later nothing x.is; late = omega (arith, late, later) },
-    )))
+    inr (inr (inr (first, by, first_later p first by at time w is later nothing x)))
 
 -- ---- a change elsewhere
 

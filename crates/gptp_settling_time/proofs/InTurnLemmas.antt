@@ -2,9 +2,8 @@
 use Rattle.std.proofs.Common.{◌≡◌, inl, inr, ◌<◌, ◌≤◌, ◌+◌, ◌*◌, ℕ, suc, pred, List, [], ◌∷◌, ◌++◌, Option, refl, sym, ap, subst, ◌∙◌, append_assoc, append-nil, arith}
 use Rattle.std.specs.List.{AllByRecursion}
 use Rattle.gptp_lists.specs.Members.{In}
-use Rattle.gptp_graph.specs.Best.{IsBest}
 use Rattle.gptp_graph.specs.PathBound.{BoundsPaths, path_bound}
-use Rattle.gptp_graph.specs.Snapshot.{System, clocks}
+use Rattle.gptp_graph.specs.Snapshot.{clocks}
 use Rattle.gptp_graph.proofs.ExistenceLemmas.{distance_exists}
 use Rattle.gptp_graph.proofs.PathBoundLemmas.{IsDistance-within, paths_within}
 use Rattle.gptp_bmca_machine.specs.SoundLaws.{AllAreNear}
@@ -48,7 +47,7 @@ use Rattle.gptp_invariants.proofs.WorldStandsLemmas.{stands_well}
 use Rattle.gptp_theorem.specs.PlayedLaws.{IsMade, IsPlayable}
 use Rattle.gptp_theorem.specs.AlikeLaws.{AreAlike}
 use Rattle.gptp_theorem.proofs.AlikeLemmas.{clock_among, turned}
-use Rattle.gptp_theorem.proofs.AlikeLemmas.{best as alike_best}
+use Rattle.gptp_theorem.proofs.AlikeLemmas.{best as alike_best, distance as alike_distance}
 use Rattle.gptp_theorem.proofs.CalmLemmas.{pace_stands, quiet_stands}
 use Rattle.gptp_theorem.proofs.HeadlineLemmas.{is_settled}
 use Rattle.gptp_theorem.proofs.SettlingInvariantLemmas.{IsFitEvent, events_fit, events_made, least_of}
@@ -56,13 +55,13 @@ use Rattle.gptp_theorem.proofs.SnapshotLemmas.{snapshots_stand}
 use Rattle.gptp_theorem.proofs.SyncPathLemmas.{paths_stand}
 use Rattle.gptp_settling_time.specs.Exactly.{SettlesBy}
 use Rattle.gptp_settling_time.specs.Gains.{ChangesNothing, IsIdleAfter, LeavesCapable, TakesNothing}
-use Rattle.gptp_settling_time.specs.InTurn.{ActsFindSettledInTurn, AddsHeard, AnyPast, BeginsBy, BettersClock, BringsUp, EventLeads, Gained, Heard, LeadOn, LeavesSettled, MakesNothing, Past, RecoversAlone, SettlesAfter, SettlesByEvents, Starting, TurnsInVain, WidensFrom}
-use Rattle.gptp_settling_time.specs.Losses.{MovesNone}
+use Rattle.gptp_settling_time.specs.InTurn.{ActsFindSettledInTurn, AddsHeard, AnyPast, BeginsBy, BettersClock, BringsUp, EventLeads, Gained, Heard, LeadOn, LeavesSettled, Left, LowersCalm, MakesNothing, Past, RecoversAlone, SettlesAfter, SettlesByEvents, Starting, TurnsInVain, WidensFrom}
+use Rattle.gptp_settling_time.specs.Losses.{IsUnmoved, MovesNone}
 use Rattle.gptp_settling_time.proofs.AlwaysClaimedLemmas.{IsClaimedAlways, since_later}
 use Rattle.gptp_settling_time.proofs.BegunLemmas.{begun_keeps, begun_last, rested_sound}
 use Rattle.gptp_settling_time.proofs.ClaimedToLemmas.{IsClaimedTo, claimed_act, claimed_later, claimed_settled}
 use Rattle.gptp_settling_time.proofs.DocumentLemmas.{run_to}
-use Rattle.gptp_settling_time.proofs.GainLemmas.{better_lives, down_so, few_so, gain_so, idle_so, lives_so, unused_so, used_so, within_so}
+use Rattle.gptp_settling_time.proofs.GainLemmas.{better_lives, down_so, few_so, gain_so, idle_so, lives_so, unused_so, up_so, used_so, within_so}
 use Rattle.gptp_settling_time.proofs.FailedDownLemmas.{lowered_claimed, lowered_news}
 use Rattle.gptp_settling_time.proofs.FailedUpLemmas.{raised_claimed, raised_from}
 use Rattle.gptp_settling_time.proofs.HeardLemmas.{heard_on}
@@ -70,6 +69,8 @@ use Rattle.gptp_settling_time.proofs.IdleLemmas.{idle_still}
 use Rattle.gptp_settling_time.proofs.KeptToLemmas.{IsNewsTo, KeepsTo, keeps_act, keeps_later, news_act_to, news_later_to}
 use Rattle.gptp_settling_time.proofs.LaterLemmas.{AreSteps, steps_more}
 use Rattle.gptp_settling_time.proofs.LinkUpLemmas.{link_up_claimed}
+use Rattle.gptp_settling_time.proofs.LeftToLemmas.{IsLeftTo, left_to_act, left_to_later, left_to_settled}
+use Rattle.gptp_settling_time.proofs.LoweredLemmas.{act_left}
 use Rattle.gptp_settling_time.proofs.MadeLemmas.{adds_later, anyway_ready, had_failed, made_alone, made_keeps, made_known, made_last, made_time, news_news, rest_news, uses_none}
 use Rattle.gptp_settling_time.proofs.NewsClaimedLemmas.{news_claimed, news_on, news_settled}
 use Rattle.gptp_settling_time.proofs.NewsSoonLemmas.{IsNewsFrom, from_later, from_sound, news_now}
@@ -92,6 +93,7 @@ IsAfter d events AnyPast w = KeepsTo d events w
 IsAfter d events Starting w = IsStartingTo d events w
 IsAfter d events (Gained start) w = IsNewsTo d start events w
 IsAfter d events (Heard start) w = IsClaimedTo d events start w
+IsAfter d events (Left start) w = IsLeftTo d events start w
 
 module _ (d : DocumentState) (events : List Timed) where
   pub after_keeps : (past : Past) (w : WorldState) → IsAfter d events past w → KeepsTo d events w
@@ -99,6 +101,7 @@ module _ (d : DocumentState) (events : List Timed) where
   after_keeps Starting w so = so.keeps
   after_keeps (Gained start) w so = so.keeps
   after_keeps (Heard start) w so = so.keeps
+  after_keeps (Left start) w so = so.keeps
 
   pub after_later : (past : Past) (w : WorldState) (time : ℕ) → w.time ≤ time → NothingBefore time w.net.pending
       → IsAfter d events past w → IsAfter d events past (at time w)
@@ -106,6 +109,7 @@ module _ (d : DocumentState) (events : List Timed) where
   after_later Starting w time later first so = starting_later d events w time later first so
   after_later (Gained start) w time later first so = news_later_to d events start w time later first so
   after_later (Heard start) w time later first so = claimed_later d events start w time later first so
+  after_later (Left start) w time later first so = left_to_later d events start w time later first so
 
   pub after_act : {F : Type 0} (answers : Bounds → ℕ → F → Option ℕ → F → Type 0) (past : Past) (t : ActTrace)
       (fate drawn : F) (w : WorldState) → IsNextAct w t.told.timed
@@ -117,6 +121,8 @@ module _ (d : DocumentState) (events : List Timed) where
       news_act_to d events answers t fate drawn w next was start so
   after_act answers (Heard start) t fate drawn w next was so = claimed_act d events start answers t fate drawn w next
       was so
+  after_act answers (Left start) t fate drawn w next was so = left_to_act d events start answers t fate drawn w next was
+      so
 
 -- ---- an event is made
 
@@ -319,19 +325,24 @@ module _ {F : Type 0} (answers : Bounds → ℕ → F → Option ℕ → F → T
       (from_later p next event.at w k.ready.timely.now k.ready.timely.first
       (subst (λ time. IsNewsFrom p time w) (sym same) news))
 
-  -- a system that isn't moved keeps its best
-  kept_best : MovesNone n made event → (v : ℕ) (b : System) → In v (clocks (snapshot_of w'))
-      → IsBest (snapshot_of then) v b → IsBest (snapshot_of w') v b
-  kept_best none v b known was =
+  -- a system that isn't moved isn't so in the world
+  stays_unmoved : MovesNone n made event → (v : ℕ) → In v (clocks (snapshot_of w'))
+      → IsUnmoved (snapshot_of then) (snapshot_of w') v
+  stays_unmoved none v known =
       let (g, stands) = stands_after n made playable.network in
       let (g', stands') = stands_after n more playable.network in
       let (systems, links) = snapshots_stand n made then g keeps_then.stands keeps_then.claim.world.sound stands in
       let (systems', links') = snapshots_stand n more w' g' after.stands after.claim.world.sound stands' in
       let before : AreAlike (snapshot_of then) g = record { systems = systems; links = links } in
       let now : AreAlike (snapshot_of w') g' = record { systems = systems'; links = links' } in
+      let back = turned (snapshot_of w') g' now in
       let unmoved = none g g' v stands stands' (clock_among (snapshot_of w') g' now v known) in
-      alike_best g' (snapshot_of w') (turned (snapshot_of w') g' now) v b
-      (unmoved.best b (alike_best (snapshot_of then) g before v b was))
+      record {
+        best = λ b was. alike_best g' (snapshot_of w') back v b
+            (unmoved.best b (alike_best (snapshot_of then) g before v b was));
+        far = λ far was. alike_distance g' (snapshot_of w') back v far
+            (unmoved.far far (alike_distance (snapshot_of then) g before v far was));
+      }
 
   -- what leaves a network as it stands, or its settled choice, leaves it settled
   pub left_settled : (start next : ℕ) (claim : IsClaimedAlways p start then) → AreOn p start then claim.heard
@@ -347,7 +358,8 @@ module _ {F : Type 0} (answers : Bounds → ℕ → F → Option ℕ → F → T
               after.claim.world
               (lives_so n made then keeps_then.stands keeps_then.claim.world.sound choice.clock choice.live)
               (subst SetsAnOctet choice.act fit.octet)
-              (subst (λ act. Acts act then k.draws done w') choice.act k.acts) (kept_best choice.moves)
+              (subst (λ act. Acts act then k.draws done w') choice.act k.acts)
+              (λ v b known. (stays_unmoved choice.moves v known).best b)
               keeps_then.claim.pace keeps_then.claim.measured after.claim.measured leaves.off (omega (arith, since))
               (near_then choice.few) settled claim.news.sound ready silent;
         }
@@ -376,6 +388,30 @@ module _ {F : Type 0} (answers : Bounds → ℕ → F → Option ℕ → F → T
               lossless_before = (quiet came.1.place came.1.channel came.1.is.here used).lossless;
               lossless = refl;
             }) wide.later wide.past (sound_later w event.at sound) ready silent settled;
+      }
+
+  -- a link goes down by which no system is moved
+  lowered_to : (start : ℕ) → IsSoundWorld then → AreReadyBy p start then → AreSilentBy p start then
+      → HasSettledSeen p then → start ≤ event.at → LowersCalm n made event → IsLeftTo d more start w'
+  lowered_to start sound ready silent settled past lowers =
+      let x = lowers.lowers in
+      let came : Acts (Changing (LinkDown x.clock x.port)) then k.draws done w' =
+      subst (λ act. Acts act then k.draws done w') x.act k.acts in
+      let world = keeps_then.claim.world in
+      let quiet = (quiet_stands n made then playable.network keeps_then.stands world.sound lowers.calm).links in
+      let delay : (sync_paths n more).delay ≡ delay_in w' =
+      ap (λ (y : SyncPaths). y.delay)
+      (paths_stand n more w' playable.network after.stands after.claim.world.sound) in
+      let before : (sync_paths n made).delay ≡ delay_in then = ap (λ (y : SyncPaths). y.delay) paths_then in
+      record {
+        keeps = after;
+        before = snapshot_of then;
+        since = act_left p start x.clock x.port then k.draws done w' keeps_then.claim.pace world after.claim.world
+            keeps_then.claim.measured after.claim.measured came
+            (up_so n made then keeps_then.stands (port_id x.clock x.port) (λ place v there end.
+            (x.used place v there end).up) came.1.place came.1.channel came.1.is)
+            (settled quiet lowers.off) (near_then x.few) (stays_unmoved x.moves) past
+            (sym delay ∙ x.delay ∙ before) sound ready silent;
       }
 
   -- as the network starts
@@ -465,6 +501,39 @@ module _ {F : Type 0} (answers : Bounds → ℕ → F → Option ℕ → F → T
     leads_to_heard (Heard start) next (inr (inr (nothing, same))) so =
         subst (λ time. IsClaimedTo d more time w') (sym same)
         (left_so start (since_later p start event.at w k.ready.timely.now k.ready.timely.first so.since) nothing)
+    leads_to_heard (Left start) next none so = absurd none
+
+    leads_to_left : (past : Past) (next : ℕ) → EventLeads n made past event (Left next) → IsAfter d made past w
+        → IsLeftTo d more next w'
+    leads_to_left AnyPast next (settled, lowers, same) so =
+        let passed = settled.passed in
+        let last = keeps_then.stands.last in
+        let sound = sound_later w event.at
+        (rested_sound d made event.at w playable (record { calm = settled.calm; passed = omega (arith, passed) })
+        (omega (arith, moment)) keeps) in
+        let late : w.last_change + settling_span_at_once p (sync_paths_of then) ≤ event.at =
+        subst (λ paths. w.last_change + settling_span_at_once p paths ≤ event.at) paths_then (rw last passed) in
+        let (ready, silent) = anyway_ready d made next then keeps_then (inr (omega (arith, same))) in
+        lowered_to next sound ready silent (rest_settled p then keeps_then.claim sound late)
+        (omega (arith, passed, same)) lowers
+    leads_to_left Starting next none so = absurd none
+    leads_to_left (Gained start) next (settled, lowers, same) so =
+        let late : start + largest_interval p + pred (path_bound (snapshot_of then)) * delay_in then ≤ event.at =
+        subst (λ (x : SyncPaths). start + largest_interval p + pred x.systems * x.delay ≤ event.at) paths_then
+        settled in
+        let news = news_now p start then (omega (arith, late))
+        (from_later p start event.at w k.ready.timely.now k.ready.timely.first so.news) in
+        subst (λ time. IsLeftTo d more time w') (sym same)
+        (lowered_to start news.sound news.ready news.silent (news_settled p start then news late)
+        (omega (arith, late)) lowers)
+    leads_to_left (Heard start) next (settled, lowers, same) so =
+        let claim = since_later p start event.at w k.ready.timely.now k.ready.timely.first so.since in
+        let late : start + pred (path_bound (snapshot_of then)) * delay_in then ≤ event.at =
+        subst (λ (x : SyncPaths). start + pred x.systems * x.delay ≤ event.at) paths_then settled in
+        subst (λ time. IsLeftTo d more time w') (sym same)
+        (lowered_to start claim.news.sound claim.news.ready claim.news.silent (always_settled p start then claim late)
+        (omega (arith, late)) lowers)
+    leads_to_left (Left start) next none so = absurd none
 
     leads_to_gain : (past : Past) (next : ℕ) → EventLeads n made past event (Gained next) → IsAfter d made past w
         → IsNewsFrom p next w'
@@ -477,9 +546,11 @@ module _ {F : Type 0} (answers : Bounds → ℕ → F → Option ℕ → F → T
     leads_to_gain (Heard start) next (inl (nothing, capable)) so =
         news_news answers d playable made event fate fate_after w w' done is fit k start next
         (record { keeps = keeps; news = inl so.since.news }) nothing capable
+    leads_to_gain (Left start) next (inl (nothing, none)) so = absurd none
     leads_to_gain Starting next (inl (nothing, none)) so = absurd none
     leads_to_gain AnyPast next (inr (inl (nothing, stays))) so = absurd stays
     leads_to_gain Starting next (inr (inl (nothing, stays))) so = absurd stays
+    leads_to_gain (Left start) next (inr (inl (nothing, stays))) so = absurd stays
     leads_to_gain (Gained start) next (inr (inl (nothing, same))) so = left_news start next nothing same so.news
     leads_to_gain (Heard start) next (inr (inl (nothing, same))) so =
         left_news start next nothing same (inl so.since.news)
@@ -489,6 +560,7 @@ module _ {F : Type 0} (answers : Bounds → ℕ → F → Option ℕ → F → T
         (starting_now so starts.now))
     leads_to_gain (Gained start) next (inr (inr none)) so = absurd none
     leads_to_gain (Heard start) next (inr (inr none)) so = absurd none
+    leads_to_gain (Left start) next (inr (inr none)) so = absurd none
 
     leads_to_start : (past : Past) → EventLeads n made past event Starting → IsAfter d made past w
         → IsStartingTo d more w'
@@ -498,6 +570,7 @@ module _ {F : Type 0} (answers : Bounds → ℕ → F → Option ℕ → F → T
         (starting_now so now)
     leads_to_start (Gained start) none so = absurd none
     leads_to_start (Heard start) none so = absurd none
+    leads_to_start (Left start) none so = absurd none
 
     pub leads_to : (past next : Past) → EventLeads n made past event next → IsAfter d made past w
         → IsAfter d more next w'
@@ -505,6 +578,7 @@ module _ {F : Type 0} (answers : Bounds → ℕ → F → Option ℕ → F → T
     leads_to past Starting leads so = leads_to_start past leads so
     leads_to past (Gained next) leads so = record { keeps = after; news = leads_to_gain past next leads so }
     leads_to past (Heard next) leads so = leads_to_heard past next leads so
+    leads_to past (Left next) leads so = leads_to_left past next leads so
 
 -- ---- a document
 
@@ -621,6 +695,8 @@ module _ (d : DocumentState) (playable : IsPlayable d) (all : List Timed) (calm 
       has_settled pace (sync_paths d.network all).systems start settled w so.news (can_settle so.keeps start settles) on
   after_settles (Heard start) so (off, passed) =
       claimed_settled d all start w so playable calm off (omega (arith, passed, on))
+  after_settles (Left start) so (off, passed) =
+      left_to_settled d all start w so playable calm off (omega (arith, passed, on))
 
 -- ---- the law
 
@@ -639,6 +715,7 @@ begins_after answers d playable fate until first w ts k (Heard start) (little, b
   keeps = begun_keeps answers d playable fate k.started first k.begun;
   since = begun_soon_claimed answers d playable fate k.started first k.begun start begins little;
 }
+begins_after answers d playable fate until first w ts k (Left start) none = absurd none
 
 -- each act of a run that is later than all events is done in such worlds
 pub passed_in_turn : {F : Type 0} (answers : Bounds → ℕ → F → Option ℕ → F → Type 0) (d : DocumentState)

@@ -48,6 +48,7 @@ pub mod BesideUpLemmas
 pub mod LinkStoodLemmas
 pub mod LinkUpLemmas
 pub mod FailedUpLemmas
+pub mod TakenDownLemmas
 pub mod FailedDownLemmas
 pub mod RestClaimedLemmas
 pub mod WiderLinkLemmas
@@ -73,4 +74,10 @@ pub mod SameBestLemmas
 pub mod ReselectsLemmas
 pub mod UnmovedLemmas
 pub mod BetterClockLemmas
+pub mod FitsLemmas
+pub mod LeftClaimedLemmas
+pub mod GoesDownLemmas
+pub mod ReducedLemmas
+pub mod LoweredLemmas
+pub mod LeftToLemmas
 pub mod WellFormedLemmas

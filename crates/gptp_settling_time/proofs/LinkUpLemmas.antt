@@ -71,7 +71,7 @@ use Rattle.gptp_invariants.proofs.ChoiceSettlesAsMachineLemmas.{kept_back}
 use Rattle.gptp_invariants.proofs.WorldSoundCallLemmas.{links_more, same_systems, set_there}
 use Rattle.gptp_invariants.proofs.WorldWayLemmas.{IsWay, one_way, used_joins, way_of}
 use Rattle.gptp_invariants.proofs.SyncFollowWorldLemmas.{used_within}
-use Rattle.gptp_settling_time.proofs.AlwaysClaimedLemmas.{same_start, start_calm, start_net, start_network}
+use Rattle.gptp_settling_time.proofs.AlwaysClaimedLemmas.{same_start, standing, start_calm, start_net, start_network}
 use Rattle.gptp_settling_time.proofs.GainStageLemmas.{ClaimsAlways, stage_kept}
 use Rattle.gptp_settling_time.proofs.RaisedLemmas.{unmeasured_at}
 use Rattle.gptp_settling_time.proofs.SameLinkLemmas.{StaysSameLink, told_same}
@@ -285,10 +285,10 @@ module _ (p : SettlingParams) (start next owner port : ℕ) (w : WorldState) (dr
       net_v = subst IsSettlingNetwork same_net (start_net p m next w' world' bounded')
 
       calm_before : Calm n (view w)
-      calm_before = start_calm p start w is.news is.heard quiet m
+      calm_before = start_calm p start w (standing is.news) is.heard quiet m
 
       calm_then : Calm n_v (view w')
-      calm_then = subst (λ x. Calm x (view w')) same_net (start_calm p next w' news' heard_then quiet' m)
+      calm_then = subst (λ x. Calm x (view w')) same_net (start_calm p next w' (standing news') heard_then quiet' m)
 
       invariant : Invariant says_announce n (view w)
       invariant = is.settling m bounded quiet off

@@ -21,7 +21,7 @@ use Rattle.gptp_invariants.proofs.ChoiceSettlesAsMachineLemmas.{paths_bound}
 use Rattle.gptp_invariants.proofs.WorldNewsActLemmas.{ready_later}
 use Rattle.gptp_invariants.proofs.WorldNewsLemmas.{news_begin}
 use Rattle.gptp_invariants.proofs.WorldStandsLemmas.{stands_well}
-use Rattle.gptp_settling_time.proofs.AlwaysClaimedLemmas.{AreHeard, IsClaimedAlways, seen_calm}
+use Rattle.gptp_settling_time.proofs.AlwaysClaimedLemmas.{AreHeard, IsClaimedAlways, seen_calm, standing}
 use Rattle.gptp_settling_time.proofs.HeardLemmas.{StaysCapableAt, stays_on}
 use Rattle.gptp_settling_time.proofs.RestClaimedLemmas.{AreOn}
 use Rattle.gptp_settling_time.proofs.SettledSeenLemmas.{HasSettledSeen, IsSettledSeen, always_seen, settled_in}
@@ -87,7 +87,7 @@ module _ (p : SettlingParams) (before : ℕ) (w : WorldState) (is : IsNews p bef
         }))
 
     calm : Calm old (view w)
-    calm = seen_calm p before w is heard_before quiet m
+    calm = seen_calm p before w (standing is) heard_before quiet m
 
     invariant : Invariant says_announce old (view w)
     invariant = is.settling m bounded quiet off

@@ -123,8 +123,13 @@ module _ (p : SettlingParams) (start : ℕ) (w : WorldState) (is : IsWorld p w) 
             x.measured;
       }
 
+-- so all links are measured
+pub ready_measures : (p : SettlingParams) (start : ℕ) (w : WorldState) → IsWorld p w → AreReadyBy p start w
+    → HaveQuietLinks p.params w → start ≤ w.time → HaveMeasuredLinks w
+ready_measures p start w is ready quiet late place station here live i h q holds there to joins =
+    way_measured p start w is ready quiet late place station here live i q to there joins
+    (way_of w (port_identity_number (own station.system (suc i))) to joins)
+
 pub news_measured : (p : SettlingParams) (start : ℕ) (w : WorldState) → IsNews p start w → HaveQuietLinks p.params w
     → start ≤ w.time → HaveMeasuredLinks w
-news_measured p start w news quiet late place station here live i h q holds there to joins =
-    way_measured p start w news.world news.ready quiet late place station here live i q to there joins
-    (way_of w (port_identity_number (own station.system (suc i))) to joins)
+news_measured p start w news = ready_measures p start w news.world news.ready

@@ -64,7 +64,7 @@ use Rattle.gptp_invariants.proofs.WorldSoundCallLemmas.{links_more}
 use Rattle.gptp_invariants.proofs.WorldStandsLemmas.{sender_lives, used_up}
 use Rattle.gptp_invariants.proofs.WorldSystemLemmas.{clock_in, clock_lives, live_from, live_there}
 use Rattle.gptp_invariants.proofs.WorldWayLemmas.{IsWay, used_joins, way_of}
-use Rattle.gptp_settling_time.proofs.AlwaysClaimedLemmas.{AreHeard, IsClaimedAlways, same_start, start_calm, start_net, start_network}
+use Rattle.gptp_settling_time.proofs.AlwaysClaimedLemmas.{AreHeard, IsClaimedAlways, same_start, standing, start_calm, start_net, start_network}
 use Rattle.gptp_settling_time.proofs.AsksSoonLemmas.{both_ways}
 use Rattle.gptp_settling_time.proofs.BesideUpLemmas.{seen_same}
 use Rattle.gptp_settling_time.proofs.GainStageLemmas.{ClaimsAlways, stage_kept}
@@ -506,10 +506,10 @@ module _ (p : SettlingParams) (start next number : ℕ) (w : WorldState) (draws 
       net_v = subst IsSettlingNetwork same_net (start_net p m next w' world' bounded')
 
       calm_before : Calm n (view w)
-      calm_before = start_calm p start w is.news is.heard quiet m
+      calm_before = start_calm p start w (standing is.news) is.heard quiet m
 
       calm_then : Calm n_v (view w')
-      calm_then = subst (λ x. Calm x (view w')) same_net (start_calm p next w' news' heard_then quiet' m)
+      calm_then = subst (λ x. Calm x (view w')) same_net (start_calm p next w' (standing news') heard_then quiet' m)
 
       invariant : Invariant says_announce n (view w)
       invariant = is.settling m bounded quiet off

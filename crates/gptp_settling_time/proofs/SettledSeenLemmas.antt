@@ -21,7 +21,7 @@ use Rattle.gptp_invariants.specs.WorldNews.{news_network}
 use Rattle.gptp_invariants.specs.WorldSound.{IsSoundWorld}
 use Rattle.gptp_invariants.specs.WorldStanding.{snapshot_of}
 use Rattle.gptp_invariants.proofs.ChoiceSettlesAsMachineLemmas.{paths_bound}
-use Rattle.gptp_settling_time.proofs.AlwaysClaimedLemmas.{IsClaimedAlways, start_calm, start_net, start_network}
+use Rattle.gptp_settling_time.proofs.AlwaysClaimedLemmas.{IsClaimedAlways, standing, start_calm, start_net, start_network}
 
 pub record IsSettledSeen (p : SettlingParams) (w : WorldState) : Type 0 where
   pub n : Network
@@ -77,7 +77,7 @@ always_settled p start w is late quiet off =
     let m = path_bound (snapshot_of w) in
     let bounded = paths_bound p w is.news.world in
     settled_in p w (start_network p m start w) refl (start_net p m start w is.news.world bounded)
-    (start_calm p start w is.news is.heard quiet m) (is.settling m bounded quiet off) (omega (arith, late))
+    (start_calm p start w (standing is.news) is.heard quiet m) (is.settling m bounded quiet off) (omega (arith, late))
 
 -- each link is at its last stage, in every network of the world
 module _ (p : SettlingParams) (w : WorldState) (seen : IsSettledSeen p w) (n : Network) (graph : seen.n.graph ≡ n.graph)

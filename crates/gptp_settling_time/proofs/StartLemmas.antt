@@ -67,7 +67,7 @@ use Rattle.gptp_invariants.proofs.UnmeasuredLemmas.{unmeasured_off}
 use Rattle.gptp_settling_time.proofs.LinkStoodLemmas.{exchange_over}
 use Rattle.gptp_settling_time.proofs.OrderedLemmas.{IsOrderedAt, opposite, turned}
 use Rattle.gptp_settling_time.proofs.SeenSettledLemmas.{seen_settles}
-use Rattle.gptp_settling_time.proofs.AlwaysClaimedLemmas.{AreHeard, IsClaimedAlways, little_back, since_acts, since_later, start_calm, start_net, start_network}
+use Rattle.gptp_settling_time.proofs.AlwaysClaimedLemmas.{AreHeard, IsClaimedAlways, IsStanding, little_back, since_acts, since_later, standing, start_calm, start_net, start_network}
 use Rattle.gptp_settling_time.proofs.StartCallLemmas.{begun_quiet}
 use Rattle.gptp_settling_time.proofs.UntoldLemmas.{IsUntold}
 
@@ -215,33 +215,36 @@ module _ {F : Type 0} (answers : Bounds → ℕ → F → Option ℕ → F → T
 
 -- ---- it settles
 
-module _ (p : SettlingParams) (start m : ℕ) (w : WorldState) (is : IsClaimedAlways p start w)
-    (quiet : HaveQuietLinks p.params w) (bounded : BoundsPaths (snapshot_of w) m) (off : NothingLapses p.params)
-    (late : start + pred m * delay_in w ≤ w.time) where
+module _ (p : SettlingParams) (start m : ℕ) (w : WorldState) (is : IsStanding p start w) (heard : AreHeard p start w)
+    (invariant : Invariant says_announce (start_network p m start w) (view w)) (quiet : HaveQuietLinks p.params w)
+    (bounded : BoundsPaths (snapshot_of w) m) (late : start + pred m * delay_in w ≤ w.time) where
   abbrev seen : Network
   seen = start_network p m start w
 
   net : IsSettlingNetwork seen
-  net = start_net p m start w is.news.world bounded
+  net = start_net p m start w is.world bounded
 
   state : Calm seen (view w)
-  state = start_calm p start w is.news is.heard quiet m
-
-  invariant : Invariant says_announce seen (view w)
-  invariant = is.settling m bounded quiet off
+  state = start_calm p start w is heard quiet m
 
   settled : Settled w
   settled =
-      seen_settles p seen w is.news.world refl net state invariant (omega (arith, late)) (omega (arith, late))
+      seen_settles p seen w is.world refl net state invariant (omega (arith, late)) (omega (arith, late))
       (omega (arith, late)) (omega arith)
 
-  pub since_settles : Settled w × IsBoundedWorld w
-  since_settles = (
+  pub standing_settles : Settled w × IsBoundedWorld w
+  standing_settles = (
     settled,
-    bounded_by p w is.news.world settled (λ place station here live best is_best.
+    bounded_by p w is.world settled (λ place station here live best is_best.
         systems_bounded says_announce seen (view w) place (station_view station) best net state invariant
         (station_there w.stations place station here) live is_best (omega arith)),
   )
+
+pub since_settles : (p : SettlingParams) (start m : ℕ) (w : WorldState) → IsClaimedAlways p start w
+    → HaveQuietLinks p.params w → BoundsPaths (snapshot_of w) m → NothingLapses p.params
+    → start + pred m * delay_in w ≤ w.time → Settled w × IsBoundedWorld w
+since_settles p start m w is quiet bounded off late =
+    standing_settles p start m w (standing is.news) is.heard (is.settling m bounded quiet off) quiet bounded late
 
 -- ---- it goes on
 

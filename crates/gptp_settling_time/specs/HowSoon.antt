@@ -16,7 +16,8 @@
 -- recovers, and a priority1 of a live system that gets better. The first is heard at once where its delay varies
 -- little, the second where it uses no link, the last where no path has more than 255 systems. At time 0 links may go
 -- down and come up, systems fail and a priority1 be set. Not followed are other delays that are set, and other events
--- that take something away at a later time. There the span stands.
+-- that take something away at a later time. There the span stands. But the one event of a time asks for none, too, if a
+-- link goes down by it and no system is moved.
 use Rattle.std.specs.Prelude.{◌≡◌, ◌<◌, ◌≤◌, ◌⊎◌, ◌+◌, ◌*◌, ◌==◌, ℕ, ⊤, pred, suc, List, [], ◌∷◌, ◌++◌, filter}
 use Rattle.gptp_lists.specs.Members.{In}
 use Rattle.gptp_setup.specs.Intervals.{interval_of}
@@ -36,7 +37,7 @@ use Rattle.gptp_network.specs.Document.{DocumentState}
 use Rattle.gptp_network.specs.Snapshot.{events_by}
 use Rattle.gptp_settling_time.specs.Gains.{ChangesNothing, EndHasFailed, LeavesCapable, TakesNothing}
 use Rattle.gptp_settling_time.specs.InTurn.{AddsHeard, BettersClock, MakesNothing, NoneUsed, TellsNothing, UsedVaryLittle, WidensLink}
-use Rattle.gptp_settling_time.specs.Losses.{LeavesChoice}
+use Rattle.gptp_settling_time.specs.Losses.{LeavesChoice, LowersLink}
 
 -- ---- times
 
@@ -184,5 +185,28 @@ IsChoiceBoundAfter n events (last ∷ earlier) time choice =
     × BoundsEvents n (events_by last events) (events_at time events) (last + choice_then) time choice)
     (events_by time events) choice
 
+-- one event comes, by which a link goes down, and no system is moved
+abbrev pub LowersOneLink : NetworkState → List Timed → List Timed → Type 0
+LowersOneLink n made [] = ⊥
+LowersOneLink n made (event ∷ []) = LowersLink n made event
+LowersOneLink n made (event ∷ other ∷ events) = ⊥
+
+-- A loss bound at a time, by the times before it, the latest first. It is 0, where nothing lapses, and such an event
+-- comes to a calm network behind the choice bound before. No later bound builds on it.
+abbrev pub IsLossBoundAfter : NetworkState → List Timed → List ℕ → ℕ → ℕ → Type 0
+IsLossBoundAfter n events [] time choice = ⊥
+IsLossBoundAfter n events (last ∷ earlier) time choice =
+    (last < time)
+    × NoneBetween events last time
+    × IsCalm n (events_by time events)
+    × NothingLapses n.params
+    × ((choice_then : ℕ) × IsChoiceBoundAfter n events earlier last choice_then × (last + choice_then < time))
+    × LowersOneLink n (events_by last events) (events_at time events)
+    × (choice ≡ 0)
+
+-- a choice bound of a document at a time
 abbrev pub IsChoiceBound : DocumentState → ℕ → ℕ → Type 0
-IsChoiceBound d time choice = (earlier : List ℕ) × IsChoiceBoundAfter d.network d.events earlier time choice
+IsChoiceBound d time choice =
+    (earlier : List ℕ)
+    × (IsChoiceBoundAfter d.network d.events earlier time choice
+    ⊎ IsLossBoundAfter d.network d.events earlier time choice)

@@ -11,7 +11,8 @@
 -- of what stands leaves a network settled that had settled, whatever it came from, and so does a priority1 that moves
 -- no system, and what widens the delays of a link in use. Where all was heard before, such links may also come up, and
 -- such systems recover, one after another at any time, as several at once; and what changes nothing asks for no time at
--- all.
+-- all. Nor does a link that goes down by which no system is moved, in a network that had settled. That is *left* so: its
+-- choice stands, but what is held may name links that are gone.
 use Rattle.std.specs.Prelude.{◌≡◌, ◌<◌, ◌≤◌, ◌⊎◌, ◌+◌, ◌*◌, ℕ, ⊤, pred, List, [], ◌∷◌, ◌++◌, Option, Some, slice_get}
 use Rattle.gptp_lists.specs.Members.{In}
 use Rattle.gptp_vector.specs.declared.port.PortId.{PortId}
@@ -36,7 +37,7 @@ use Rattle.gptp_theorem.specs.PlayedLaws.{IsPlayable}
 use Rattle.gptp_settling_time.specs.Documents.{IsSettledAs}
 use Rattle.gptp_settling_time.specs.Exactly.{SettlesBy}
 use Rattle.gptp_settling_time.specs.Gains.{AreCapableAnyway, AreCapableNext, AreCapableStill, ChangesNothing, EndHasFailed, HasRested, IsDownAfter, IsNoWorse, JoinsLive, LeavesCapable, TakesNothing, UsesNoLink, exchanged_from}
-use Rattle.gptp_settling_time.specs.Losses.{LeavesChoice}
+use Rattle.gptp_settling_time.specs.Losses.{LeavesChoice, LowersLink}
 
 -- what a network came from, and from when on its ports are capable
 pub data Past : Type 0 where
@@ -44,6 +45,7 @@ pub data Past : Type 0 where
   Starting : Past
   Gained : ℕ → Past
   Heard : ℕ → Past
+  Left : ℕ → Past
 
 -- ---- events at time 0
 
@@ -168,6 +170,13 @@ pub record WidensFrom (n : NetworkState) (before : List Timed) (event : Timed) (
   pub later : start + 2 * by ≤ next
   pub past : next ≤ event.at
 
+-- after these events this one takes down a link by which no system is moved, in a calm network where nothing lapses for
+-- want of Sync
+pub record LowersCalm (n : NetworkState) (before : List Timed) (event : Timed) : Type 0 where
+  pub lowers : LowersLink n before event
+  pub calm : IsCalm n before
+  pub off : NothingLapses n.params
+
 -- the network has settled from any past by this time, or from such a start, where something may not be heard or all is
 pub record HasSettledAnyhow (n : NetworkState) (events : List Timed) (time : ℕ) : Type 0 where
   pub calm : IsCalm n events
@@ -193,6 +202,7 @@ LeadsToGain n before AnyPast event next =
 LeadsToGain n before Starting event next = ⊥
 LeadsToGain n before (Gained start) event next = AreCapableStill n before start event next
 LeadsToGain n before (Heard start) event next = AreCapableStill n before start event next
+LeadsToGain n before (Left start) event next = ⊥
 
 abbrev pub LeadsToHeard : NetworkState → List Timed → Past → Timed → ℕ → Type 0
 LeadsToHeard n before AnyPast event next =
@@ -212,6 +222,19 @@ LeadsToHeard n before (Heard start) event next =
     ⊎ ((HasSettledHeard n before start event.at
     × (BettersClock n before event next ⊎ (LeavesSettled n before event next ⊎ WidensFrom n before event start next)))
     ⊎ (MakesNothing n before event start × (next ≡ start)))
+LeadsToHeard n before (Left start) event next = ⊥
+
+-- a network that had settled is left so by such a link that goes down
+abbrev pub LeadsToLeft : NetworkState → List Timed → Past → Timed → ℕ → Type 0
+LeadsToLeft n before AnyPast event next =
+    HasSettledAnyhow n before event.at × LowersCalm n before event
+    × (next ≡ last_change before + capability_span (pace_of n))
+LeadsToLeft n before Starting event next = ⊥
+LeadsToLeft n before (Gained start) event next =
+    HasSettledSince n before start event.at × LowersCalm n before event × (next ≡ start)
+LeadsToLeft n before (Heard start) event next =
+    HasSettledHeard n before start event.at × LowersCalm n before event × (next ≡ start)
+LeadsToLeft n before (Left start) event next = ⊥
 
 -- a gain, and what is heard, stays so from the start that it had
 abbrev pub StaysFrom : Past → ℕ → Type 0
@@ -219,6 +242,7 @@ StaysFrom AnyPast next = ⊥
 StaysFrom Starting next = ⊥
 StaysFrom (Gained start) next = next ≡ start
 StaysFrom (Heard start) next = next ≡ start
+StaysFrom (Left start) next = ⊥
 
 -- nothing is told as the network starts, and this is the last event then
 abbrev pub StartsFrom : NetworkState → List Timed → Past → Timed → ℕ → Type 0
@@ -226,6 +250,7 @@ StartsFrom n before AnyPast event next = ⊥
 StartsFrom n before Starting event next = StartsWith n before event next
 StartsFrom n before (Gained start) event next = ⊥
 StartsFrom n before (Heard start) event next = ⊥
+StartsFrom n before (Left start) event next = ⊥
 
 -- nothing is told as the network starts, nor after this event
 abbrev pub StartsStill : Past → Timed → Type 0
@@ -233,6 +258,7 @@ StartsStill AnyPast event = ⊥
 StartsStill Starting event = (event.at ≡ 0) × TellsNothing event.act
 StartsStill (Gained start) event = ⊥
 StartsStill (Heard start) event = ⊥
+StartsStill (Left start) event = ⊥
 
 abbrev pub EventLeads : NetworkState → List Timed → Past → Timed → Past → Type 0
 EventLeads n before past event AnyPast = ⊤
@@ -241,6 +267,7 @@ EventLeads n before past event (Gained next) =
     (TakesNothing n before event.act × LeadsToGain n before past event next)
     ⊎ ((MakesNothing n before event next × StaysFrom past next) ⊎ StartsFrom n before past event next)
 EventLeads n before past event (Heard next) = LeadsToHeard n before past event next
+EventLeads n before past event (Left next) = LeadsToLeft n before past event next
 
 -- each event leads from one to the next
 abbrev pub LeadOn : NetworkState → List Timed → Past → List Timed → Past → Type 0
@@ -250,12 +277,14 @@ LeadOn n before past (event ∷ events) last =
 
 -- ---- a document
 
--- ports are capable by then that ask from time 0 on; and where all is heard delays vary little
+-- Ports are capable by then that ask from time 0 on; and where all is heard delays vary little. No network begins after
+-- a loss.
 abbrev pub BeginsBy : NetworkState → Past → Type 0
 BeginsBy n AnyPast = ⊤
 BeginsBy n Starting = ⊤
 BeginsBy n (Gained start) = AreCapableSoon n [] start
 BeginsBy n (Heard start) = UsedVaryLittle n [] × AreCapableSoon n [] start
+BeginsBy n (Left start) = ⊥
 
 -- By this time a calm network has settled after these events. From any past the span has to pass, the sharper one where
 -- nothing lapses. Else ports become capable; then an announce interval passes where something may not be heard; and
@@ -269,6 +298,9 @@ SettlesAfter n events AnyPast settled =
 SettlesAfter n events Starting settled = ⊥
 SettlesAfter n events (Gained start) settled = SettlesBy (pace_of n) (sync_paths n events) start settled
 SettlesAfter n events (Heard start) settled =
+    NothingLapses n.params
+    × (start + pred (sync_paths n events).systems * (sync_paths n events).delay ≤ settled)
+SettlesAfter n events (Left start) settled =
     NothingLapses n.params
     × (start + pred (sync_paths n events).systems * (sync_paths n events).delay ≤ settled)
 

@@ -2,18 +2,21 @@
 --
 -- An event *moves* a system that lives after it where another system, or the same with another identity, is the best of
 -- its component then, or it is nearer to that or farther from it. So its root or its steps are others.
-use Rattle.std.specs.Prelude.{◌≡◌, ◌≤◌, ℕ, List, [], ◌∷◌, ◌++◌}
+use Rattle.std.specs.Prelude.{◌≡◌, ◌≤◌, ℕ, List, [], ◌∷◌, ◌++◌, Some, slice_get}
 use Rattle.gptp_lists.specs.Members.{In}
 use Rattle.gptp_graph.specs.Best.{IsBest}
 use Rattle.gptp_graph.specs.Distance.{IsDistance}
 use Rattle.gptp_graph.specs.Snapshot.{Snapshot, System, clocks}
 use Rattle.gptp_network.specs.Snapshot.{StandsAfter}
-use Rattle.gptp_scenario.specs.Calm.{IsLive}
-use Rattle.gptp_scenario.specs.Network.{NetworkState}
+use Rattle.gptp_scenario.specs.Calm.{IsLive, IsUsed}
+use Rattle.gptp_scenario.specs.Change.{link_after}
+use Rattle.gptp_scenario.specs.Network.{IsEnd, NetworkState}
 use Rattle.gptp_scenario.specs.SyncWait.{sync_paths}
 use Rattle.gptp_scenario.specs.declared.change.Act.TheVariants.{Change as Changing}
-use Rattle.gptp_scenario.specs.declared.change.Change.TheVariants.{Priority1}
+use Rattle.gptp_scenario.specs.declared.change.Change.TheVariants.{LinkDown, Priority1}
 use Rattle.gptp_scenario.specs.declared.change.Timed.{Timed}
+use Rattle.gptp_scenario.specs.declared.network.LinkSpec.{LinkSpec}
+use Rattle.gptp_model.specs.World.{port_id}
 
 -- in the second snapshot the system has the best that it has in the first, and is as far from it
 pub record IsUnmoved (g g' : Snapshot) (v : ℕ) : Type 0 where
@@ -34,4 +37,18 @@ pub record LeavesChoice (n : NetworkState) (before : List Timed) (event : Timed)
   pub act : event.act ≡ Changing (Priority1 clock value)
   pub live : IsLive n.systems before clock
   pub moves : MovesNone n before event
+  pub few : (sync_paths n before).systems ≤ 255
+
+-- After these events this one takes down a link in use, and no system is moved. The greatest delay of a link in use
+-- stays, and no path gets longer. None had more than 255 systems.
+pub record LowersLink (n : NetworkState) (before : List Timed) (event : Timed) : Type 0 where
+  pub clock : ℕ
+  pub port : ℕ
+  pub act : event.act ≡ Changing (LinkDown clock port)
+  pub used : (place : ℕ) (v : LinkSpec) → slice_get n.links place ≡ Some v
+      → IsEnd (port_id clock port) (link_after before v)
+      → IsUsed n.systems before (link_after before v)
+  pub moves : MovesNone n before event
+  pub delay : (sync_paths n (before ++ event ∷ [])).delay ≡ (sync_paths n before).delay
+  pub paths : (sync_paths n (before ++ event ∷ [])).systems ≤ (sync_paths n before).systems
   pub few : (sync_paths n before).systems ≤ 255

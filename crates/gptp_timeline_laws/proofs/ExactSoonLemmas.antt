@@ -68,7 +68,7 @@ use Rattle.gptp_timeline.proofs.WayLemmas.{way_there}
 use Rattle.gptp_timeline.proofs.WithinLemmas.{best_apart, has_bound, HasBound, has_error, shown_by, size_within}
 use Rattle.gptp_timeline_laws.specs.ExactSoon.{TimelinesAreExactSoon}
 use Rattle.gptp_timeline_laws.proofs.HeldLemmas.{received_name, uses_follow_up}
-use Rattle.gptp_timeline_laws.proofs.ShortenedLemmas.{bound_by, playable_by, shortened}
+use Rattle.gptp_timeline_laws.proofs.ShortenedLemmas.{playable_by, short_bound, shortened}
 use Rattle.gptp_timeline_laws.proofs.SoonLemmas.{told_time as settling_told, unfolds}
 use Rattle.gptp_timeline_laws.proofs.StretchRunLemmas.{ends_on, RunsTo, runs_to}
 use Rattle.gptp_world.specs.Transitions.{ActTrace}
@@ -199,7 +199,7 @@ module _ {F : Type 0} (answers : Bounds → ℕ → F → Option ℕ → F → T
       absurd (omega (arith, soon, behind))
 
   pub bounded : IsChoiceBound short time choice
-  bounded = (bounds.0, bound_by d.network d.events p.from bounds.0 time choice le bounds.1)
+  bounded = short_bound d p.from time choice le bounds
 
   pub soon : at_of a ≤ p.to
   soon = acts_by answers short p.to fate start p.after run.ts runs a (run.among a member)

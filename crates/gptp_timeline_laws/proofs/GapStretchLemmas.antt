@@ -191,10 +191,12 @@ choice_of n Sharp events choice above (calm, inr (off, sharp)) = absurd (omega (
 
 choice_is : (d : DocumentState) (at choice : ℕ) → 0 < d.network.params.sync_timeout → IsChoiceBound d at choice
     → choice ≡ span_at d at
-choice_is d at choice above ([], (first, bounds)) =
+choice_is d at choice above ([], inl (first, bounds)) =
     choice_of d.network _ (events_by at d.events) choice above bounds
-choice_is d at choice above ((last ∷ earlier), (late, between, bounds)) =
+choice_is d at choice above ((last ∷ earlier), inl (late, between, bounds)) =
     choice_of d.network _ (events_by at d.events) choice above bounds
+choice_is d at choice above ([], inr none) = absurd none
+choice_is d at choice above ((last ∷ earlier), inr (late, between, calm, off, rest)) = absurd (omega (arith, off, above))
 
 pub over_by : (d : DocumentState) (at from : ℕ) → IsTold d at from → 0 < d.network.params.sync_timeout
     → at ≤ last_change (events_by at d.events) → at + span_at d at ≤ from

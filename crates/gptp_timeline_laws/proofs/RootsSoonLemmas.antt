@@ -31,7 +31,7 @@ use Rattle.gptp_timeline.proofs.FollowedLemmas.{follow_best}
 use Rattle.gptp_timeline.proofs.RestLemmas.{found_live}
 use Rattle.gptp_timeline.proofs.SettlingLemmas.{begins, keeps_first, left_first}
 use Rattle.gptp_timeline_laws.specs.Soon.{StretchesFollowSoon}
-use Rattle.gptp_timeline_laws.proofs.ShortenedLemmas.{bound_by, playable_by, shortened}
+use Rattle.gptp_timeline_laws.proofs.ShortenedLemmas.{playable_by, short_bound, shortened}
 use Rattle.gptp_timeline_laws.proofs.SoonLemmas.{none, told_time, unfolds}
 use Rattle.gptp_timeline_laws.proofs.StretchRunLemmas.{ends_on, runs_to}
 
@@ -96,4 +96,4 @@ stretches_follow_soon answers d until options fate lines exceeded t playable p s
     (told_bound d b.from s playable (sym b.passage.settling_is ∙ told)) in
     bound_follows answers d true until t.passages fate t.started t.fate_after t.start t.after p s.choice g playable
     t.begun t.pass member
-    (bound.0, bound_by d.network d.events p.from bound.0 p.from s.choice (omega arith) bound.1) late stands
+    (short_bound d p.from p.from s.choice (omega arith) bound) late stands

@@ -9,9 +9,10 @@ use Rattle.gptp_network.specs.Document.{DocumentState}
 use Rattle.gptp_network.specs.Events.{IsEvent}
 use Rattle.gptp_network.specs.Snapshot.{events_by}
 use Rattle.gptp_network.proofs.SnapshotLemmas.{from_filter}
+use Rattle.gptp_scenario.specs.Calm.{IsCalm}
 use Rattle.gptp_scenario.specs.Network.{NetworkState}
 use Rattle.gptp_scenario.specs.declared.change.Timed.{Timed}
-use Rattle.gptp_settling_time.specs.HowSoon.{BoundsChoice, BoundsEvents, BoundsStart, IsChoiceBoundAfter, events_at}
+use Rattle.gptp_settling_time.specs.HowSoon.{BoundsChoice, BoundsEvents, BoundsStart, IsChoiceBound, IsChoiceBoundAfter, IsLossBoundAfter, LowersOneLink, events_at}
 use Rattle.gptp_theorem.specs.PlayedLaws.{IsPlayable}
 use Rattle.gptp_timeline.proofs.EventLemmas.{filter_each, filter_in_order}
 use Rattle.gptp_timeline.proofs.PastLemmas.{by_sooner}
@@ -55,7 +56,7 @@ bounds_by n Sharp More events choice more (calm, inr (off, inl any)) = (calm, in
 bounds_by n Sharp More events choice more (calm, inr (off, inr sharp)) = (calm, inr (off, inr (more sharp)))
 
 module _ (n : NetworkState) (all : List Timed) (until : ℕ) where
-  pub bound_by : (earlier : List ℕ) (time choice : ℕ) → time ≤ until → IsChoiceBoundAfter n all earlier time choice
+  bound_by : (earlier : List ℕ) (time choice : ℕ) → time ≤ until → IsChoiceBoundAfter n all earlier time choice
       → IsChoiceBoundAfter n (events_by until all) earlier time choice
   bound_by [] time choice le (start, bounds) = (
     start,
@@ -90,3 +91,25 @@ module _ (n : NetworkState) (all : List Timed) (until : ℕ) where
         ))
         bounds),
   )
+
+  loss_by : (earlier : List ℕ) (time choice : ℕ) → time ≤ until → IsLossBoundAfter n all earlier time choice
+      → IsLossBoundAfter n (events_by until all) earlier time choice
+  loss_by [] time choice le none = absurd none
+  loss_by (last ∷ earlier) time choice le (late, between, calm, off, (choice_then, bound, soon), lowers, none) = (
+    late,
+    λ event member. between event (from_filter (λ (t : Timed). nat_le t.at until) event all member).0,
+    subst (IsCalm n) (sym (by_sooner time until all le)) calm,
+    off,
+    (choice_then, bound_by earlier last choice_then (omega (arith, late, le)) bound, soon),
+    subst (λ made. LowersOneLink n made (events_at time (events_by until all)))
+        (sym (by_sooner last until all (omega (arith, late, le))))
+        (subst (LowersOneLink n (events_by last all)) (sym (at_sooner time until all le)) lowers),
+    none,
+  )
+
+pub short_bound : (d : DocumentState) (until time choice : ℕ) → time ≤ until → IsChoiceBound d time choice
+    → IsChoiceBound (shortened until d) time choice
+short_bound d until time choice le (earlier, inl bound) =
+    (earlier, inl (bound_by d.network d.events until earlier time choice le bound))
+short_bound d until time choice le (earlier, inr lost) =
+    (earlier, inr (loss_by d.network d.events until earlier time choice le lost))

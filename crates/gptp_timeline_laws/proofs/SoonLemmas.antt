@@ -48,7 +48,7 @@ use Rattle.gptp_timeline.proofs.SettlingLemmas.{begins, keeps_first, left_first}
 use Rattle.gptp_timeline.proofs.ShownLemmas.{live_shown}
 use Rattle.gptp_timeline.proofs.StandLemmas.{map_same}
 use Rattle.gptp_timeline_laws.specs.Soon.{StretchesSettleSoon}
-use Rattle.gptp_timeline_laws.proofs.ShortenedLemmas.{bound_by, playable_by, shortened}
+use Rattle.gptp_timeline_laws.proofs.ShortenedLemmas.{playable_by, short_bound, shortened}
 use Rattle.gptp_timeline_laws.proofs.StretchRunLemmas.{RunsTo, courses_after, ends_on, runs_to}
 use Rattle.gptp_world.specs.Transitions.{ActTrace}
 
@@ -164,7 +164,7 @@ module _ {F : Type 0} (answers : Bounds → ℕ → F → Option ℕ → F → T
 
     module _ (choice : ℕ) (bound : IsChoiceBound d p.from choice) (near : AllNear (snapshot_of p.after)) where
       bounded : IsChoiceBound short p.from choice
-      bounded = (bound.0, bound_by d.network d.events p.from bound.0 p.from choice (omega arith) bound.1)
+      bounded = short_bound d p.from p.from choice (omega arith) bound
 
       still_act : (a : ActTrace) → In a p.acts → p.from + choice < at_of a → ShowsTheSame a
       still_act a member late =

@@ -1,0 +1,504 @@
+-- A link between live systems goes down, and no system is moved: each keeps its root and its steps, and sends nothing.
+-- So what is left stands as it did, and all that is held and in flight fits the snapshot of before.
+use Rattle.std.proofs.Common.{◌≡◌, ◌≢◌, ◌⊎◌, ◌≤◌, ℕ, ℤ, zero, suc, Bool, true, false, List, [], ◌∷◌, map, Some, slice_get, slice_set, refl, sym, ap, subst, ◌∙◌, inl, inr, arith}
+use Rattle.std.proofs.lemmas.Option.{same_Some}
+use Rattle.gptp_lists.specs.Members.{In}
+use Rattle.gptp_lists.proofs.MappedLemmas.{same_there}
+use Rattle.gptp_lists.proofs.PlaceLemmas.{get-set_other, get-set_same, same_place}
+use Rattle.gptp_graph.specs.PathBound.{BoundsPaths}
+use Rattle.gptp_graph.specs.Snapshot.{IsLinked, IsWellFormed, Joins, Snapshot, clocks, port_of}
+use Rattle.gptp_graph.proofs.SystemLemmas.{In-clocks}
+use Rattle.gptp_vector.specs.Vector.{path_of, system_vector}
+use Rattle.gptp_vector.specs.declared.vector.Vector.{Vector}
+use Rattle.gptp_links.specs.declared.link.Direction.{Direction}
+use Rattle.gptp_links.specs.declared.link.Direction.TheVariants.{FromA, FromB}
+use Rattle.gptp_links.specs.Fate.{Draw}
+use Rattle.gptp_receipt.specs.declared.held.Held.{Held}
+use Rattle.gptp_receipt.specs.declared.held.Held.TheVariants as helds
+use Rattle.gptp_receipt.specs.declared.held.Reception.{Reception}
+use Rattle.gptp_roles.specs.Choice.{IsIn, path_vectors}
+use Rattle.gptp_roles.specs.Selection.{clock_of}
+use Rattle.gptp_scenario.specs.Params.{KeepPace}
+use Rattle.gptp_scenario.specs.declared.change.Act.TheVariants.{Change as Changing}
+use Rattle.gptp_scenario.specs.declared.change.Change.TheVariants.{LinkDown}
+use Rattle.gptp_setup.specs.SettlingParams.{SettlingParams, span_by}
+use Rattle.gptp_system.specs.declared.port.Port.{Port}
+use Rattle.gptp_system.specs.declared.sending.Sending.{Sending}
+use Rattle.gptp_system.specs.Facts.{AreHeld, IsAtRest}
+use Rattle.gptp_system.specs.Input.{PortDown}
+use Rattle.gptp_system.specs.Measuring.{GoesDown, silenced}
+use Rattle.gptp_system.specs.State.{SystemState, change_at, clock}
+use Rattle.gptp_system.specs.Steps.{HasPortNumber}
+use Rattle.gptp_model.specs.Act.{all_timers, in_state}
+use Rattle.gptp_model.specs.Acts.{Acts, AtLink}
+use Rattle.gptp_model.specs.Changing.{CallsIfLive, GoesDownIf, IsChannel, TellsEnds, lost, taken_down}
+use Rattle.gptp_model.specs.Sends.{SendsAll}
+use Rattle.gptp_model.specs.World.{Channel, Net, WorldState, port_id, sender}
+use Rattle.gptp_model.specs.declared.done.Done.{Done}
+use Rattle.gptp_model.specs.declared.station.Station.{Station}
+use Rattle.gptp_bmca_machine.specs.Frame.{Lane}
+use Rattle.gptp_bmca_machine.specs.Levels.{Invariant}
+use Rattle.gptp_bmca_machine.specs.LossLaws.{EverythingFits}
+use Rattle.gptp_bmca_machine.specs.Network.{Network}
+use Rattle.gptp_bmca_machine.specs.RestLaws.{SameWiring}
+use Rattle.gptp_bmca_machine.specs.Sound.{RunIsSound}
+use Rattle.gptp_bmca_machine.specs.SoundEverywhere.{IsSoundEverywhere}
+use Rattle.gptp_bmca_machine.specs.SoundLaws.{AllAreNear}
+use Rattle.gptp_bmca_machine.specs.Station.{Disabled, Port as SeenPort, Received, Reception as SeenReception, Station as SeenStation}
+use Rattle.gptp_invariants.specs.ChoiceCalm.{HaveQuietLinks, delay_in}
+use Rattle.gptp_invariants.specs.ChoiceSettlesAsMachine.{IsWorld}
+use Rattle.gptp_invariants.specs.ChoiceView.{held_view, lane_view, port_identity_number, ports_view, reception_view, says_announce, span_at, station_view, system_view, view}
+use Rattle.gptp_invariants.specs.DelayElsewhere.{IsOtherLink}
+use Rattle.gptp_invariants.specs.DelayLinkView.{LinkPlace}
+use Rattle.gptp_invariants.specs.DelayMeasured.{LinkIsMeasured, LinkStandsAt}
+use Rattle.gptp_invariants.specs.WorldNews.{AreReadyBy, AreSilentBy}
+use Rattle.gptp_invariants.specs.WorldSound.{IsSoundWorld}
+use Rattle.gptp_invariants.specs.WorldStanding.{channel_is_used, live_stations, snapshot_of, standing_system}
+use Rattle.gptp_invariants.proofs.ChoiceCalmKeptLemmas.{KeepsNetwork, same_snapshot}
+use Rattle.gptp_invariants.proofs.ChoicePlaceLemmas.{port_from, station_from, station_there}
+use Rattle.gptp_invariants.proofs.ChoiceSeenLaneLemmas.{lane_from, lane_there}
+use Rattle.gptp_invariants.proofs.WorldNewsLemmas.{ready_goes_through}
+use Rattle.gptp_invariants.proofs.WorldSoundCallLemmas.{IsThereToo, links_more, same_systems}
+use Rattle.gptp_invariants.proofs.WorldStandsLemmas.{stands_well}
+use Rattle.gptp_invariants.proofs.WorldSystemLemmas.{live_there}
+use Rattle.gptp_invariants.proofs.WorldWayLemmas.{one_way, way_of}
+use Rattle.gptp_settling_time.specs.Losses.{IsUnmoved}
+use Rattle.gptp_settling_time.proofs.AlwaysClaimedLemmas.{IsStanding, same_start, start_calm, start_net, start_network}
+use Rattle.gptp_settling_time.proofs.FitsLemmas.{IsLeftUnmoved, everything_fits, received_still}
+use Rattle.gptp_settling_time.proofs.GoesDownLemmas.{GoesDownQuietly, goes_down_quietly, held_among, without}
+use Rattle.gptp_settling_time.proofs.LeftClaimedLemmas.{HaveAskedLong, IsLeftAlways, asked_heard}
+use Rattle.gptp_settling_time.proofs.LinkStoodLemmas.{second_still}
+use Rattle.gptp_settling_time.proofs.LinkUpLemmas.{lane_set}
+use Rattle.gptp_settling_time.proofs.ReducedLemmas.{HoldsAsMuch, IsReduced, IsReducedStation, fits_reduced, holds_as_much, levels_reduced}
+use Rattle.gptp_settling_time.proofs.SettledSeenLemmas.{IsSettledSeen, wired_as}
+use Rattle.gptp_settling_time.proofs.TakenDownLemmas.{silent_down, stood_down, told_keeps, up_apart}
+use Rattle.gptp_settling_time.proofs.WidenedLemmas.{ready_first}
+
+-- ---- a system whose port goes down
+
+ports_reduced : (keep : ℤ → ℕ) (i : ℕ) (hs : List Held) (qs : List Port) (j : ℕ) (q : SeenPort)
+    → slice_get (ports_view keep (without i hs) (change_at silenced i qs)) j ≡ Some q
+    → (slice_get (ports_view keep hs qs) j ≡ Some q) ⊎ (q.held ≡ Disabled)
+ports_reduced keep i [] qs j q there = inl there
+ports_reduced keep zero (h ∷ hs) [] j q there = inl there
+ports_reduced keep (suc i) (h ∷ hs) [] j q there = inl there
+ports_reduced keep zero (h ∷ hs) (p ∷ qs) zero q there = inr (ap (λ (x : SeenPort). x.held) (sym (same_Some _ q there)))
+ports_reduced keep zero (h ∷ hs) (p ∷ qs) (suc j) q there = inl there
+ports_reduced keep (suc i) (h ∷ hs) (p ∷ qs) zero q there = inl there
+ports_reduced keep (suc i) (h ∷ hs) (p ∷ qs) (suc j) q there = ports_reduced keep i hs qs j q there
+
+reduced : (live : Bool) (i : ℕ) (a b : SystemState) (sends : List Sending) → GoesDownQuietly i a b sends
+    → IsReducedStation (system_view live a) (system_view live b)
+reduced live i a b sends quiet = record {
+  live = refl;
+  clock = ap clock_of quiet.identity;
+  root = quiet.root;
+  steps = quiet.steps;
+  ports = λ j q there.
+      ports_reduced (span_at a) i a.held a.ports j q (subst (λ (ports : List SeenPort). slice_get ports j ≡ Some q) same
+      there);
+}
+  where
+    spans : span_at b ≡ span_at a
+    spans = λ k. (λ log. span_by (quiet.params k).timeout (quiet.largest k) log)
+
+    same : ports_view (span_at b) b.held b.ports
+        ≡ ports_view (span_at a) (without i a.held) (change_at silenced i a.ports)
+    same = λ k. ports_view (spans k) (quiet.held k) (quiet.ports k)
+
+reduced_itself : (s : SeenStation) → IsReducedStation s s
+reduced_itself s = record { live = refl; clock = refl; root = refl; steps = refl; ports = λ j q there. inl there }
+
+reduced_on : (a b c : SeenStation) → IsReducedStation a b → IsReducedStation b c → IsReducedStation a c
+reduced_on a b c first second = record {
+  live = second.live ∙ first.live;
+  clock = second.clock ∙ first.clock;
+  root = second.root ∙ first.root;
+  steps = second.steps ∙ first.steps;
+  ports = λ j q there. elim (second.ports j q there) [
+    | inl between ↦ first.ports j q between
+    | inr off ↦ inr off
+  ];
+}
+
+-- ---- a call
+
+-- what is known of a system whose port goes down: something else is as good as what it follows
+record CanLose (station : Station) (port : ℕ) : Type 0 where
+  held : AreHeld station.system
+  rest : IsAtRest station.system
+  place : ℕ
+  number : port ≡ suc place
+  left : Vector
+  among : IsIn left (system_vector station.system.identity ∷ path_vectors (without place station.system.held))
+  root : left.root ≡ station.system.root
+  steps : left.steps ≡ station.system.steps
+
+-- systems are reduced at most, and links are as they were
+record StandsReduced (w w' : WorldState) : Type 0 where
+  time : w'.time ≡ w.time
+  stations : (i : ℕ) (s : SeenStation) → slice_get (view w').stations i ≡ Some s
+      → (old : SeenStation) × (slice_get (view w).stations i ≡ Some old) × IsReducedStation old s
+  channels : w'.net.channels ≡ w.net.channels
+
+set_reduced : (stations : List Station) (place : ℕ) (old new : Station) → slice_get stations place ≡ Some old
+    → IsReducedStation (station_view old) (station_view new) → (i : ℕ) (s : SeenStation)
+    → slice_get (map station_view (slice_set stations place new)) i ≡ Some s
+    → (t : SeenStation) × (slice_get (map station_view stations) i ≡ Some t) × IsReducedStation t s
+set_reduced stations place old new here less i s there =
+    let x = station_from (slice_set stations place new) i s there in
+    elim (same_place i place) [
+      | inl same ↦
+          let one : x.station ≡ new =
+          same_Some x.station new
+          (sym x.here ∙ ap (slice_get (slice_set stations place new)) same
+          ∙ get-set_same stations place old new here) in (
+            station_view old,
+            ap (slice_get (map station_view stations)) same ∙ station_there stations place old here,
+            subst (IsReducedStation (station_view old)) (sym (x.is ∙ ap station_view one)) less,
+          )
+      | inr apart ↦
+          let at : slice_get stations i ≡ Some x.station =
+          sym (get-set_other stations place i new apart) ∙ x.here in (
+            station_view x.station,
+            station_there stations i x.station at,
+            subst (IsReducedStation (station_view x.station)) (sym x.is) (reduced_itself (station_view x.station)),
+          )
+    ]
+
+goes_down_reduced : (place port : ℕ) (w : WorldState) (draws : List Draw) (w' : WorldState)
+    → ((station : Station) → slice_get w.stations place ≡ Some station → station.live ≡ true → CanLose station port)
+    → CallsIfLive place (PortDown port) w draws w' → StandsReduced w w'
+goes_down_reduced place port w draws w' can (inr (failed, none, same)) =
+    subst (StandsReduced w) (sym same)
+    (record { time = refl; stations = λ i s there. (s, there, reduced_itself s); channels = refl })
+goes_down_reduced place port w draws w' can (inl (answer, c)) =
+    let x = can c.station c.here c.live in
+    let after : Station = in_state c.after c.station in
+    let steps : GoesDown (suc x.place) w.time c.station.system c.after c.sends =
+    subst (λ n. GoesDown n w.time c.station.system c.after c.sends) x.number c.steps in
+    let quiet =
+    goes_down_quietly w.time x.place c.station.system c.after c.sends x.held x.rest steps x.left x.among x.root x.steps
+    in
+    let net : c.net ≡ all_timers place after w.net =
+    (subst (λ sends. SendsAll w.time c.after sends draws (all_timers place after w.net) c.net) quiet.silent c.sent).1 in
+    record {
+      time = ap (λ (v : WorldState). v.time) c.is;
+      stations = λ i s there.
+          set_reduced w.stations place c.station after c.here
+          (reduced c.station.live x.place c.station.system c.after c.sends quiet) i s
+          (ap (λ (v : WorldState). slice_get (map station_view v.stations) i) (sym c.is) ∙ there);
+      channels = ap (λ (v : WorldState). v.net.channels) c.is ∙ ap (λ (n : Net). n.channels) net;
+    }
+
+stands_on : (w v u : WorldState) → StandsReduced w v → StandsReduced v u → StandsReduced w u
+stands_on w v u first second = record {
+  time = second.time ∙ first.time;
+  stations = λ i s there.
+      let (mid, at_mid, less) = second.stations i s there in
+      let (old, at_old, lesser) = first.stations i mid at_mid in
+      (old, at_old, reduced_on old mid s lesser less);
+  channels = second.channels ∙ first.channels;
+}
+
+-- what is seen to be received is
+received_from : (keep : ℤ → ℕ) (h : Held) (r : SeenReception) → held_view keep h ≡ Received r
+    → (x : Reception) × (h ≡ helds.Received x) × (reception_view keep x ≡ r)
+received_from keep helds.Disabled r is = absurd cc
+received_from keep helds.Aged r is = absurd cc
+received_from keep (helds.Mine root steps) r is = absurd cc
+received_from keep (helds.Received x) r is = (x, refl, cc)
+
+-- ---- the link goes down
+
+module _ (p : SettlingParams) (w : WorldState) (is : IsWorld p w) (place : ℕ) (channel : Channel)
+    (here : slice_get w.net.channels place ≡ Some channel) (draws : List Draw) (w' : WorldState) (is' : IsWorld p w')
+    (k : TellsEnds PortDown channel (record w { net = taken_down place channel w.net; last_change = w.time }) draws w')
+    (seen : IsSettledSeen p w) (near : AllAreNear (snapshot_of w))
+    (unmoved : (v : ℕ) → In v (clocks (snapshot_of w')) → IsUnmoved (snapshot_of w) (snapshot_of w') v) where
+  abbrev taken : WorldState
+  taken = record w { net = taken_down place channel w.net; last_change = w.time }
+
+  abbrev g : Snapshot
+  g = snapshot_of w
+
+  abbrev g' : Snapshot
+  g' = snapshot_of w'
+
+  well : IsWellFormed g
+  well = stands_well w is.sound is.between is.encodable
+
+  well' : IsWellFormed g'
+  well' = stands_well w' is'.sound is'.between is'.encodable
+
+  keeps : KeepsNetwork taken w'
+  keeps = told_keeps channel taken draws w' k
+
+  -- no link is there that wasn't
+  were_there : (link : ℕ) (other : Channel) → slice_get taken.net.channels link ≡ Some other
+      → IsThereToo w.net.channels link other
+  were_there link other there = elim (same_place link place) [
+    | inl same ↦
+        let one : other ≡ lost channel =
+        same_Some other (lost channel)
+        (sym there ∙ ap (slice_get (slice_set w.net.channels place (lost channel))) same
+        ∙ get-set_same w.net.channels place channel (lost channel) here) in
+        record {
+          new = channel;
+          here = ap (slice_get w.net.channels) same ∙ here;
+          a = ap (λ (c : Channel). c.a) (sym one);
+          b = ap (λ (c : Channel). c.b) (sym one);
+          up = λ on. absurd (let both : true ≡ false = sym on ∙ ap (λ (c : Channel). c.up) one in cc);
+        }
+    | inr apart ↦ record {
+      new = other;
+      here = sym (get-set_other w.net.channels place link (lost channel) apart) ∙ there;
+      a = refl;
+      b = refl;
+      up = λ on. on;
+    }
+  ]
+
+  left : IsLeftUnmoved g g'
+  left = record {
+    systems = λ s member. subst (In s) keeps.systems member;
+    links = λ a b joins.
+        links_more taken w (same_systems (live_stations w.stations)) were_there a b
+        (subst (λ h. Joins h a b) (same_snapshot taken w' keeps) joins);
+    unmoved = unmoved;
+  }
+
+  left_seen : IsLeftUnmoved seen.n.graph g'
+  left_seen = subst (λ h. IsLeftUnmoved h g') (sym seen.graph) left
+
+  -- no link is at its ends any more
+  unlinked : (way : Direction) → IsLinked g' (port_identity_number (sender way channel)) → ⊥
+  unlinked way (q, joins) =
+      let from = port_identity_number (sender way channel) in
+      let x = way_of taken from q (subst (λ h. Joins h from q) (same_snapshot taken w' keeps) joins) in
+      let apart : x.link ≢ place =
+      λ same. (let one : x.channel ≡ lost channel =
+      same_Some x.channel (lost channel)
+      (sym x.here ∙ ap (slice_get (slice_set w.net.channels place (lost channel))) same
+      ∙ get-set_same w.net.channels place channel (lost channel) here) in
+      let both : true ≡ false = sym x.used ∙ ap (channel_is_used (live_stations w.stations)) one in
+      cc) in
+      let was : slice_get w.net.channels x.link ≡ Some x.channel =
+      sym (get-set_other w.net.channels place x.link (lost channel) apart) ∙ x.here in
+      apart (one_way w is.sound is.encodable x.link place x.direction way x.channel channel was here x.from).same_link
+
+  -- an end of it
+  module _ (way : Direction) (at : ℕ) (station : Station) (stands : slice_get w.stations at ≡ Some station)
+      (named : clock station.system ≡ (sender way channel).clock) (live : station.live ≡ true) where
+    among : In (standing_system station) (live_stations w.stations)
+    among = live_there w.stations at station stands live
+
+    as_much : HoldsAsMuch g' (station_view station)
+    as_much =
+        let x = clock station.system in
+        let (d, far, close) = near x (In-clocks g (standing_system station) among) in
+        let known =
+        In-clocks g' (standing_system station) (subst (In (standing_system station)) (sym keeps.systems) among) in
+        holds_as_much says_announce seen.n seen.net (view w) seen.calm seen.invariant seen.late g' well' left_seen at
+        (station_view station) (station_there w.stations at station stands) live d close
+        ((unmoved x known).far d far)
+
+    can_lose : CanLose station (sender way channel).port
+    can_lose = by (sender way channel).port refl (is.sound.wired.ports place at way channel station here stands named)
+        as_much
+      where
+        by : (n : ℕ) → (sender way channel).port ≡ n → HasPortNumber station.system n
+            → HoldsAsMuch g' (station_view station) → CanLose station n
+        by zero is_n of much = let least = of.least in absurd (omega (arith, least))
+        by (suc i) is_n of (inl (root, steps)) =
+            let steady = (is.sound.on_time.stations at station stands).steady in
+            record {
+              held = steady.held;
+              rest = steady.rest;
+              place = i;
+              number = refl;
+              left = system_vector station.system.identity;
+              among = inl refl;
+              root = sym root;
+              steps = sym steps;
+            }
+        by (suc i) is_n of (inr (q, r, linked, (port, at_port, holds), root, steps)) =
+            let steady = (is.sound.on_time.stations at station stands).steady in
+            let x = port_from (span_at station.system) station.system.held station.system.ports q port at_port in
+            let (y, is_y, seen_y) =
+            received_from (span_at station.system) x.held r
+            (sym (ap (λ (z : SeenPort). z.held) x.is) ∙ holds) in
+            let same_steps = ap (λ (z : SeenReception). z.said.steps) seen_y in
+            record {
+              held = steady.held;
+              rest = steady.rest;
+              place = i;
+              number = refl;
+              left = path_of y.vector;
+              among = inr (held_among i q station.system.held y (x.held_there ∙ ap (λ h. Some h) is_y) (λ same.
+                  unlinked way
+                  (subst (IsLinked g') (λ j. port_of (named j) ((ap suc same ∙ sym is_n) j)) linked)));
+              root = ap (λ (z : SeenReception). z.said.root) seen_y ∙ root;
+              steps = omega (arith, same_steps, steps);
+            }
+
+  still_b : slice_get k.between.stations k.place_b ≡ Some k.station_b
+  still_b = second_still PortDown channel taken draws w' k (is.between place channel here).apart
+
+  told : StandsReduced taken w'
+  told =
+      stands_on taken k.between w'
+      (goes_down_reduced k.place_a channel.a.port taken k.first k.between (λ station stands live.
+      let one = same_there w.stations k.place_a station k.station_a stands k.is_a.here in
+      can_lose FromA k.place_a station stands (ap (λ (x : Station). clock x.system) one ∙ k.is_a.named) live) k.at_a)
+      (goes_down_reduced k.place_b channel.b.port k.between k.second w' (λ station stands live.
+      let one = same_there k.between.stations k.place_b station k.station_b stands still_b in
+      can_lose FromB k.place_b station (k.is_b.here ∙ ap (λ x. Some x) (sym one))
+      (ap (λ (x : Station). clock x.system) one ∙ k.is_b.named) live) k.at_b)
+
+  none_lost : (direction : Direction) → (lane_view direction (lost channel)).frames ≡ []
+  none_lost FromA = refl
+  none_lost FromB = refl
+
+  lanes : (j : ℕ) (l : Lane) → slice_get (view w').lanes j ≡ Some l
+      → (slice_get (view w).lanes j ≡ Some l) ⊎ ((l.frames ≡ []) × (l.is_up ≡ false))
+  lanes j l there =
+      let x = lane_from w'.net.channels j l there in
+      elim (same_place x.link place) [
+        | inl same ↦
+            let one : x.channel ≡ lost channel =
+            same_Some x.channel (lost channel)
+            (sym x.here ∙ ap (λ cs. slice_get cs x.link) told.channels
+            ∙ ap (slice_get (slice_set w.net.channels place (lost channel))) same
+            ∙ get-set_same w.net.channels place channel (lost channel) here) in
+            let lane = x.is ∙ ap (lane_view x.direction) one in
+            inr (ap (λ (m : Lane). m.frames) lane ∙ none_lost x.direction, ap (λ (m : Lane). m.is_up) lane)
+        | inr apart ↦
+            let stood : slice_get w.net.channels x.link ≡ Some x.channel =
+            sym (get-set_other w.net.channels place x.link (lost channel) apart)
+            ∙ ap (λ cs. slice_get cs x.link) (sym told.channels) ∙ x.here in
+            inl (ap (slice_get (view w).lanes) x.at
+            ∙ lane_there w.net.channels x.link x.direction x.channel stood ∙ ap (λ m. Some m) (sym x.is))
+      ]
+
+  less : IsReduced (view w) (view w')
+  less = record { time = told.time; stations = told.stations; lanes = lanes }
+
+  -- a network of the world then has the wiring of one that it had
+  wires : (n : Network) → delay_in w' ≡ delay_in w → n ≡ wired_as n (start_network p 0 0 w') → SameWiring seen.n n
+  wires n delay wired =
+      let started = same_start p 0 0 taken w' keeps in
+      let most = seen.most in
+      let delays : n.most ≡ delay_in w' = ap (λ (x : Network). x.most) wired in
+      record {
+        place = λ v. ap (λ (x : Network). x.place v) wired ∙ keeps.places v ∙ seen.same.place v;
+        lane = λ q.
+            ap (λ (x : Network). x.lane q) wired ∙ ap (λ (x : Network). x.lane q) started
+            ∙ lane_set w.net.channels place channel (lost channel) q here refl refl ∙ seen.same.lane q;
+        log = λ q.
+            ap (λ (x : Network). x.log_of q) wired ∙ ap (λ (x : Network). x.log_of q) started ∙ seen.same.log q;
+        interval = λ q.
+            ap (λ (x : Network). x.interval_of q) wired ∙ ap (λ (x : Network). x.interval_of q) started
+            ∙ seen.same.interval q;
+        most = omega (arith, delay, delays, most);
+      }
+
+  -- ---- the claims
+
+  module _ (next : ℕ) (pace : KeepPace p) (measured' : LinkIsMeasured w') (past : next ≤ w.time)
+      (delay : delay_in w' ≡ delay_in w) (sound : IsSoundWorld w) (ready' : AreReadyBy p next w')
+      (silent : AreSilentBy p next w) where
+    by_now : next ≤ w'.time
+    by_now = let time = told.time in omega (arith, past, time)
+
+    standing_then : IsStanding p next w'
+    standing_then = record {
+      pace = pace;
+      world = is';
+      measured = measured';
+      silent = silent_down p w is place channel here draws w' is' k told.channels next silent;
+    }
+
+    asked_then : HaveAskedLong w'
+    asked_then at stands =
+        let (first, by) = ready_first p next w' is' by_now at (ready' at stands) in
+        (first, next, record { is = by; late = by_now })
+
+    fits_then : EverythingFits says_announce g (start_network p 0 next w') (view w')
+    fits_then =
+        subst (λ h. EverythingFits says_announce h (start_network p 0 next w') (view w')) seen.graph
+        (fits_reduced says_announce seen.n (start_network p 0 next w') seen.net.graph well' left_seen (view w) (view w')
+        less
+        (everything_fits says_announce seen.n (view w) seen.net.graph seen.calm.facts
+        (subst (λ h. IsSoundEverywhere says_announce h (view w)) (sym seen.graph) sound)))
+
+    settling_then : (m : ℕ) → BoundsPaths g' m → HaveQuietLinks p.params w'
+        → Invariant says_announce (start_network p m next w') (view w')
+    settling_then m bounded quiet' =
+        let n = start_network p m next w' in
+        let sound' : RunIsSound n (view w') =
+        λ late. received_still g g' well well' left (view w') fits_then.stations in
+        record {
+          sound = sound';
+          levels = levels_reduced says_announce seen.n n seen.net (start_net p m next w' is' bounded)
+              (wires n delay refl) left_seen (view w) (view w') less seen.calm
+              (start_calm p next w' standing_then (asked_heard p next w' asked_then) quiet' m) seen.invariant seen.late
+              sound' (λ q linked. by_now);
+        }
+
+    pub lowered_left : IsLeftAlways p g next w'
+    lowered_left = record {
+      standing = standing_then;
+      asked = asked_then;
+      well = well;
+      left = left;
+      fits = λ quiet'. fits_then;
+      settling = λ m bounded quiet' off. settling_then m bounded quiet';
+    }
+
+-- ---- the act
+
+module _ (p : SettlingParams) (next owner port : ℕ) (w : WorldState) (draws : List Draw) (done : Done)
+    (w' : WorldState) (pace : KeepPace p) (is : IsWorld p w) (is' : IsWorld p w') (measured : LinkIsMeasured w)
+    (measured' : LinkIsMeasured w') (acts : Acts (Changing (LinkDown owner port)) w draws done w') where
+  abbrev at_link : AtLink (port_id owner port) w.net (λ place channel.
+      GoesDownIf channel.up place channel (record w { last_change = w.time }) draws w')
+  at_link = acts.1
+
+  -- the link begins at the port in a direction
+  begins_at : (place : ℕ) (channel : Channel) → IsChannel (port_id owner port) place w.net channel
+      → (direction : Direction) × (sender direction channel ≡ port_id owner port)
+  begins_at place channel at = elim at.joined [ inl a ↦ (FromA, a) | inr b ↦ (FromB, b) ]
+
+  module _ (up : at_link.channel.up ≡ true) (seen : IsSettledSeen p w) (near : AllAreNear (snapshot_of w))
+      (unmoved : (v : ℕ) → In v (clocks (snapshot_of w')) → IsUnmoved (snapshot_of w) (snapshot_of w') v) where
+    ends : TellsEnds PortDown at_link.channel
+        (record w { net = taken_down at_link.place at_link.channel w.net; last_change = w.time }) draws w'
+    ends =
+        subst (λ b. GoesDownIf b at_link.place at_link.channel (record w { last_change = w.time }) draws w') up
+        at_link.so
+
+    stands : StandsReduced (record w { net = taken_down at_link.place at_link.channel w.net; last_change = w.time }) w'
+    stands = told p w is at_link.place at_link.channel at_link.is.here draws w' is' ends seen near unmoved
+
+    -- a link that stands then is another
+    other : (at : LinkPlace) → LinkStandsAt at w' → IsOtherLink at (port_id owner port) w
+    other at s place channel at_port same =
+        let (way, begins) = begins_at place channel at_port in
+        let (direction, starts) = begins_at at_link.place at_link.channel at_link.is in
+        let one : place ≡ at_link.place =
+        is.sound.wired.apart place at_link.place way direction channel at_link.channel at_port.here at_link.is.here
+        (begins ∙ sym starts) in
+        up_apart p w is at_link.place at_link.channel at_link.is.here draws w' is' ends stands.channels at.link
+        s.channel s.here s.up (sym same ∙ one)
+
+    pub act_left : next ≤ w.time → delay_in w' ≡ delay_in w → IsSoundWorld w → AreReadyBy p next w
+        → AreSilentBy p next w → IsLeftAlways p (snapshot_of w) next w'
+    act_left past delay sound ready silent =
+        lowered_left p w is at_link.place at_link.channel at_link.is.here draws w' is' ends seen near unmoved next
+        pace measured' past delay sound
+        (λ at s.
+        ready_goes_through p next at (Changing (LinkDown owner port)) w w' draws done is.sound measured (other at s)
+        acts (ready at
+        (stood_down p w is at_link.place at_link.channel at_link.is.here draws w' is' ends stands.channels at s)))
+        silent

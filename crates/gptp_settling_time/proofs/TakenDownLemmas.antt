@@ -1,0 +1,222 @@
+-- A link is taken down, and its ends are told: what stands elsewhere stood before, and ports beside failed systems stay
+-- silent.
+use Rattle.std.proofs.Common.{◌≡◌, ◌≢◌, ◌+◌, ℕ, Bool, true, false, List, map, Some, slice_get, slice_set, refl, sym, ap, subst, ◌∙◌, inl, inr}
+use Rattle.std.proofs.lemmas.Option.{same_Some}
+use Rattle.gptp_lists.proofs.MappedLemmas.{alike, same_there}
+use Rattle.gptp_lists.proofs.PlaceLemmas.{get-set_other, get-set_same, map-set_same}
+use Rattle.gptp_vector.specs.declared.port.PortId.{PortId}
+use Rattle.gptp_links.specs.declared.link.Direction.{Direction}
+use Rattle.gptp_links.specs.Fate.{Draw}
+use Rattle.gptp_setup.specs.Intervals.{interval_of}
+use Rattle.gptp_setup.specs.SettlingParams.{SettlingParams, largest_interval}
+use Rattle.gptp_system.specs.declared.answer.Answer.{Answer}
+use Rattle.gptp_system.specs.Input.{PortDown}
+use Rattle.gptp_system.specs.Measures.{measure_at}
+use Rattle.gptp_system.specs.State.{clock}
+use Rattle.gptp_model.specs.Act.{Calls, in_state}
+use Rattle.gptp_model.specs.Ahead.{IsPortAmong}
+use Rattle.gptp_model.specs.Changing.{CallsIfLive, TellsEnds, lost, taken_down}
+use Rattle.gptp_model.specs.declared.station.Station.{Station}
+use Rattle.gptp_model.specs.Sound.{HaveOwnClocks}
+use Rattle.gptp_model.specs.World.{Channel, WorldState, receiver, sender}
+use Rattle.gptp_model.proofs.ActsByLemmas.{join_among}
+use Rattle.gptp_model.proofs.EndLemmas.{each_end_told}
+use Rattle.gptp_model.proofs.StayLemmas.{JoinTheSame, begins_same, join_on, set_join, stays_clocks}
+use Rattle.gptp_model.proofs.SteadyLemmas.{same_clock}
+use Rattle.gptp_pdelay_machine.specs.Setting.{Setting}
+use Rattle.gptp_pdelay_machine.specs.Silence.{InvUnanswered}
+use Rattle.gptp_invariants.specs.ChoiceSettlesAsMachine.{IsWorld}
+use Rattle.gptp_invariants.specs.DelayLinkView.{LinkPlace, asker_view}
+use Rattle.gptp_invariants.specs.DelayMeasured.{LinkStandsAt, StationIsLiveAt}
+use Rattle.gptp_invariants.specs.FailedUnanswered.{IsFailedAmong, IsNeverAnswered, IsSilent, IsUnansweredAt, StandsUnanswered, silent_setting, silent_view}
+use Rattle.gptp_invariants.specs.WorldNews.{AreSilentBy}
+use Rattle.gptp_invariants.proofs.ChoiceCalmKeptLemmas.{KeepsNetwork, calls_keep, keeps_on, net_keeps}
+use Rattle.gptp_invariants.proofs.FailedNeverAnsweredLemmas.{never_called}
+use Rattle.gptp_invariants.proofs.FailedUnansweredCallLemmas.{CallStep, call_seen, view_stays}
+use Rattle.gptp_settling_time.proofs.LinkStoodLemmas.{stood_in, stood_untold}
+use Rattle.gptp_settling_time.proofs.ReactsLemmas.{lives_as}
+use Rattle.gptp_settling_time.proofs.SamePartsLemmas.{of_down}
+
+-- ---- the network
+
+if_live_keeps : (place port : ℕ) (w : WorldState) (draws : List Draw) (w' : WorldState)
+    → CallsIfLive place (PortDown port) w draws w' → KeepsNetwork w w'
+if_live_keeps place port w draws w' (inl (answer, k)) =
+    calls_keep place (PortDown port) w draws answer w' (λ value same. absurd cc) k
+if_live_keeps place port w draws w' (inr (failed, none, same)) =
+    subst (KeepsNetwork w) (sym same) (net_keeps w w.net refl)
+
+pub told_keeps : (channel : Channel) (w : WorldState) (draws : List Draw) (w' : WorldState)
+    → TellsEnds PortDown channel w draws w' → KeepsNetwork w w'
+told_keeps channel w draws w' k =
+    keeps_on w k.between w' (if_live_keeps k.place_a channel.a.port w k.first k.between k.at_a)
+    (if_live_keeps k.place_b channel.b.port k.between k.second w' k.at_b)
+
+-- all systems live and are named as they were
+if_live_stand : (place port : ℕ) (w : WorldState) (draws : List Draw) (w' : WorldState)
+    → CallsIfLive place (PortDown port) w draws w' → map lives_as w'.stations ≡ map lives_as w.stations
+if_live_stand place port w draws w' (inl (answer, c)) =
+    let named = same_clock (PortDown port) w.time c.station.system c.after c.sends answer c.steps in
+    ap (λ (v : WorldState). map lives_as v.stations) c.is
+    ∙ map-set_same lives_as w.stations place c.station (in_state c.after c.station) c.here
+    (λ i. (c.station.live, named i))
+if_live_stand place port w draws w' (inr (failed, none, same)) = ap (λ (v : WorldState). map lives_as v.stations) same
+
+told_stand : (channel : Channel) (w : WorldState) (draws : List Draw) (w' : WorldState)
+    → TellsEnds PortDown channel w draws w' → map lives_as w'.stations ≡ map lives_as w.stations
+told_stand channel w draws w' k =
+    if_live_stand k.place_b channel.b.port k.between k.second w' k.at_b
+    ∙ if_live_stand k.place_a channel.a.port w k.first k.between k.at_a
+
+-- ---- a port beside a failed system
+
+module _ (gone : ℕ) (at : LinkPlace) (place : ℕ) (port : PortId) (w : WorldState) (draws : List Draw) (w' : WorldState)
+    (named : (station : Station) → slice_get w.stations place ≡ Some station → clock station.system ≡ port.clock)
+    (clocks : HaveOwnClocks w) (is : IsSilent gone at w) (apart : sender at.direction is.link.channel ≢ port) where
+  module _ (answer : Answer) (k : Calls place (PortDown port.port) w draws answer w') where
+    step : CallStep place (PortDown port.port) gone at w w' is.link
+    step = call_seen gone at place (PortDown port.port) w draws answer w' k clocks is.link is.old (λ same. tt)
+
+    other : at.asking ≡ place → (sender at.direction is.link.channel).port ≢ port.port
+    other same number_is =
+        let clock_is : (sender at.direction is.link.channel).clock ≡ port.clock =
+        sym is.link.asking.named
+        ∙ named is.link.asking.station (ap (slice_get w.stations) (sym same) ∙ is.link.asking.here) in
+        apart (λ i. record { clock = clock_is i; port = number_is i })
+
+    same_part : measure_at step.after.asking.state ≡ measure_at is.link.asking.state
+    same_part = elim step.part [
+      | inl called ↦ of_down.leaves is.link.asking.station.system w.time port.port
+          (sender at.direction is.link.channel).port (measure_at is.link.asking.state)
+          (measure_at step.after.asking.state) (other called.0) called.1
+      | inr left ↦ left.1
+    ]
+
+    same_view : silent_view at w' step.after ≡ silent_view at w is.link
+    same_view = view_stays step (ap (asker_view (interval_of is.link.asking.station.setup.params.pdelay)) same_part)
+
+    called_silent : IsSilent gone at w'
+    called_silent = record {
+      link = step.after;
+      old = step.old;
+      inv = subst (λ (x : Setting). InvUnanswered x gone (silent_view at w' step.after)) (sym step.settled)
+          (subst (InvUnanswered (silent_setting at w is.link) gone) (sym same_view) is.inv);
+    }
+
+-- ---- the link goes down
+
+module _ (p : SettlingParams) (w : WorldState) (is : IsWorld p w) (place : ℕ) (channel : Channel)
+    (here : slice_get w.net.channels place ≡ Some channel) (draws : List Draw) (w' : WorldState) (is' : IsWorld p w')
+    (k : TellsEnds PortDown channel (record w { net = taken_down place channel w.net; last_change = w.time }) draws w')
+    (channels_now : w'.net.channels ≡ slice_set w.net.channels place (lost channel)) where
+  abbrev taken : WorldState
+  taken = record w { net = taken_down place channel w.net; last_change = w.time }
+
+  -- what is up is another link
+  pub up_apart : (link : ℕ) (other : Channel) → slice_get w'.net.channels link ≡ Some other → other.up ≡ true
+      → link ≢ place
+  up_apart link other there is_up same =
+      let one : other ≡ lost channel =
+      same_Some other (lost channel)
+      (sym there ∙ ap (λ cs. slice_get cs link) channels_now
+      ∙ ap (slice_get (slice_set w.net.channels place (lost channel))) same
+      ∙ get-set_same w.net.channels place channel (lost channel) here) in
+      let both : true ≡ false = sym is_up ∙ ap (λ (c : Channel). c.up) one in
+      cc
+
+  pub stood_down : (at : LinkPlace) → LinkStandsAt at w' → LinkStandsAt at w
+  stood_down at s =
+      let old = stood_untold p w (taken_down place channel w.net) w' is is'
+      (told_keeps channel taken draws w' k) at s in
+      let apart = up_apart at.link old.channel
+      (ap (λ cs. slice_get cs at.link) channels_now ∙ old.here) old.up in
+      stood_in at taken w old refl (sym (get-set_other w.net.channels place at.link (lost channel) apart) ∙ old.here)
+
+  -- ---- ports beside failed systems
+
+  stand : map lives_as w'.stations ≡ map lives_as w.stations
+  stand = told_stand channel taken draws w' k
+
+  lived : (at number : ℕ) → StationIsLiveAt at number w' → StationIsLiveAt at number w
+  lived at number x =
+      let (old, old_here, same) = alike lives_as lives_as w.stations w'.stations (sym stand) at x.station x.here in
+      record {
+        station = old;
+        here = old_here;
+        live = ap (λ (y : Bool × ℕ). y.0) same ∙ x.live;
+        named = ap (λ (y : Bool × ℕ). y.1) same ∙ x.named;
+      }
+
+  had_failed : (at number : ℕ) → IsFailedAmong at number w'.stations → IsFailedAmong at number w.stations
+  had_failed at number x =
+      let (old, old_here, same) = alike lives_as lives_as w.stations w'.stations (sym stand) at x.station x.here in
+      record {
+        station = old;
+        here = old_here;
+        failed = ap (λ (y : Bool × ℕ). y.0) same ∙ x.failed;
+        named = ap (λ (y : Bool × ℕ). y.1) same ∙ x.named;
+      }
+
+  module _ (at : LinkPlace) (s : StandsUnanswered at w') where
+    apart : at.link ≢ place
+    apart = up_apart at.link s.channel s.here s.up
+
+    before : StandsUnanswered at w
+    before = record {
+      channel = s.channel;
+      here = sym (get-set_other w.net.channels place at.link (lost channel) apart)
+          ∙ ap (λ cs. slice_get cs at.link) (sym channels_now) ∙ s.here;
+      up = s.up;
+      asking = lived at.asking (sender at.direction s.channel).clock s.asking;
+      answering = had_failed at.answering (receiver at.direction s.channel).clock s.answering;
+    }
+
+    joins : JoinTheSame w.net.channels taken.net.channels
+    joins = set_join w.net.channels place channel (lost channel) here refl refl
+
+    -- its port is none of the link that goes down
+    no_end : (v : WorldState) → JoinTheSame w.net.channels v.net.channels → (l : IsUnansweredAt at v)
+        (way : Direction) → sender at.direction l.channel ≢ sender way channel
+    no_end v on l way same =
+        let was = on at.link l.channel l.here in
+        apart (is.sound.wired.apart at.link place at.direction way was.old channel was.here here
+        (sym (begins_same w.net.channels at.link at.direction l.channel was) ∙ same))
+
+    ports : (direction : Direction) → IsPortAmong (sender direction channel) taken.stations
+    ports = join_among w place channel is.sound.wired.ports here
+
+    link_taken : (l : IsUnansweredAt at w) → IsUnansweredAt at taken
+    link_taken l = record {
+      channel = l.channel;
+      here = get-set_other w.net.channels place at.link (lost channel) apart ∙ l.here;
+      up = l.up;
+      asking = l.asking;
+      answering = l.answering;
+    }
+
+    silent_at : (gone : ℕ) → IsSilent gone at w → IsSilent gone at w'
+    silent_at gone one =
+        each_end_told PortDown channel taken (IsSilent gone at)
+        (λ direction q v ds answer v' c stays named number so.
+        called_silent gone at q (sender direction channel) v ds v'
+        (λ station there.
+        ap (λ (x : Station). clock x.system) (same_there v.stations q station c.station there c.here) ∙ named)
+        (stays_clocks taken v stays is.sound.wired.clocks) so
+        (no_end v (join_on w.net.channels taken.net.channels v.net.channels joins stays.links) so.link direction)
+        answer c) is.sound.wired.setups ports draws w' k
+        (record { link = link_taken one.link; old = one.old; inv = one.inv })
+
+    never_at : IsNeverAnswered at w → IsNeverAnswered at w'
+    never_at one =
+        each_end_told PortDown channel taken (IsNeverAnswered at)
+        (λ direction q v ds answer v' c stays named number so.
+        never_called at q (PortDown (sender direction channel).port) v ds answer v' c
+        (stays_clocks taken v stays is.sound.wired.clocks) so (λ same. tt) (λ same. tt)) is.sound.wired.setups ports
+        draws w' k
+        (record { link = link_taken one.link; mute = one.mute; unmeasured = one.unmeasured })
+
+  pub silent_down : (start : ℕ) → AreSilentBy p start w → AreSilentBy p start w'
+  silent_down start silent at s = elim (silent at (before at s)) [
+    | inl never ↦ inl (never_at at s never)
+    | inr (change, one, soon) ↦ inr (change, silent_at at s (change + largest_interval p) one, soon)
+  ]
