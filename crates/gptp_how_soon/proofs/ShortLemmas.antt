@@ -32,11 +32,11 @@ use Rattle.gptp_setup.specs.SettlingParams.{largest_interval, longest_span}
 use Rattle.gptp_setup.proofs.IntervalLemmas.{interval_most}
 use Rattle.gptp_topology.specs.Times.{times_from, times_of}
 use Rattle.gptp_topology.specs.declared.course.Cable.{Cable}
-use Rattle.gptp_how_soon.specs.Bounds.{asked_again, choice_by, choice_of_row, exact_span, is_again, needed_watch, ready, set_span, settling_by, two_exchanges, watch, way_span}
+use Rattle.gptp_how_soon.specs.Bounds.{asked_again, choice_by, choice_of_row, exact_span, is_again, needed_watch, ready, set_span, settling_by, sound_row, two_exchanges, watch, way_span}
 use Rattle.gptp_how_soon.specs.Kinds.{sets_bounds, sets_link}
 use Rattle.gptp_how_soon.specs.Times.{IsWatchedShortly, View, events_at, events_before, gained_at, heard_at, last_set, row_at, settling_time, settling_times, settling_times_from, time_at, view_at}
 use Rattle.gptp_how_soon.specs.declared.bounds.Row.{Row}
-use Rattle.gptp_how_soon.specs.declared.bounds.Row.TheVariants.{AnyPast, Unchanged, Gained}
+use Rattle.gptp_how_soon.specs.declared.bounds.Row.TheVariants.{AnyPast, Unchanged, Lowered, Gained}
 use Rattle.gptp_how_soon.specs.declared.bounds.SettlingTime.{SettlingTime}
 use Rattle.gptp_how_soon.specs.declared.kinds.Told.{Told}
 
@@ -100,6 +100,7 @@ module _ (n : NetworkState) (network : IsNetwork n) (paths : SyncPaths) (few : p
       by : (r : Row) → choice_of_row n paths r gained ≤ 195000000000000
       by AnyPast = at_once
       by Unchanged = omega arith
+      by Lowered = omega arith
       by Gained = early
 
   set_most : (sets : Bool) → set_span n.params paths sets ≤ 65000000000
@@ -119,8 +120,8 @@ module _ (n : NetworkState) (network : IsNetwork n) (paths : SyncPaths) (few : p
       → needed_watch n at paths (settling_by n at set paths calm sets row gained) ≤ 197000000000000
   needed_most at set false sets row gained soon early = let s = span in let e = exact_most in omega (arith, s, e)
   needed_most at set true sets row gained soon early =
-      let c = choice_most row gained early in let s = set_most sets in let l = largest in let e = exact_most in
-      omega (arith, soon, c, s, l, e, short)
+      let c = choice_most row gained early in let h = choice_most (sound_row row) gained early in
+      let s = set_most sets in let l = largest in let e = exact_most in omega (arith, soon, c, h, s, l, e, short)
 
   watch_most : (at set : ℕ) (calm sets : Bool) (row : Row) (gained : ℕ) → set ≤ at → gained ≤ 195000000000000
       → watch n at paths (settling_by n at set paths calm sets row gained) ≤ 200000000000000
