@@ -48,11 +48,12 @@ is_wider_followed b at paths_before paths told =
     begins_wider told && settles_wider_by b at paths_before paths (first_wider_by told) b.settling
 
 -- Losses are followed where each is a priority1, no other event makes something of what stands, and no path had more
--- than 255 systems before. The other loss that is followed is a link that goes down by the one event of a time: then the
--- greatest delay of a link in use stays, and no path gets longer.
+-- than 255 systems before.
 abbrev pub are_losses_followed : SyncPaths → List Told → Bool
 are_losses_followed paths_before told = nat_le paths_before.systems 255 && list_all leaves_links told
 
+-- So is a link that goes down by the one event of a time, where the greatest delay of a link in use stays, no path gets
+-- longer, and none had more than 255 systems before.
 abbrev pub is_lowering_followed : SyncPaths → SyncPaths → List Told → Bool
 is_lowering_followed paths_before paths told =
     nat_le paths_before.systems 255

@@ -11,8 +11,8 @@
 -- of what stands leaves a network settled that had settled, whatever it came from, and so does a priority1 that moves
 -- no system, and what widens the delays of a link in use. Where all was heard before, such links may also come up, and
 -- such systems recover, one after another at any time, as several at once; and what changes nothing asks for no time at
--- all. Nor does a link that goes down by which no system is moved, in a network that had settled. That is *left* so: its
--- choice stands, but what is held may name links that are gone.
+-- all. Nor does a link that goes down by which no system is moved, in a network that had settled. That network is
+-- *left*: its choice stands, but what is held may name links that are gone.
 use Rattle.std.specs.Prelude.{◌≡◌, ◌<◌, ◌≤◌, ◌⊎◌, ◌+◌, ◌*◌, ℕ, ⊤, pred, List, [], ◌∷◌, ◌++◌, Option, Some, slice_get}
 use Rattle.gptp_lists.specs.Members.{In}
 use Rattle.gptp_vector.specs.declared.port.PortId.{PortId}
