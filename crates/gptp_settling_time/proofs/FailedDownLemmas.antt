@@ -447,6 +447,7 @@ module _ (p : SettlingParams) (start : ℕ) (w : WorldState) (news : IsNews p st
       }
 
       silent_at : (gone : ℕ) → IsSilent gone at w → IsSilent gone at w'
+      unfolding link_taken
       silent_at gone one =
           each_end_told PortDown channel taken (IsSilent gone at)
           (λ direction q v ds answer v' c stays named number so.
@@ -459,6 +460,7 @@ module _ (p : SettlingParams) (start : ℕ) (w : WorldState) (news : IsNews p st
           (record { link = link_taken one.link; old = one.old; inv = one.inv })
 
       never_at : IsNeverAnswered at w → IsNeverAnswered at w'
+      unfolding link_taken
       never_at one =
           each_end_told PortDown channel taken (IsNeverAnswered at)
           (λ direction q v ds answer v' c stays named number so.
