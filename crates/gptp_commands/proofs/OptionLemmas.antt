@@ -13,7 +13,6 @@ use Rattle.clap.specs.declared.parser.matches.ArgMatches.TheViews.{out-ArgMatche
 use Rattle.clap.specs.declared.parser.matches.SubCommand.{SubCommand}
 use Rattle.clap.proofs.ValueTestLemmas.{Accepts-accepts, accepts-Accepts}
 use Rattle.clap.proofs.WalkLemmas.{both}
-use Rattle.gptp_commands.specs.Command.{IsNoOther}
 use Rattle.gptp_commands.specs.Options.{is_set, decimal_in_range, option_number, within}
 use Rattle.gptp_commands.specs.declared.table.Form.TheVariants.{Number}
 
@@ -88,13 +87,6 @@ pub entered_rows : (m : ArgMatches) (name own : Text) (rows : List Row) → own 
     → subcommand_rows_of m ≡ Some (name, rows)
 entered_rows m name own rows same named at =
     by_parts (out-ArgMatches m).subcommand own rows named at ∙ ap (λ (n : Text). Some (n, rows)) same
-
--- it is `compare`, where it has the name of none of the others
-pub no_other : (name : Option Text) → name ≢ Some (codes "run") → name ≢ Some (codes "timeline")
-    → name ≢ Some (codes "check") → name ≢ Some (codes "choice") → name ≢ Some (codes "accuracy")
-    → name ≢ Some (codes "explain") → name ≢ Some (codes "lint") → name ≢ Some (codes "faults") → IsNoOther name
-no_other name run timeline check choice accuracy explain lint faults =
-    (run, (timeline, (check, (choice, (accuracy, (explain, (lint, (faults, tt))))))))
 
 -- ---- ranges
 

@@ -1,34 +1,17 @@
 -- Which keys are read where (profile).
-use Rattle.std.specs.Prelude.{◌||◌, ℕ, ℤ, pos, negsuc, ◌==◌, Bool, false, List, [], ◌∷◌, Option, Some, None, bytes_eq, codes, filter, if◌then◌else◌, is_none}
+use Rattle.std.specs.Prelude.{◌||◌, ℕ, ℤ, pos, negsuc, ◌==◌, Bool, false, List, [], Option, Some, None, bytes_eq, codes, filter, if◌then◌else◌, is_none, map}
 use Rattle.std.specs.List.{list_any}
 use Rattle.toml.specs.Data.{Data, Items, Members, as_array, as_integer, as_str, as_table, get_item, get_member, no_items}
+use Rattle.gptp_network.specs.Keys.{name_text}
+use Rattle.gptp_network.specs.declared.keys.Name.{Name}
+use Rattle.gptp_network.specs.declared.keys.TheConstants.{EVENT_KEYS, INJECT_KEYS, LINK_EVENT_KEYS, LINK_KEYS, LINK_SET_KEYS, NETWORK_KEYS, PRIORITY1_KEYS, SYSTEM_EVENT_KEYS, SYSTEM_KEYS_1, SYSTEM_KEYS_2, TOP_KEYS}
 use Rattle.gptp_lint.specs.Unread.{section_name}
 use Rattle.gptp_lint.specs.declared.place.Place.{Place}
 use Rattle.gptp_lint.specs.declared.place.Place.TheVariants.{Member, Network, Top}
 use Rattle.gptp_lint.specs.declared.place.Section.{Section}
 use Rattle.gptp_lint.specs.declared.place.Section.TheVariants.{Event, Link, System}
 
--- at the top, and in `[network]`
-abbrev pub top_keys : List (List ℕ)
-top_keys = codes "version" ∷ codes "network" ∷ codes "system" ∷ codes "link" ∷ codes "event" ∷ []
-
-abbrev pub network_keys : List (List ℕ)
-network_keys =
-    codes "announce" ∷ codes "sync" ∷ codes "pdelay" ∷ codes "timeout" ∷ codes "lost" ∷ codes "threshold"
-    ∷ codes "turnaround" ∷ codes "residence" ∷ codes "sync_timeout" ∷ codes "granularity"
-    ∷ codes "noise" ∷ codes "window" ∷ []
-
--- in a system, of a document of version 1 and of version 2
-abbrev pub system_keys_1 : List (List ℕ)
-system_keys_1 =
-    codes "clock" ∷ codes "priority1" ∷ codes "class" ∷ codes "accuracy" ∷ codes "variance" ∷ codes "priority2"
-    ∷ codes "phase" ∷ codes "drift" ∷ codes "continues" ∷ codes "ports" ∷ []
-
-abbrev pub system_keys_2 : List (List ℕ)
-system_keys_2 =
-    codes "clock" ∷ codes "priority1" ∷ codes "class" ∷ codes "accuracy" ∷ codes "variance" ∷ codes "priority2"
-    ∷ codes "phase" ∷ codes "drift" ∷ codes "continues" ∷ codes "ports" ∷ codes "announce" ∷ []
-
+-- a document is of version 2
 abbrev pub is_two : ℤ → Bool
 is_two (pos n) = n == 2
 is_two (negsuc n) = false
@@ -44,27 +27,21 @@ integer_in None = None
 abbrev pub is_version_2 : Members → Bool
 is_version_2 t = holds_two (integer_in (get_member (codes "version") t))
 
-abbrev pub system_keys : Members → List (List ℕ)
-system_keys t = if is_version_2 t then system_keys_2 else system_keys_1
-
--- in a link
-abbrev pub link_keys : List (List ℕ)
-link_keys =
-    codes "a" ∷ codes "a_port" ∷ codes "b" ∷ codes "b_port" ∷ codes "min" ∷ codes "max" ∷ codes "loss" ∷ codes "up" ∷ []
+-- in a system, by the version of its document
+abbrev pub system_keys : Members → List Name
+system_keys t = if is_version_2 t then SYSTEM_KEYS_2.now else SYSTEM_KEYS_1.now
 
 -- in an event, by its kind
-unfoldable pub event_keys : List ℕ → List (List ℕ)
+unfoldable pub event_keys : List ℕ → List Name
 event_keys kind =
-    if bytes_eq kind (codes "link_down") then codes "at" ∷ codes "kind" ∷ codes "clock" ∷ codes "port" ∷ []
-    else if bytes_eq kind (codes "link_up") then codes "at" ∷ codes "kind" ∷ codes "clock" ∷ codes "port" ∷ []
-    else if bytes_eq kind (codes "link_set")
-    then codes "at" ∷ codes "kind" ∷ codes "clock" ∷ codes "port" ∷ codes "min" ∷ codes "max" ∷ codes "loss" ∷ []
-    else if bytes_eq kind (codes "fail") then codes "at" ∷ codes "kind" ∷ codes "clock" ∷ []
-    else if bytes_eq kind (codes "recover") then codes "at" ∷ codes "kind" ∷ codes "clock" ∷ []
-    else if bytes_eq kind (codes "priority1") then codes "at" ∷ codes "kind" ∷ codes "clock" ∷ codes "value" ∷ []
-    else if bytes_eq kind (codes "inject")
-    then codes "at" ∷ codes "kind" ∷ codes "clock" ∷ codes "port" ∷ codes "octets" ∷ []
-    else codes "at" ∷ codes "kind" ∷ []
+    if bytes_eq kind (codes "link_down") then LINK_EVENT_KEYS.now
+    else if bytes_eq kind (codes "link_up") then LINK_EVENT_KEYS.now
+    else if bytes_eq kind (codes "link_set") then LINK_SET_KEYS.now
+    else if bytes_eq kind (codes "fail") then SYSTEM_EVENT_KEYS.now
+    else if bytes_eq kind (codes "recover") then SYSTEM_EVENT_KEYS.now
+    else if bytes_eq kind (codes "priority1") then PRIORITY1_KEYS.now
+    else if bytes_eq kind (codes "inject") then INJECT_KEYS.now
+    else EVENT_KEYS.now
 
 -- ---- places of a document
 
@@ -107,12 +84,15 @@ kind_text (Some event) = text_of_value (get_member (codes "kind") event)
 kind_text None = []
 
 -- the keys that are read at a place
+abbrev pub names_read : Members → Place → List Name
+names_read t Top = TOP_KEYS.now
+names_read t Network = NETWORK_KEYS.now
+names_read t (Member System number) = system_keys t
+names_read t (Member Link number) = LINK_KEYS.now
+names_read t (Member Event number) = event_keys (kind_text (table_at t (Member Event number)))
+
 abbrev pub keys_read : Members → Place → List (List ℕ)
-keys_read t Top = top_keys
-keys_read t Network = network_keys
-keys_read t (Member System number) = system_keys t
-keys_read t (Member Link number) = link_keys
-keys_read t (Member Event number) = event_keys (kind_text (table_at t (Member Event number)))
+keys_read t place = map name_text (names_read t place)
 
 -- a key is one of these, or a name, which is read nowhere and may stand everywhere
 abbrev pub is_known : List (List ℕ) → List ℕ → Bool

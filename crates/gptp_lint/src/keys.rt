@@ -4,102 +4,38 @@ ghost use Rattle.std.specs.Prelude.{◌≡◌, ◌++◌, ◌∷◌, [], IfOk, On
 ghost use Rattle.std.specs.List.{list_any};
 ghost use Rattle.toml.specs.Data.{get_member};
 ghost use Rattle.toml.specs.View.{items_view, table_view, view};
+ghost use Rattle.gptp_network.specs.Keys.{name_text};
 ghost use Rattle.gptp_lint.specs.Keys.{absent_at, event_keys, is_absent, is_known, is_two, is_version_2, keys_read, kind_text, member_at, members_of, system_keys, table_at};
 
 use crate::place::{Place, Section};
+use gptp_network::{
+    EVENT_KEYS, INJECT_KEYS, LINK_EVENT_KEYS, LINK_KEYS, LINK_SET_KEYS, NETWORK_KEYS, Name,
+    PRIORITY1_KEYS, SYSTEM_EVENT_KEYS, SYSTEM_KEYS_1, SYSTEM_KEYS_2, TOP_KEYS,
+};
 use std::alloc::{AllocError, Global};
 use toml::{Table, Value};
 
-/// Those at the top.
-const TOP: &[&str] = &["version", "network", "system", "link", "event"];
-
-/// Those of `[network]`.
-const NETWORK: &[&str] = &[
-    "announce",
-    "sync",
-    "pdelay",
-    "timeout",
-    "lost",
-    "threshold",
-    "turnaround",
-    "residence",
-    "sync_timeout",
-    "granularity",
-    "noise",
-    "window",
-];
-
-/// Those of a system.
-const SYSTEM: &[&str] = &[
-    "clock",
-    "priority1",
-    "class",
-    "accuracy",
-    "variance",
-    "priority2",
-    "phase",
-    "drift",
-    "continues",
-    "ports",
-];
-
-/// Those of a system of a document of version 2.
-const SYSTEM_2: &[&str] = &[
-    "clock",
-    "priority1",
-    "class",
-    "accuracy",
-    "variance",
-    "priority2",
-    "phase",
-    "drift",
-    "continues",
-    "ports",
-    "announce",
-];
-
-/// Those of a link.
-const LINK: &[&str] = &["a", "a_port", "b", "b_port", "min", "max", "loss", "up"];
-
-/// Those of an event of no known kind.
-const EVENT: &[&str] = &["at", "kind"];
-
-/// Those of `link_down` and `link_up`.
-const LINK_EVENT: &[&str] = &["at", "kind", "clock", "port"];
-
-/// Those of `link_set`.
-const LINK_SET: &[&str] = &["at", "kind", "clock", "port", "min", "max", "loss"];
-
-/// Those of `fail` and `recover`.
-const SYSTEM_EVENT: &[&str] = &["at", "kind", "clock"];
-
-/// Those of `priority1`.
-const PRIORITY1: &[&str] = &["at", "kind", "clock", "value"];
-
-/// Those of `inject`.
-const INJECT: &[&str] = &["at", "kind", "clock", "port", "octets"];
-
 /// Those of an event of this kind.
 #[tactic(auto, unfolding(crate::specs::Keys::event_keys))]
-fn event_keys(kind: &str) -> &'static [&'static str]
-    ensures { map (λ key. key.now) result.now ≡ event_keys kind.now }
+fn event_keys(kind: &str) -> &'static [Name]
+    ensures { result.now ≡ event_keys kind.now }
 {
     if kind == "link_down" {
-        LINK_EVENT
+        LINK_EVENT_KEYS
     } else if kind == "link_up" {
-        LINK_EVENT
+        LINK_EVENT_KEYS
     } else if kind == "link_set" {
-        LINK_SET
+        LINK_SET_KEYS
     } else if kind == "fail" {
-        SYSTEM_EVENT
+        SYSTEM_EVENT_KEYS
     } else if kind == "recover" {
-        SYSTEM_EVENT
+        SYSTEM_EVENT_KEYS
     } else if kind == "priority1" {
-        PRIORITY1
+        PRIORITY1_KEYS
     } else if kind == "inject" {
-        INJECT
+        INJECT_KEYS
     } else {
-        EVENT
+        EVENT_KEYS
     }
 }
 
@@ -185,35 +121,35 @@ pub(crate) fn table_at<'a>(document: &'a Table, place: Place) -> Option<&'a Tabl
 }
 
 /// Those of a system, by the version of its document.
-fn system_keys(document: &Table) -> &'static [&'static str]
-    ensures { map (λ key. key.now) result.now ≡ system_keys (table_view document.now) }
+fn system_keys(document: &Table) -> &'static [Name]
+    ensures { result.now ≡ system_keys (table_view document.now) }
 {
     if is_version_2(document) {
-        SYSTEM_2
+        SYSTEM_KEYS_2
     } else {
-        SYSTEM
+        SYSTEM_KEYS_1
     }
 }
 
 /// The keys that are read at a place, in the order of the formats.
-pub(crate) fn keys_at(document: &Table, place: Place) -> &'static [&'static str]
-    ensures { map (λ key. key.now) result.now ≡ keys_read (table_view document.now) place }
+pub(crate) fn keys_at(document: &Table, place: Place) -> &'static [Name]
+    ensures { map name_text result.now ≡ keys_read (table_view document.now) place }
 {
     match place {
-        Place::Top => TOP,
-        Place::Network => NETWORK,
+        Place::Top => TOP_KEYS,
+        Place::Network => NETWORK_KEYS,
         Place::Member(Section::System, _) => system_keys(document),
-        Place::Member(Section::Link, _) => LINK,
+        Place::Member(Section::Link, _) => LINK_KEYS,
         Place::Member(Section::Event, _) => event_keys(kind_of(table_at(document, place))),
     }
 }
 
 /// Whether a key is one of some.
-fn is_among(keys: &[&str], key: &[u8]) -> bool
-    ensures { result ≡ list_any (λ known. bytes_eq known key.now) (map (λ key. key.now) keys.now) }
+fn is_among(keys: &[Name], key: &[u8]) -> bool
+    ensures { result ≡ list_any (λ known. bytes_eq known key.now) (map name_text keys.now) }
 {
     for known in keys {
-        if known.as_bytes() == key {
+        if known.text().as_bytes() == key {
             return true;
         }
     }
@@ -221,8 +157,8 @@ fn is_among(keys: &[&str], key: &[u8]) -> bool
 }
 
 /// Whether a key is read at a place, or is a name, which is read nowhere and may stand everywhere.
-pub(crate) fn is_known(keys: &[&str], key: &[u8]) -> bool
-    ensures { result ≡ is_known (map (λ known. known.now) keys.now) key.now }
+pub(crate) fn is_known(keys: &[Name], key: &[u8]) -> bool
+    ensures { result ≡ is_known (map name_text keys.now) key.now }
 {
     key == b"name".as_slice() || is_among(keys, key)
 }
@@ -231,28 +167,24 @@ pub(crate) fn is_known(keys: &[&str], key: &[u8]) -> bool
 fn push_absent(
     absent: &mut Vec<&'static [u8]>,
     table: &Table,
-    known: &'static str,
+    known: Name,
 ) -> Result<(), AllocError>
     ensures { OnOk result (map (λ key. key.now) absent.new.items ≡ map (λ key. key.now) absent.old.items
-        ++ (if is_absent (table_view table.now) known.now then known.now ∷ [] else [])) }
+        ++ (if is_absent (table_view table.now) (name_text known) then name_text known ∷ [] else [])) }
 {
-    match value_at(table, known) {
+    match value_at(table, known.text()) {
         Some(_) => Ok(()),
         None => {
-            absent.push(known.as_bytes())?;
+            absent.push(known.text().as_bytes())?;
             Ok(())
         }
     }
 }
 
 /// The keys that a table doesn't have, of some.
-fn absent_in(
-    alloc: Global,
-    table: &Table,
-    keys: &[&'static str],
-) -> Result<Vec<&'static [u8]>, AllocError>
+fn absent_in(alloc: Global, table: &Table, keys: &[Name]) -> Result<Vec<&'static [u8]>, AllocError>
     ensures { IfOk result (λ absent. map (λ key. key.now) absent.items
-        ≡ filter (is_absent (table_view table.now)) (map (λ key. key.now) keys.now)) }
+        ≡ filter (is_absent (table_view table.now)) (map name_text keys.now)) }
 {
     let mut absent = Vec::new(alloc);
     for known in keys {

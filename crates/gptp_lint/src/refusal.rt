@@ -3,6 +3,7 @@
 ghost use Rattle.std.specs.Prelude.{◌≡◌, ◌≤◌, ◌++◌, ◌∷◌, [], Err, Some, List, ℕ, IfOk, OnOk, length, map, option_map, string_bytes, take};
 ghost use Rattle.toml.specs.View.{table_view};
 ghost use Rattle.gptp_words.specs.Lines.{text_of};
+ghost use Rattle.gptp_network.specs.Keys.{name_text};
 ghost use Rattle.gptp_network.specs.ReadDocument.{read_document};
 ghost use Rattle.gptp_outline.specs.Rows.{table_of};
 ghost use Rattle.gptp_lint.specs.LintText.{refused_line};
@@ -15,7 +16,7 @@ use crate::nearest::{NearWords, nearest};
 use crate::outline::{Entry, Outline, outline_of};
 use crate::place::{Place, PlaceWords, is_at};
 use crate::why::WhyWords;
-use gptp_network::{Document, DocumentFault, Refusal, Why};
+use gptp_network::{Document, DocumentFault, Name, Refusal, Why};
 use std::alloc::{AllocError, Global};
 use toml::Table;
 
@@ -31,8 +32,8 @@ fn tell_no_toml(alloc: Global, input: &[u8], count: usize) -> Result<String, All
 }
 
 /// Whether a key of a text is at a place and isn't among those that are read there.
-fn is_unread_at(read: &[&str], place: Place, entry: &Entry) -> bool
-    ensures { result ≡ is_unread_at (map (λ key. key.now) read.now) place (entry_view entry.now) }
+fn is_unread_at(read: &[Name], place: Place, entry: &Entry) -> bool
+    ensures { result ≡ is_unread_at (map name_text read.now) place (entry_view entry.now) }
 {
     is_at(entry.place, place) && !is_known(read, &entry.key)
 }
@@ -40,12 +41,12 @@ fn is_unread_at(read: &[&str], place: Place, entry: &Entry) -> bool
 /// Puts a key of a text after others, if it is at a place and isn't among those that are read there.
 fn push_unread_at<'a>(
     unread: &mut Vec<&'a [u8]>,
-    read: &[&str],
+    read: &[Name],
     place: Place,
     entry: &'a Entry,
 ) -> Result<(), AllocError>
     ensures { OnOk result (map (λ key. key.now) unread.new.items ≡ map (λ key. key.now) unread.old.items
-        ++ unread_at (map (λ key. key.now) read.now) place (entry_view entry.now ∷ [])) }
+        ++ unread_at (map name_text read.now) place (entry_view entry.now ∷ [])) }
 {
     if is_unread_at(read, place, entry) {
         unread.push(entry.key.as_slice())?;
@@ -56,12 +57,12 @@ fn push_unread_at<'a>(
 /// The keys of a text at a place that aren't among those that are read there, in the order of the text.
 fn unread_at<'a>(
     alloc: Global,
-    read: &[&str],
+    read: &[Name],
     place: Place,
     entries: &'a [Entry],
 ) -> Result<Vec<&'a [u8]>, AllocError>
     ensures { IfOk result (λ unread. map (λ key. key.now) unread.items
-        ≡ unread_at (map (λ key. key.now) read.now) place (map entry_view entries.now)) }
+        ≡ unread_at (map name_text read.now) place (map entry_view entries.now)) }
 {
     let mut unread = Vec::new(alloc);
     for entry in entries {

@@ -305,8 +305,8 @@ module _ (p : SettlingParams) (by next number : ℕ) (w : WorldState) (draws : L
           brings_port new w.net at.link at.direction s.channel s.here s.up
           (ap (λ (x : Station). clock x.system) (sym station) ∙ s.asking.named)
           (subst (λ (x : Station). HasPortNumber x.system port) station (of at.asking at.direction s.asking)) in
-          elim (start_ports_told k.place (AsksIn at w.time port) (asks_in at w.time port k.place here) now draws w' starts
-          (inl (among, prompt due_soon))) [
+          elim (start_ports_told k.place (AsksIn at w.time port) (asks_in at w.time port k.place here) now draws w'
+          starts (inl (among, prompt due_soon))) [
             | inl (none, is_prompt) ↦ absurd none
             | inr asked ↦ asked
           ]

@@ -191,7 +191,8 @@ module _ (input : ℕ → Input) (own : IsOfPort input) where
           subst (λ (x : Station). HasPortNumber x.system (sender direction channel).port)
           (same_there u.stations q c.station station c.here there) number) parts.after
           (λ way.
-          ends_other u (join_on w.net.channels v.net.channels u.net.channels joins stays.links) parts.after way direction)
+          ends_other u (join_on w.net.channels v.net.channels u.net.channels joins stays.links) parts.after way
+          direction)
           answer c),
       calls_orderly q (input (sender direction channel).port) u ds answer u' usual c,
     )

@@ -1,6 +1,7 @@
-use Rattle.std.proofs.Common.{codes, inl, inr, rules}
-use Rattle.clap.specs.Words.{found_of, rows_of, subcommand_name_of}
-use Rattle.gptp_commands.proofs.OptionLemmas.{entered_rows, no_other}
+use Rattle.std.proofs.Common.{◌≢◌, Option, Some, codes, inl, inr, rules}
+use Rattle.clap.specs.Words.{Text, found_of, rows_of, subcommand_name_of}
+use Rattle.gptp_commands.specs.Command.{IsNoOther}
+use Rattle.gptp_commands.proofs.OptionLemmas.{entered_rows}
 use Rattle.gptp_commands.proofs.command.order_in.Goals as goal
 use Rattle.gptp_commands.proofs.command.order_in.Goals.{in_default-via-in-Some+in_default, in_default-via-in_default}
 
@@ -22,6 +23,13 @@ returns-in-Some-lint-default-clause-asks c =
     let there = entered_rows c.args.matches.now (codes "lint") it.field-0-0.now rows it.is-lint it.ensures.name
     it.ensures.rows in
     (rows, there, c.flag.ensures)
+
+-- it is `compare`, where it has the name of none of the others
+no_other : (name : Option Text) → name ≢ Some (codes "run") → name ≢ Some (codes "timeline")
+    → name ≢ Some (codes "check") → name ≢ Some (codes "choice") → name ≢ Some (codes "accuracy")
+    → name ≢ Some (codes "explain") → name ≢ Some (codes "lint") → name ≢ Some (codes "faults") → IsNoOther name
+no_other name run timeline check choice accuracy explain lint faults =
+    (run, (timeline, (check, (choice, (accuracy, (explain, (lint, (faults, tt))))))))
 
 pub returns-in_default-clause-asks : goal.returns-in_default-clause-asks
 returns-in_default-clause-asks c =

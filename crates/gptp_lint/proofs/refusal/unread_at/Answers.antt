@@ -1,8 +1,8 @@
 -- One entry more.
 use Rattle.std.proofs.Common.{◌≡◌, ◌++◌, ◌∙◌, ◌∷◌, ℕ, List, [], Some, ap, filter, map, slice_get, sym, take}
-use Rattle.std.specs.Borrow.{Bor}
 use Rattle.std.proofs.lemmas.List.{map-append}
 use Rattle.std.proofs.lemmas.Option.{slice_get-get_or}
+use Rattle.gptp_network.specs.Keys.{name_text}
 use Rattle.gptp_lint.specs.Outline.{PlacedKey, entry_view}
 use Rattle.gptp_lint.specs.Refusal.{is_unread_at, unread_at}
 use Rattle.gptp_lint.proofs.KeyLemmas.{passed_more}
@@ -10,7 +10,7 @@ use Rattle.gptp_lint.proofs.refusal.unread_at.Goals as goal
 
 pub loop-entry-preserved : goal.loop-entry-preserved
 loop-entry-preserved c =
-    let read : List (List ℕ) = map (λ (key : Bor (List ℕ)). key.now) c.args.read.now in
+    let read : List (List ℕ) = map name_text c.args.read.now in
     let place = c.args.place in
     let xs = c.args.entries.now in
     let i = c.loop-entry.entry-index in
