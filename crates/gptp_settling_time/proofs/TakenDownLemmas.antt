@@ -195,7 +195,6 @@ module _ (p : SettlingParams) (w : WorldState) (is : IsWorld p w) (place : ℕ) 
     }
 
     silent_at : (gone : ℕ) → IsSilent gone at w → IsSilent gone at w'
-      unfolding link_taken
     unfolding link_taken
     silent_at gone one =
         each_end_told PortDown channel taken (IsSilent gone at)
@@ -209,7 +208,6 @@ module _ (p : SettlingParams) (w : WorldState) (is : IsWorld p w) (place : ℕ) 
         (record { link = link_taken one.link; old = one.old; inv = one.inv })
 
     never_at : IsNeverAnswered at w → IsNeverAnswered at w'
-      unfolding link_taken
     unfolding link_taken
     never_at one =
         each_end_told PortDown channel taken (IsNeverAnswered at)
