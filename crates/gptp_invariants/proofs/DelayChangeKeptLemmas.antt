@@ -16,7 +16,6 @@ use Rattle.gptp_scenario.specs.declared.change.Act.TheVariants.{Deliver, Expire,
 use Rattle.gptp_scenario.specs.declared.change.Change.{Change}
 use Rattle.gptp_scenario.specs.declared.change.Change.TheVariants.{LinkDown, LinkUp, LinkSet, Fail, Recover, Priority1, Inject}
 use Rattle.gptp_scenario.specs.declared.network.LinkSpec.{LinkSpec}
-use Rattle.gptp_scenario.specs.Network.{pace_of}
 use Rattle.gptp_model.specs.declared.station.Station.{Station}
 use Rattle.gptp_model.specs.Act.{Delivers, TimerRunsOut, Hears, all_timers}
 use Rattle.gptp_model.specs.Acts.{Changes, set_to}
@@ -38,6 +37,8 @@ use Rattle.gptp_invariants.proofs.DelayLinkExpiryLemmas.{expires_timely}
 use Rattle.gptp_invariants.proofs.DelayLinkKeptLemmas.{calls_if_live_kept, is_down, is_up, started_measured, starts_all_kept, starts_kept, tells_kept}
 use Rattle.gptp_invariants.proofs.DelayMeasuredLemmas.{IsKept, calls_kept, entered_fits, queue_fits, sound_kept}
 use Rattle.gptp_invariants.proofs.ChoiceSeenOctetLemmas.{octets_fit}
+use Rattle.gptp_system.proofs.TimersChangedLemmas.{priority_clock}
+use Rattle.gptp_system.specs.Start.{started}
 
 -- ---- what is between the systems
 
@@ -176,7 +177,13 @@ fails_kept true place station w draws w' here is (none, same) =
     subst IsKept (sym same)
     (station_kept place station off w (all_timers place off w.net) here refl refl
     (record {
-      set_up = record { params = old.set_up.params; phase = old.set_up.phase; drift = old.set_up.drift };
+      set_up = record {
+        params = old.set_up.params;
+        phase = old.set_up.phase;
+        drift = old.set_up.drift;
+        seed = old.set_up.seed;
+        named = old.set_up.named;
+      };
       in_time = old.in_time;
       ports = old.ports;
     })
@@ -196,7 +203,13 @@ prioritized_kept value place station w draws w' here is k =
     calls_if_live_kept place (Priority value) set draws w' (λ x there. tt) (λ n. tt)
     (station_kept place station (with_setup value station) w w.net here refl refl
     (record {
-      set_up = record { params = old.set_up.params; phase = old.set_up.phase; drift = old.set_up.drift };
+      set_up = record {
+        params = old.set_up.params;
+        phase = old.set_up.phase;
+        drift = old.set_up.drift;
+        seed = old.set_up.seed;
+        named = old.set_up.named ∙ sym (priority_clock value (started station.setup 0));
+      };
       in_time = old.in_time;
       ports = old.ports;
     })
@@ -273,8 +286,8 @@ starts_measured places w w' draws sound is k = (starts_all_kept places w draws w
 pub initially_measured : InitiallyMeasured
 initially_measured n = record {
   stations = λ place station here.
-      let (member, at, made) = mapped (station_of (pace_of n)) n.systems place station here in
-      subst (IsStationMeasured 0) made (started_measured (setup_of (pace_of n) member) 0 false);
+      let (member, at, made) = mapped (station_of n) n.systems place station here in
+      subst (IsStationMeasured 0) made (started_measured (setup_of n member) 0 false);
   frames = λ link channel here.
       let (wire, at, made) = mapped channel_from n.links link channel here in
       subst (λ (c : Channel). (direction : Direction) (f : Frame) → In f (world_queue direction c)

@@ -107,7 +107,7 @@ calls_all_kept place (p ∷ ps) w draws w' has is (first, rest, between, answer,
 pub started_measured : (setup : Setup) (now : ℕ) (live : Bool)
     → IsStationMeasured now (record { setup = setup; system = started setup now; live = live })
 started_measured setup now live = record {
-  set_up = record { params = refl; phase = refl; drift = refl };
+  set_up = record { params = refl; phase = refl; drift = refl; seed = refl; named = refl };
   in_time = starts_in_time setup now;
   ports = ports;
 }

@@ -15,7 +15,7 @@ use Rattle.gptp_scenario.specs.declared.network.LinkSpec.{LinkSpec}
 use Rattle.gptp_model.specs.declared.station.Station.{Station}
 use Rattle.gptp_model.specs.Acts.{Acts, Changes, set_to}
 use Rattle.gptp_model.specs.Initial.{channel_from, channels_of, initial, setup_of, station_of, stations_of}
-use Rattle.gptp_scenario.specs.Network.{IsNetwork, NetworkState, pace_of}
+use Rattle.gptp_scenario.specs.Network.{IsNetwork, NetworkState}
 use Rattle.gptp_model.specs.Ahead.{IsPortAmong}
 use Rattle.gptp_model.specs.Changing.{StartsAll}
 use Rattle.gptp_model.specs.Sound.{IsSound}
@@ -92,8 +92,8 @@ initial_encodable n is = record { stations = stations; links = links }
   where
     stations : (place : ℕ) (station : Station) → slice_get (stations_of n) place ≡ Some station → StationFits station
     stations place station there =
-        let (m, stands, same) = mapped (station_of (pace_of n)) n.systems place station there in
-        subst StationFits same (new_fits 0 (setup_of (pace_of n) m) false (is.identities place m stands))
+        let (m, stands, same) = mapped (station_of n) n.systems place station there in
+        subst StationFits same (new_fits 0 (setup_of n m) false (is.identities place m stands))
 
     links : (link : ℕ) (channel : Channel) → slice_get (channels_of n) link ≡ Some channel → ChannelFits channel
     links link channel there =
