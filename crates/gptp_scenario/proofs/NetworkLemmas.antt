@@ -8,7 +8,7 @@ use Rattle.gptp_vector.specs.declared.port.PortId.{PortId}
 use Rattle.gptp_roles.specs.Selection.{clock_of}
 use Rattle.gptp_setup.specs.declared.setup.Params.{Params}
 use Rattle.gptp_setup.specs.Intervals.{interval_of}
-use Rattle.gptp_scenario.specs.Network.{NetworkState, without_members, with_system, with_link, logs_of, ArePrompt, IsKeptNetwork, IsMember, IsMemberTimed, IsPort, IsWire, IsEnd, IsNetwork, CanAddSystem, CanAddLink}
+use Rattle.gptp_scenario.specs.Network.{NetworkState, without_members, with_system, with_link, logs_of, ArePrompt, IsKeptNetwork, IsMember, IsMemberTimed, IsPort, IsWire, IsEnd, IsNetwork, CanAddSystem, CanAddLink, seeded, largest_of}
 use Rattle.gptp_scenario.specs.Params.{KeepParams}
 use Rattle.gptp_scenario.specs.declared.network.SystemSpec.{SystemSpec}
 use Rattle.gptp_scenario.specs.declared.network.LinkSpec.{LinkSpec}
@@ -155,3 +155,33 @@ pub link_added : (n : NetworkState) (w : LinkSpec) (smallest largest : Option �
     → CanAddLink n w → IsKeptNetwork (with_link w n) smallest largest
 link_added n w smallest largest h c =
     record { network = network_with_link n w h.network c; smallest = h.smallest; largest = h.largest }
+
+-- ---- the seed
+
+-- a network has its limits whatever the seed
+seeded_wire : (n : NetworkState) (seed i : ℕ) (w : LinkSpec) → IsWire n i w → IsWire (seeded seed n) i w
+seeded_wire n seed i w k = record {
+  number = k.number;
+  fit = k.fit;
+  prompt = k.prompt;
+  a = k.a;
+  b = k.b;
+  apart = k.apart;
+}
+
+pub seeded_network : (n : NetworkState) (seed : ℕ) → IsNetwork n → IsNetwork (seeded seed n)
+seeded_network n seed h = record {
+  params = h.params;
+  few_systems = h.few_systems;
+  few_links = h.few_links;
+  systems = h.systems;
+  identities = h.identities;
+  clocks = h.clocks;
+  timed = h.timed;
+  links = λ i w there. seeded_wire n seed i w (h.links i w there);
+  one_link = h.one_link;
+}
+
+pub seeded_largest : (n : NetworkState) (seed : ℕ) → largest_of (seeded seed n) ≡ largest_of n
+unfolding largest_of
+seeded_largest n seed = refl

@@ -49,7 +49,7 @@ pub(crate) struct LinkSpec {
 }
 
 /// A network: what is the same for all its systems, its systems, and the links that join two of their ports. It is seen
-/// as these, systems and links in the order in which they were added.
+/// as these, systems and links in the order in which they were added, with the seed 1 of the noise of time stamps.
 #[derive(Drop)]
 pub struct Network {
     params: Params,
@@ -67,9 +67,9 @@ impl Model for Network {
 
     ghost use Rattle.gptp_scenario.specs.Network.{IsKeptNetwork};
 
-    ghost view = { λ n. record { params = n.params; systems = n.systems.items; links = n.links.items } };
+    ghost view = { λ n. record { params = n.params; systems = n.systems.items; links = n.links.items; seed = 1 } };
 
-    ghost invariant = { λ n. IsKeptNetwork (record { params = n.params; systems = n.systems.items; links = n.links.items }) n.smallest n.largest };
+    ghost invariant = { λ n. IsKeptNetwork (record { params = n.params; systems = n.systems.items; links = n.links.items; seed = 1 }) n.smallest n.largest };
 }
 
 impl Network {
@@ -93,6 +93,13 @@ impl Network {
                 largest: None,
             }),
         }
+    }
+
+    /// The seed from which the systems of the network draw the noise of their time stamps, where none is given: 1.
+    pub fn seed(&self) -> u64
+        ensures { result ≡ self.now.seed }
+    {
+        1
     }
 
     /// Adds a system with that identity and so many ports, 0 to [`MOST_PORTS`], whose local clock is that phase ahead
