@@ -1,5 +1,5 @@
-//! The keys of a document: their names, and of each number its range, and its default where the key may be left out
-//! (profile).
+//! The keys of a document: their names, of each number its range, and its default where the key may be left out, and
+//! which keys are read where (profile).
 
 ghost use Rattle.std.specs.Prelude.{◌≡◌};
 ghost use Rattle.gptp_network.specs.Keys.{name_text};
@@ -179,3 +179,97 @@ pub(crate) const PORT: Natural = (Name::Port, 1, MOST_PORTS as u64, None);
 pub(crate) const SET_LOSS: Natural = (Name::Loss, 0, 1000, None);
 
 pub(crate) const VALUE: Natural = (Name::Value, 0, 255, None);
+
+// ---- which keys are read where, in the order of the formats
+
+/// Those at the top.
+pub const TOP_KEYS: &[Name] = &[
+    Name::Version,
+    Name::Network,
+    Name::System,
+    Name::Link,
+    Name::Event,
+];
+
+/// Those of `[network]`.
+pub const NETWORK_KEYS: &[Name] = &[
+    Name::Announce,
+    Name::Sync,
+    Name::Pdelay,
+    Name::Timeout,
+    Name::Lost,
+    Name::Threshold,
+    Name::Turnaround,
+    Name::Residence,
+    Name::SyncTimeout,
+    Name::Granularity,
+    Name::Noise,
+    Name::Window,
+];
+
+/// Those of a system of a document of version 1.
+pub const SYSTEM_KEYS_1: &[Name] = &[
+    Name::Clock,
+    Name::Priority1,
+    Name::Class,
+    Name::Accuracy,
+    Name::Variance,
+    Name::Priority2,
+    Name::Phase,
+    Name::Drift,
+    Name::Continues,
+    Name::Ports,
+];
+
+/// Those of a system of a document of version 2.
+pub const SYSTEM_KEYS_2: &[Name] = &[
+    Name::Clock,
+    Name::Priority1,
+    Name::Class,
+    Name::Accuracy,
+    Name::Variance,
+    Name::Priority2,
+    Name::Phase,
+    Name::Drift,
+    Name::Continues,
+    Name::Ports,
+    Name::Announce,
+];
+
+/// Those of a link.
+pub const LINK_KEYS: &[Name] = &[
+    Name::A,
+    Name::APort,
+    Name::B,
+    Name::BPort,
+    Name::Min,
+    Name::Max,
+    Name::Loss,
+    Name::Up,
+];
+
+/// Those of an event of no known kind.
+pub const EVENT_KEYS: &[Name] = &[Name::At, Name::Kind];
+
+/// Those of `link_down` and `link_up`.
+pub const LINK_EVENT_KEYS: &[Name] = &[Name::At, Name::Kind, Name::Clock, Name::Port];
+
+/// Those of `link_set`.
+pub const LINK_SET_KEYS: &[Name] = &[
+    Name::At,
+    Name::Kind,
+    Name::Clock,
+    Name::Port,
+    Name::Min,
+    Name::Max,
+    Name::Loss,
+];
+
+/// Those of `fail` and `recover`.
+pub const SYSTEM_EVENT_KEYS: &[Name] = &[Name::At, Name::Kind, Name::Clock];
+
+/// Those of `priority1`.
+pub const PRIORITY1_KEYS: &[Name] = &[Name::At, Name::Kind, Name::Clock, Name::Value];
+
+/// Those of `inject`.
+pub const INJECT_KEYS: &[Name] = &[Name::At, Name::Kind, Name::Clock, Name::Port, Name::Octets];

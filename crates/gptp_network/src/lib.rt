@@ -28,7 +28,10 @@ mod why;
 
 pub use document::Document;
 pub use fault::DocumentFault;
-pub use keys::{LATEST_EVENT, Name};
+pub use keys::{
+    EVENT_KEYS, INJECT_KEYS, LATEST_EVENT, LINK_EVENT_KEYS, LINK_KEYS, LINK_SET_KEYS, NETWORK_KEYS,
+    Name, PRIORITY1_KEYS, SYSTEM_EVENT_KEYS, SYSTEM_KEYS_1, SYSTEM_KEYS_2, TOP_KEYS,
+};
 pub use place::{Place, Section};
 pub use snapshot::Snapshot;
 pub use why::{Front, Refusal, Shape, Why};
