@@ -50,11 +50,7 @@ fn rounded(granularity: u16, time: i128) -> i128
 fn stamp_of(granularity: u16, noise: i32, shown: ScaledNs) -> i128
     ensures { result ≡ stamp_of granularity noise shown }
 {
-    rounded(
-        granularity,
-        shown.value() + NANOSECOND * i128::from(noise),
-    )
-    .max(0)
+    rounded(granularity, shown.value() + NANOSECOND * i128::from(noise)).max(0)
 }
 
 /// The noise that a word is brought to, in ns.
