@@ -129,7 +129,7 @@ turns_and_asks p step now s s' sends k i q' there =
     asks_same : (q : Port)
         → measure_at (asking (stamp_time k.between now) (now + interval_of k.between.params.pdelay) q) ≡ ask
         (measure_at q)
-    asks_same q = rw (kept.phase, kept.drift, kept.params) refl
+    asks_same q = rw (kept.phase, kept.drift, kept.seed, kept.same_clock, kept.params) refl
 
     both : Parts (λ n x. only_at p ask n (only_at p (part_stepped step) n x)) s s'
     both =
