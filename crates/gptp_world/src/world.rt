@@ -44,8 +44,8 @@ impl<F: Fate + Drop> World<F> {
     ghost use Rattle.gptp_world.specs.Used.{snapshot_link};
 
     /// The world of a network at time 0: all its systems have started, in their order, and their first frames are in
-    /// flight. The systems draw the noise of their time stamps from the seed 1. Refused for want of memory alone; then
-    /// the fate is dropped.
+    /// flight. They draw the noise of their time stamps from the seed of the network. Refused for want of memory alone;
+    /// then the fate is dropped.
     pub fn new(alloc: Global, network: &Network, fate: F) -> Result<Self, AllocError>
         ensures { IfOk result (λ world. Begun F.answers network.now fate world.fate world.world_core) }
     {
