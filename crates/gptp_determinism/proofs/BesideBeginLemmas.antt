@@ -1,5 +1,5 @@
 -- How worlds that are the same but for the time begin, and which act is next in them.
-use Rattle.std.proofs.Common.{◌≡◌, ◌≤◌, ℕ, ℤ, List, [], ◌∷◌, ◌++◌, map, length, Option, Some, FitsSigned, w8, refl, sym, ap, subst, ◌∙◌, inl, inr, arith}
+use Rattle.std.proofs.Common.{◌≡◌, ◌≤◌, ℕ, ℤ, List, [], ◌∷◌, ◌++◌, map, length, Option, Some, false, FitsSigned, w8, refl, sym, ap, subst, ◌∙◌, inl, inr, arith}
 use Rattle.std.specs.Prelude.{⊤}
 use Rattle.std.specs.Int.{int_max}
 use Rattle.std.specs.List.{flat_map, range_with_len, reduce, AllZip}
