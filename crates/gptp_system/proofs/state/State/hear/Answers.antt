@@ -4,5 +4,6 @@ use Rattle.gptp_system.proofs.state.State.hear.Goals as goal
 
 pub returns-in-Announce-clause-touched : goal.returns-in-Announce-clause-touched
 returns-in-Announce-clause-touched c =
-    announce_touches _ c.args.port _ c.args.now (state_of c.args.self.now) _ _ _ c.hear_announce.ensures.again
-    c.heard_touches.ensures
+    rw c.in-Announce.is
+    (announce_touches _ c.args.port _ c.args.now (state_of c.args.self.now) _ _ _
+    c.hear_announce-again.ensures.again c.heard_touches-touched.ensures)

@@ -7,7 +7,8 @@ use Rattle.gptp_receipt.specs.Qualification.{Qualified}
 use Rattle.gptp_system.specs.State.{own, change, clock, held_at}
 use Rattle.gptp_system.specs.Ready.{state_of}
 use Rattle.std.specs.Prelude.{not}
-use Rattle.gptp_system.specs.Announcing.{answer_to_heard, replaces_held}
+use Rattle.gptp_system.specs.Announcing.{answer_to_heard, compared, replaces_held}
+use Rattle.gptp_system.specs.Selection.{SelectsIf}
 use Rattle.gptp_system.proofs.AgainLemmas.{again_becomes, selects_again_or_not}
 use Rattle.gptp_system.proofs.ChangedLemmas.{change-length}
 use Rattle.gptp_system.proofs.ReadyLemmas.{held_ready, hearing_keeps}
@@ -70,9 +71,12 @@ returns-clause-again c =
     let again = c.hears_again-again.result in
     let moves = c.can_change.ensures ∙ ap (λ heard. replaces_held heard && not again) heard in
     let items = items-with_items s.held c.hear_at-heard.new.held kept ∙ is in
+    let selects : SelectsIf (replaces_held (comparison (held_at (state_of s) c.args.port) me a) && not again) c.args.now
+    (compared c.args.port a c.args.now (state_of s)) (state_of c.select_if.new.self) c.select_if.new.outbox.items =
+    rw (← moves, ← items) c.select_if.ensures.selects in
     λ true_again. record {
       says = c.hears_again-again.ensures.0 true_again;
       state =
-          (again_becomes c.args.port a c.args.now (state_of s) _ _ again true_again
-          (rw (← moves, ← items) c.select_if.ensures.selects)).state;
+          (again_becomes c.args.port a c.args.now (state_of s) (state_of c.select_if.new.self)
+          c.select_if.new.outbox.items again true_again selects).state;
     }
