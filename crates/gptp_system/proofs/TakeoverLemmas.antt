@@ -1,10 +1,8 @@
 -- What a system tells is a timestamp as long as a simulation lasts.
-use Rattle.std.proofs.Common.{◌≡◌, ℕ, ◌+◌, ◌-◌, ◌*◌, ◌≤◌, ℤ, pos, ◌+ℤ◌, ◌-ℤ◌, ◌*ℤ◌, ◌≤ℤ◌, ◌<ℤ◌, Bool, true, false, ◌&&◌, if◌then◌else◌, Option, Some, None, Result, Ok, Err, refl, subst, arith}
-use Rattle.std.specs.Result.{IsOk, OkIff}
+use Rattle.std.proofs.Common.{◌≡◌, ℕ, ◌+◌, ◌-◌, ◌*◌, ◌≤◌, ℤ, pos, ◌+ℤ◌, ◌-ℤ◌, ◌*ℤ◌, ◌≤ℤ◌, ◌<ℤ◌, Bool, true, false, ◌&&◌, if◌then◌else◌, Option, Some, None, refl, subst, arith}
 use Rattle.std.proofs.lemmas.Int.{ints}
 use Rattle.std.proofs.lemmas.Bool.Decides.{nat_tests}
 use Rattle.gptp_scaled.specs.Rate.{unit}
-use Rattle.gptp_scaled.specs.ScaledNs.{FitsScaled}
 use Rattle.gptp_scaled.specs.Stamp.{FitsStamp}
 use Rattle.gptp_scaled.proofs.TimeStampLemmas.{time_stamp_is_near}
 use Rattle.gptp_pdelay.specs.Clock.{IsDrift, IsTime, drift_limit, local_clock}
@@ -38,25 +36,6 @@ pub time_from_zero : (phase : ℕ) (drift : ℤ) (t : ℕ) → phase ≤ 1000000
 time_from_zero phase drift t few d =
     let start = (clock_shows_time phase drift 0 few (omega arith) d).low in
     let later = clock_rises phase drift 0 t d (omega arith) in omega (arith, ints, start, later)
-
--- a value that fits is there
-pub ok_there : {T E : Type 0} (r : Result T E) (P : Type 0) (v : T) → OkIff r P v → P → IsOk r
-ok_there (Ok x) P v is fits = refl
-ok_there (Err e) P v is fits = absurd (is fits)
-
--- a time fits
-pub time_fits : (x : ℤ) → IsTime x → FitsScaled x
-time_fits x time =
-    let low = time.low in
-    let high = time.high in
-    record { low = omega (arith, ints, low); high = omega (arith, ints, high) }
-
--- and so does a timestamp
-pub stamp_fits : (x : ℤ) → FitsStamp x → FitsScaled x
-stamp_fits x fits =
-    let low = fits.low in
-    let high = fits.high in
-    record { low = omega (arith, ints, low); high = omega (arith, ints, high) }
 
 -- what it stamps is a time
 pub stamps_time : (s : SystemState) (now : ℕ) → IsReady s → IsMoment now → IsTime (stamp_time s now)

@@ -1,4 +1,4 @@
-use Rattle.std.proofs.Common.{rules, ◌≡◌, sym, subst, arith}
+use Rattle.std.proofs.Common.{rules, ◌≡◌, refl, sym, subst, arith}
 use Rattle.std.proofs.lemmas.Int.{ints}
 use Rattle.std.proofs.lemmas.Result.{Ok-from_Ok_iff}
 use Rattle.std.specs.Result.{OkIff}
@@ -19,7 +19,7 @@ unwrap-requires c =
     let stamped : OkIff c.time_stamp.result (FitsScaled (told_stamp s c.args.now)) (told_stamp s c.args.now) =
     rw (c.stamping.ensures, told) at c.time_stamp.ensures in
     rw (Ok-from_Ok_iff c.time_stamp.result (FitsScaled (told_stamp s c.args.now)) (told_stamp s c.args.now) stamped fits)
-    tt
+    refl
 
 pub returns-clause-fits : goal.returns-clause-fits
 returns-clause-fits c =
