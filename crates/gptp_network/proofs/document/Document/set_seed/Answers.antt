@@ -6,4 +6,5 @@ use Rattle.gptp_network.proofs.document.Document.set_seed.Goals as goal
 
 pub invariant_of-self : goal.invariant_of-self
 invariant_of-self c =
-    subst (λ n. AreEvents n _) (sym c.set_seed.ensures) (events_seeded _ c.args.seed _ c.self.invariant)
+    let events = c.self.inside.events.items in
+    subst (λ n. AreEvents n events) (sym c.set_seed.ensures) (events_seeded _ c.args.seed events c.self.invariant)
