@@ -33,7 +33,7 @@ use Rattle.gptp_faults.specs.Parts.{AreCaseParts, AreWhole, cut_off, IsLeft, IsP
 use Rattle.gptp_faults.specs.Ranking.{OutcomesAreRanked}
 use Rattle.gptp_faults.specs.Refusals.{case_events, IsLate, RefusesFaults, fault_before}
 use Rattle.gptp_faults.specs.Runs.{AreRunEnds, CaseRunEnds, document_run, generator, is_seen, run_moment, seed_of, set_aside}
-use Rattle.gptp_faults.specs.Stays.{document_of, end_at, failed_document, hold_of, watch_of}
+use Rattle.gptp_faults.specs.Stays.{end_at, failed_document, hold_of, watch_of}
 use Rattle.gptp_faults.specs.Times.{AreTimes}
 use Rattle.gptp_faults.specs.Whole.{IsWhole, WholeState}
 use Rattle.gptp_faults.specs.declared.cases.Case.{Case}
