@@ -16,7 +16,8 @@ use Rattle.gptp_setup.specs.declared.setup.Setup.{Setup}
 use Rattle.gptp_setup.specs.Intervals.{interval_of}
 use Rattle.gptp_setup.specs.SettlingParams.{SettlingParams, lapse_span, largest_interval}
 use Rattle.gptp_system.specs.Measures.{measure_at}
-use Rattle.gptp_system.specs.State.{clock, number, started}
+use Rattle.gptp_system.specs.Start.{started}
+use Rattle.gptp_system.specs.State.{clock, number}
 use Rattle.gptp_system.proofs.TimersChangedLemmas.{priority_clock}
 use Rattle.gptp_model.specs.Changing.{with_setup, with_station}
 use Rattle.gptp_model.specs.declared.station.Station.{Station}
