@@ -208,7 +208,7 @@ leader_right p settled longest w is at f zero h base s' sends told leading maste
         (parent_link at.direction f.channel) h.way h.phase f.parent h.is)
 
     -- the time stamp that it sends is near what it tells
-    abbrev said : ℤ
+    said : ℤ
     said = told_stamp (leading w.time (state_above at w f)) w.time
 
     near : AreWithin (32768 * h.way.blur) said (shown_at h.way h.phase 0 w.time +ℤ ahead -ℤ pos h.way.behind)
