@@ -446,8 +446,8 @@ module _ (n : NetworkState) (network : IsNetwork n) (off : NothingLapses n.param
 
     starts_with : (made : List Timed) (one : Timed) → made ++ one ∷ [] ≡ all_now → one.at ≡ 0
         → TellsNothing one.act → StartsWith n made one (suc ready)
-    starts_with made one are at_zero tells = record {
-      now = at_zero;
+    starts_with made one are is tells = record {
+      now = is;
       tells = tells;
       capable = subst (λ es. AreCapableSoon n es (suc ready)) (sym are) (capable_soon all_now ready soon);
     }
@@ -461,8 +461,8 @@ module _ (n : NetworkState) (network : IsNetwork n) (off : NothingLapses n.param
           first = Starting;
           begins = tt;
           last = Heard (suc ready);
-          lead = start_lead (Heard (suc ready)) all_now (λ made one are at_zero tells. (
-            starts_with made one are at_zero tells,
+          lead = start_lead (Heard (suc ready)) all_now (λ made one are is tells. (
+            starts_with made one are is tells,
             subst (UsedVaryLittle n) (sym are) little,
           )) [] event events refl at each;
           settles = omega (arith, is);
@@ -473,7 +473,7 @@ module _ (n : NetworkState) (network : IsNetwork n) (off : NothingLapses n.param
           begins = tt;
           last = Gained (suc ready);
           lead = start_lead (Gained (suc ready)) all_now
-              (λ made one are at_zero tells. inr (inr (starts_with made one are at_zero tells))) [] event events refl at each;
+              (λ made one are is tells. inr (inr (starts_with made one are is tells))) [] event events refl at each;
           settles = omega (arith, is);
         }
 
