@@ -8,7 +8,8 @@ use Rattle.gptp_scenario.specs.Network.{NetworkState, largest_of, seeded}
 use Rattle.gptp_scenario.specs.declared.change.Timed.{Timed}
 use Rattle.gptp_topology.specs.Times.{times_of}
 
-told_same : (n : NetworkState) (seed : ℕ) (made now : List Timed) → told_of (seeded seed n) made now ≡ told_of n made now
+told_same : (n : NetworkState) (seed : ℕ) (made now : List Timed)
+    → told_of (seeded seed n) made now ≡ told_of n made now
 told_same n seed made [] = refl
 told_same n seed made (t ∷ now) = ap (λ told. told_at n made t.act ∷ told) (told_same n seed (made ++ t ∷ []) now)
 

@@ -65,5 +65,6 @@ pub record CaseRunEnds (options : FaultsOptions) (d : DocumentState) (t : Times)
     (run : ℕ) (r : RunEnds) : Type 0 where
   pub last : LastStretches
   pub ends : EndsOf draws (tracks options) (set_aside d options.hold e names (run_moment t run))
-      (document_run d options.hold e t run) (end_at d options.hold e (run_moment t run)) (generator (seed_of t run)) last
+      (document_run d options.hold e t run) (end_at d options.hold e (run_moment t run)) (generator (seed_of t run))
+      last
   pub are : AreRunEnds (is_seen e) last r
