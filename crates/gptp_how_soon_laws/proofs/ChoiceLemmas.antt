@@ -160,7 +160,7 @@ module _ (d : DocumentState) (playable : IsPlayable d) where
               let (bound, past) = sound_before rest in inr (
                 late,
                 between,
-                sound.1.1.0,
+                sound.2.0,
                 off,
                 (rest.settling.sound, bound, past),
                 lowers,
