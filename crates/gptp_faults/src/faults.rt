@@ -15,12 +15,15 @@ use crate::options::FaultsOptions;
 use crate::outcome::{Outcome, push_outcome, try_case};
 use crate::ranking::rank;
 use crate::refusals::{any_late, fault_before};
+use crate::runs::runs_so_far;
 use crate::text::write_table;
 use crate::times::{Times, times_of};
 use crate::whole::{Whole, whole_of};
+use gptp_links::PcgFate;
 use gptp_network::{Document, DocumentFault};
 use gptp_report::sink::Sink;
 use gptp_report::{Cut, write_whole};
+use gptp_timeline::RunSoFar;
 use std::alloc::{AllocError, Global};
 
 /// What is answered of a document.
@@ -96,6 +99,7 @@ fn try_next<P: Sink>(
     options: &FaultsOptions,
     whole: &Whole,
     times: &Times,
+    so_far: &[RunSoFar<PcgFate>],
     number: usize,
     failing: &Case,
     count: usize,
@@ -115,7 +119,9 @@ fn try_next<P: Sink>(
     ensures fails { result ≡ Err Cut.Write → P.failures progress.new ≢ P.failures progress.old }
 {
     tell(alloc, options.progress, count, outcomes.len() + 1, progress)?;
-    let outcome = try_case(alloc, document, whole, options, times, number, failing)?;
+    let outcome = try_case(
+        alloc, document, whole, options, times, so_far, number, failing,
+    )?;
     push_outcome(outcomes, outcome)?;
     Ok(())
 }
@@ -141,6 +147,7 @@ fn try_cases<P: Sink>(
     ensures fails { result ≡ Err Cut.Write → P.failures progress.new ≢ P.failures progress.old }
 {
     let count = count_of(options, cases.len());
+    let so_far = runs_so_far(alloc, document, options, times)?;
     let mut outcomes = Vec::new(alloc);
     for number in 0..cases.len() {
         if belongs(options, number) {
@@ -150,6 +157,7 @@ fn try_cases<P: Sink>(
                 options,
                 whole,
                 times,
+                &so_far,
                 number,
                 &cases[number],
                 count,

@@ -18,8 +18,10 @@ use crate::parts::{CaseParts, Part, case_parts};
 use crate::runs::{RunEnds, run_case, runs_of};
 use crate::times::Times;
 use crate::whole::Whole;
+use gptp_links::PcgFate;
 use gptp_network::Document;
 use gptp_report::Cut;
+use gptp_timeline::RunSoFar;
 use gptp_vector::ClockId;
 use std::alloc::{AllocError, Global};
 use std::marker::Model;
@@ -201,6 +203,7 @@ pub(crate) fn try_case(
     whole: &Whole,
     options: &FaultsOptions,
     times: &Times,
+    so_far: &[RunSoFar<PcgFate>],
     number: usize,
     failing: &Case,
 ) -> Result<Outcome, Cut>
@@ -220,6 +223,7 @@ pub(crate) fn try_case(
         times,
         &plan.events,
         &plan.aside,
+        so_far,
         0,
     )?;
     let follow = follows_of(alloc, first.down.roots())?;
@@ -233,6 +237,7 @@ pub(crate) fn try_case(
             times,
             &plan.events,
             &plan.aside,
+            so_far,
             run,
         )?;
         let next_down = down_in(alloc, &plan.parts, &next)?;

@@ -13,7 +13,7 @@ use crate::times::{Times, moment};
 use gptp_links::PcgFate;
 use gptp_network::Document;
 use gptp_report::Cut;
-use gptp_timeline::{LastStretches, SetAside, StretchEnd, last_stretches};
+use gptp_timeline::{LastStretches, RunSoFar, SetAside, StretchEnd, last_stretches};
 use gptp_vector::ClockId;
 use std::alloc::Global;
 
@@ -77,6 +77,61 @@ fn ends_of(seen: bool, ends: LastStretches) -> Result<RunEnds, Cut>
     }
 }
 
+/// How many systems the runs that are kept may have, all of them together.
+const MOST_SYSTEMS: u64 = 512;
+
+/// The runs of a document up to the first moment, by seed, from which each case goes on: those of the first seeds, as
+/// many as have 512 systems together. There are none where an event is at that moment.
+pub(crate) fn runs_so_far(
+    alloc: Global,
+    document: &Document,
+    options: &FaultsOptions,
+    times: &Times,
+) -> Result<Vec<RunSoFar<PcgFate>>, Cut> {
+    let mut runs = Vec::new(alloc);
+    if document.last_change() < times.from {
+        let systems = document.network().systems() as u64;
+        let seeds = times.seeds.min(MOST_SYSTEMS / systems.max(1));
+        for seed in 0..seeds {
+            let fate = PcgFate::new(seed + 1);
+            runs.push(RunSoFar::new(
+                alloc,
+                document,
+                fate,
+                times.from,
+                options.tracks(),
+            )?)?;
+        }
+    }
+    Ok(runs)
+}
+
+/// How the last stretches end of the run of a document with a seed in which a case is down from a time until another,
+/// up to an end, of which some systems are set aside.
+fn run_ends(
+    alloc: Global,
+    document: &Document,
+    options: &FaultsOptions,
+    so_far: &[RunSoFar<PcgFate>],
+    seed: u64,
+    down: u64,
+    back: u64,
+    end: u64,
+    aside: SetAside,
+) -> Result<LastStretches, Cut> {
+    match so_far.get((seed - 1) as usize) {
+        Some(run) if down < back => run.last_stretches(alloc, document, end, aside),
+        _ => last_stretches(
+            alloc,
+            document,
+            PcgFate::new(seed),
+            end,
+            options.tracks(),
+            aside,
+        ),
+    }
+}
+
 /// Lets a case fail and come back in a run, and answers how the stretches ended in which it was down and was back: also
 /// what systems read in them, where that is asked, but those that are set aside.
 pub(crate) fn run_case(
@@ -86,6 +141,7 @@ pub(crate) fn run_case(
     times: &Times,
     events: &CaseEvents,
     aside: &[ClockId],
+    so_far: &[RunSoFar<PcgFate>],
     run: u64,
 ) -> Result<RunEnds, Cut>
     requires bounded { TimesAreBounded times.now }
@@ -103,14 +159,16 @@ pub(crate) fn run_case(
     let count = document.events().len();
     fail_at(document, down, events)?;
     return_after(document, down, events, hold)?;
-    let fate = PcgFate::new(seed_of(times, run));
     let aside = SetAside::new(Vec::from_slice(alloc, aside)?, down, back);
-    let ends = last_stretches(
+    let ends = run_ends(
         alloc,
         document,
-        fate,
+        options,
+        so_far,
+        seed_of(times, run),
+        down,
+        back,
         back + behind,
-        options.tracks(),
         aside,
     )?;
     document.truncate(count);

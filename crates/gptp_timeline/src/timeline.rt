@@ -54,7 +54,7 @@ pub struct TimelineOptions {
 
 /// A stretch that begins: what is known of it by the document alone.
 #[derive(Drop)]
-struct Plan {
+pub(crate) struct Plan {
     from: u64,
     to: u64,
     begins_with_event: bool,
@@ -73,7 +73,7 @@ fn count_by(events: &[Timed], time: u64) -> usize
 }
 
 /// The events with time up to a time.
-fn events_by(events: &[Timed], until: u64) -> &[Timed]
+pub(crate) fn events_by(events: &[Timed], until: u64) -> &[Timed]
     requires { AreInOrder events.now }
     ensures { result.now ≡ events_by until events.now }
 {
@@ -82,7 +82,7 @@ fn events_by(events: &[Timed], until: u64) -> &[Timed]
 }
 
 /// The events that come later than a time.
-fn events_after(events: &[Timed], time: u64) -> &[Timed]
+pub(crate) fn events_after(events: &[Timed], time: u64) -> &[Timed]
     requires { AreInOrder events.now }
     ensures { result.now ≡ later_than time events.now }
 {
@@ -91,7 +91,7 @@ fn events_after(events: &[Timed], time: u64) -> &[Timed]
 }
 
 /// When the first of these events comes that come later than a time.
-fn next_time(events: &[Timed], time: u64) -> Option<u64>
+pub(crate) fn next_time(events: &[Timed], time: u64) -> Option<u64>
     requires { AreInOrder events.now }
     ensures { result ≡ first_time (later_than time events.now) }
 {
@@ -139,7 +139,7 @@ fn errors_asked(
 }
 
 /// What is known of a stretch by the document alone, whose times these are.
-fn plan_of(
+pub(crate) fn plan_of(
     alloc: Global,
     document: &Document,
     times: &[SettlingTime],
@@ -259,7 +259,7 @@ fn times_before<F: Fate + Drop>(
 }
 
 /// An observer of a world whose systems start, before it has seen that, of which some are set aside.
-fn watch_before<F: Fate + Drop>(
+pub(crate) fn watch_before<F: Fate + Drop>(
     alloc: Global,
     world: &World<F>,
     options: &TimelineOptions,
@@ -272,7 +272,7 @@ fn watch_before<F: Fate + Drop>(
 }
 
 /// Writes the lines of a stretch that ended in a world, and answers how it did.
-fn end_stretch<F: Fate + Drop, K: Sink>(
+pub(crate) fn end_stretch<F: Fate + Drop, K: Sink>(
     alloc: Global,
     world: &World<F>,
     plan: &Plan,
@@ -373,6 +373,71 @@ fn next_stretch<F: Fate + Drop, K: Sink>(
     Ok(keep(limits, end, before))
 }
 
+/// Where a stretch begins: when, in ns, the events that are left then, and what is kept of the stretches before.
+#[derive(Drop)]
+pub(crate) struct StretchBegins<'a> {
+    pub(crate) from: u64,
+    pub(crate) left: &'a [Timed],
+    pub(crate) kept: StretchesSoFar,
+}
+
+/// Lets all stretches pass but the last, and answers where that begins.
+pub(crate) fn earlier_stretches<'a, F: Fate + Drop, K: Sink>(
+    alloc: Global,
+    document: &Document,
+    times: &[SettlingTime],
+    exact: bool,
+    world: &mut World<F>,
+    begins: StretchBegins<'a>,
+    limits: &Limits,
+    watch: &mut Watch,
+    sink: &mut K,
+) -> Result<StretchBegins<'a>, Cut> {
+    let StretchBegins {
+        mut from,
+        mut left,
+        mut kept,
+    } = begins;
+    while let Some(to) = next_time(left, from) {
+        let now = events_by(left, from);
+        kept = next_stretch(
+            alloc, document, times, exact, world, from, to, now, limits, kept, watch, sink,
+        )?;
+        left = events_after(left, from);
+        from = to;
+    }
+    Ok(StretchBegins { from, left, kept })
+}
+
+/// Lets the last stretch pass, and answers what is kept of all.
+pub(crate) fn last_stretch<F: Fate + Drop, K: Sink>(
+    alloc: Global,
+    document: &Document,
+    times: &[SettlingTime],
+    exact: bool,
+    world: &mut World<F>,
+    until: u64,
+    begins: StretchBegins<'_>,
+    limits: &Limits,
+    watch: &mut Watch,
+    sink: &mut K,
+) -> Result<StretchesSoFar, Cut> {
+    next_stretch(
+        alloc,
+        document,
+        times,
+        exact,
+        world,
+        begins.from,
+        until,
+        begins.left,
+        limits,
+        begins.kept,
+        watch,
+        sink,
+    )
+}
+
 /// Lets all stretches pass of a world as it begins, and answers what is kept of them, where these are the times of the
 /// document, and it is asked, or isn't, how exact systems are.
 fn all_stretches<F: Fate + Drop, K: Sink>(
@@ -410,25 +475,38 @@ fn all_stretches<F: Fate + Drop, K: Sink>(
 {
     document.well_formed();
     world.well_formed();
-    let limits = options.limits;
-    let mut left = events_by(document.events(), until);
-    let mut from = 0;
-    let mut kept = none_kept();
-    while let Some(to) = next_time(left, from) {
-        let now = events_by(left, from);
-        kept = next_stretch(
-            alloc, document, times, exact, world, from, to, now, &limits, kept, watch, sink,
-        )?;
-        left = events_after(left, from);
-        from = to;
-    }
-    next_stretch(
-        alloc, document, times, exact, world, from, until, left, &limits, kept, watch, sink,
+    let begins = StretchBegins {
+        from: 0,
+        left: events_by(document.events(), until),
+        kept: none_kept(),
+    };
+    let last = earlier_stretches(
+        alloc,
+        document,
+        times,
+        exact,
+        world,
+        begins,
+        &options.limits,
+        watch,
+        sink,
+    )?;
+    last_stretch(
+        alloc,
+        document,
+        times,
+        exact,
+        world,
+        until,
+        last,
+        &options.limits,
+        watch,
+        sink,
     )
 }
 
 /// Writes what the systems of a world are like as they start.
-fn write_start<F: Fate + Drop, K: Sink>(
+pub(crate) fn write_start<F: Fate + Drop, K: Sink>(
     alloc: Global,
     world: &World<F>,
     watch: &mut Watch,
@@ -504,7 +582,7 @@ pub fn write_timeline<F: Fate + Drop, K: Sink>(
 }
 
 /// A summary, in which it is told what systems read, or isn't.
-fn summary_with(times: bool) -> TimelineOptions
+pub(crate) fn summary_with(times: bool) -> TimelineOptions
     ensures { tracks result ≡ times }
 {
     TimelineOptions {
