@@ -15,7 +15,7 @@ use gptp_network::Document;
 use gptp_report::Cut;
 use gptp_timeline::{LastStretches, RunSoFar, SetAside, StretchEnd, last_stretches};
 use gptp_vector::ClockId;
-use std::alloc::Global;
+use std::alloc::{AllocError, Global};
 
 /// In how many runs each case is tried.
 pub(crate) fn runs_of(times: &Times) -> u64
@@ -77,6 +77,15 @@ fn ends_of(seen: bool, ends: LastStretches) -> Result<RunEnds, Cut>
     }
 }
 
+/// Puts a run behind others.
+fn push_run(
+    runs: &mut Vec<RunSoFar<PcgFate>>,
+    run: RunSoFar<PcgFate>,
+) -> Result<(), AllocError> {
+    runs.push(run)?;
+    Ok(())
+}
+
 /// How many systems the runs that are kept may have, all of them together.
 const MOST_SYSTEMS: u64 = 512;
 
@@ -94,13 +103,8 @@ pub(crate) fn runs_so_far(
         let seeds = times.seeds.min(MOST_SYSTEMS / systems.max(1));
         for seed in 0..seeds {
             let fate = PcgFate::new(seed + 1);
-            runs.push(RunSoFar::new(
-                alloc,
-                document,
-                fate,
-                times.from,
-                options.tracks(),
-            )?)?;
+            let run = RunSoFar::new(alloc, document, fate, times.from, options.tracks())?;
+            push_run(&mut runs, run)?;
         }
     }
     Ok(runs)

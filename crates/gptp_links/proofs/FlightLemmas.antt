@@ -1,11 +1,12 @@
 -- Frames in flight that a slab holds, each leading to the one that was sent next.
-use Rattle.std.proofs.Common.{◌≡◌, ◌≢◌, ℕ, zero, suc, ◌+◌, ◌-◌, ◌<◌, ◌≤◌, ◌==◌, ◌⊎◌, false, List, [], ◌∷◌, ◌++◌, Option, Some, None, IsSome, if◌then◌else◌, refl, sym, ap, ◌∙◌, subst, inl, inr, arith}
+use Rattle.std.proofs.Common.{◌≡◌, ◌≢◌, ℕ, zero, suc, ◌+◌, ◌-◌, ◌<◌, ◌≤◌, ◌==◌, ◌⊎◌, false, List, [], ◌∷◌, ◌++◌, Option, Some, None, IsSome, if◌then◌else◌, refl, sym, ap, ap₂, ◌∙◌, subst, inl, inr, arith}
 use Rattle.std.proofs.lemmas.Bool.{cases_eq}
 use Rattle.std.proofs.lemmas.Bool.Decides.{nat_tests}
+use Rattle.std.proofs.lemmas.List.Sums.{sum_by-cons}
 use Rattle.std.specs.List.{AllByRecursion}
 use Rattle.std.specs.Option.{option_map, option_map_or}
 use Rattle.std.specs.List.{AllZip}
-use Rattle.std.specs.Prelude.{IsSomeAnd, count_by, is_some, slice_index_or}
+use Rattle.std.specs.Prelude.{count_by, is_some, slice_index_or}
 use Rattle.slab.specs.Slab.{Slab, get, slab_len, IsSlabClone, IsSlotClone, Updates}
 use Rattle.gptp_links.specs.Flights.{with_next_flight, with_last_flight, with_limit, without_first_flight, no_flights, due_of_first, Differ, EndsWith, frame_at, due_at, next_at, chain, keys_of, frames_of, frames_in, queue_of, DirectionIsChained, AreBeside, IsSameFlight, SameRoom, JoinsFlight, ChangesOneDirection, FlightsAreLinked}
 use Rattle.gptp_links.specs.Queue.{Frame, frame, first_frame, newest_due, AreDueInOrder}
@@ -578,9 +579,18 @@ count-cloned : (xs ys : List (Option Flight)) → AllZip (IsSlotClone IsSameFlig
 count-cloned [] [] same = refl
 count-cloned [] (y ∷ ys) same = absurd same
 count-cloned (x ∷ xs) [] same = absurd same
-count-cloned (None ∷ xs) (y ∷ ys) same = rw same.0 (count-cloned xs ys same.1)
-count-cloned (Some f ∷ xs) (None ∷ ys) same = absurd same.0
-count-cloned (Some f ∷ xs) (Some g ∷ ys) same = ap suc (count-cloned xs ys same.1)
+count-cloned (x ∷ xs) (y ∷ ys) same =
+    sum_by-cons counted y ys
+    ∙ ap₂ (λ (one more : ℕ). one + more) (by x y same.0) (count-cloned xs ys same.1)
+    ∙ sym (sum_by-cons counted x xs)
+  where
+    counted : Option Flight → ℕ
+    counted slot = if is_some slot then 1 else 0
+
+    by : (a b : Option Flight) → IsSlotClone IsSameFlight a b → counted b ≡ counted a
+    by None b same = rw same refl
+    by (Some f) None same = absurd same
+    by (Some f) (Some g) same = refl
 
 slot-cloned : (xs ys : List (Option Flight)) → AllZip (IsSlotClone IsSameFlight) xs ys → (key : ℕ)
     → IsSlotClone IsSameFlight (slice_index_or xs key None) (slice_index_or ys key None)
@@ -645,12 +655,13 @@ module _ (s t : ℕ → Option Flight) (same : (k : ℕ) → IsSlotClone IsSameF
 -- a slab with copies of the frames, and as much room as both directions ask for
 pub linked-cloned : (s copy t : Slab Flight) (one other : Lane) → FlightsAreLinked s one other
     → IsSlabClone IsSameFlight s copy → t ≡ record copy { capacity = t.capacity }
-    → slab_len copy + (one.limit - one.count + (other.limit - other.count)) ≤ t.capacity
+    → slab_len copy + (s.capacity - slab_len s) ≤ t.capacity
     → FlightsAreLinked t one other
 linked-cloned s copy t one other h clones kept fits =
     let few = h.few_from_a in
     let few_others = h.few_from_b in
     let alone = h.alone in
+    let room = h.room in
     let len = count-cloned s.slots copy.slots clones.slots in
     let same = slot-cloned s.slots copy.slots clones.slots in
     let roomy : FlightsAreLinked (record copy { capacity = t.capacity }) one other = record {
@@ -662,7 +673,7 @@ linked-cloned s copy t one other h clones kept fits =
       alone = len ∙ alone;
       few_from_a = few;
       few_from_b = few_others;
-      room = omega (arith, fits, len, alone, few, few_others);
+      room = omega (arith, fits, len, room);
     } in
     subst (λ (u : Slab Flight). FlightsAreLinked u one other) (sym kept) roomy
 

@@ -82,7 +82,7 @@ impl Link {
         ensures { IfOk result (λ link. link ≡ self.now) }
     {
         let mut flights = self.flights.clone()?;
-        flights.reserve(self.from_a.room() + self.from_b.room())?;
+        flights.reserve(self.flights.capacity() - self.flights.len())?;
         Ok(Link {
             bounds: self.bounds,
             up: self.up,
