@@ -121,11 +121,9 @@ impl<T: Copy> Queues<T> {
         ensures queues { IfOk result (λ queues. queues.queues ≡ self.now.queues) }
         ensures room { IfOk result (λ queues. self.now.room ≤ queues.room) }
     {
+        let chains = Vec::from_slice(alloc, &self.chains)?;
         let mut nodes = self.nodes.clone()?;
         nodes.reserve(self.room())?;
-        Ok(Queues {
-            nodes,
-            chains: Vec::from_slice(alloc, &self.chains)?,
-        })
+        Ok(Queues { nodes, chains })
     }
 }
