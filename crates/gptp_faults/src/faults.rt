@@ -6,6 +6,7 @@ ghost use Rattle.gptp_words.specs.Lines.{text_of};
 ghost use Rattle.gptp_faults.specs.Faults.{AnswersFaultsOf, IsTable};
 ghost use Rattle.gptp_faults.specs.Outcomes.{AreOutcomes, is_of_part, IsOutcome, OutcomeState};
 ghost use Rattle.gptp_faults.specs.Progress.{TellsCases, begun, begun_line, part_begun, part_count};
+ghost use Rattle.gptp_faults.specs.Runs.{AreRunsSoFar};
 ghost use Rattle.gptp_faults.specs.Refusals.{any_late, case_events, is_late};
 ghost use Rattle.gptp_faults.specs.Whole.{IsWhole};
 ghost use Rattle.gptp_faults.specs.Times.{TimesAreBounded, AreOptions};
@@ -109,6 +110,7 @@ fn try_next<P: Sink>(
     requires bounded { TimesAreBounded times.now }
     requires options { AreOptions options.now }
     requires whole { IsWhole document.old whole.now }
+    requires so_far { AreRunsSoFar document.old options.now times.now so_far.now }
     requires in_time { is_late document.old options.now.hold times.now (case_events document.old options.now failing.now) ≡ false }
     ensures tried { OnOk result ((o : OutcomeState) × IsOutcome options.now document.old times.now number failing.now o
         × (outcomes.new.items ≡ outcomes.old.items ++ (o ∷ []))) }

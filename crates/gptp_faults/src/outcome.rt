@@ -4,6 +4,7 @@ ghost use Rattle.std.specs.Prelude.{◌≡◌, ◌≤◌, ◌++◌, ◌∷◌, [
 ghost use Rattle.gptp_setup.specs.declared.limits.TheConstants.{LAST_MOMENT};
 ghost use Rattle.gptp_faults.specs.Outcomes.{IsCasePlan, IsOutcome, aside_of, back_in, down_in};
 ghost use Rattle.gptp_faults.specs.Parts.{AreFew};
+ghost use Rattle.gptp_faults.specs.Runs.{AreRunsSoFar};
 ghost use Rattle.gptp_faults.specs.Refusals.{case_events, is_late};
 ghost use Rattle.gptp_faults.specs.Whole.{IsWhole};
 ghost use Rattle.gptp_faults.specs.Times.{AreOptions, TimesAreBounded};
@@ -210,6 +211,7 @@ pub(crate) fn try_case(
     requires bounded { TimesAreBounded times.now }
     requires options { AreOptions options.now }
     requires whole { IsWhole document.old whole.now }
+    requires so_far { AreRunsSoFar document.old options.now times.now so_far.now }
     requires in_time { is_late document.old options.now.hold times.now (case_events document.old options.now failing.now) ≡ false }
     ensures outcome { IfOk result (IsOutcome options.now document.old times.now number failing.now) }
     ensures same { OnOk result (document.new ≡ document.old) }

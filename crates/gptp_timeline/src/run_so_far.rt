@@ -1,10 +1,18 @@
 //! Runs that were let go on up to a time, from which others go on.
 
+ghost use Rattle.std.specs.Prelude.{◌≡◌, ◌≤◌, ◌<◌, ℕ, Bool, IfErr, IfOk};
+ghost use Rattle.std.specs.List.{AllByRecursion};
+ghost use Rattle.gptp_network.specs.Document.{DocumentState};
+ghost use Rattle.gptp_scenario.specs.declared.change.Timed.{Timed};
+ghost use Rattle.gptp_setup.specs.Intervals.{IsMoment};
+ghost use Rattle.gptp_timeline.specs.LastStretches.{EndsOf};
+ghost use Rattle.gptp_timeline.specs.RunSoFar.{GoesOn, IsRunSoFar};
+
 use crate::aside::SetAside;
 use crate::ends::{LastStretches, keep, none_kept};
 use crate::null_sink::NullSink;
 use crate::timeline::{
-    StretchBegins, earlier_stretches, end_stretch, events_after, events_by, last_stretch,
+    StretchBegins, earlier_stretches, end_stretch, events_after, events_by, next_stretch,
     next_time, plan_of, summary_with, watch_before, write_start,
 };
 use crate::watch::Watch;
@@ -36,7 +44,12 @@ impl<F: Fate + Clone + Drop> RunSoFar<F> {
         fate: F,
         at: u64,
         times: bool,
-    ) -> Result<Self, Cut> {
+    ) -> Result<Self, Cut>
+        requires moment { IsMoment at }
+        requires early { AllByRecursion (λ (e : Timed). e.at < at) document.now.events }
+        ensures run { IfOk result (IsRunSoFar F.answers times document.now at fate) }
+        ensures memory { IfErr result (λ e. e ≡ Cut.Memory) }
+    {
         let mut sink = NullSink;
         let options = summary_with(times);
         let settling = settling_times(alloc, document)?;
@@ -54,6 +67,7 @@ impl<F: Fate + Clone + Drop> RunSoFar<F> {
             &settling,
             false,
             &mut world,
+            at,
             begins,
             &options.limits,
             &mut watch,
@@ -79,7 +93,15 @@ impl<F: Fate + Clone + Drop> RunSoFar<F> {
         document: &Document,
         until: u64,
         aside: SetAside,
-    ) -> Result<LastStretches, Cut> {
+    ) -> Result<LastStretches, Cut>
+        requires moment { IsMoment until }
+        requires run { (asked : Bool) × (d : DocumentState) × (at : ℕ) × (fate : F)
+            × IsRunSoFar F.answers asked d at fate self.now × GoesOn d at until document.now × (at ≤ aside.from) }
+        ensures ends { IfOk result (λ last. (asked : Bool) (d : DocumentState) (at : ℕ) (fate : F)
+            → IsRunSoFar F.answers asked d at fate self.now → GoesOn d at until document.now → at ≤ aside.from
+            → EndsOf F.answers asked aside document.now until fate last) }
+        ensures memory { IfErr result (λ e. e ≡ Cut.Memory) }
+    {
         let mut sink = NullSink;
         let options = summary_with(self.times);
         let settling = settling_times(alloc, document)?;
@@ -114,20 +136,23 @@ impl<F: Fate + Clone + Drop> RunSoFar<F> {
             &settling,
             false,
             &mut world,
+            until,
             begins,
             &options.limits,
             &mut watch,
             &mut sink,
         )?;
-        let kept = last_stretch(
+        let kept = next_stretch(
             alloc,
             document,
             &settling,
             false,
             &mut world,
+            last.from,
             until,
-            last,
+            last.left,
             &options.limits,
+            last.kept,
             &mut watch,
             &mut sink,
         )?;

@@ -15,7 +15,9 @@ ghost use Rattle.gptp_words.specs.Lines.{text_of};
 ghost use Rattle.gptp_accuracy.specs.Settlings.{AreTimesOf};
 ghost use Rattle.gptp_timeline.specs.LastStretches.{EndsOf, all_kept, end_of, first_aside, kept_after, none_kept};
 ghost use Rattle.gptp_timeline.specs.Limits.{is_exceeded, verdict_lines};
-ghost use Rattle.gptp_timeline.specs.Passing.{StretchBreaksOff, StretchIsSeen, StopsSeen, aside_kept, first_time, times_before, watch_at_start, watch_before};
+ghost use Rattle.gptp_model.specs.Sound.{IsSound};
+ghost use Rattle.gptp_timeline.specs.Passing.{EarlierAreSeen, MayPass, StopsBetween, StretchBreaksOff, StretchIsSeen, StopsSeen, aside_kept, first_time, standing, times_before, watch_at_start, watch_before};
+ghost use Rattle.gptp_timeline.specs.RunSoFar.{summary_of};
 ghost use Rattle.gptp_timeline.specs.Timeline.{AllPass, AreErrorsBy, AreErrorsIf, BeginsTimeline, IsTimelinePlan, StretchTrace, SomePass, TimelineOf, all_lines, asks_lines, end_lines, exact_time, is_begun, kept_accuracy, later_than, line_of_times, none_carried, now_of, reads_kept, times_ended, tracks};
 ghost use Rattle.gptp_timeline.specs.Watch.{event_look, lines_all, see_all};
 
@@ -337,7 +339,7 @@ fn pass_stretch<F: Fate + Drop, K: Sink>(
 }
 
 /// Lets a stretch pass that begins at a time with its events, and answers what is kept of all until then.
-fn next_stretch<F: Fate + Drop, K: Sink>(
+pub(crate) fn next_stretch<F: Fate + Drop, K: Sink>(
     alloc: Global,
     document: &Document,
     times: &[SettlingTime],
@@ -381,18 +383,37 @@ pub(crate) struct StretchBegins<'a> {
     pub(crate) kept: StretchesSoFar,
 }
 
-/// Lets all stretches pass but the last, and answers where that begins.
+/// Lets all stretches pass up to a time but the last, and answers where that begins.
 pub(crate) fn earlier_stretches<'a, F: Fate + Drop, K: Sink>(
     alloc: Global,
     document: &Document,
     times: &[SettlingTime],
     exact: bool,
     world: &mut World<F>,
+    until: u64,
     begins: StretchBegins<'a>,
     limits: &Limits,
     watch: &mut Watch,
     sink: &mut K,
-) -> Result<StretchBegins<'a>, Cut> {
+) -> Result<StretchBegins<'a>, Cut>
+    requires moment { IsMoment until }
+    requires may { MayPass until begins.from begins.left.now world.old.world_core }
+    requires sound { IsSound world.old.world_core }
+    requires times { AreTimesOf document.now times.now }
+    ensures passed { IfOk result (λ last. (count : ℕ) × (lines : List (List ℕ))
+        × EarlierAreSeen F.answers exact document.now limits.now count
+        (standing begins.from begins.left.now world.old.fate world.old.world_core watch.old begins.kept)
+        (standing last.from last.left.now world.new.fate world.new.world_core watch.new last.kept) lines
+        × Appends (K.written sink.old) (K.written sink.new) (text_of lines)) }
+    ensures may { IfOk result (λ last. MayPass until last.from last.left.now world.new.world_core) }
+    ensures last { IfOk result (λ last. later_than last.from last.left.now ≡ []) }
+    ensures broken { OnErr result ((lines : List (List ℕ))
+        × StopsBetween F.answers exact document.now limits.now
+        (standing begins.from begins.left.now world.old.fate world.old.world_core watch.old begins.kept) lines
+        × AppendsSome (K.written sink.old) (K.written sink.new) (text_of lines)) }
+    ensures works { result ≢ Err Cut.Write → K.failures sink.new ≡ K.failures sink.old }
+    ensures fails { result ≡ Err Cut.Write → K.failures sink.new ≢ K.failures sink.old }
+{
     let StretchBegins {
         mut from,
         mut left,
@@ -407,35 +428,6 @@ pub(crate) fn earlier_stretches<'a, F: Fate + Drop, K: Sink>(
         from = to;
     }
     Ok(StretchBegins { from, left, kept })
-}
-
-/// Lets the last stretch pass, and answers what is kept of all.
-pub(crate) fn last_stretch<F: Fate + Drop, K: Sink>(
-    alloc: Global,
-    document: &Document,
-    times: &[SettlingTime],
-    exact: bool,
-    world: &mut World<F>,
-    until: u64,
-    begins: StretchBegins<'_>,
-    limits: &Limits,
-    watch: &mut Watch,
-    sink: &mut K,
-) -> Result<StretchesSoFar, Cut> {
-    next_stretch(
-        alloc,
-        document,
-        times,
-        exact,
-        world,
-        begins.from,
-        until,
-        begins.left,
-        limits,
-        begins.kept,
-        watch,
-        sink,
-    )
 }
 
 /// Lets all stretches pass of a world as it begins, and answers what is kept of them, where these are the times of the
@@ -486,20 +478,23 @@ fn all_stretches<F: Fate + Drop, K: Sink>(
         times,
         exact,
         world,
+        until,
         begins,
         &options.limits,
         watch,
         sink,
     )?;
-    last_stretch(
+    next_stretch(
         alloc,
         document,
         times,
         exact,
         world,
+        last.from,
         until,
-        last,
+        last.left,
         &options.limits,
+        last.kept,
         watch,
         sink,
     )
@@ -583,7 +578,8 @@ pub fn write_timeline<F: Fate + Drop, K: Sink>(
 
 /// A summary, in which it is told what systems read, or isn't.
 pub(crate) fn summary_with(times: bool) -> TimelineOptions
-    ensures { tracks result ≡ times }
+    ensures is { result ≡ summary_of times }
+    ensures tracks { tracks result ≡ times }
 {
     TimelineOptions {
         summary: true,
