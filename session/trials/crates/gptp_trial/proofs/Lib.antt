@@ -1,0 +1,3 @@
+pub mod SumLemmas
+pub mod MachineLemmas
+pub mod ReadingLemmas

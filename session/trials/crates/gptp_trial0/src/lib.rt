@@ -1,0 +1,7 @@
+#![tactic(auto)]
+
+pub mod calm;
+pub mod fault;
+pub mod params;
+pub mod spans;
+pub mod trouble;

@@ -1,0 +1,4 @@
+pub mod Stubs
+pub mod SumLemmas
+pub mod MachineLemmas
+pub mod ReadingLemmas

@@ -1,0 +1,3 @@
+pub mod HopLemmas
+pub mod WayLemmas
+pub mod TellingLemmas
