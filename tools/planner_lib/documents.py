@@ -25,8 +25,8 @@ RANGES: dict[str, dict[str, tuple[int, int]]] = {
         "turnaround": (1, 10**9),
         "residence": (1, 10**9),
         "sync_timeout": (0, 10),
-        "granularity": (0, 0),
-        "noise": (0, 0),
+        "granularity": (0, 1000),
+        "noise": (0, 1000),
         "window": (1, 1),
     },
     "system": {

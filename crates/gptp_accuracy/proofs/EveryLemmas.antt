@@ -170,7 +170,7 @@ held systems few = record {
   small = omega (arith, few);
 }
 
-errors_exist : (d : DocumentState) (until : ℕ) (g : Snapshot) → IsNetwork d.network
+pub errors_exist : (d : DocumentState) (until : ℕ) (g : Snapshot) → IsNetwork d.network
     → StandsAfter d.network (events_by until d.events) g → IsWellFormed g
     → (t : TimeErrors) × AreTimeErrors d until t
 errors_exist d until g network stands wf =

@@ -6,7 +6,7 @@ use Rattle.gptp_graph.specs.Parent.{ParentLink, IsParent}
 use Rattle.gptp_graph.specs.Snapshot.{Snapshot}
 use Rattle.gptp_roles.specs.Selection.{clock_of}
 use Rattle.gptp_links.specs.declared.bounds.Bounds.{Bounds}
-use Rattle.gptp_setup.specs.Stamping.{blur_of, rate_interval}
+use Rattle.gptp_setup.specs.Stamping.{behind_of, blur_of, rate_interval}
 use Rattle.gptp_setup.specs.declared.setup.Params.{Params}
 use Rattle.gptp_scenario.specs.Change.{link_after}
 use Rattle.gptp_scenario.specs.Network.{NetworkState, IsEnd}
@@ -44,6 +44,7 @@ root_way p drift = record {
   drift = drift;
   links = [];
   blur = blur_of p;
+  behind = behind_of p;
   interval = rate_interval p;
   turnaround = p.turnaround;
   residence = p.residence;

@@ -1,9 +1,17 @@
 -- What a run certifies of a document at rest is accepted of it.
-use Rattle.std.proofs.Common.{◌≡◌, ◌≤◌, ℕ, true, List, [], ◌∷◌, Option, length, codes, refl, sym, ap, subst, ◌∙◌, inl, inr}
+use Rattle.std.proofs.Common.{◌≡◌, ◌≤◌, ℕ, ◌+◌, ℤ, true, List, [], ◌∷◌, Option, length, codes, refl, sym, ap, subst, ◌∙◌, inl, inr}
 use Rattle.gptp_graph.specs.Snapshot.{IsWellFormed, Snapshot}
-use Rattle.gptp_scenario.specs.Network.{IsNetwork}
+use Rattle.std.specs.Prelude.{unwrap_or}
+use Rattle.gptp_scenario.specs.Calm.{last_change}
+use Rattle.gptp_scenario.specs.InUse.{count_live}
+use Rattle.gptp_scenario.specs.Network.{IsNetwork, NetworkState, seeded}
+use Rattle.gptp_scenario.specs.SettlingTime.{settles, settling_span_with}
+use Rattle.gptp_scenario.specs.SyncWait.{sync_paths}
+use Rattle.gptp_scenario.specs.declared.change.Timed.{Timed}
+use Rattle.gptp_scenario.proofs.NetworkLemmas.{calm_seeded, seeded_largest}
+use Rattle.gptp_setup.specs.SettlingParams.{SettlingParams}
 use Rattle.gptp_network.specs.Document.{DocumentState}
-use Rattle.gptp_network.specs.Snapshot.{IsSnapshot, StandsAfter}
+use Rattle.gptp_network.specs.Snapshot.{IsSnapshot, StandsAfter, events_by}
 use Rattle.gptp_network.specs.declared.fault.DocumentFault.TheVariants.{TooMany}
 use Rattle.gptp_network.proofs.ExistenceLemmas.{snapshot_exists}
 use Rattle.gptp_network.proofs.LawLemmas.{never_both, one_meaning, within_limits}
@@ -24,13 +32,39 @@ use Rattle.gptp_commands.specs.CheckText.{AnswersBoth, AnswersCertificate, Check
 use Rattle.gptp_commands.specs.Documents.{document_limit, RefusesFault}
 use Rattle.gptp_commands.specs.QuestionText as questions
 use Rattle.gptp_commands.specs.QuestionText.{QuestionText}
-use Rattle.gptp_commands.specs.RunText.{until_of, AnswersDocument, CertifiesRight, IsSettledRun, RunText, SettlesInTime}
+use Rattle.gptp_theorem.specs.PlayedLaws.{DocumentIsAtRest}
+use Rattle.gptp_commands.specs.RunText.{document_run, until_of, AnswersDocument, CertifiesRight, IsSettledRun, RunText, SettlesInTime}
 use Rattle.gptp_commands.proofs.LimitedLemmas.{in_size, of_size}
+
+-- a network settles as soon whatever seed noise is drawn from
+abbrev settles_by : NetworkState → List Timed → ℤ → ℕ
+settles_by n events largest =
+    let pace : SettlingParams = record { params = n.params; largest = largest } in
+    last_change events + settling_span_with pace (sync_paths n events) (count_live n.systems events)
+
+seeded_settles : (n : NetworkState) (seed : ℕ) (events : List Timed) → settles (seeded seed n) events ≡ settles n events
+seeded_settles n seed events = ap (settles_by n events) (seeded_largest n seed)
 
 module _ (options : RunOptions) (input : List ℕ) (d : DocumentState) (at : Option ℕ)
     (asks : AsksAtRest options input d) (same : AsksTheSame at options d) where
   network : IsNetwork d.network
   network = (meant_document input d asks.means).0
+
+  -- a document is run with the seed
+  abbrev whole : DocumentState
+  whole = document_run options d
+
+  run_until : until_of options whole ≡ until_of options d
+  run_until = ap (unwrap_or options.until) (seeded_settles d.network options.seed d.events)
+
+  run_rests : DocumentIsAtRest whole (until_of options whole)
+  run_rests =
+      let until = until_of options d in
+      let events = events_by until d.events in
+      subst (DocumentIsAtRest whole) (sym run_until) (record {
+        calm = calm_seeded d.network options.seed events asks.rest.calm;
+        settled = subst (λ n. n ≤ until) (sym (seeded_settles d.network options.seed events)) asks.rest.settled;
+      })
 
   module _ (g : Snapshot) (stands : IsSnapshot d (until_of options d) g) where
     well : IsWellFormed g
@@ -86,9 +120,11 @@ module _ (options : RunOptions) (input : List ℕ) (d : DocumentState) (at : Opt
           ),
         ))
 
-    settled_accepted : (output : List (List ℕ)) → IsSettledRun d options output → EndsAccepted at input output
+    settled_accepted : (output : List (List ℕ)) → IsSettledRun whole options output → EndsAccepted at input output
     settled_accepted output is =
-        let right = subst (λ asked. CertifiesRight asked g is.certificate) asks.asked (is.certifies g stands) in
+        let stood = subst (λ until. IsSnapshot whole until g) (sym run_until)
+        (record { systems = stands.systems; rising = stands.rising; links = stands.links }) in
+        let right = subst (λ asked. CertifiesRight asked g is.certificate) asks.asked (is.certifies g stood) in
         record {
           report = is.report;
           certificate = is.certificate;
@@ -102,7 +138,7 @@ module _ (options : RunOptions) (input : List ℕ) (d : DocumentState) (at : Opt
     answer_accepted output status (inl (e, means, (plays, settles))) =
         let is : e ≡ d = one_meaning input e d means asks.means in
         settled_accepted output
-        (subst (λ k. SettlesInTime k options output) is settles asks.rest)
+        (subst (λ k. SettlesInTime (document_run options k) options output) is settles run_rests)
     answer_accepted output status (inr (fault, fails, refuses)) = absurd (never_both input d fault asks.means fails)
 
   pub run_accepted : (output : List (List ℕ)) (status : Status) → RunText options input output status

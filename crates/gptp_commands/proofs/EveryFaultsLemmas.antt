@@ -4,12 +4,12 @@ use Rattle.rand_pcg.specs.Lcg.{Lcg}
 use Rattle.gptp_setup.specs.Intervals.{IsMoment}
 use Rattle.gptp_model.specs.Views.{rising_clocks}
 use Rattle.gptp_network.specs.Adding.{with_event}
-use Rattle.gptp_network.specs.Document.{DocumentState, Means}
+use Rattle.gptp_network.specs.Document.{DocumentState, Means, seeded_document}
 use Rattle.gptp_network.proofs.MeantLemmas.{meant_document}
 use Rattle.gptp_scenario.specs.declared.change.Act.TheVariants as acts
 use Rattle.gptp_scenario.specs.declared.change.Timed.{Timed}
 use Rattle.gptp_theorem.specs.PlayedLaws.{IsPlayable}
-use Rattle.gptp_theorem.proofs.OctetLemmas.{documents_playable}
+use Rattle.gptp_theorem.proofs.OctetLemmas.{documents_playable, seeded_playable}
 use Rattle.gptp_timeline.specs.Aside.{AsideState}
 use Rattle.gptp_timeline.specs.LastStretches.{aside_if, first_aside, last_behind, none_last}
 use Rattle.gptp_faults.specs.CaseEvents.{change_of, EventsState, with_changes}
@@ -83,8 +83,9 @@ has_ends asked aside d until fate playable injects early =
     )
 
 runs_end : (d : DocumentState) → AllInject d.events → RunsEnd d
-runs_end d injects asked aside e at hold until fate can early =
-    has_ends asked aside (with_case at hold e d) until fate can (case_injects at hold e d injects) early
+runs_end d injects asked aside e at hold seed until fate can early =
+    has_ends asked aside (seeded_document seed (with_case at hold e d)) until fate
+    (seeded_playable (with_case at hold e d) seed can) (case_injects at hold e d injects) early
 
 -- ---- a document
 

@@ -21,13 +21,13 @@ use Rattle.gptp_network.proofs.PassLemmas.{count_more}
 use Rattle.gptp_invariants.specs.WorldSettlingInvariant.{SettlingInvariant}
 use Rattle.gptp_certificate_text.specs.CertificateText.{certificate_lines}
 use Rattle.gptp_theorem.proofs.SettlingInvariantLemmas.{played_claimed}
-use Rattle.gptp_theorem.proofs.OctetLemmas.{documents_playable}
+use Rattle.gptp_theorem.proofs.OctetLemmas.{documents_playable, seeded_playable}
 use Rattle.gptp_determinism.proofs.LineExistLemmas.{documents_lead}
 use Rattle.gptp_determinism.proofs.StatedExistLemmas.{states_exist}
 use Rattle.gptp_commands.specs.declared.failure.Status.TheVariants.{Done}
 use Rattle.gptp_commands.specs.declared.run.RunOptions.{RunOptions}
 use Rattle.gptp_commands.specs.Every.{HasText, HaveText}
-use Rattle.gptp_commands.specs.RunText.{draws, generator, until_of, CertifiesIf, PlaysDocument, RunsDocument, RunText}
+use Rattle.gptp_commands.specs.RunText.{document_run, draws, generator, until_of, CertifiesIf, PlaysDocument, RunsDocument, RunText}
 use Rattle.gptp_commands.proofs.DrawLemmas.{draws_answer_all}
 use Rattle.gptp_commands.proofs.EveryQuestionLemmas.{each_has_text}
 use Rattle.gptp_commands.proofs.InjectLemmas.{meant_injects}
@@ -78,16 +78,19 @@ module _ (options : RunOptions)
   run_exists : (d : DocumentState) → Means input d → HaveText (RunsDocument options d)
   run_exists d means =
       let (network, events) = meant_document input d means in
-      let playable = documents_playable input d means network events in
-      let until = until_of options d in
+      let whole = document_run options d in
+      let playable = seeded_playable d options.seed (documents_playable input d means network events) in
+      let until = until_of options whole in
       let fate = generator options.seed in
-      let moment = ends_in_time options.until (settles d.network d.events) asked (settled_in_time d network events) in
+      let moment = ends_in_time options.until (settles whole.network whole.events) asked
+      (settled_in_time whole playable.network playable.events) in
       let (w, frames, leads, (report, reports)) =
-      documents_lead draws draws_answer_all d until options.frames fate playable (meant_injects input d means) moment in
-      let claimed = played_claimed draws d until fate leads.told w playable leads.plays in
+      documents_lead draws draws_answer_all whole until options.frames fate playable (meant_injects input d means)
+      moment in
+      let claimed = played_claimed draws whole until fate leads.told w playable leads.plays in
       let (certificate, certifies) = certificate_exists options.certificate w claimed in
       let output : List (List ℕ) = (frames ++ report) ++ certificate in
-      let plays : PlaysDocument d options output Done = record {
+      let plays : PlaysDocument whole options output Done = record {
         world = w;
         report = frames ++ report;
         reports = record { frames = frames; leads = leads; report = report; reports = reports; are = refl };
@@ -96,7 +99,7 @@ module _ (options : RunOptions)
         lines = refl;
         status_is = refl;
       } in
-      (output, Done, (plays, runs_settle d options output Done playable plays))
+      (output, Done, (plays, runs_settle whole options output Done playable plays))
 
   pub each_has_run : HasText (RunText options) input
   each_has_run = each_has_text (RunsDocument options) input run_exists

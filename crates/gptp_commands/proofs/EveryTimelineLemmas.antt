@@ -1,21 +1,22 @@
 -- Each input has a text of its timeline.
-use Rattle.std.proofs.Common.{◌≡◌, ◌≤◌, ℕ, Bool, true, false, List, [], ◌∷◌, ◌++◌, Option, Some, None, IfSome, refl, sym, subst, ◌∙◌, arith}
+use Rattle.std.proofs.Common.{◌≡◌, ◌≤◌, ℕ, Bool, true, List, [], ◌∷◌, ◌++◌, Option, Some, None, IfSome, refl, sym, subst, ◌∙◌, arith}
 use Rattle.std.proofs.lemmas.Option.{none-some, same_Some}
 use native.Mathlib.Decide.{dec_le}
 use Rattle.gptp_setup.specs.Intervals.{IsMoment}
 use Rattle.gptp_model.specs.Views.{rising_clocks}
-use Rattle.gptp_network.specs.Document.{DocumentState, Means}
+use Rattle.gptp_network.specs.Document.{DocumentState, Means, seeded_document}
+use Rattle.gptp_network.specs.Snapshot.{IsSnapshot}
+use Rattle.gptp_network.proofs.ExistenceLemmas.{snapshot_exists}
 use Rattle.gptp_network.specs.Events.{AreEvents}
-use Rattle.gptp_network.proofs.MeantLemmas.{meant_document}
+use Rattle.gptp_network.proofs.MeantLemmas.{meant_document, meant_well}
 use Rattle.gptp_scenario.specs.Network.{IsNetwork}
 use Rattle.gptp_theorem.specs.PlayedLaws.{IsPlayable}
-use Rattle.gptp_theorem.proofs.OctetLemmas.{documents_playable}
+use Rattle.gptp_theorem.proofs.OctetLemmas.{documents_playable, seeded_playable}
 use Rattle.gptp_how_soon.specs.Times.{settling_times}
 use Rattle.gptp_how_soon.proofs.ShortLemmas.{watched_shortly}
 use Rattle.gptp_accuracy.specs.TimeErrors.{AreTimeErrors}
 use Rattle.gptp_accuracy.specs.declared.errors.TimeErrors.{TimeErrors}
-use Rattle.gptp_accuracy.specs.declared.options.AccuracyOptions.{AccuracyOptions}
-use Rattle.gptp_accuracy.proofs.EveryLemmas.{each_is_exact}
+use Rattle.gptp_accuracy.proofs.EveryLemmas.{errors_exist}
 use Rattle.gptp_accuracy.proofs.OneLemmas.{errors_once}
 use Rattle.gptp_accuracy.proofs.WayLemmas.{one_each}
 use Rattle.gptp_timeline.specs.End.{default_end}
@@ -78,28 +79,36 @@ end_exists d None network events early =
 
 -- ---- a timeline
 
-module _ (input : List ℕ) (d : DocumentState) (means : Means input d) where
-  network : IsNetwork d.network
-  network = (meant_document input d means).0
-
-  events : AreEvents d.network d.events
-  events = (meant_document input d means).1
+-- of what an input means, with this seed
+module _ (input : List ℕ) (meant : DocumentState) (means : Means input meant) (seed : ℕ) where
+  abbrev d : DocumentState
+  d = seeded_document seed meant
 
   playable : IsPlayable d
-  playable = documents_playable input d means network events
+  playable =
+      let (network, events) = meant_document input meant means in
+      seeded_playable meant seed (documents_playable input meant means network events)
+
+  network : IsNetwork d.network
+  network = playable.network
+
+  events : AreEvents d.network d.events
+  events = playable.events
 
   injects : AllInject d.events
-  injects = meant_injects input d means
+  injects = meant_injects input meant means
 
   errors_at : (at to : ℕ) → (errors : Option TimeErrors) × AreErrorsBy d at to errors
   errors_at at to =
-      let nothing : AccuracyOptions = record { reads = None; always = false; max_error = None } in
-      let (lines, exceeded, text) = each_is_exact input d at nothing means in
-      errors_by d network at to text.errors text.are (holds_dec to text.errors)
+      let (g, stands) = snapshot_exists d at network in
+      let stood : IsSnapshot meant at g =
+      record { systems = stands.systems; rising = stands.rising; links = stands.links } in
+      let (t, are) = errors_exist d at g network stands (meant_well input meant at g means stood) in
+      errors_by d network at to t are (holds_dec to t)
 
-  timeline_exists : (until seed : ℕ) (options : TimelineOptions) → IsMoment until
+  timeline_exists : (until : ℕ) (options : TimelineOptions) → IsMoment until
       → (lines : List (List ℕ)) × (exceeded : Bool) × TimelineOf draws d until options (generator seed) lines exceeded
-  timeline_exists until seed options early =
+  timeline_exists until options early =
       let (start, ts, w, run, goes_on) =
       documents_unfold draws draws_answer_all d until (generator seed) playable injects early in
       let k = document_passes draws true d until errors_at events ts run.started run.drawn
@@ -128,25 +137,27 @@ module _ (input : List ℕ) (d : DocumentState) (means : Means input d) where
         },
       )
 
-  timeline_told : (order : TimelineOrder) → IfSome order.until (λ until. IsMoment until)
-      → HaveText (TellsTimeline order d)
-  timeline_told order asked =
-      let (until, ends, early) = end_exists d order.until network events asked in
-      let (lines, exceeded, timeline) = timeline_exists until order.seed order.options early in (
-        lines,
-        status_by exceeded,
-        record {
-          until = until;
-          ends = ends;
-          exceeded = exceeded;
-          timeline = timeline;
-          right = timelines_are_right draws d until order.options (generator order.seed) lines exceeded timeline
-              playable (omega (arith, early));
-          reads = timelines_read_right draws d until order.options (generator order.seed) lines exceeded timeline
-              playable (omega (arith, early));
-          status_is = refl;
-        },
-      )
+timeline_told : (input : List ℕ) (meant : DocumentState) → Means input meant → (order : TimelineOrder)
+    → IfSome order.until (λ until. IsMoment until) → HaveText (TellsTimeline order meant)
+timeline_told input meant means order asked =
+    let whole = seeded_document order.seed meant in
+    let plays = playable input meant means order.seed in
+    let (until, ends, early) = end_exists whole order.until plays.network plays.events asked in
+    let (lines, exceeded, timeline) = timeline_exists input meant means order.seed until order.options early in (
+      lines,
+      status_by exceeded,
+      record {
+        until = until;
+        ends = ends;
+        exceeded = exceeded;
+        timeline = timeline;
+        right = timelines_are_right draws whole until order.options (generator order.seed) lines exceeded timeline
+            plays (omega (arith, early));
+        reads = timelines_read_right draws whole until order.options (generator order.seed) lines exceeded timeline
+            plays (omega (arith, early));
+        status_is = refl;
+      },
+    )
 
 pub each_has_timeline : (order : TimelineOrder) (input : List ℕ)
     → IfSome order.until (λ until. IsMoment until) → HasText (TimelineText order) input

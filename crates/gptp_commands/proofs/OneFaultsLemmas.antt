@@ -8,10 +8,10 @@ use Rattle.gptp_links.specs.declared.bounds.Bounds.{Bounds}
 use Rattle.gptp_network.specs.Document.{DocumentState}
 use Rattle.gptp_network.specs.Snapshot.{events_by}
 use Rattle.gptp_network.specs.declared.fault.DocumentFault.{DocumentFault}
-use Rattle.gptp_scenario.specs.Network.{NetworkState}
+use Rattle.gptp_scenario.specs.Network.{NetworkState, seeded}
 use Rattle.gptp_determinism.specs.Named.{AnswersOnce, IsNamed}
 use Rattle.gptp_determinism.proofs.CourseLemmas.{begins_once}
-use Rattle.gptp_determinism.proofs.MeantLemmas.{meant_named, meant_names}
+use Rattle.gptp_determinism.proofs.MeantLemmas.{meant_names, seeded_named}
 use Rattle.gptp_determinism.proofs.NameLemmas.{begun_named}
 use Rattle.gptp_accuracy.proofs.WayLemmas.{HasOneEach}
 use Rattle.gptp_timeline.specs.Aside.{AsideState, looked_acts}
@@ -122,12 +122,15 @@ module _ (d : DocumentState) (options : FaultsOptions) where
       inl (record { exceeded = exceeded; table = table; status_is = is })
   tabled output status (inr refused) = inr refused
 
-  module _ (names : HasOneEach d.network) (is : IsNamed (initial d.network)) where
+  module _ (names : HasOneEach d.network) (is : (seed : ℕ) → IsNamed (initial (seeded seed d.network))) where
+    seeded_names : (seed : ℕ) → HasOneEach (seeded seed d.network)
+    seeded_names seed = record { clocks = names.clocks; one_link = names.one_link }
+
     runs_end_once : RunsEndOnce d
-    runs_end_once asked aside e until fate last other same k l =
+    runs_end_once asked aside e seed until fate last other same k l =
         ends_once draws draws_once asked aside e until fate last other
-        (subst (λ (n : NetworkState). HasOneEach n) (sym same) names)
-        (subst (λ (n : NetworkState). IsNamed (initial n)) (sym same) is) k l
+        (subst (λ (n : NetworkState). HasOneEach n) (sym same) (seeded_names seed))
+        (subst (λ (n : NetworkState). IsNamed (initial n)) (sym same) (is seed)) k l
 
     tabled_once : (a b : List (List ℕ)) (s t : Status) → IsTabled a s ⊎ IsRefused a s → IsTabled b t ⊎ IsRefused b t
         → AreSame a s b t
@@ -151,5 +154,5 @@ pub one_faults : (options : FaultsOptions) (input : List ℕ) (a b : List (List 
     → FaultsText options input a s → FaultsText options input b t → AreSame a s b t
 one_faults options input a b s t k l =
     one_answer (λ d. TellsFaults d options) input (λ d x y u v means one other.
-    tells_once d options (each_named d (meant_names input d means)) (meant_named input d means) x y u v one other)
-    a b s t k l
+    tells_once d options (each_named d (meant_names input d means)) (λ seed. seeded_named input d seed means) x y u v
+    one other) a b s t k l

@@ -11,13 +11,13 @@ use Rattle.gptp_certificate_text.specs.CertificateText.{certificate_lines}
 use Rattle.gptp_determinism.specs.Named.{AnswersOnce, IsNamed}
 use Rattle.gptp_report.specs.Run.{LeadsSoFar}
 use Rattle.gptp_determinism.proofs.LineLemmas.{reports_once, states_once}
-use Rattle.gptp_determinism.proofs.MeantLemmas.{meant_named}
+use Rattle.gptp_determinism.proofs.MeantLemmas.{seeded_named}
 use Rattle.gptp_determinism.proofs.RunLemmas.{leads_once, played_named}
 use Rattle.gptp_determinism.proofs.SoFarLemmas.{leads_begin_so}
 use Rattle.gptp_commands.specs.declared.failure.Status.{Status}
 use Rattle.gptp_commands.specs.declared.run.RunOptions.{RunOptions}
 use Rattle.gptp_commands.specs.Documents.{document_limit, AnswersSoFar}
-use Rattle.gptp_commands.specs.RunText.{draws, generator, until_of, AnswersDocument, BeginsRun, CertifiesIf, LeadsDocument, PlaysDocument, ReportsRun, RunText, RunsDocument}
+use Rattle.gptp_commands.specs.RunText.{document_run, draws, generator, until_of, AnswersDocument, BeginsRun, CertifiesIf, LeadsDocument, PlaysDocument, ReportsRun, RunText, RunsDocument}
 use Rattle.gptp_commands.proofs.OneAnswerLemmas.{one_answer}
 use Rattle.gptp_commands.proofs.VerdictLemmas.{AreSame}
 
@@ -63,7 +63,8 @@ pub one_run : (options : RunOptions) (input : List ℕ) (a b : List (List ℕ)) 
     → RunText options input a s → RunText options input b t → AreSame a s b t
 one_run options input a b s t k l =
     one_answer (RunsDocument options) input (λ d x y u v means one other.
-    plays_document_once d options x y u v (meant_named input d means) one.0 other.0) a b s t k l
+    plays_document_once (document_run options d) options x y u v (seeded_named input d options.seed means) one.0
+    other.0) a b s t k l
 
 -- ---- what a text begins with
 
@@ -88,8 +89,8 @@ answer_begins_so : (options : RunOptions) (input : List ℕ) (begun output : Lis
     → (rest : List (List ℕ)) × (output ≡ begun ++ rest)
 answer_begins_so options input begun output status (d, d-means, so) (inl (e, e-means, (k, _))) =
     let same = network_laws.one_meaning input e d e-means d-means in
-    document_begins_so d options begun output status (meant_named input d d-means) so
-    (subst (λ (x : DocumentState). PlaysDocument x options output status) same k)
+    document_begins_so (document_run options d) options begun output status (seeded_named input d options.seed d-means)
+    so (subst (λ (x : DocumentState). PlaysDocument (document_run options x) options output status) same k)
 answer_begins_so options input begun output status (d, means, so) (inr (fault, fails, _)) =
     absurd (network_laws.never_both input d fault means fails)
 

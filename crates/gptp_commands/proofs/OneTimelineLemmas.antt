@@ -6,14 +6,14 @@ use Rattle.gptp_links.specs.declared.bounds.Bounds.{Bounds}
 use Rattle.gptp_model.specs.Initial.{initial}
 use Rattle.gptp_model.specs.Views.{rising_clocks}
 use Rattle.gptp_model.specs.World.{WorldState}
-use Rattle.gptp_network.specs.Document.{DocumentState}
+use Rattle.gptp_network.specs.Document.{DocumentState, seeded_document}
 use Rattle.gptp_network.specs.Snapshot.{events_by}
 use Rattle.gptp_scenario.specs.declared.change.Timed.{Timed}
 use Rattle.gptp_report.specs.Transitions.{Courses, ActTrace}
 use Rattle.gptp_determinism.specs.Named.{AnswersOnce, IsNamed}
 use Rattle.gptp_determinism.specs.ActTraceLaws.{SameTransitions}
 use Rattle.gptp_determinism.proofs.CourseLemmas.{begins_once}
-use Rattle.gptp_determinism.proofs.MeantLemmas.{meant_named, meant_names}
+use Rattle.gptp_determinism.proofs.MeantLemmas.{seeded_named, seeded_names}
 use Rattle.gptp_determinism.proofs.NameLemmas.{begun_named, NamesOne}
 use Rattle.gptp_determinism.proofs.ActTraceLemmas.{courses_named, courses_once}
 use Rattle.gptp_accuracy.specs.declared.errors.SystemError.{SystemError}
@@ -313,5 +313,6 @@ pub one_timeline : (order : TimelineOrder) (input : List ℕ) (a b : List (List 
     → TimelineText order input a s → TimelineText order input b t → AreSame a s b t
 one_timeline order input a b s t k l =
     one_answer (TellsTimeline order) input (λ d x y u v means one other.
-    plays_timeline_once d order x y u v (each_named d (meant_names input d means)) (meant_named input d means) one
-    other) a b s t k l
+    plays_timeline_once (seeded_document order.seed d) order x y u v
+    (each_named (seeded_document order.seed d) (seeded_names input d order.seed means))
+    (seeded_named input d order.seed means) one other) a b s t k l

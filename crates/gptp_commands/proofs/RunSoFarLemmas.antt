@@ -7,6 +7,7 @@ use Rattle.gptp_certificate_text.specs.CertificateText.{certificate_lines}
 use Rattle.gptp_graph.specs.Labelling.{SystemLine}
 use Rattle.gptp_network.specs.Document.{DocumentState}
 use Rattle.gptp_theorem.specs.PlayedLaws.{IsPlayable}
+use Rattle.gptp_theorem.proofs.OctetLemmas.{seeded_playable}
 use Rattle.gptp_report.specs.Report.{Reports}
 use Rattle.gptp_report.specs.Run.{LeadsSoFar, LeadsTo}
 use Rattle.gptp_sink.specs.Sink.{AppendsSome}
@@ -17,7 +18,7 @@ use Rattle.gptp_words.specs.Lines.{text_of}
 use Rattle.gptp_commands.specs.declared.failure.Status.TheVariants.{Done}
 use Rattle.gptp_commands.specs.declared.run.RunOptions.{RunOptions}
 use Rattle.gptp_commands.specs.Documents.{SomeOf}
-use Rattle.gptp_commands.specs.RunText.{LeadsDocument, PlaysDocument, RunsDocument, draws, generator, until_of}
+use Rattle.gptp_commands.specs.RunText.{LeadsDocument, PlaysDocument, RunsDocument, document_run, draws, generator, until_of}
 use Rattle.gptp_commands.specs.RunSoFar.{PlaysSome, TellsRun}
 use Rattle.gptp_commands.proofs.RunLemmas.{runs_settle}
 
@@ -146,16 +147,20 @@ plays_front d options old new (lines, inr leads, some) = (lines, inr (inl leads)
 -- ---- a document, which settles in time
 
 module _ (d : DocumentState) (options : RunOptions) (playable : IsPlayable d) where
-  runs : (lines : List (List ℕ)) → PlaysDocument d options lines Done → RunsDocument options d lines Done
-  runs lines plays = (plays, runs_settle d options lines Done playable plays)
+  abbrev whole : DocumentState
+  whole = document_run options d
+
+  runs : (lines : List (List ℕ)) → PlaysDocument whole options lines Done → RunsDocument options d lines Done
+  runs lines plays =
+      (plays, runs_settle whole options lines Done (seeded_playable d options.seed playable) plays)
 
   pub runs_all : (old new : Option (List ℕ))
-      → (lines : List (List ℕ)) × PlaysDocument d options lines Done × Appends old new (text_of lines)
+      → (lines : List (List ℕ)) × PlaysDocument whole options lines Done × Appends old new (text_of lines)
       → (lines : List (List ℕ)) × RunsDocument options d lines Done × Appends old new (text_of lines)
   runs_all old new (lines, plays, written) = (lines, runs lines plays, written)
 
   pub runs_some : (old new : Option (List ℕ))
-      → (lines : List (List ℕ)) × PlaysSome d options lines × AppendsSome old new (text_of lines)
+      → (lines : List (List ℕ)) × PlaysSome whole options lines × AppendsSome old new (text_of lines)
       → (lines : List (List ℕ)) × SomeOf (LeadsDocument options d) (RunsDocument options d) lines
       × AppendsSome old new (text_of lines)
   runs_some old new (lines, inl none, some) = (lines, inl none, some)

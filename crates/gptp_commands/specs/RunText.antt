@@ -5,7 +5,7 @@ use Rattle.rand_pcg.specs.Lcg.{Lcg}
 use Rattle.rand_pcg.specs.Pcg.{pcg64_of_seed}
 use Rattle.gptp_links.specs.declared.bounds.Bounds.{Bounds}
 use Rattle.gptp_links.specs.Draws.{drawn}
-use Rattle.gptp_network.specs.Document.{DocumentState}
+use Rattle.gptp_network.specs.Document.{DocumentState, seeded_document}
 use Rattle.gptp_network.specs.Snapshot.{IsSnapshot}
 use Rattle.gptp_scenario.specs.SettlingTime.{settles}
 use Rattle.gptp_model.specs.World.{WorldState}
@@ -84,9 +84,14 @@ pub record IsSettledRun (d : DocumentState) (options : RunOptions) (output : Lis
 abbrev pub SettlesInTime : DocumentState → RunOptions → List (List ℕ) → Type 0
 SettlesInTime d options output = DocumentIsAtRest d (until_of options d) → IsSettledRun d options output
 
+-- the document that is run: its systems draw noise from the seed too
+abbrev pub document_run : RunOptions → DocumentState → DocumentState
+document_run options d = seeded_document options.seed d
+
 -- a document is run, and settles in time
 abbrev pub RunsDocument : RunOptions → DocumentState → List (List ℕ) → Status → Type 0
-RunsDocument options d output status = PlaysDocument d options output status × SettlesInTime d options output
+RunsDocument options d output status =
+    PlaysDocument (document_run options d) options output status × SettlesInTime (document_run options d) options output
 
 -- an input is a document, which is run so, or fails a test
 abbrev pub AnswersDocument : RunOptions → List ℕ → List (List ℕ) → Status → Type 0
@@ -97,7 +102,9 @@ RunText options = AnswersInput (RunsDocument options)
 
 -- the lines of the frames, as far as a document has been run
 abbrev pub LeadsDocument : RunOptions → DocumentState → List (List ℕ) → Type 0
-LeadsDocument options d lines = LeadsSoFar draws d (until_of options d) options.frames (generator options.seed) lines
+LeadsDocument options d lines =
+    LeadsSoFar draws (document_run options d) (until_of options (document_run options d)) options.frames
+    (generator options.seed) lines
 
 -- the text as far as it has got; from the report on all of it is known
 abbrev pub BeginsRun : RunOptions → List ℕ → List (List ℕ) → Type 0

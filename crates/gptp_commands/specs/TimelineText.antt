@@ -1,6 +1,6 @@
 -- What `timeline` writes for a document, and its status (profile).
 use Rattle.std.specs.Prelude.{◌≡◌, ℕ, Bool, List, Option, Some, None}
-use Rattle.gptp_network.specs.Document.{DocumentState}
+use Rattle.gptp_network.specs.Document.{DocumentState, seeded_document}
 use Rattle.gptp_timeline.specs.End.{default_end}
 use Rattle.gptp_timeline.specs.Laws.{TimelineIsRight}
 use Rattle.gptp_timeline.specs.Timeline.{BeginsTimeline, TimelineOf}
@@ -29,8 +29,9 @@ pub record PlaysTimeline (d : DocumentState) (order : TimelineOrder) (output : L
   pub reads : TimelineReadsRight draws d until order.options (generator order.seed) output exceeded timeline
   pub status_is : status ≡ status_by exceeded
 
+-- its systems draw noise from the seed too
 abbrev pub TellsTimeline : TimelineOrder → DocumentState → List (List ℕ) → Status → Type 0
-TellsTimeline order d = PlaysTimeline d order
+TellsTimeline order d = PlaysTimeline (seeded_document order.seed d) order
 
 abbrev pub TimelineText : TimelineOrder → List ℕ → List (List ℕ) → Status → Type 0
 TimelineText order = AnswersInput (TellsTimeline order)
@@ -43,7 +44,7 @@ pub record PlaysSomeTimeline (d : DocumentState) (order : TimelineOrder) (lines 
   pub begins : BeginsTimeline draws d until order.options (generator order.seed) lines
 
 abbrev pub TellsSoFar : TimelineOrder → DocumentState → List (List ℕ) → Type 0
-TellsSoFar order d = PlaysSomeTimeline d order
+TellsSoFar order d = PlaysSomeTimeline (seeded_document order.seed d) order
 
 abbrev pub BeginsText : TimelineOrder → List ℕ → List (List ℕ) → Type 0
 BeginsText order = BeginsInput (TellsTimeline order) (TellsSoFar order)

@@ -57,17 +57,22 @@ pub(crate) trait DocumentCommand {
 
     ghost tells_so_far: { Self → DocumentState → List (List ℕ) → Type 0 };
 
-    /// Tells of a document.
+    /// Tells of a document, whose seed may be set for that.
     ///
     /// Errors: [`Cut::Write`] exactly where a write failed, and [`Cut::Memory`]. Then a front of the text stands
     /// written, as far as that had got.
-    fn tell<K: Sink>(&self, alloc: Global, document: &Document, sink: &mut K) -> Result<Status, Cut>
+    fn tell<K: Sink>(
+        &self,
+        alloc: Global,
+        document: &mut Document,
+        sink: &mut K,
+    ) -> Result<Status, Cut>
         requires can { can_tell self.now }
-        requires read { IsRead document.now }
+        requires read { IsRead document.old }
         ensures some { OnErr result ((lines : List (List ℕ))
-            × SomeOf (tells_so_far self.now document.now) (tells self.now document.now) lines
+            × SomeOf (tells_so_far self.now document.old) (tells self.now document.old) lines
             × AppendsSome (K.written sink.old) (K.written sink.new) (text_of lines)) }
-        ensures whole { IfOk result (λ status. (lines : List (List ℕ)) × tells self.now document.now lines status
+        ensures whole { IfOk result (λ status. (lines : List (List ℕ)) × tells self.now document.old lines status
             × Appends (K.written sink.old) (K.written sink.new) (text_of lines)) }
         ensures works { result ≢ Err Cut.Write → K.failures sink.new ≡ K.failures sink.old }
         ensures fails { result ≡ Err Cut.Write → K.failures sink.new ≢ K.failures sink.old };
@@ -90,7 +95,7 @@ fn tell_document<C: DocumentCommand, K: Sink>(
     ensures fails { result ≡ Err Cut.Write → K.failures sink.new ≢ K.failures sink.old }
 {
     match Document::read(alloc, input) {
-        Ok(document) => command.tell(alloc, &document, sink),
+        Ok(mut document) => command.tell(alloc, &mut document, sink),
         Err(DocumentFault::OutOfMemory) => Err(Cut::Memory),
         Err(fault) => write_refusal(alloc, fault, sink),
     }

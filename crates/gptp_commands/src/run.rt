@@ -31,7 +31,7 @@ pub struct RunOptions {
     /// The time at which it ends, in ns, at most `LAST_MOMENT`; `None` where it ends when the network has settled after
     /// the last change, or would have if it were calm.
     pub until: Option<u64>,
-    /// The seed of the generator that draws delays and losses.
+    /// The seed of the generator that draws delays and losses, and from which the noise of time stamps is drawn.
     pub seed: u64,
     /// Whether a line tells of each frame.
     pub frames: bool,
@@ -173,11 +173,12 @@ impl DocumentCommand for RunOptions {
     fn tell<K: Sink>(
         &self,
         alloc: Global,
-        document: &Document,
+        document: &mut Document,
         sink: &mut K,
     ) -> Result<Status, Cut> {
         document.well_formed();
         document.network().well_formed();
+        document.set_seed(self.seed);
         play_document(alloc, document, self, sink)?;
         Ok(Status::Done)
     }

@@ -42,7 +42,7 @@ pub(crate) mod rows {
     pub(crate) const MOMENT: Row = ("until", NANOSECONDS,
         "The time of the network that is meant, in ns; by default after all events");
     pub(crate) const SEED: Row = ("seed", (Form::Number(0, 4_294_967_295), &["1"], "N"),
-        "The seed of delays and losses");
+        "The seed of delays, of losses and of the noise of time stamps");
     pub(crate) const FRAMES: Row = ("frames", FLAG, "Write a line for each frame");
     pub(crate) const CERTIFICATE: Row = ("certificate", FLAG, "Write what each system has chosen, as a certificate");
     pub(crate) const SUMMARY: Row = ("summary", FLAG, "Leave out events and changes");

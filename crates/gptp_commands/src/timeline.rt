@@ -24,7 +24,7 @@ pub struct TimelineOrder {
     /// The time at which it ends, in ns, at most `LAST_MOMENT`; `None` where it ends as much after the last event as is
     /// watched then: a calm network has come to rest by then and is exact, and some Syncs more were sent.
     pub until: Option<u64>,
-    /// The seed of the generator that draws delays and losses.
+    /// The seed of the generator that draws delays and losses, and from which the noise of time stamps is drawn.
     pub seed: u64,
     /// What is told.
     pub options: TimelineOptions,
@@ -56,11 +56,12 @@ impl DocumentCommand for TimelineOrder {
     fn tell<K: Sink>(
         &self,
         alloc: Global,
-        document: &Document,
+        document: &mut Document,
         sink: &mut K,
     ) -> Result<Status, Cut> {
         document.well_formed();
         document.network().well_formed();
+        document.set_seed(self.seed);
         let until = until_of(alloc, document, self)?;
         let fate = PcgFate::new(self.seed);
         let exceeded = write_timeline(alloc, document, fate, until, &self.options, sink)?;

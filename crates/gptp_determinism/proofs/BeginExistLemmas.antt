@@ -9,7 +9,7 @@ use Rattle.gptp_links.specs.declared.link.Direction.TheVariants.{FromA, FromB}
 use Rattle.gptp_setup.specs.Intervals.{IsMoment}
 use Rattle.gptp_system.specs.State.{clock}
 use Rattle.gptp_scenario.specs.declared.network.LinkSpec.{LinkSpec}
-use Rattle.gptp_scenario.specs.Network.{pace_of, IsNetwork, IsPort, IsWire, NetworkState}
+use Rattle.gptp_scenario.specs.Network.{IsNetwork, IsPort, IsWire, NetworkState}
 use Rattle.gptp_model.specs.declared.station.Station.{Station}
 use Rattle.gptp_model.specs.Acts.{at}
 use Rattle.gptp_model.specs.Initial.{channel_from, initial, setup_of, station_of, stations_of}
@@ -36,11 +36,11 @@ initial_can : (n : NetworkState) → IsNetwork n → CanCall (initial n)
 initial_can n is = record {
   moment = omega arith;
   stations = λ place station there.
-      let (m, stands, same) = mapped (station_of (pace_of n)) n.systems place station there in
+      let (m, stands, same) = mapped (station_of n) n.systems place station there in
       let limits = is.systems place m stands in
       let params = is.params.ranges.params in
       subst IsRunning same (record {
-        system = started_system (setup_of (pace_of n) m) 0 limits.ports params (intervals_within n is place m stands)
+        system = started_system (setup_of n m) 0 limits.ports params (intervals_within n is place m stands)
             limits.phase limits.drift;
         params = params;
       });
@@ -62,9 +62,9 @@ initial_ends : (n : NetworkState) → IsNetwork n → HaveEnds (initial n)
 initial_ends n is link direction channel here =
     let (wire, stands, same) = mapped channel_from n.links link channel here in
     let port = end_port n direction wire link (is.links link wire stands) in
-    let station : Station = station_of (pace_of n) port.system in
+    let station : Station = station_of n port.system in
     let there : slice_get (stations_of n) port.place ≡ Some station =
-    mapped_there (station_of (pace_of n)) n.systems port.place port.system port.there in
+    mapped_there (station_of n) n.systems port.place port.system port.there in
     let named : clock station.system ≡ (sender direction channel).clock =
     port.clock ∙ ap (λ (c : Channel). (sender direction c).clock) same in
     record {
@@ -88,7 +88,7 @@ range_below first (suc count) most within =
 pub beginnings_exist : {F : Type 0} (answers : Bounds → ℕ → F → Option ℕ → F → Type 0) → BeginningsExist answers
 beginnings_exist answers all n fate is =
     let places = range_with_len 0 (length n.systems) in
-    let many : length (stations_of n) ≡ length n.systems = length-map n.systems (station_of (pace_of n)) in
+    let many : length (stations_of n) ≡ length n.systems = length-map n.systems (station_of n) in
     let within : 0 + length n.systems ≤ length (stations_of n) = omega arith in
     let k = starts_all_exist answers all steps_exist places (initial n) fate
     (range_below 0 (length n.systems) (length (stations_of n)) within) (initial_can n is) in

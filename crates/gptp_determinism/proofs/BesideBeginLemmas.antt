@@ -1,5 +1,5 @@
 -- How worlds that are the same but for the time begin, and which act is next in them.
-use Rattle.std.proofs.Common.{◌≡◌, ◌≤◌, ℕ, ℤ, List, [], ◌∷◌, ◌++◌, map, length, Option, Some, FitsSigned, w8, refl, sym, ap, subst, ◌∙◌, inl, inr, arith}
+use Rattle.std.proofs.Common.{◌≡◌, ◌≤◌, ℕ, ℤ, List, [], ◌∷◌, ◌++◌, map, length, Option, Some, false, FitsSigned, w8, refl, sym, ap, subst, ◌∙◌, inl, inr, arith}
 use Rattle.std.specs.Prelude.{⊤}
 use Rattle.std.specs.Int.{int_max}
 use Rattle.std.specs.List.{flat_map, range_with_len, reduce, AllZip}
@@ -11,7 +11,6 @@ use Rattle.gptp_links.specs.declared.link.Direction.{Direction}
 use Rattle.gptp_links.specs.Fate.{Draw, Draws}
 use Rattle.gptp_links.specs.Queue.{Frame}
 use Rattle.gptp_setup.specs.Intervals.{IsLog}
-use Rattle.gptp_setup.specs.SettlingParams.{SettlingParams}
 use Rattle.gptp_setup.specs.declared.setup.Setup.{Setup}
 use Rattle.gptp_setup.specs.declared.timer.Timer.{Timer}
 use Rattle.gptp_setup.specs.declared.timer.Timer.TheVariants as timers
@@ -59,15 +58,25 @@ pace_same n m same =
     let logs = logs_same n m same in
     λ i. record { params = params i; largest = unwrap_or (reduce int_max (logs i)) (params i).announce }
 
-station_beside : (p : SettlingParams) (x y : SystemSpec) → FitsSigned w8 p.params.sync
-    → member_beside x ≡ member_beside y → StationsBeside (station_of p x) (station_of p y)
-station_beside p x y log same =
-    let setups : setup_beside (setup_of p x) ≡ setup_beside (setup_of p y) =
-    ap (λ (m : SystemSpec). setup_beside (setup_of p m)) same in
+station_beside : (n m : NetworkState) (x y : SystemSpec) → FitsSigned w8 n.params.sync
+    → pace_of n ≡ pace_of m → n.seed ≡ m.seed → member_beside x ≡ member_beside y
+    → StationsBeside (station_of n x) (station_of m y)
+station_beside n m x y log pace seed same =
+    let setups : setup_beside (setup_of n x) ≡ setup_beside (setup_of m y) = λ i. record {
+      identity = (same i).identity;
+      ports = (same i).ports;
+      phase = (same i).phase;
+      drift = (same i).drift;
+      continues = false;
+      intervals = (same i).intervals;
+      largest = (pace i).largest;
+      seed = seed i;
+      params = (pace i).params;
+    } in
     record {
       setup = setups;
       log = log;
-      system = started_beside 0 (setup_of p x) (setup_of p y) setups log;
+      system = started_beside 0 (setup_of n x) (setup_of m y) setups log;
       live = refl;
     }
 
@@ -76,15 +85,15 @@ members_same : (x y : SystemSpec) (xs ys : List SystemSpec)
     → (member_beside x ≡ member_beside y) × (map member_beside xs ≡ map member_beside ys)
 members_same x y xs ys e = (cc, cc)
 
-stations_beside : (p : SettlingParams) (xs ys : List SystemSpec) → FitsSigned w8 p.params.sync
-    → map member_beside xs ≡ map member_beside ys
-    → AllZip StationsBeside (map (station_of p) xs) (map (station_of p) ys)
-stations_beside p [] [] log same = tt
-stations_beside p [] (y ∷ ys) log same = absurd cc
-stations_beside p (x ∷ xs) [] log same = absurd cc
-stations_beside p (x ∷ xs) (y ∷ ys) log same =
+stations_beside : (n m : NetworkState) (xs ys : List SystemSpec) → FitsSigned w8 n.params.sync
+    → pace_of n ≡ pace_of m → n.seed ≡ m.seed → map member_beside xs ≡ map member_beside ys
+    → AllZip StationsBeside (map (station_of n) xs) (map (station_of m) ys)
+stations_beside n m [] [] log pace seed same = tt
+stations_beside n m [] (y ∷ ys) log pace seed same = absurd cc
+stations_beside n m (x ∷ xs) [] log pace seed same = absurd cc
+stations_beside n m (x ∷ xs) (y ∷ ys) log pace seed same =
     let parts = members_same x y xs ys same in
-    (station_beside p x y log parts.0, stations_beside p xs ys log parts.1)
+    (station_beside n m x y log pace seed parts.0, stations_beside n m xs ys log pace seed parts.1)
 
 link_itself : (c : Channel) → LinksBeside c c
 link_itself c =
@@ -111,9 +120,8 @@ initial_beside n m is same =
       time = refl;
       last_change = refl;
       stations =
-          subst (λ (p : SettlingParams). AllZip StationsBeside (map (station_of (pace_of n)) n.systems)
-          (map (station_of p) m.systems)) (pace_same n m same)
-          (stations_beside (pace_of n) n.systems m.systems log systems);
+          stations_beside n m n.systems m.systems log (pace_same n m same) (ap (λ (x : NetworkState). x.seed) same)
+          systems;
       net = record {
         links =
             subst (AllZip LinksBeside (map channel_from n.links)) links

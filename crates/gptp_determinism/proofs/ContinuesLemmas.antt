@@ -33,7 +33,7 @@ use Rattle.gptp_system.specs.Input.{Expires as TimerExpires}
 use Rattle.gptp_system.specs.Lapse.{lapsed}
 use Rattle.gptp_system.specs.Measuring.{down, is_turned, owed_at, owes, turned, RespondsIf, Turns, TurnsAndAsks, TurnsIf}
 use Rattle.gptp_system.specs.Selection.{choosing, follows_on, kept_if, Becomes, Selects, SelectsIf}
-use Rattle.gptp_system.specs.State.{SystemState, clock, due, held_at, is_capable_at, is_mine, lapse_of, local_time, number, own, with_peer}
+use Rattle.gptp_system.specs.State.{SystemState, clock, due, held_at, is_capable_at, is_mine, lapse_of, number, own, stamp_time, with_peer}
 use Rattle.gptp_system.specs.Steps.{Expires, HearsFrame, HearsMessage}
 use Rattle.gptp_system.specs.Takeover.{leading}
 use Rattle.gptp_system.specs.Syncing.{as_received, delay_at, follow_up_of, forgetting, hop_of, is_followed, is_leading, is_slave_at, keeping, knowing, offset_of, own_time, refreshing, restarted, root_rate_at, said_on, slave_rate, sync_of, syncs, telling, timer_stopped, told_by, HearsFollowUpIf, HearsSyncIf, HopFits, IsToldAtLimits, KeepsIf, KnowsBy, KnowsIf, OffsetFits, RelaysBy, RelaysIf, SyncsIf}
@@ -421,7 +421,7 @@ message_beside p (messages.Sync head) now s t sends answer is k =
 message_beside p (messages.PdelayReq head) now s t sends answer is k =
     record { becomes = becomes_beside (owes p head now s) t sends k.becomes; answer_is = k.answer_is }
 message_beside p (messages.PdelayResp m) now s t sends answer is k = record {
-  becomes = becomes_beside (with_peer p (after_response m (local_time s now)) s) t sends k.becomes;
+  becomes = becomes_beside (with_peer p (after_response m (stamp_time s now)) s) t sends k.becomes;
   answer_is = k.answer_is;
 }
 message_beside p (messages.FollowUp m) now s t sends answer is k = absurd is

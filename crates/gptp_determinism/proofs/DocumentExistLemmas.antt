@@ -13,7 +13,7 @@ use Rattle.gptp_system.specs.State.{clock}
 use Rattle.gptp_vector.specs.declared.port.PortId.{PortId}
 use Rattle.gptp_scenario.specs.Allowed.{AreAllowed, IsAllowed}
 use Rattle.gptp_scenario.specs.Change.{link_after}
-use Rattle.gptp_scenario.specs.Network.{IsNetwork, NetworkState, members_have_clock, is_taken, pace_of, same_port}
+use Rattle.gptp_scenario.specs.Network.{IsNetwork, NetworkState, members_have_clock, is_taken, same_port}
 use Rattle.gptp_scenario.specs.declared.change.Act.{Act}
 use Rattle.gptp_scenario.specs.declared.change.Change.{Change}
 use Rattle.gptp_scenario.specs.declared.change.Change.TheVariants.{LinkDown, LinkUp, LinkSet, Fail, Recover, Priority1, Inject}
@@ -83,7 +83,7 @@ module _ (n : NetworkState) (events : List Timed) (w : WorldState) (so : StandsA
   system_there sound number has =
       let (m, member, is) = passes (λ (x : SystemSpec). clock_of x.identity == number) n.systems has in
       let (place, there) = slice_get-In m n.systems member in
-      let (station, here, same) = alike shape (shape_after (pace_of n) events) w.stations n.systems so.systems place m
+      let (station, here, same) = alike shape (shape_after n events) w.stations n.systems so.systems place m
       there in
       let named : clock station.system ≡ clock_of m.identity =
       sym (sound.wired.setups place station here).named ∙ ap (λ (s : Shape). clock_of s.setup.identity) same

@@ -14,7 +14,6 @@ use Rattle.gptp_roles.proofs.ChoiceLemmas.{least_alone, least_of_held}
 use Rattle.gptp_pdelay.specs.declared.answer.Answer.{Answer as Owed}
 use Rattle.gptp_pdelay.specs.Clock.{IsTime}
 use Rattle.gptp_pdelay.specs.Peer.{PeerState}
-use Rattle.gptp_pdelay.proofs.ClockLemmas.{clock_shows_time}
 use Rattle.gptp_setup.specs.Intervals.{IsMoment}
 use Rattle.gptp_system.specs.declared.port.Port.{Port}
 use Rattle.gptp_system.specs.declared.sending.Sending.{Sending}
@@ -22,7 +21,8 @@ use Rattle.gptp_system.specs.Measuring.{port_asks, is_turned, owed_at, request_o
 use Rattle.gptp_system.specs.Ready.{IsReadyPort, IsReady}
 use Rattle.gptp_system.specs.Selection.{announcements, choosing, fresh_ports, Becomes, Selects, SelectsIf}
 use Rattle.gptp_system.specs.Sends.{pdelay_response, response_follow_up, with_send}
-use Rattle.gptp_system.specs.State.{SystemState, clock, local_time, number, own, with_peer}
+use Rattle.gptp_system.specs.State.{SystemState, clock, number, own, stamp_time, with_peer}
+use Rattle.gptp_system.proofs.TakeoverLemmas.{stamps_time}
 use Rattle.gptp_theorem.proofs.SettlingInvariantLemmas.{each_there}
 
 -- ---- selection
@@ -113,11 +113,6 @@ time_fits : (x : ℤ) → IsTime x → FitsStamp x
 time_fits x time =
     let high = time.high in record { low = time.low; high = omega (arith, ints, high) }
 
--- the local clock of a system shows one that a clock can show
-pub local_is_time : (s : SystemState) (now : ℕ) → IsReady s → IsMoment now → IsTime (local_time s now)
-local_is_time s now ready moment =
-    clock_shows_time s.phase s.drift now ready.phase (omega (arith, moment)) ready.drift
-
 -- ---- responses
 
 at_number : {X : Type 0} (P : X → Type 0) (xs : List X) (p : ℕ) (x : X) → AllByRecursion P xs
@@ -134,12 +129,12 @@ owed_is_time s p ready = go (number s.ports p) refl
     go None none one is = absurd (none-some one is)
     go (Some q) here one is = (at_number IsReadyPort s.ports p q ready.ports here).waiting one is
 
-responds_if_exists : (owed : Option Owed) (p now : ℕ) (s : SystemState) → IsTime (local_time s now)
+responds_if_exists : (owed : Option Owed) (p now : ℕ) (s : SystemState) → IsTime (stamp_time s now)
     → ((one : Owed) → owed ≡ Some one → IsTime one.t2) → (sends : List Sending) × RespondsIf owed p now s sends
 responds_if_exists None p now s time came = ([], refl)
 responds_if_exists (Some one) p now s time came =
     let arrival = split_exists one.t2 (time_fits one.t2 (came one refl)) in
-    let departure = split_exists (local_time s now) (time_fits (local_time s now) time) in (
+    let departure = split_exists (stamp_time s now) (time_fits (stamp_time s now) time) in (
       pdelay_response (own s p) one arrival.0 arrival.1 ∷ response_follow_up (own s p) one departure.0 departure.1 ∷ [],
       record {
         came = arrival.0;
@@ -156,4 +151,4 @@ responds_if_exists (Some one) p now s time came =
 pub responds_exists : (p now : ℕ) (s : SystemState) → IsReady s → IsMoment now
     → (sends : List Sending) × RespondsIf (owed_at s p) p now s sends
 responds_exists p now s ready moment =
-    responds_if_exists (owed_at s p) p now s (local_is_time s now ready moment) (owed_is_time s p ready)
+    responds_if_exists (owed_at s p) p now s (stamps_time s now ready moment) (owed_is_time s p ready)

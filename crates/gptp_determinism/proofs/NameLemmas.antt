@@ -11,7 +11,7 @@ use Rattle.gptp_roles.specs.Selection.{clock_of}
 use Rattle.gptp_system.specs.State.{clock}
 use Rattle.gptp_setup.specs.Intervals.{AreIntervals, IsLog}
 use Rattle.gptp_system.proofs.StartLemmas.{length-new_ports}
-use Rattle.gptp_scenario.specs.Network.{pace_of, IsEnd, IsMember, IsNetwork, NetworkState}
+use Rattle.gptp_scenario.specs.Network.{IsEnd, IsMember, IsNetwork, NetworkState}
 use Rattle.gptp_scenario.proofs.LogLemmas.{largest_so, logs_so, logs_up_to}
 use Rattle.gptp_scenario.specs.declared.network.SystemSpec.{SystemSpec}
 use Rattle.gptp_scenario.specs.declared.network.LinkSpec.{LinkSpec}
@@ -97,7 +97,7 @@ end_at FromB w = inr refl
 
 -- a system's ports announce at its intervals, none of which is above the largest of the network
 intervals_named : (n : NetworkState) → NamesOne n → (place : ℕ) (m : SystemSpec) → slice_get n.systems place ≡ Some m
-    → AreIntervals (setup_of (pace_of n) m)
+    → AreIntervals (setup_of n m)
 intervals_named n is place m there =
     let each : (i : ℕ) (k : SystemSpec) → slice_get n.systems i ≡ Some k → All IsLog k.intervals.items =
     λ i k at. (is.systems i k at).logs in
@@ -110,7 +110,7 @@ intervals_named n is place m there =
 pub names_one-initial : (n : NetworkState) → NamesOne n → IsNamed (initial n)
 names_one-initial n is = record {
   setups = λ place station there.
-      let found = mapped (station_of (pace_of n)) n.systems place station there in
+      let found = mapped (station_of n) n.systems place station there in
       let limits = is.systems place found.0 found.1 in
       subst IsItsSetup found.2 (record {
         ports = length-new_ports (clock_of found.0.identity) n.params 1 found.0.intervals.items ∙ limits.many;
@@ -121,8 +121,8 @@ names_one-initial n is = record {
         named = refl;
       });
   clocks = λ place other station at here there same.
-      let one = mapped (station_of (pace_of n)) n.systems place station here in
-      let two = mapped (station_of (pace_of n)) n.systems other at there in
+      let one = mapped (station_of n) n.systems place station here in
+      let two = mapped (station_of n) n.systems other at there in
       is.clocks place other one.0 two.0 one.1 two.1
       (ap (λ (x : Station). clock x.system) one.2 ∙ same ∙ sym (ap (λ (x : Station). clock x.system) two.2));
   ports = λ link other direction way channel at here there same.

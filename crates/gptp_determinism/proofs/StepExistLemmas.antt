@@ -1,5 +1,5 @@
 -- A system that is given an input in time takes a step, and is a system then.
-use Rattle.std.proofs.Common.{◌≡◌, ◌⊎◌, ℕ, Bool, true, false, List, [], refl, inl, inr}
+use Rattle.std.proofs.Common.{◌≡◌, ◌⊎◌, ℕ, Bool, true, false, List, [], refl, inl, inr, arith}
 use Rattle.gptp_messages.specs.declared.announce.AnnounceView.{AnnounceView}
 use Rattle.gptp_messages.specs.declared.message.Message.{Message}
 use Rattle.gptp_messages.specs.declared.message.Message.TheVariants as messages
@@ -19,7 +19,7 @@ use Rattle.gptp_system.specs.Input.{Expires as TimerExpires}
 use Rattle.gptp_system.specs.Lapse.{lapsed}
 use Rattle.gptp_system.specs.Measuring.{measuring_answer, down, owes, responded, step_at}
 use Rattle.gptp_system.specs.Ready.{IsReady}
-use Rattle.gptp_system.specs.State.{SystemState, clock, held_at, is_capable_at, local_time, number, own, with_peer}
+use Rattle.gptp_system.specs.State.{SystemState, clock, held_at, is_capable_at, number, own, stamp_time, with_peer}
 use Rattle.gptp_system.specs.Steps.{Expires, HearsFrame, HearsMessage, IsDue}
 use Rattle.gptp_system.specs.Syncing.{is_leading}
 use Rattle.gptp_system.proofs.SystemLemmas.{stays_system}
@@ -28,7 +28,7 @@ use Rattle.gptp_determinism.specs.GoingOn.{HearsOctets}
 use Rattle.gptp_determinism.proofs.DecisionLemmas.{announce_is_judged, Judged}
 use Rattle.gptp_determinism.proofs.MeasuringExistLemmas.{asks_exists, becomes_itself, responds_exists, selects_exists, selects_if_exists, turns_exists}
 use Rattle.gptp_determinism.proofs.ReadLemmas.{frames_are_judged}
-use Rattle.gptp_system.proofs.TakeoverLemmas.{led_fits}
+use Rattle.gptp_system.proofs.TakeoverLemmas.{led_fits, led_low}
 use Rattle.gptp_determinism.proofs.StepReadyLemmas.{steps_ready}
 use Rattle.gptp_determinism.proofs.SyncingExistLemmas.{hears_follow_up_exists, hears_sync_exists, relays_exists, syncs_exists}
 
@@ -65,10 +65,10 @@ hears_exists p (messages.PdelayReq head) now s = (
   record { becomes = becomes_itself (owes p head now s); answer_is = refl },
 )
 hears_exists p (messages.PdelayResp m) now s = (
-  with_peer p (after_response m (local_time s now)) s,
+  with_peer p (after_response m (stamp_time s now)) s,
   [],
-  measuring_answer (step_at (response_step m (local_time s now)) (number s.ports p)),
-  record { becomes = becomes_itself (with_peer p (after_response m (local_time s now)) s); answer_is = refl },
+  measuring_answer (step_at (response_step m (stamp_time s now)) (number s.ports p)),
+  record { becomes = becomes_itself (with_peer p (after_response m (stamp_time s now)) s); answer_is = refl },
 )
 hears_exists p (messages.FollowUp m) now s = hears_follow_up_exists (is_capable_at s p) p m now s
 hears_exists p (messages.PdelayRespFollowUp m) now s =
@@ -94,7 +94,7 @@ expires_exists (timers.Respond p) now s ready moment due =
     let answered = responds_exists p now s ready moment in
     (responded p s, answered.0, record { state = refl; responds = answered.1 })
 expires_exists timers.Sync now s ready moment due =
-    syncs_exists (is_leading s) now s (led_fits s now ready moment due)
+    syncs_exists (is_leading s) now s (led_low s now now ready due (omega arith)) (led_fits s now ready moment due)
 expires_exists timers.Relay now s ready moment due = relays_exists s.known now s
 expires_exists timers.Lapse now s ready moment due = selects_exists now (lapsed s)
 

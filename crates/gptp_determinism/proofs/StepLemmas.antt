@@ -30,13 +30,13 @@ use Rattle.gptp_system.specs.Input.{Expires as TimerExpires}
 use Rattle.gptp_system.specs.Measuring.{port_asks, down, is_turned, owed_at, request_of, turned, RespondsIf, Turns, TurnsAndAsks, TurnsIf}
 use Rattle.gptp_system.specs.Selection.{announcements, choosing, fresh_ports, Becomes, Selects, SelectsIf}
 use Rattle.gptp_system.specs.Sends.{with_send}
-use Rattle.gptp_system.specs.State.{SystemState, clock, held_at, is_capable_at, local_time, number, own}
+use Rattle.gptp_system.specs.State.{SystemState, clock, held_at, is_capable_at, number, own, stamp_time}
 use Rattle.gptp_system.specs.Steps.{Expires, HearsFrame, HearsMessage}
 use Rattle.gptp_correction.specs.declared.correction.Relayed.{Relayed}
 use Rattle.gptp_correction.specs.Correction.{held_sum}
 use Rattle.gptp_setup.specs.SettlingParams.{has_sync_timeout}
 use Rattle.gptp_system.specs.Lapse.{lapsed}
-use Rattle.gptp_system.specs.Takeover.{leading, told_time}
+use Rattle.gptp_system.specs.Takeover.{leading, told_stamp}
 use Rattle.gptp_system.specs.Syncing.{delay_at, is_followed, is_leading, root_rate_at, refreshing, said_on, told_by, HearsFollowUpIf, HearsSyncIf, IsOffset, IsToldAtLimits, KeepsIf, KnowsBy, KnowsIf, LeadsTime, RelaysBy, RelaysIf, SyncsIf}
 use Rattle.gptp_determinism.specs.StepLaws.{IsSameStep, SameAnswer}
 
@@ -101,12 +101,13 @@ module _ (t u : SystemState) (xs ys : List Sending) where
   responds_once None p now s k l = k ∙ sym l
   responds_once (Some owed) p now s k l =
       let came = split_is_exact.only owed.t2 k.came l.came k.came-rest l.came-rest k.came_is l.came_is in
-      let went = split_is_exact.only (local_time s now) k.went l.went k.went-rest l.went-rest k.went_is l.went_is in
+      let went = split_is_exact.only (stamp_time s now) k.went l.went k.went-rest l.went-rest k.went_is l.went_is in
       k.sends_are ∙ rw (came.0, came.1, went.0, went.1) refl ∙ sym l.sends_are
 
   leads_once : (now : ℕ) (s : SystemState) → LeadsTime now s t xs → LeadsTime now s u ys → Same t u xs ys
   leads_once now s k l =
-      let split = split_is_exact.only (told_time (leading now s) now) k.stamp l.stamp k.rest l.rest k.split l.split in (
+      let told = told_stamp (leading now s) now in
+      let split = split_is_exact.only told k.stamp l.stamp k.rest l.rest k.split l.split in (
         k.state ∙ sym l.state,
         k.sends_are ∙ rw (split.0, split.1) refl ∙ sym l.sends_are,
       )

@@ -26,15 +26,15 @@ use Rattle.gptp_system.specs.Lapse.{lapsed}
 use Rattle.gptp_system.specs.Measuring.{answering_done, asking, down, held_if, held_turned, is_turned, owes, owing, turned, Turns, TurnsAndAsks, TurnsIf}
 use Rattle.gptp_system.specs.Ready.{IsReady}
 use Rattle.gptp_system.specs.Selection.{announced_again, SelectsIf}
-use Rattle.gptp_system.specs.State.{SystemState, change, held_at, is_capable_at, local_time, number, own, with_peer}
+use Rattle.gptp_system.specs.State.{SystemState, change, held_at, is_capable_at, number, own, stamp_time, with_peer}
 use Rattle.gptp_system.specs.Steps.{Expires, HearsFrame, HearsMessage, IsDue}
 use Rattle.gptp_system.specs.Syncing.{is_leading}
 use Rattle.gptp_system.proofs.FactLemmas.{are_placed}
 use Rattle.gptp_system.proofs.MeasuringLemmas.{down_ready, follow_up_keeps, interval_keeps, response_keeps, step_ready}
 use Rattle.gptp_system.proofs.ReadyLemmas.{KeepsHeld, ageing_keeps, hearing_keeps, held_ready, lapsed_ready, selects_ready}
 use Rattle.gptp_system.proofs.StepLemmas.{steps_sound}
+use Rattle.gptp_system.proofs.TakeoverLemmas.{stamps_time}
 use Rattle.gptp_system.proofs.WrittenLemmas.{port_ready}
-use Rattle.gptp_determinism.proofs.MeasuringExistLemmas.{local_is_time}
 use Rattle.gptp_determinism.proofs.SyncingReadyLemmas.{becomes_ready, hears_follow_up_ready, hears_sync_ready, relays_ready, syncs_ready}
 
 -- ---- states
@@ -111,15 +111,15 @@ asks_ready p step now s s' sends keeps ready placed k =
     let before = subst (ArePlaced 1) (ap (λ (x : SystemState). x.held) k.state) placed in
     let between = turns_ready p step now s k.between k.first keeps ready before k.turns in
     subst IsReady (sym k.state)
-    (port_ready p (asking (local_time k.between now) (now + interval_of k.between.params.pdelay)) k.between
+    (port_ready p (asking (stamp_time k.between now) (now + interval_of k.between.params.pdelay)) k.between
     (λ q is. record { log_interval = is.log_interval; waiting = is.waiting }) between)
 
 -- a port owes what came now
 owes_ready : (p : ℕ) (head : Head) (now : ℕ) (s : SystemState) → IsReady s → IsMoment now
     → IsReady (owes p head now s)
 owes_ready p head now s ready moment =
-    let time = local_is_time s now ready moment in
-    let owed : Owed = record { requester = head.source; sequence = head.sequence; t2 = local_time s now } in
+    let time = stamps_time s now ready moment in
+    let owed : Owed = record { requester = head.source; sequence = head.sequence; t2 = stamp_time s now } in
     port_ready p (owing owed (now + s.params.turnaround)) s
     (λ q is. record {
       log_interval = is.log_interval;
@@ -162,8 +162,8 @@ hears_ready p (messages.Sync head) now s s' sends answer ready moment placed k =
 hears_ready p (messages.PdelayReq head) now s s' sends answer ready moment placed k =
     becomes_ready (owes p head now s) s' sends (owes_ready p head now s ready moment) k.becomes
 hears_ready p (messages.PdelayResp m) now s s' sends answer ready moment placed k =
-    becomes_ready (with_peer p (after_response m (local_time s now)) s) s' sends
-    (step_ready (after_response m (local_time s now)) (response_keeps m (local_time s now)) p s ready) k.becomes
+    becomes_ready (with_peer p (after_response m (stamp_time s now)) s) s' sends
+    (step_ready (after_response m (stamp_time s now)) (response_keeps m (stamp_time s now)) p s ready) k.becomes
 hears_ready p (messages.FollowUp m) now s s' sends answer ready moment placed k =
     hears_follow_up_ready (is_capable_at s p) p m now s s' sends answer ready k
 hears_ready p (messages.PdelayRespFollowUp m) now s s' sends answer ready moment placed k =

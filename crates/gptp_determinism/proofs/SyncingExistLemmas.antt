@@ -1,5 +1,5 @@
 -- What the timers of time, a Sync and a Follow_Up make of a system exists.
-use Rattle.std.proofs.Common.{ℕ, ℤ, Bool, true, false, List, [], Option, Some, None, refl, inl, inr}
+use Rattle.std.proofs.Common.{ℕ, ℤ, pos, ◌≤ℤ◌, Bool, true, false, List, [], Option, Some, None, refl, inl, inr}
 use Rattle.gptp_messages.specs.declared.follow_up.FollowUp.{FollowUp}
 use Rattle.gptp_messages.specs.declared.head.Head.{Head}
 use Rattle.gptp_scaled.specs.Stamp.{FitsStamp}
@@ -11,7 +11,7 @@ use Rattle.gptp_system.specs.declared.answer.Answer.{Answer}
 use Rattle.gptp_system.specs.declared.answer.Answer.TheVariants as answers
 use Rattle.gptp_system.specs.declared.sending.Sending.{Sending}
 use Rattle.gptp_system.specs.State.{SystemState}
-use Rattle.gptp_system.specs.Takeover.{leading, told_time}
+use Rattle.gptp_system.specs.Takeover.{leading, told_stamp, told_time}
 use Rattle.gptp_system.specs.Syncing.{as_received, delay_at, forgetting, hop_of, is_followed, keeping, knowing, offset_of, own_time, root_rate_at, refreshing, restarted, said_on, slave_rate, timer_stopped, telling, told_by}
 use Rattle.gptp_system.specs.Syncing.{HearsFollowUpIf, HearsSyncIf, HopFits, IsOffset, IsToldAtLimits, KeepsIf, KnowsBy, KnowsIf, OffsetFits, RelaysBy, RelaysIf, SyncsIf}
 use Rattle.gptp_determinism.proofs.DecisionLemmas.{bridge_or_not, offset_or_not, Decided}
@@ -20,15 +20,16 @@ use Rattle.gptp_determinism.proofs.MeasuringExistLemmas.{becomes_itself, split_e
 -- ---- timers
 
 -- the Sync timer expires
-pub syncs_exists : (on : Bool) (now : ℕ) (s : SystemState) → FitsStamp (told_time (leading now s) now)
+pub syncs_exists : (on : Bool) (now : ℕ) (s : SystemState) → pos 0 ≤ℤ told_time (leading now s) now
+    → FitsStamp (told_stamp (leading now s) now)
     → (t : SystemState) × (sends : List Sending) × SyncsIf on now s t sends
-syncs_exists true now s time =
-    let parts = split_exists (told_time (leading now s) now) time in (
+syncs_exists true now s from time =
+    let parts = split_exists (told_stamp (leading now s) now) time in (
       telling (restarted now (leading now s)),
       told_by (own_time parts.0 parts.1) s,
-      record { stamp = parts.0; rest = parts.1; split = parts.2; state = refl; sends_are = refl },
+      record { stamp = parts.0; rest = parts.1; from = from; split = parts.2; state = refl; sends_are = refl },
     )
-syncs_exists false now s time = (restarted now s, [], becomes_itself (restarted now s))
+syncs_exists false now s from time = (restarted now s, [], becomes_itself (restarted now s))
 
 -- the numbers of a hop fit, or one doesn't
 hop_or_not : (info : SyncInfo) (now : ℕ) (s : SystemState) → Decided (HopFits info now s)

@@ -13,7 +13,7 @@ use Rattle.gptp_system.specs.declared.sending.Sending.{Sending}
 use Rattle.gptp_system.specs.Reading.{reading_of}
 use Rattle.gptp_system.specs.Ready.{IsReady}
 use Rattle.gptp_system.specs.Selection.{Becomes}
-use Rattle.gptp_system.specs.State.{SystemState, lapse_of, local_time}
+use Rattle.gptp_system.specs.State.{SystemState, lapse_of, stamp_time}
 use Rattle.gptp_system.specs.Takeover.{leading}
 use Rattle.gptp_system.specs.Syncing.{delay_at, forgetting, is_followed, keeping, knowing, offset_of, reads_with, root_rate_at, refreshing, restarted, said_on, timer_stopped, telling}
 use Rattle.gptp_system.specs.Syncing.{HearsFollowUpIf, HearsSyncIf, KeepsIf, KnowsBy, KnowsIf, RelaysBy, RelaysIf, SyncsIf}
@@ -59,7 +59,7 @@ keeps_ready : (on : Bool) (head : Head) (now : ℕ) (s s' : SystemState) (sends 
     → IsReady s → KeepsIf on head now s s' sends answer → IsReady s'
 keeps_ready true head now s s' sends answer ready k =
     becomes_ready (keeping head now s) s' sends
-    (apart_ready s (Some (kept head.source head.sequence (local_time s now))) s.known s.offset s.reads s.relay s.lapse
+    (apart_ready s (Some (kept head.source head.sequence (stamp_time s now))) s.known s.offset s.reads s.relay s.lapse
     ready ready.lapses)
     k.becomes
 keeps_ready false head now s s' sends answer ready k = becomes_ready s s' sends ready k.becomes

@@ -26,7 +26,6 @@ ceil_reaches x d h =
 
 -- a Sync that goes over a way, with all that is known of it
 record Carriage : Type 0 where
-  behind : ℕ
   way : Way
   hops : List Hop
   phase : ℕ → ℕ
@@ -34,7 +33,7 @@ record Carriage : Type 0 where
   sent : ℕ → ℕ
   came : ℕ → ℕ
   documented : IsDocumented way
-  read : AreRead behind way phase says
+  read : AreRead way phase says
   goes : GoesOver way hops says sent came
   fits : CarryFits (says 0 (sent 0)) hops
 
@@ -48,7 +47,7 @@ measured_at c i h =
     let g = c.goes in
     let k = c.documented in
     let near : i < length w.links = omega (arith, h, g.as_long) in
-    measurement_is_within w.blur c.behind l.least l.most w.turnaround w.interval
+    measurement_is_within w.blur w.behind l.least l.most w.turnaround w.interval
     (ceil_div (2202000000000 * measured_jitter_at w i) w.interval) (c.phase (suc i)) (c.phase i) (drift_at w (suc i))
     (drift_at w i) (neighbour_at c.hops i) (hop_at c.hops i).delay (c.says (suc i)) (c.says i)
     (k.drifts (suc i) near) (k.drifts i (omega (arith, near))) (c.read (suc i) near) (c.read i (omega (arith, near)))
@@ -236,7 +235,7 @@ adds m n total origin sum added before after passed h e a b =
     record { low = omega (arith, ints, h, e, a.low, b.low); high = omega (arith, ints, h, e, a.high, b.high) }
 
 -- what two readings of a clock are off together, in between it counts so much
-off_within : (w behind phase : ℕ) (drift : ℤ) (says : ℕ → ℤ) → IsStampClock w behind phase drift says →
+pub off_within : (w behind phase : ℕ) (drift : ℤ) (says : ℕ → ℤ) → IsStampClock w behind phase drift says →
     (from to count : ℕ) → local_clock phase drift to -ℤ local_clock phase drift from ≡ pos count →
     AreWithin (65536 * w) (says to -ℤ says from -ℤ pos count) (pos 0)
 off_within w behind phase drift says clock from to count is =
@@ -250,7 +249,7 @@ off_within w behind phase drift says clock from to count is =
 -- the time at each egress is within its error of the root's clock
 egress_within : (c : Carriage) (n : ℕ) → n < length c.hops → let w = c.way in
     AreWithin (error_sent w n) (pos 33550000 *ℤ (c.says 0 (c.sent 0) +ℤ sum_below n (added_at c.hops)))
-    (pos 33550000 *ℤ (shown_at w c.phase 0 (c.sent n) -ℤ pos c.behind))
+    (pos 33550000 *ℤ (shown_at w c.phase 0 (c.sent n) -ℤ pos w.behind))
 egress_within c zero h =
     let near = (c.read 0 (omega arith)).near (c.sent 0) in
     record { low = omega (arith, ints, near.low); high = omega (arith, ints, near.high) }
@@ -281,11 +280,11 @@ egress_within c (suc n) h =
     (neighbour_at c.hops n) (hop_at c.hops n).delay (link_time_at c.hops n +ℤ residence_at c.hops n)
     (over_link c n near) (rate_behind c n h) (clock_counts.rate (drift_at w (suc n)) drifts) (omega (arith, long))
     (omega (arith, g.carried_short n near)) count.counted
-    (off_within w.blur c.behind (c.phase (suc n)) (drift_at w (suc n)) (c.says (suc n)) (c.read (suc n) there)
+    (off_within w.blur w.behind (c.phase (suc n)) (drift_at w (suc n)) (c.says (suc n)) (c.read (suc n) there)
     (c.came n) (c.sent (suc n)) count.count count.is)
     (omega (arith, ints, time)) (rw parts at passed.counted) in
     adds (error_sent w n) _ (error_sent w (suc n)) origin (sum_below n (added_at c.hops)) (added_at c.hops n)
-    (shown_at w c.phase 0 (c.sent n) -ℤ pos c.behind) (shown_at w c.phase 0 (c.sent (suc n)) -ℤ pos c.behind)
+    (shown_at w c.phase 0 (c.sent n) -ℤ pos w.behind) (shown_at w c.phase 0 (c.sent (suc n)) -ℤ pos w.behind)
     passed.count (omega (arith, stay_grows w n stay (omega (arith, g.kept_short n h, kept))))
     (omega (arith, ints, passed.is)) before added
 
@@ -316,7 +315,7 @@ arrives : (c : Carriage) (last now : ℕ) (off : ℤ) → length c.hops ≡ suc 
     now ≤ c.came last + jitter_at c.way last → AreWithin (32768 * c.way.blur) off (pos 0) → let w = c.way in
     AreWithin (33550000 * time_error w) (pos 33550000 *ℤ (carry_of (c.says 0 (c.sent 0)) c.hops +ℤ
     (shown_at w c.phase (suc last) now -ℤ shown_at w c.phase (suc last) (c.came last)) +ℤ off))
-    (pos 33550000 *ℤ (shown_at w c.phase 0 now -ℤ pos c.behind))
+    (pos 33550000 *ℤ (shown_at w c.phase 0 now -ℤ pos w.behind))
 arrives c last now off e later soon near_off =
     let w = c.way in
     let g = c.goes in
@@ -342,8 +341,8 @@ arrives c last now off e later soon near_off =
     let total = time_error_is w last (sym g.as_long ∙ e) in
     let received = scaled_by (rate_at c.hops last) (link_time_at c.hops last) in
     let sum = adds (error_sent w last) _ (33550000 * time_error w) origin (sum_below last (added_at c.hops))
-    (received +ℤ pos count.count +ℤ off) (shown_at w c.phase 0 (c.sent last) -ℤ pos c.behind)
-    (shown_at w c.phase 0 now -ℤ pos c.behind) passed.count (omega (arith, total, link_grows w last))
+    (received +ℤ pos count.count +ℤ off) (shown_at w c.phase 0 (c.sent last) -ℤ pos w.behind)
+    (shown_at w c.phase 0 now -ℤ pos w.behind) passed.count (omega (arith, total, link_grows w last))
     (omega (arith, ints, passed.is)) before within in
     let whole = carry_of-last origin c.hops last e in
     record {
@@ -351,11 +350,10 @@ arrives c last now off e later soon near_off =
       high = omega (arith, ints, sum.high, whole, count.is);
     }
 
-abbrev carriage : (behind : ℕ) (w : Way) (hops : List Hop) (phase : ℕ → ℕ) (says : ℕ → ℕ → ℤ) (sent came : ℕ → ℕ) →
-    IsDocumented w → AreRead behind w phase says → GoesOver w hops says sent came → CarryFits (says 0 (sent 0)) hops →
+abbrev carriage : (w : Way) (hops : List Hop) (phase : ℕ → ℕ) (says : ℕ → ℕ → ℤ) (sent came : ℕ → ℕ) →
+    IsDocumented w → AreRead w phase says → GoesOver w hops says sent came → CarryFits (says 0 (sent 0)) hops →
     Carriage
-carriage behind w hops phase says sent came k read g f = record {
-  behind = behind;
+carriage w hops phase says sent came k read g f = record {
   way = w;
   hops = hops;
   phase = phase;
@@ -370,16 +368,16 @@ carriage behind w hops phase says sent came k read g f = record {
 
 -- over the whole way
 pub carry_is_within : CarryIsWithin
-carry_is_within behind w hops phase says sent came last e k read g f =
-    let a = arrives (carriage behind w hops phase says sent came k read g f) last (came last) (pos 0) e (omega arith)
+carry_is_within w hops phase says sent came last e k read g f =
+    let a = arrives (carriage w hops phase says sent came k read g f) last (came last) (pos 0) e (omega arith)
     (omega arith) (record { low = omega (arith, ints); high = omega (arith, ints) }) in
     record { low = omega (arith, ints, a.low); high = omega (arith, ints, a.high) }
 
 -- and to the Follow_Up
 pub offset_of_way_is_within : OffsetOfWayIsWithin
-offset_of_way_is_within behind w hops phase says sent came last now e k read g f later soon =
+offset_of_way_is_within w hops phase says sent came last now e k read g f later soon =
     let arrived = (read (suc last) (omega (arith, e, g.as_long))).near (came last) in
-    let off = shown_at w phase (suc last) (came last) -ℤ pos behind -ℤ says (suc last) (came last) in
-    let a = arrives (carriage behind w hops phase says sent came k read g f) last now off e later soon
+    let off = shown_at w phase (suc last) (came last) -ℤ pos w.behind -ℤ says (suc last) (came last) in
+    let a = arrives (carriage w hops phase says sent came k read g f) last now off e later soon
     (record { low = omega (arith, ints, arrived.high); high = omega (arith, ints, arrived.low) }) in
     record { low = omega (arith, ints, a.high); high = omega (arith, ints, a.low) }

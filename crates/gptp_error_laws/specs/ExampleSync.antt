@@ -32,7 +32,7 @@ phases i = 0
 -- link seems to be 10 ns longer than it was. The time error of the way is 2622278 units.
 pub record GoesOverTwoLinks : Type 0 where
   pub documented : IsDocumented two_links_way
-  pub read : AreRead 0 two_links_way phases (shown_at two_links_way phases)
+  pub read : AreRead two_links_way phases (shown_at two_links_way phases)
   pub goes : GoesOver two_links_way two_hops (shown_at two_links_way phases) sent sync_came
   pub fits : CarryFits (shown_at two_links_way phases 0 (sent 0)) two_hops
   pub carried : carry_of (shown_at two_links_way phases 0 (sent 0)) two_hops ≡ pos (131072117964800 + 1310722)

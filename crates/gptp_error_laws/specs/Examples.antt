@@ -1,5 +1,5 @@
 -- Ways whose time error is worked out by hand.
-use Rattle.std.specs.Prelude.{ℕ, ℤ, pos, neg_ℤ, List, [], ◌∷◌}
+use Rattle.std.specs.Prelude.{ℕ, ◌*◌, ℤ, pos, neg_ℤ, List, [], ◌∷◌}
 use Rattle.gptp_scaled.specs.TimeStamp.{stamp_blur}
 use Rattle.gptp_error_laws.specs.TimeError.{WayLink, Way}
 
@@ -14,6 +14,7 @@ way drift links residence =
       drift = drift;
       links = links;
       blur = 0;
+      behind = 0;
       interval = 1000000000;
       turnaround = 1000;
       residence = residence;
@@ -62,10 +63,10 @@ jittery_way = way (pos 0) (example_way_link 1000 1001000 (pos 0) ∷ example_way
 -- The first of these ways by time stamps of 8 ns with 4 ns of noise, of which two are off by 16 ns together. Its link
 -- costs 65556 * 32 + 7 + 12, as one of 484 to 516 ns does by exact clocks.
 abbrev pub stamped_way : Way
-stamped_way = record plain_way { blur = stamp_blur 8 4 }
+stamped_way = record plain_way { blur = stamp_blur 8 4; behind = 32768 * 8 }
 
 -- The ring of examples/ring.toml whole, by such time stamps: three links of 390 to 410 ns. Each link costs 65556 * 52 +
 -- 6 + 12 = 3408930, and its rate is right within 114504 + 4. The first bridge costs 1478 * 114508 / 33550000, rounded
 -- up, which is 6, and the second 1478 * 229016 / 33550000, which is 11.
 abbrev pub stamped_ring_way : Way
-stamped_ring_way = record ring_way { blur = stamp_blur 8 4 }
+stamped_ring_way = record ring_way { blur = stamp_blur 8 4; behind = 32768 * 8 }

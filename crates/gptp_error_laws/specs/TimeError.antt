@@ -13,12 +13,13 @@ pub record WayLink : Type 0 where
   pub drift : ℤ
 
 -- The way to a system: the drift of the root's clock, and the links, the root's first; for all of them by how much two
--- time stamps of a clock are off together, over which interval a rate is measured, the turnaround and the residence, in
--- ns.
+-- time stamps of a clock are off together, in ns, and how many units of 2^-16 ns less than it shows they say; over
+-- which interval a rate is measured, the turnaround and the residence, in ns.
 pub record Way : Type 0 where
   pub drift : ℤ
   pub links : List WayLink
   pub blur : ℕ
+  pub behind : ℕ
   pub interval : ℕ
   pub turnaround : ℕ
   pub residence : ℕ

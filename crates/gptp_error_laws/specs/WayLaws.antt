@@ -44,11 +44,14 @@ ParentsErrorStays = (w : Way) (l : WayLink) (h : ℕ) → h ≤ length w.links
 abbrev pub shown_at : Way → (ℕ → ℕ) → ℕ → ℕ → ℤ
 shown_at w phase i t = local_clock (phase i) (drift_at w i) t
 
--- what is read of it then: each clock is read as one whose readings are off by the blur together, and `behind` units
--- less than it shows
-abbrev pub AreRead : ℕ → Way → (ℕ → ℕ) → (ℕ → ℕ → ℤ) → Type 0
-AreRead behind w phase says =
-    (i : ℕ) → i ≤ length w.links → IsStampClock w.blur behind (phase i) (drift_at w i) (says i)
+-- what is read of the clock so many links from the root: two readings are off by the blur together, and each is
+-- `behind` units less than it shows
+abbrev pub IsReadAt : Way → (ℕ → ℕ) → ℕ → (ℕ → ℤ) → Type 0
+IsReadAt w phase i says = IsStampClock w.blur w.behind (phase i) (drift_at w i) says
+
+-- so it is with each clock of the way
+abbrev pub AreRead : Way → (ℕ → ℕ) → (ℕ → ℕ → ℤ) → Type 0
+AreRead w phase says = (i : ℕ) → i ≤ length w.links → IsReadAt w phase i (says i)
 
 -- the numbers of a way are those of a document: time stamps are off by 3000 ns at most, an interval has 2^-4 s at
 -- least, an answer waits, and each clock keeps within 100 parts in a million (profile)
@@ -80,17 +83,17 @@ pub record GoesOver (w : Way) (hops : List Hop) (says : ℕ → ℕ → ℤ) (se
 -- whatever the phases, and however the delays and the readings fall. (`CarryKeepsTime` of gptp_correction is the case
 -- without jitter, drift and rounding, where both are the same.)
 abbrev pub CarryIsWithin : Type 0
-CarryIsWithin = (behind : ℕ) (w : Way) (hops : List Hop) (phase : ℕ → ℕ) (says : ℕ → ℕ → ℤ) (sent came : ℕ → ℕ)
-    (last : ℕ) → length hops ≡ suc last → IsDocumented w → AreRead behind w phase says →
+CarryIsWithin = (w : Way) (hops : List Hop) (phase : ℕ → ℕ) (says : ℕ → ℕ → ℤ) (sent came : ℕ → ℕ)
+    (last : ℕ) → length hops ≡ suc last → IsDocumented w → AreRead w phase says →
     GoesOver w hops says sent came → CarryFits (says 0 (sent 0)) hops →
-    AreWithin (time_error w) (carry_of (says 0 (sent 0)) hops) (shown_at w phase 0 (came last) -ℤ pos behind)
+    AreWithin (time_error w) (carry_of (says 0 (sent 0)) hops) (shown_at w phase 0 (came last) -ℤ pos w.behind)
 
 -- At the Follow_Up, which comes at most the jitter of the last link later, the offset of the last system, which is
 -- what it read of its clock as the Sync came less the time that was carried, is within the time error of what its clock
 -- shows then less what the root's does.
 abbrev pub OffsetOfWayIsWithin : Type 0
-OffsetOfWayIsWithin = (behind : ℕ) (w : Way) (hops : List Hop) (phase : ℕ → ℕ) (says : ℕ → ℕ → ℤ)
-    (sent came : ℕ → ℕ) (last now : ℕ) → length hops ≡ suc last → IsDocumented w → AreRead behind w phase says →
+OffsetOfWayIsWithin = (w : Way) (hops : List Hop) (phase : ℕ → ℕ) (says : ℕ → ℕ → ℤ)
+    (sent came : ℕ → ℕ) (last now : ℕ) → length hops ≡ suc last → IsDocumented w → AreRead w phase says →
     GoesOver w hops says sent came → CarryFits (says 0 (sent 0)) hops → came last ≤ now →
     now ≤ came last + jitter_at w last → AreWithin (time_error w)
     (says (suc last) (came last) -ℤ carry_of (says 0 (sent 0)) hops)

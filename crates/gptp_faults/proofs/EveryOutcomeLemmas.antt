@@ -9,7 +9,7 @@ use Rattle.gptp_lists.specs.Members.{In}
 use Rattle.gptp_lists.proofs.PlaceLemmas.{member_there}
 use Rattle.gptp_lists.proofs.SystemSpecLemmas.{In-slice_get}
 use Rattle.gptp_model.specs.Views.{rising_clocks}
-use Rattle.gptp_network.specs.Document.{DocumentState}
+use Rattle.gptp_network.specs.Document.{DocumentState, seeded_document}
 use Rattle.gptp_network.specs.Snapshot.{events_by, IsSnapshot}
 use Rattle.gptp_network.proofs.ExistenceLemmas.{snapshot_exists}
 use Rattle.gptp_network.proofs.SnapshotLemmas.{from_filter}
@@ -216,9 +216,10 @@ module _ (d : DocumentState) (playable : IsPlayable d) (runs : RunsEnd d) (optio
         let within : back_at at e hold ≤ until = omega arith in
         let late = not_late_at d options.hold t e (run / t.seeds) in_end number in
         let aside : AsideState = set_aside d options.hold e names at in
-        let (last, ends) = runs (tracks options) aside e at hold until (generator (seed_of t run)) (plays at k)
+        let seed = seed_of t run in
+        let (last, ends) = runs (tracks options) aside e at hold seed until (generator seed) (plays at k)
         (ends_early d options.hold e at late) in
-        let whole = with_case at hold e d in
+        let whole = seeded_document seed (with_case at hold e d) in
         let clocks = rising_clocks ends.start in
         let lasts = are_last 1 e has at d hold past until within some in
         let begun = first_aside (tracks options) (aside_if (tracks options) aside) clocks in

@@ -12,11 +12,13 @@ use Rattle.gptp_model.specs.Views.{rising_clocks}
 use Rattle.gptp_graph.specs.Snapshot.{Snapshot}
 use Rattle.gptp_lists.specs.Members.{In}
 use Rattle.gptp_lists.proofs.SystemSpecLemmas.{In-slice_get}
-use Rattle.gptp_network.specs.Document.{DocumentState}
+use Rattle.gptp_network.specs.Document.{DocumentState, seeded_document}
+use Rattle.gptp_scenario.specs.Network.{seeded}
 use Rattle.gptp_network.specs.Snapshot.{events_by, IsSnapshot, StandsAfter}
 use Rattle.gptp_scenario.specs.Calm.{last_change}
 use Rattle.gptp_settling_time.specs.HowSoon.{IsChoiceBound}
 use Rattle.gptp_theorem.specs.PlayedLaws.{IsPlayable}
+use Rattle.gptp_theorem.proofs.OctetLemmas.{seeded_playable}
 use Rattle.gptp_timeline.specs.Aside.{AsideState}
 use Rattle.gptp_timeline.specs.Each.{Each}
 use Rattle.gptp_timeline.specs.Ends.{EndState}
@@ -44,6 +46,7 @@ use Rattle.gptp_faults.proofs.EventsLemmas.{any_delay, has_events, HasEvents}
 use Rattle.gptp_faults.proofs.PlayableLemmas.{can_happen, case_playable}
 use Rattle.gptp_faults.proofs.RefusalLemmas.{in_time_of, IsInTime, not_refused}
 use Rattle.gptp_faults.proofs.ReturnLemmas.{are_last, by_fault, whole_network}
+use Rattle.gptp_faults.proofs.SeededLemmas.{settling_same}
 
 -- ---- two lists, member by member
 
@@ -140,35 +143,39 @@ module _ (options : FaultsOptions) (d : DocumentState) (t : Times) (e : EventsSt
   abbrev failed : DocumentState
   failed = failed_document t.from e d
 
+  abbrev seed : ℕ
+  seed = seed_of t 0
+
   abbrev whole : DocumentState
-  whole = document_of d options.hold e t.from
+  whole = seeded_document seed (document_of d options.hold e t.from)
 
   past : PastBy t.from d.events
   past = all_past t.from d.events playable.events.in_order last
 
-  -- up to where the fault is seen the whole document is the one without the return
-  short_is : shortened down whole ≡ failed
+  -- up to where the fault is seen the whole document is the one without the return, but for the seed
+  short_is : shortened down whole ≡ seeded_document seed failed
   short_is =
       let network = whole_network 0 e has t.from d hold past in
       let events = by_fault 0 e has t.from d hold past (omega (arith, stays)) in
-      λ i. record { network = network i; events = events i }
+      λ i. record { network = seeded seed (network i); events = events i }
 
   -- so what is told of the fault there is a choice bound of it
   bounded : IsPlayable whole → IsChoiceBound (shortened down whole) down s.choice
   bounded can = told_bound (shortened down whole) down s (playable_by down whole can)
-      (ap (λ x. settling_of x down) short_is ∙ told)
+      (ap (λ x. settling_of x down) short_is ∙ settling_same failed seed down ∙ told)
 
   -- the roots where its first run ends to be down are those of the settled choice
   roots_settle : (r : RunEnds) (g : Snapshot) → IsPlayable whole → CaseRunEnds options d t e names 0 r
       → IsSnapshot failed down g → AreRoots g r.down.roots
   roots_settle r g can run stands =
       let until = end_at d options.hold e t.from in
-      let fate = generator (seed_of t 0) in
+      let fate = generator seed in
       let asked = tracks options in
       let aside : AsideState = set_aside d options.hold e names t.from in
       let ends : EndsOf draws asked aside whole until fate run.last =
-      subst (λ at. EndsOf draws asked (set_aside d options.hold e names at) (document_of d options.hold e at)
-      (end_at d options.hold e at) fate run.last) (first_moment t) run.ends in
+      subst (λ at. EndsOf draws asked (set_aside d options.hold e names at)
+      (seeded_document seed (document_of d options.hold e at)) (end_at d options.hold e at) fate run.last)
+      (first_moment t) run.ends in
       let clocks = rising_clocks ends.start in
       let before : run.last.before ≡ Some r.down = down_is (is_seen e) run.last r run.are in
       let k = last_but_one draws whole until clocks ends.passages down (back_at t.from e hold) 0
@@ -181,7 +188,8 @@ module _ (options : FaultsOptions) (d : DocumentState) (t : Times) (e : EventsSt
       subst (λ at. IsChoiceBound (shortened at whole) at s.choice) (sym from) (bounded can) in
       let there : IsSnapshot whole down g =
       subst (λ es. StandsAfter whole.network es g) (by_sooner down down whole.events (omega arith))
-      (subst (λ x. IsSnapshot x down g) (sym short_is) stands) in
+      (subst (λ x. IsSnapshot x down g) (sym short_is)
+      (record { systems = stands.systems; rising = stands.rising; links = stands.links })) in
       subst (AreRoots g) (ap (λ (x : EndState). x.roots) (sym k.ended))
       (bound_follows draws whole false until ends.passages fate ends.started ends.fate_after ends.start ends.after
       k.passage s.choice g can ends.begun ends.pass k.member bound (omega (arith, from, to, stays))
@@ -212,8 +220,9 @@ follow_settles d options lines exceeded f playable o g s member told longer stan
     let in_time = first_in_time d options.hold t e (not_refused d options t f.cases f.before number c there)
     (some_moment t.moments t.seeds some) in
     let happens = can_happen d playable options.detect options.only options.power f.cases f.are_cases c a_case in
-    let can = case_playable d e playable happens t.from (hold_of d options.hold e t.from) in_time.behind_last
-    in_time.returns in
+    let can = seeded_playable (document_of d options.hold e t.from) (seed_of t 0)
+    (case_playable d e playable happens t.from (hold_of d options.hold e t.from) in_time.behind_last
+    in_time.returns) in
     let has = has_events 0 (cables_after d) options.detect c (any_delay options.detect) in (
       first.down.roots,
       roots_settle options d t e has names playable in_time.behind_last s told_here held first g can first_of_all

@@ -20,6 +20,7 @@ mod PlayableLemmas
 mod ReturnLemmas
 mod WellLemmas
 mod LivedLemmas
+mod SeededLemmas
 mod FollowLemmas
 mod WithinLemmas
 pub mod OrderLemmas

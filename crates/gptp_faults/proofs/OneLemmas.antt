@@ -13,7 +13,7 @@ use Rattle.gptp_network.specs.Span.{IsSpan}
 use Rattle.gptp_network.specs.declared.fault.DocumentFault.{DocumentFault}
 use Rattle.gptp_network.proofs.LawLemmas.{one_snapshot}
 use Rattle.gptp_scenario.specs.Calm.{last_change}
-use Rattle.gptp_scenario.specs.Network.{pace_of}
+use Rattle.gptp_scenario.specs.Network.{pace_of, seeded}
 use Rattle.gptp_scenario.specs.SettlingTime.{settling_span_with}
 use Rattle.gptp_scenario.specs.SyncWait.{sync_paths}
 use Rattle.gptp_timeline.specs.Each.{Each}
@@ -32,8 +32,8 @@ use Rattle.gptp_faults.specs.Outcomes.{aside_of, AreOutcomes, back_in, down_in, 
 use Rattle.gptp_faults.specs.Parts.{AreCaseParts, AreWhole, cut_off, IsLeft, IsPlaced, kept, parts_of, weighed}
 use Rattle.gptp_faults.specs.Ranking.{OutcomesAreRanked}
 use Rattle.gptp_faults.specs.Refusals.{case_events, IsLate, RefusesFaults, fault_before}
-use Rattle.gptp_faults.specs.Runs.{AreRunEnds, CaseRunEnds, generator, is_seen, run_moment, seed_of, set_aside}
-use Rattle.gptp_faults.specs.Stays.{document_of, end_at, failed_document, hold_of, watch_of}
+use Rattle.gptp_faults.specs.Runs.{AreRunEnds, CaseRunEnds, document_run, generator, is_seen, run_moment, seed_of, set_aside}
+use Rattle.gptp_faults.specs.Stays.{end_at, failed_document, hold_of, watch_of}
 use Rattle.gptp_faults.specs.Times.{AreTimes}
 use Rattle.gptp_faults.specs.Whole.{IsWhole, WholeState}
 use Rattle.gptp_faults.specs.declared.cases.Case.{Case}
@@ -139,9 +139,11 @@ module _ (d : DocumentState) (once : RunsEndOnce d) (options : FaultsOptions) (t
       → CaseRunEnds options d t e names run b → a ≡ b
   run_once e names run a b k l =
       let at = run_moment t run in
-      let same = once (tracks options) (set_aside d options.hold e names at) (document_of d options.hold e at)
-      (end_at d options.hold e at) (generator (seed_of t run)) k.last l.last
-      (ap (λ (x : DocumentState). x.network) (case_are at (hold_of d options.hold e at) e d)) k.ends l.ends in
+      let seed = seed_of t run in
+      let same = once (tracks options) (set_aside d options.hold e names at) (document_run d options.hold e t run) seed
+      (end_at d options.hold e at) (generator seed) k.last l.last
+      (ap (λ (x : DocumentState). seeded seed x.network) (case_are at (hold_of d options.hold e at) e d)) k.ends
+      l.ends in
       run_ends_once (is_seen e) l.last a b
       (subst (λ (last : LastStretches). AreRunEnds (is_seen e) last a) same k.are) l.are
 

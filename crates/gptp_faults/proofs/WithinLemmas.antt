@@ -11,11 +11,12 @@ use Rattle.gptp_lists.proofs.SystemSpecLemmas.{In-slice_get}
 use Rattle.gptp_model.specs.Views.{rising_clocks}
 use Rattle.gptp_model.specs.World.{WorldState}
 use Rattle.gptp_network.specs.Document.{DocumentState}
-use Rattle.gptp_network.specs.Snapshot.{events_by, StandsAfter}
+use Rattle.gptp_network.specs.Snapshot.{events_by, IsSnapshot, StandsAfter}
 use Rattle.gptp_network.proofs.ExistenceLemmas.{snapshot_exists}
 use Rattle.rand_pcg.specs.Lcg.{Lcg}
 use Rattle.gptp_scenario.specs.declared.change.Timed.{Timed}
 use Rattle.gptp_theorem.specs.PlayedLaws.{IsPlayable}
+use Rattle.gptp_theorem.proofs.OctetLemmas.{seeded_playable}
 use Rattle.gptp_theorem.proofs.AlikeLemmas.{clock_among, distance, turned}
 use Rattle.gptp_timeline.specs.Aside.{AsideState}
 use Rattle.gptp_timeline.specs.Each.{Each}
@@ -34,7 +35,7 @@ use Rattle.gptp_faults.specs.Laws.{IsWithinBounds, roles_back, roles_down, Stays
 use Rattle.gptp_faults.specs.Options.{tracks}
 use Rattle.gptp_faults.specs.Outcomes.{aside_of, back_in, down_in, IsOutcome, IsOutcomeAt, OutcomeState}
 use Rattle.gptp_faults.specs.Refusals.{case_events}
-use Rattle.gptp_faults.specs.Runs.{AreRunEnds, CaseRunEnds, draws, generator, is_seen, run_moment, runs_of, seed_of, set_aside}
+use Rattle.gptp_faults.specs.Runs.{AreRunEnds, CaseRunEnds, document_run, draws, generator, is_seen, run_moment, runs_of, seed_of, set_aside}
 use Rattle.gptp_faults.specs.Stays.{document_of, end_at, hold_of}
 use Rattle.gptp_faults.specs.Times.{moment}
 use Rattle.gptp_faults.specs.declared.cases.Case.{Case}
@@ -197,7 +198,7 @@ module _ (options : FaultsOptions) (d : DocumentState) (t : Times) (e : EventsSt
   at = run_moment t run
 
   abbrev whole : DocumentState
-  whole = document_of d options.hold e at
+  whole = document_run d options.hold e t run
 
   abbrev until : ℕ
   until = end_at d options.hold e at
@@ -209,7 +210,9 @@ module _ (options : FaultsOptions) (d : DocumentState) (t : Times) (e : EventsSt
   own_names = rising_clocks is.ends.start
 
   plays : IsPlayable whole
-  plays = case_playable d e playable can at (hold_of d options.hold e at) k.behind_last k.returns
+  plays =
+      seeded_playable (document_of d options.hold e at) (seed_of t run)
+      (case_playable d e playable can at (hold_of d options.hold e at) k.behind_last k.returns)
 
   -- every live system is near where a stretch ends
   all_near : (p : StretchTrace) → In p is.ends.passages → AllNear (snapshot_of p.after)
@@ -227,9 +230,11 @@ module _ (options : FaultsOptions) (d : DocumentState) (t : Times) (e : EventsSt
       (events_then draws whole plays own_names until b.from b.before b.left b.is_left) stands in
       let alike = alike_after draws whole plays own_names events g p.after stood at_end in
       let back = turned (snapshot_of p.after) g alike in
+      let unseeded : IsSnapshot (document_of d options.hold e at) b.from g =
+      record { systems = stands.systems; rising = stands.rising; links = stands.links } in
       λ name live.
       (let (far, distance_is, low) =
-      near at b.from g k.behind_last stands name (clock_among (snapshot_of p.after) g alike name live) in
+      near at b.from g k.behind_last unseeded name (clock_among (snapshot_of p.after) g alike name live) in
       (far, distance g (snapshot_of p.after) back name far distance_is, low))
 
   good : (p : StretchTrace) → In p is.ends.passages → (carried : CarriedAside)

@@ -2,7 +2,7 @@
 use Rattle.std.specs.Prelude.{◌≤◌, ◌⊎◌, ℕ, Bool, List, IfSome}
 use Rattle.rand_pcg.specs.Lcg.{Lcg}
 use Rattle.gptp_setup.specs.Intervals.{IsMoment}
-use Rattle.gptp_network.specs.Document.{DocumentState}
+use Rattle.gptp_network.specs.Document.{DocumentState, seeded_document}
 use Rattle.gptp_network.specs.declared.fault.DocumentFault.{DocumentFault}
 use Rattle.gptp_theorem.specs.PlayedLaws.{IsPlayable}
 use Rattle.gptp_timeline.specs.Aside.{AsideState}
@@ -21,11 +21,11 @@ use Rattle.gptp_faults.specs.declared.options.FaultsOptions.{FaultsOptions}
 abbrev pub HasEnds : Bool → AsideState → DocumentState → ℕ → Lcg → Type 0
 HasEnds asked aside d until fate = (last : LastStretches) × EndsOf draws asked aside d until fate last
 
--- So do those of each run of the document with the events of a case, where that can be played.
+-- So do those of each run of the document with the events of a case, from whatever seed, where that can be played.
 abbrev pub RunsEnd : DocumentState → Type 0
-RunsEnd d = (asked : Bool) (aside : AsideState) (e : EventsState) (at hold until : ℕ) (fate : Lcg)
+RunsEnd d = (asked : Bool) (aside : AsideState) (e : EventsState) (at hold seed until : ℕ) (fate : Lcg)
     → IsPlayable (with_case at hold e d) → IsMoment until
-    → HasEnds asked aside (with_case at hold e d) until fate
+    → HasEnds asked aside (seeded_document seed (with_case at hold e d)) until fate
 
 -- a table whose lines hold, or a refusal
 abbrev pub HasFaults : DocumentState → FaultsOptions → Type 0

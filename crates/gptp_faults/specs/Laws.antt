@@ -11,6 +11,7 @@ use Rattle.gptp_network.specs.Document.{DocumentState}
 use Rattle.gptp_network.specs.Snapshot.{IsSnapshot}
 use Rattle.gptp_network.specs.declared.fault.DocumentFault.{DocumentFault}
 use Rattle.gptp_scenario.specs.Calm.{last_change}
+use Rattle.gptp_scenario.specs.Network.{seeded}
 use Rattle.gptp_timeline.specs.Aside.{AsideState}
 use Rattle.gptp_timeline.specs.Ends.{EndState}
 use Rattle.gptp_timeline.specs.LastStretches.{EndsOf}
@@ -99,10 +100,10 @@ LinesHold d options t outcomes = FollowSettled d options t.from outcomes × Sett
 
 -- ---- one table
 
--- In each document with the network of this one the last stretches of a run end in one way.
+-- In each document with the network of this one, from whatever seed, the last stretches of a run end in one way.
 abbrev pub RunsEndOnce : DocumentState → Type 0
-RunsEndOnce d = (asked : Bool) (aside : AsideState) (e : DocumentState) (until : ℕ) (fate : Lcg)
-    (one other : LastStretches) → e.network ≡ d.network → EndsOf draws asked aside e until fate one
+RunsEndOnce d = (asked : Bool) (aside : AsideState) (e : DocumentState) (seed until : ℕ) (fate : Lcg)
+    (one other : LastStretches) → e.network ≡ seeded seed d.network → EndsOf draws asked aside e until fate one
     → EndsOf draws asked aside e until fate other → one ≡ other
 
 -- then two tables of a document are one

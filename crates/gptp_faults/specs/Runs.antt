@@ -5,7 +5,7 @@ use Rattle.rand_pcg.specs.Lcg.{Lcg}
 use Rattle.rand_pcg.specs.Pcg.{pcg64_of_seed}
 use Rattle.gptp_links.specs.Draws.{drawn}
 use Rattle.gptp_links.specs.declared.bounds.Bounds.{Bounds}
-use Rattle.gptp_network.specs.Document.{DocumentState}
+use Rattle.gptp_network.specs.Document.{DocumentState, seeded_document}
 use Rattle.gptp_timeline.specs.Aside.{AsideState}
 use Rattle.gptp_timeline.specs.LastStretches.{EndsOf}
 use Rattle.gptp_timeline.specs.declared.ends.LastStretches.{LastStretches}
@@ -35,6 +35,10 @@ seed_of t run = run % t.seeds + 1
 abbrev pub runs_of : Times → ℕ
 runs_of t = t.moments * t.seeds
 
+-- the document of a run, whose systems draw noise from its seed
+abbrev pub document_run : DocumentState → Option ℕ → EventsState → Times → ℕ → DocumentState
+document_run d asked e t run = seeded_document (seed_of t run) (document_of d asked e (run_moment t run))
+
 -- who is set aside in a run in which a case fails at a moment and comes back
 abbrev pub set_aside : DocumentState → Option ℕ → EventsState → List ℕ → ℕ → AsideState
 set_aside d asked e names at = record { clocks = names; from = at; back = return_at d asked e at; begun = 0 }
@@ -61,6 +65,6 @@ pub record CaseRunEnds (options : FaultsOptions) (d : DocumentState) (t : Times)
     (run : ℕ) (r : RunEnds) : Type 0 where
   pub last : LastStretches
   pub ends : EndsOf draws (tracks options) (set_aside d options.hold e names (run_moment t run))
-      (document_of d options.hold e (run_moment t run)) (end_at d options.hold e (run_moment t run))
-      (generator (seed_of t run)) last
+      (document_run d options.hold e t run) (end_at d options.hold e (run_moment t run)) (generator (seed_of t run))
+      last
   pub are : AreRunEnds (is_seen e) last r

@@ -77,8 +77,9 @@ fn ends_of(seen: bool, ends: LastStretches) -> Result<RunEnds, Cut>
     }
 }
 
-/// Lets a case fail and come back in a run, and answers how the stretches ended in which it was down and was back: also
-/// what systems read in them, where that is asked, but those that are set aside.
+/// Lets a case fail and come back in a run, whose systems draw noise from its seed too, and answers how the stretches
+/// ended in which it was down and was back: also what systems read in them, where that is asked, but those that are set
+/// aside.
 pub(crate) fn run_case(
     alloc: Global,
     document: &mut Document,
@@ -103,7 +104,10 @@ pub(crate) fn run_case(
     let count = document.events().len();
     fail_at(document, down, events)?;
     return_after(document, down, events, hold)?;
-    let fate = PcgFate::new(seed_of(times, run));
+    let before = document.network().seed();
+    let drawn = seed_of(times, run);
+    document.set_seed(drawn);
+    let fate = PcgFate::new(drawn);
     let aside = SetAside::new(Vec::from_slice(alloc, aside)?, down, back);
     let ends = last_stretches(
         alloc,
@@ -113,6 +117,7 @@ pub(crate) fn run_case(
         options.tracks(),
         aside,
     )?;
+    document.set_seed(before);
     document.truncate(count);
     ends_of(!events.seen().is_empty(), ends)
 }

@@ -28,6 +28,8 @@ use Rattle.gptp_invariants.proofs.DelayWatchLemmas.{watch_begins}
 use Rattle.gptp_invariants.specs.ChoiceSettlesAsMachine.{IsWorld}
 use Rattle.gptp_invariants.proofs.WorldOutlineLemmas.{change_is_last, starts_are_last}
 use Rattle.gptp_invariants.specs.DelayWatch.{GoodLinksMeasure}
+use Rattle.gptp_pdelay.proofs.GoodLinkLemmas.{good_without}
+use Rattle.gptp_setup.specs.Stamping.{blur_of}
 
 -- ---- one world
 
@@ -36,7 +38,8 @@ enough : (p : SettlingParams) (w : WorldState) → KeepPace p → IsWorld p w �
     → IsGood (link_setting at w l) (w.last_change + largest_interval p) (w.last_change + 2 * largest_interval p)
 enough p w pace is at l =
     timing_is_enough (link_setting at w l) l.asking.station.setup.params.threshold w.last_change (largest_interval p)
-    l.good short period
+    (good_without (blur_of l.asking.station.setup.params) l.channel.bounds.max
+    l.answering.station.setup.params.turnaround l.asking.station.setup.params.threshold l.good.short) short period
   where
     asking : l.asking.station.setup.params ≡ p.params
     asking = (is.known.set at.asking l.asking.station l.asking.here).starts.params

@@ -1,5 +1,5 @@
 -- Every act, a change too, keeps what must be known of the measuring.
-use Rattle.std.proofs.Common.{◌≡◌, ℕ, true, false, List, Some, slice_get, slice_set, refl, sym, subst, inl, inr}
+use Rattle.std.proofs.Common.{◌≡◌, ℕ, true, false, List, Some, slice_get, slice_set, refl, sym, subst, ◌∙◌, inl, inr}
 use Rattle.std.specs.Prelude.{⊤}
 use Rattle.gptp_lists.specs.Members.{In}
 use Rattle.gptp_links.specs.declared.link.Direction.{Direction}
@@ -9,7 +9,6 @@ use Rattle.gptp_setup.specs.Intervals.{AreParams}
 use Rattle.gptp_system.specs.Input.{Input, Expires, Frame as FrameHeard, PortDown, PortUp, Priority}
 use Rattle.gptp_system.proofs.InTimeLemmas.{later_in_time}
 use Rattle.gptp_scenario.specs.declared.network.LinkSpec.{LinkSpec}
-use Rattle.gptp_scenario.specs.Network.{pace_of}
 use Rattle.gptp_model.specs.declared.station.Station.{Station}
 use Rattle.gptp_model.specs.Act.{all_timers}
 use Rattle.gptp_model.specs.Acts.{set_to}
@@ -29,6 +28,8 @@ use Rattle.gptp_invariants.specs.DelayLinkLaws.{InitiallyMeasured, MeasuredHolds
 use Rattle.gptp_invariants.specs.DelayMeasured.{AllFit, IsStationMeasured}
 use Rattle.gptp_invariants.specs.DelayLinkView.{RequestSaysWhatFits}
 use Rattle.gptp_invariants.proofs.ChoiceSeenOctetLemmas.{octets_fit}
+use Rattle.gptp_system.proofs.TimersChangedLemmas.{priority_clock}
+use Rattle.gptp_system.specs.Start.{started}
 use Rattle.gptp_invariants.proofs.DelayEndLemmas.{HearsWhatFits}
 use Rattle.gptp_invariants.proofs.DelayLinkKeptLemmas.{started_measured}
 use Rattle.gptp_invariants.proofs.DelayMeasuredLemmas.{IsKept, calls_kept, entered_fits, queue_fits, sound_kept}
@@ -122,7 +123,13 @@ measured_kept = record {
       let old = is.measured.stations place station here in
       station_kept place station off w (all_timers place off w.net) here refl (is.steady place station here)
       (record {
-        set_up = record { params = old.set_up.params; phase = old.set_up.phase; drift = old.set_up.drift };
+        set_up = record {
+          params = old.set_up.params;
+          phase = old.set_up.phase;
+          drift = old.set_up.drift;
+          seed = old.set_up.seed;
+          named = old.set_up.named;
+        };
         in_time = old.in_time;
         ports = old.ports;
       })
@@ -140,7 +147,13 @@ measured_kept = record {
       let old = is.measured.stations place station here in
       station_kept place station new w w.net here refl (is.steady place station here)
       (record {
-        set_up = record { params = old.set_up.params; phase = old.set_up.phase; drift = old.set_up.drift };
+        set_up = record {
+          params = old.set_up.params;
+          phase = old.set_up.phase;
+          drift = old.set_up.drift;
+          seed = old.set_up.seed;
+          named = old.set_up.named ∙ sym (priority_clock value (started station.setup 0));
+        };
         in_time = old.in_time;
         ports = old.ports;
       })
@@ -186,8 +199,8 @@ starts_measured places w w' draws sound is k =
 pub initially_measured : InitiallyMeasured
 initially_measured n = record {
   stations = λ place station here.
-      let (member, at, made) = mapped (station_of (pace_of n)) n.systems place station here in
-      subst (IsStationMeasured 0) made (started_measured (setup_of (pace_of n) member) 0 false);
+      let (member, at, made) = mapped (station_of n) n.systems place station here in
+      subst (IsStationMeasured 0) made (started_measured (setup_of n member) 0 false);
   frames = λ link channel here.
       let (wire, at, made) = mapped channel_from n.links link channel here in
       subst (λ (c : Channel). (direction : Direction) (f : Frame) → In f (world_queue direction c)

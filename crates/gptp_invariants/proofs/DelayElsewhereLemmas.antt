@@ -17,7 +17,7 @@ use Rattle.gptp_system.specs.Input.{Input, IsTimely, PortUp, PortDown, Frame as 
 use Rattle.gptp_system.specs.Measures.{IsPartAfter, Part, only_at, part_asked, part_down, measure_at}
 use Rattle.gptp_system.specs.State.{SystemState, clock}
 use Rattle.gptp_system.specs.Steps.{HasPortNumber}
-use Rattle.gptp_pdelay.specs.Clock.{local_clock}
+use Rattle.gptp_pdelay.specs.Clock.{clock_stamp}
 use Rattle.gptp_pdelay.specs.Peer.{reset_peer}
 use Rattle.gptp_model.specs.declared.done.Done.{Done}
 use Rattle.gptp_model.specs.declared.station.Station.{Station}
@@ -37,7 +37,7 @@ use Rattle.gptp_pdelay_machine.proofs.FactLemmas.{facts_kept}
 use Rattle.gptp_pdelay_machine.proofs.CapabilityLemmas.{capable_from_calm}
 use Rattle.gptp_pdelay_machine.proofs.MeasuredLemmas.{measured_from_calm, meter_is_inv, meter_kept}
 use Rattle.gptp_invariants.specs.DelayLinkActs.{IsOneAct}
-use Rattle.gptp_invariants.specs.DelayLinkView.{IsEndAmong, IsEndOf, IsLinkOf, LinkPlace, reads_as_request, link_identity, least_delay, meter, other_direction, pair, pair_view, reads_as_reply, link_setting, waits_view}
+use Rattle.gptp_invariants.specs.DelayLinkView.{IsEndAmong, IsEndOf, IsLinkOf, LinkPlace, reads_as_request, link_identity, least_delay, meter, other_direction, pair, pair_view, reads_as_reply, link_setting, waits_view, setup_stamps}
 use Rattle.gptp_invariants.specs.DelayMeasured.{LinkIsMeasured}
 use Rattle.gptp_invariants.specs.DelayWatched.{IsWatched}
 use Rattle.gptp_invariants.specs.DelayElsewhereLaws.{WatchGoesThrough, WatchSurvives, WatchedPortsStayCapable}
@@ -49,6 +49,8 @@ use Rattle.gptp_model.proofs.ActsByLemmas.{PortCallsKeep, join_among, start_port
 use Rattle.gptp_invariants.proofs.DelayLinkLemmas.{IsOrderly, LinkStep, link_called, net_orderly, sender_opposite, sound_orderly}
 use Rattle.gptp_invariants.proofs.DelayPartLemmas.{AsksAsBefore, asks_still}
 use Rattle.gptp_system.proofs.StepLemmas.{steps_sound}
+use Rattle.gptp_system.proofs.TimersChangedLemmas.{priority_clock}
+use Rattle.gptp_system.specs.Start.{started}
 
 -- ---- a call
 
@@ -250,8 +252,7 @@ module _ (at : LinkPlace) (P : WorldState → Type 0) (link_in : (w : WorldState
     end : IsEndAmong other port after
     state : end.state ≡ e.state
     params : end.station.setup.params ≡ e.station.setup.params
-    phase : end.station.setup.phase ≡ e.station.setup.phase
-    drift : end.station.setup.drift ≡ e.station.setup.drift
+    stamps : setup_stamps end.station.setup ≡ setup_stamps e.station.setup
 
   prioritized_end : (value other place : ℕ) (port : PortId) (stations : List Station) (station : Station)
       → slice_get stations place ≡ Some station → (e : IsEndAmong other port stations)
@@ -262,8 +263,7 @@ module _ (at : LinkPlace) (P : WorldState → Type 0) (link_in : (w : WorldState
       end = other_end other place port stations (with_setup value station) (λ e. apart (sym e)) e;
       state = refl;
       params = refl;
-      phase = refl;
-      drift = refl;
+      stamps = refl;
     }
   ]
     where
@@ -279,15 +279,26 @@ module _ (at : LinkPlace) (P : WorldState → Type 0) (link_in : (w : WorldState
                   ∙ get-set_same stations place station (with_setup value station) here
                   ∙ ap (λ (x : Station). Some (with_setup value x)) one;
               live = e.live;
-              set_up = record { params = e.set_up.params; phase = e.set_up.phase; drift = e.set_up.drift };
+              set_up = record {
+                params = e.set_up.params;
+                phase = e.set_up.phase;
+                drift = e.set_up.drift;
+                seed = e.set_up.seed;
+                named = e.set_up.named ∙ sym (priority_clock value (started e.station.setup 0));
+              };
               named = e.named;
               there = e.there;
               measures = e.measures;
             };
             state = refl;
             params = refl;
-            phase = refl;
-            drift = refl;
+            stamps = λ i t. clock_stamp
+                (record {
+                  granularity = e.station.setup.params.granularity;
+                  most_noise = e.station.setup.params.noise;
+                  seed = e.station.setup.seed;
+                  clock = priority_clock value (started e.station.setup 0) i;
+                }) e.station.setup.phase e.station.setup.drift t;
           }
 
   prioritized_watched : (value place : ℕ) (station : Station) (w : WorldState)
@@ -329,8 +340,8 @@ module _ (at : LinkPlace) (P : WorldState → Type 0) (link_in : (w : WorldState
         turnaround = (answering.params i).turnaround;
         period = interval_of (asking.params i).pdelay;
         allowed = (asking.params i).lost;
-        asking_clock = local_clock (asking.phase i) (asking.drift i);
-        answering_clock = local_clock (answering.phase i) (answering.drift i);
+        asking_clock = asking.stamps i;
+        answering_clock = answering.stamps i;
       }
 
       seen : meter at (with_station place (with_setup value station) w) after ≡ meter at w l

@@ -26,7 +26,7 @@ use Rattle.gptp_system.specs.Facts.{Keeps}
 use Rattle.gptp_system.specs.Input.{Input, Steps, PortUp, PortDown, Frame as FrameHeard, Expires, Priority}
 use Rattle.gptp_setup.specs.Intervals.{interval_of}
 use Rattle.gptp_system.specs.Measures.{IsPartAfter, Part, only_at, part_answered, part_asked, part_down, part_heard, measure_at, part_owing}
-use Rattle.gptp_system.specs.State.{SystemState, clock, local_time, number}
+use Rattle.gptp_system.specs.State.{SystemState, clock, number, stamp_time}
 use Rattle.gptp_system.proofs.MeasureLemmas.{steps_measure}
 use Rattle.gptp_system.proofs.StepLemmas.{steps_sound}
 use Rattle.gptp_model.specs.declared.station.Station.{Station}
@@ -36,6 +36,7 @@ use Rattle.gptp_lists.proofs.MappedLemmas.{same_there}
 use Rattle.gptp_lists.proofs.PlaceLemmas.{get-set_other, get-set_same, member_there, same_place}
 use Rattle.gptp_model.proofs.SteadyLemmas.{same_ports}
 use Rattle.gptp_invariants.specs.DelayLinkView.{IsEndOf, IsMeasuring, RequestFits, RequestSaysWhatFits}
+use Rattle.gptp_roles.specs.Selection.{clock_of}
 
 -- ---- peers
 
@@ -140,7 +141,7 @@ owing_measures s now head port x fits m = record {
   next = m.next;
   asks = m.asks;
   owes = λ due runs. (
-    record { requester = head.source; sequence = head.sequence; t2 = local_time s now },
+    record { requester = head.source; sequence = head.sequence; t2 = stamp_time s now },
     refl,
     fits,
   );
@@ -153,7 +154,7 @@ heard_measures s now (messages.Sync head) octets port x fit reads is = is
 heard_measures s now (messages.PdelayReq head) octets port x fit reads is =
     owing_measures s now head port x (fit head reads) is
 heard_measures s now (messages.PdelayResp m) octets port x fit reads is =
-    stepped_measures s.params port x _ (response_same m (local_time s now) x.peer) is
+    stepped_measures s.params port x _ (response_same m (stamp_time s now) x.peer) is
 heard_measures s now (messages.FollowUp m) octets port x fit reads is = is
 heard_measures s now (messages.PdelayRespFollowUp m) octets port x fit reads is =
     stepped_measures s.params port x _ (follow_up_same m x.peer) is
@@ -287,6 +288,10 @@ module _ (place : ℕ) (input : Input) (w : WorldState) (draws : List Draw) (ans
                 ∙ sym (ap (λ (x : Setup). x.phase) setups);
             drift = kept.drift ∙ ap (λ (x : SystemState). x.drift) is ∙ e.set_up.drift
                 ∙ sym (ap (λ (x : Setup). x.drift) setups);
+            seed = kept.seed ∙ ap (λ (x : SystemState). x.seed) is ∙ e.set_up.seed
+                ∙ sym (ap (λ (x : Setup). x.seed) setups);
+            named = kept.same_clock ∙ ap clock is ∙ e.set_up.named
+                ∙ sym (ap (λ (x : Setup). clock_of x.identity) setups);
           };
           named = kept.same_clock ∙ ap clock is ∙ e.named;
           there = stands;

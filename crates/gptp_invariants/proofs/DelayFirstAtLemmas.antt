@@ -9,7 +9,6 @@ use Rattle.gptp_links.specs.declared.bounds.Bounds.{Bounds}
 use Rattle.gptp_links.specs.Fate.{Draw}
 use Rattle.gptp_scenario.specs.declared.change.Act.{Act}
 use Rattle.gptp_scenario.specs.declared.change.Act.TheVariants.{Deliver, Expire, Change as Changing}
-use Rattle.gptp_pdelay.specs.Clock.{local_clock}
 use Rattle.gptp_pdelay.specs.Peer.{reset_peer}
 use Rattle.gptp_setup.specs.declared.setup.Params.{Params}
 use Rattle.gptp_setup.specs.Intervals.{interval_of}
@@ -17,7 +16,7 @@ use Rattle.gptp_system.specs.declared.answer.Answer.{Answer}
 use Rattle.gptp_system.specs.Input.{Input, PortUp}
 use Rattle.gptp_system.specs.Measures.{IsPartAfter, Part, part_asked, measure_at}
 use Rattle.gptp_system.specs.Messages.{AsksOnce}
-use Rattle.gptp_system.specs.State.{SystemState, local_time, number, own}
+use Rattle.gptp_system.specs.State.{SystemState, number, own, stamp_time}
 use Rattle.gptp_system.specs.Steps.{HasPortNumber}
 use Rattle.gptp_model.specs.declared.done.Done.{Done}
 use Rattle.gptp_model.specs.declared.station.Station.{Station}
@@ -44,7 +43,7 @@ use Rattle.gptp_invariants.specs.DelayElsewhereLaws.{LeavesAlone}
 use Rattle.gptp_invariants.specs.DelayFirstAt.{IsFirstAt, IsFirstBy}
 use Rattle.gptp_invariants.specs.DelayFirstAtLaws.{FirstGoesOn, FirstGoesThrough, FirstIsFull}
 use Rattle.gptp_invariants.specs.DelayLinkActs.{IsOneAct}
-use Rattle.gptp_invariants.specs.DelayLinkView.{IsLinkOf, LinkPlace, RequestFits, asker_view, reads_as_request, link_frame_view, least_delay, meter, other_direction, pair, reads_as_reply, request_from, link_setting, waits_view}
+use Rattle.gptp_invariants.specs.DelayLinkView.{IsLinkOf, LinkPlace, RequestFits, asker_view, reads_as_request, link_frame_view, least_delay, meter, other_direction, pair, reads_as_reply, request_from, link_setting, waits_view, setup_stamps}
 use Rattle.gptp_invariants.specs.DelayMeasured.{LinkIsMeasured}
 use Rattle.gptp_invariants.specs.ChoiceSaid.{said_at}
 use Rattle.gptp_invariants.proofs.DelayElsewhereLemmas.{calls_orderly, goes_through}
@@ -258,16 +257,16 @@ module _ (at : LinkPlace) (place p : ℕ) (w : WorldState) (draws : List Draw) (
 
     asks_first : (pair at w' up_step.after).asker
         ≡ asks_now now l.asking.state.peer.next
-        (local_clock l.asking.station.setup.phase l.asking.station.setup.drift now) left
+        (setup_stamps l.asking.station.setup now) left
     asks_first =
         let old : SystemState = l.asking.station.system in
         let seen : asker_view period (part_asked old now reset_peer x)
-        ≡ asks_now now x.peer.next (local_time old now) left =
+        ≡ asks_now now x.peer.next (stamp_time old now) left =
         subst (λ (q : Params). asker_view (interval_of q.pdelay) (part_asked old now reset_peer x)
-        ≡ asks_now now x.peer.next (local_time old now)
+        ≡ asks_now now x.peer.next (stamp_time old now)
         (asker_view (interval_of q.pdelay) (record x { peer = reset_peer x.peer })))
         l.asking.set_up.params
-        (asking_seen now (interval_of old.params.pdelay) (local_time old now) (reset_peer x.peer) x) in
+        (asking_seen now (interval_of old.params.pdelay) (stamp_time old now) (reset_peer x.peer) x) in
         asker_is up_step ∙ ap (asker_view period) part ∙ seen
         ∙ ap (λ t. asks_now now x.peer.next t left)
         (sym (clock_is at.asking (sender at.direction l.channel) w l.asking now))

@@ -159,7 +159,7 @@ module _ (p : SettlingParams) (at : LinkPlace) (w : WorldState) (sound : IsSound
     orderly = orderly_up;
     now = refl;
     port_is = ap (λ (q : PortId). q.port) (sender_up at.direction s.channel);
-    short = let good = s.good in let short = s.short in omega (arith, good, short);
+    short = let good = s.good.short in let short = s.short in omega (arith, good, short);
     silent = subst (AreMute reads_as_request) (sym (ap (map link_frame_view) (none_flies at.direction)))
         (no_frames_mute reads_as_request);
     sent = λ f member. absurd (subst (In f) (ap (map link_frame_view) (none_flies at.direction)) member);

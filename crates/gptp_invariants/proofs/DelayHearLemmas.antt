@@ -1,5 +1,5 @@
 -- What a port makes of octets that it hears, as one that asks and as one that answers.
-use Rattle.std.proofs.Common.{◌≡◌, ◌≢◌, ◌⊎◌, ◌*◌, ℕ, ℤ, ◌-ℤ◌, pos, int_le, Bool, true, List, Some, None, refl, sym, ap, subst, ◌∙◌, inl, inr, arith, eq-eqb, rules}
+use Rattle.std.proofs.Common.{◌≡◌, ◌≢◌, ◌⊎◌, ◌*◌, ℕ, ℤ, ◌-ℤ◌, ◌+◌, pos, int_le, Bool, true, List, Some, None, refl, sym, ap, subst, ◌∙◌, inl, inr, eq-eqb, rules}
 use Rattle.std.specs.Prelude.{if◌then◌else◌, ◌==◌}
 use Rattle.std.specs.Option.{option_map_or}
 use Rattle.gptp_graph.specs.Snapshot.{PortIdentity}
@@ -22,7 +22,7 @@ use Rattle.gptp_pdelay.specs.Peer.{after_follow_up, after_response, answered_by,
 use Rattle.gptp_pdelay.specs.Progress.{is_follow_up_to, is_response_to, response_of}
 use Rattle.gptp_pdelay.proofs.ExchangeLemmas.{neighbor_rate_is_within}
 use Rattle.gptp_system.specs.Measures.{Part, part_heard}
-use Rattle.gptp_system.specs.State.{SystemState, local_time}
+use Rattle.gptp_system.specs.State.{SystemState, stamp_time}
 use Rattle.gptp_pdelay_machine.specs.Asker.{Asked, Answered, TakesReply, own_request, asker_completed as completes}
 use Rattle.gptp_pdelay_machine.specs.Answerer.{Notes}
 use Rattle.gptp_pdelay_machine.specs.ExchangeLaws.{ReadsClocks}
@@ -52,7 +52,7 @@ heard_message s now octets x x' m (inr (none, is)) here = absurd (none m here)
 -- ---- as one that answers
 
 module _ (k : Setting) (s : SystemState) (now : ℕ) (octets : List ℕ) (x x' : Part) (hears : Hears s now octets x x')
-    (clock_is : k.answering_clock now ≡ local_time s now) (turnaround_is : k.turnaround ≡ s.params.turnaround) where
+    (clock_is : k.answering_clock now ≡ stamp_time s now) (turnaround_is : k.turnaround ≡ s.params.turnaround) where
   -- a request is noted, and anything else leaves what waited
   pub hears_notes : Notes k reads_as_request now octets (waits_view x) (waits_view x')
   hears_notes = go hears
@@ -128,9 +128,9 @@ follow_up_parts source request t m e =
 
 module _ (k : Setting) (s : SystemState) (now period : ℕ) (octets : List ℕ) (x x' : Part)
     (hears : Hears s now octets x x') (own answering : PortId) (asking_is : k.asking ≡ link_identity own)
-    (answering_is : k.answering ≡ link_identity answering) (clock_is : k.asking_clock now ≡ local_time s now)
+    (answering_is : k.answering ≡ link_identity answering) (clock_is : k.asking_clock now ≡ stamp_time s now)
     (named : x.peer.own ≡ own) (apart : own.clock ≢ answering.clock)
-    (good : IsGoodLink k.most k.turnaround x.peer.threshold) (clocks : ReadsClocks 0 k) where
+    (blur : ℕ) (good : IsGoodLink (k.most + blur) k.turnaround x.peer.threshold) (clocks : ReadsClocks blur k) where
   -- octets that are no reply leave what the port asked and measured
   nothing : ((r : Reply) → reads_as_reply octets r → ⊥) → AsksAsBefore period x x'
   nothing none = go hears
@@ -168,10 +168,10 @@ module _ (k : Setting) (s : SystemState) (now period : ℕ) (octets : List ℕ) 
       let passes : is_response_to x.peer.own request m ≡ true =
       response_passes x.peer.own answering request m here (numbered ∙ sym number) from
       (λ f. apart (ap (λ (p : PortId). p.clock) (sym named) ∙ f)) in
-      let recorded : Progress = progresses.Answered request (response_of m (local_time s now)) in
-      let by : answered_by m (local_time s now) x.peer.own x.peer.progress ≡ Some recorded =
-      ap (answered_by m (local_time s now) x.peer.own) sent ∙ ap (λ b. if b then Some recorded else None) passes in
-      let after : after_response m (local_time s now) x.peer ≡ record x.peer { progress = recorded } =
+      let recorded : Progress = progresses.Answered request (response_of m (stamp_time s now)) in
+      let by : answered_by m (stamp_time s now) x.peer.own x.peer.progress ≡ Some recorded =
+      ap (answered_by m (stamp_time s now) x.peer.own) sent ∙ ap (λ b. if b then Some recorded else None) passes in
+      let after : after_response m (stamp_time s now) x.peer ≡ record x.peer { progress = recorded } =
       ap (λ o. option_map_or (λ progress. record x.peer { progress = progress }) o x.peer) by in
       let part : x' ≡ record x { peer = record x.peer { progress = recorded } } =
       heard_message s now octets x x' (messages.PdelayResp m) hears reads ∙ ap (λ q. record x { peer = q }) after in (
@@ -225,8 +225,8 @@ module _ (k : Setting) (s : SystemState) (now period : ℕ) (octets : List ℕ) 
         (
           int_le one.delay (pos (65536 * x.peer.threshold)),
           λ exchange. is_at_most x.peer.threshold one.delay
-              (exchanges_are_good 0 k x.peer.threshold (neighbor_rate x.peer.last third response.t4) request.t1
-              response.t2 third response.t4 (omega (arith, good)) clocks
+              (exchanges_are_good blur k x.peer.threshold (neighbor_rate x.peer.last third response.t4) request.t1
+              response.t2 third response.t4 good clocks
               (neighbor_rate_is_within x.peer.last third response.t4)
               (subst (λ t. IsExchange k request.t1 response.t2 t response.t4) (sym time)
               (subst (λ t. IsExchange k request.t1 response.t2 t3 t) (sym fourth)

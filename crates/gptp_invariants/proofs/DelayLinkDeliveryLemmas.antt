@@ -1,5 +1,5 @@
 -- A delivery, seen at a link: the port that asks hears, the port that answers hears, or others send.
-use Rattle.std.proofs.Common.{◌≡◌, ◌≢◌, ◌+◌, ◌≤◌, ℕ, Bool, true, false, List, [], ◌∷◌, ◌++◌, map, Option, Some, None, slice_get, slice_set, refl, sym, ap, subst, ◌∙◌, inl, inr, arith, eq-eqb, eqb-true}
+use Rattle.std.proofs.Common.{◌≡◌, ◌≢◌, ◌+◌, ◌≤◌, ◌*◌, ℕ, ℤ, Bool, true, false, List, [], ◌∷◌, ◌++◌, map, Option, Some, None, slice_get, slice_set, refl, sym, ap, subst, ◌∙◌, inl, inr, eq-eqb, eqb-true}
 use Rattle.std.specs.Prelude.{if◌then◌else◌, ◌==◌}
 use Rattle.std.proofs.lemmas.List.{append-nil, map-append}
 use Rattle.gptp_lists.specs.Members.{In}
@@ -27,11 +27,12 @@ use Rattle.gptp_pdelay_machine.specs.Acts.{AskerHears, AnswererHears}
 use Rattle.gptp_pdelay_machine.specs.Answerer.{Notes}
 use Rattle.gptp_pdelay_machine.specs.Asker.{TakesReply}
 use Rattle.gptp_pdelay_machine.specs.ExchangeLaws.{ReadsClocks}
-use Rattle.gptp_pdelay.proofs.ClockLemmas.{clock_is_read}
+use Rattle.gptp_pdelay.specs.Clock.{IsDrift, IsStampClock}
+use Rattle.gptp_pdelay.proofs.ClockLemmas.{stamps_make_clock}
 use Rattle.gptp_pdelay_machine.specs.Facts.{IsSentInTime, IsSentLate}
 use Rattle.gptp_pdelay_machine.specs.Lanes.{LaneFrame as SeenFrame}
 use Rattle.gptp_pdelay_machine.specs.Meter.{MeterActs, TakesMeasure, meter_heard, meter_hears, meter_rests}
-use Rattle.gptp_invariants.specs.DelayLinkView.{IsEndOf, IsLinkOf, LinkPlace, RequestSaysWhatFits, asker_view, reads_as_request, link_frame_view, link_lane_view, least_delay, meter, other_direction, pair, reads_as_reply, link_setting, waits_view}
+use Rattle.gptp_invariants.specs.DelayLinkView.{IsEndOf, IsLinkOf, LinkPlace, RequestSaysWhatFits, asker_view, reads_as_request, link_frame_view, link_lane_view, least_delay, meter, other_direction, pair, reads_as_reply, link_setting, waits_view, setup_stamping, setup_stamps}
 use Rattle.gptp_invariants.specs.DelayLinkActs.{IsOneAct, IsSeenAtLink}
 use Rattle.gptp_invariants.proofs.DelayLinkCallLemmas.{asker_is, back_in_time, back_is, back_late, back_mute, back_stays, others_send as others_seen, out_in_time, out_is, out_late, out_mute, out_stays, seen_from, sent_in_time, sent_late}
 use Rattle.gptp_invariants.proofs.DelayPoppedLemmas.{carried, least_same, left_there, most_same, opposite_twice, popped_link, popped_receiver, popped_sender, popped_settled, queue_left, queue_set, receiver_opposite, which_way}
@@ -41,6 +42,8 @@ use Rattle.gptp_invariants.proofs.DelayHearLemmas.{Hears as PartHears, hears_mea
 use Rattle.gptp_invariants.proofs.DelayLinkLaneLemmas.{IsDueSoon}
 use Rattle.gptp_invariants.proofs.DelayPartLemmas.{AsksAsBefore, asks_still}
 use Rattle.gptp_invariants.proofs.DelayLinkLemmas.{IsOrderly, LinkStep, clocks_apart, link_called, net_orderly, sender_opposite, sound_orderly}
+use Rattle.gptp_setup.specs.Stamping.{behind_of, blur_of}
+use Rattle.gptp_setup.specs.declared.setup.Setup.{Setup}
 
 -- ---- what the receiver is given
 
@@ -348,17 +351,39 @@ module _ (link : ℕ) (direction : Direction) (octets : List ℕ) (w : WorldStat
             | inr left ↦ ap waits_view left.1
           ]
 
-          clocks_read : ReadsClocks 0 (link_setting at w l)
+          abbrev blur : ℕ
+          blur = blur_of l.asking.station.setup.params
+
+          -- the two systems stamp time alike
+          abbrev read_by : Params → ℕ → ℤ → (ℕ → ℤ) → Type 0
+          read_by p phase drift stamps = IsStampClock (blur_of p) (behind_of p) phase drift stamps
+
+          stamps_read : (setup : Setup) → IsDrift setup.drift → read_by setup.params setup.phase setup.drift
+              (setup_stamps setup)
+          stamps_read setup drift = stamps_make_clock (setup_stamping setup) setup.phase setup.drift drift
+
+          stamps_alike : (p q : Params) (phase : ℕ) (drift : ℤ) (stamps : ℕ → ℤ) → q.granularity ≡ p.granularity
+              → q.noise ≡ p.noise → read_by q phase drift stamps → read_by p phase drift stamps
+          stamps_alike p q phase drift stamps granularity noise read =
+              subst (λ g. IsStampClock (g + 2 * p.noise) (32768 * g) phase drift stamps) granularity
+              (subst (λ n. IsStampClock (q.granularity + 2 * n) (32768 * q.granularity) phase drift stamps) noise read)
+
+          clocks_read : ReadsClocks blur (link_setting at w l)
           clocks_read = record {
-            behind = 0;
+            behind = behind_of l.asking.station.setup.params;
             asking_phase = l.asking.station.setup.phase;
             asking_drift = l.asking.station.setup.drift;
             answering_phase = l.answering.station.setup.phase;
             answering_drift = l.answering.station.setup.drift;
             asking_limit = (sound.wired.setups at.asking l.asking.station l.asking.here).drift;
             answering_limit = (sound.wired.setups at.answering l.answering.station l.answering.here).drift;
-            asking = clock_is_read 0 0 l.asking.station.setup.phase l.asking.station.setup.drift (omega arith);
-            answering = clock_is_read 0 0 l.answering.station.setup.phase l.answering.station.setup.drift (omega arith);
+            asking = stamps_read l.asking.station.setup
+                (sound.wired.setups at.asking l.asking.station l.asking.here).drift;
+            answering = stamps_alike l.asking.station.setup.params l.answering.station.setup.params
+                l.answering.station.setup.phase l.answering.station.setup.drift (setup_stamps l.answering.station.setup)
+                l.good.granularity l.good.noise
+                (stamps_read l.answering.station.setup
+                (sound.wired.setups at.answering l.answering.station l.answering.here).drift);
           }
 
           asker_hears : PartHears l.asking.station.system w.time octets (measure_at l.asking.state)
@@ -373,11 +398,11 @@ module _ (link : ℕ) (direction : Direction) (octets : List ℕ) (w : WorldStat
             | inr left ↦ absurd (left.0 asks_here)
           ]
 
-          good_here : IsGoodLink l.channel.bounds.max l.answering.station.setup.params.turnaround
+          good_here : IsGoodLink (l.channel.bounds.max + blur) l.answering.station.setup.params.turnaround
               l.asking.state.peer.threshold
           good_here =
-              subst (IsGoodLink l.channel.bounds.max l.answering.station.setup.params.turnaround)
-              (sym l.asking.measures.threshold) l.good
+              subst (IsGoodLink (l.channel.bounds.max + blur) l.answering.station.setup.params.turnaround)
+              (sym l.asking.measures.threshold) l.good.short
 
           reply_taken : TakesReply (link_setting at w l) reads_as_reply w.time octets
               (asker_view period (measure_at l.asking.state))
@@ -387,7 +412,7 @@ module _ (link : ℕ) (direction : Direction) (octets : List ℕ) (w : WorldStat
               (measure_at step.after.asking.state) asker_hears (sender at.direction l.channel)
               (receiver at.direction l.channel) refl refl
               (clock_is at.asking (sender at.direction l.channel) w l.asking w.time) l.asking.measures.own
-              (clocks_apart at w l sound.wired.clocks) good_here clocks_read
+              (clocks_apart at w l sound.wired.clocks) blur good_here clocks_read
 
           reply_measured : TakesMeasure (link_setting at w l) reads_as_reply octets
               (asker_view period (measure_at l.asking.state))
@@ -398,7 +423,7 @@ module _ (link : ℕ) (direction : Direction) (octets : List ℕ) (w : WorldStat
               (measure_at step.after.asking.state) asker_hears (sender at.direction l.channel)
               (receiver at.direction l.channel) refl refl
               (clock_is at.asking (sender at.direction l.channel) w l.asking w.time) l.asking.measures.own
-              (clocks_apart at w l sound.wired.clocks) good_here clocks_read
+              (clocks_apart at w l sound.wired.clocks) blur good_here clocks_read
 
           other_way : at.direction ≡ other_direction direction
           other_way = sym (opposite_twice at.direction) ∙ ap other_direction (sym way)

@@ -5,7 +5,6 @@ use Rattle.gptp_vector.specs.declared.port.PortId.{PortId}
 use Rattle.gptp_messages.specs.Frame.{PortFits}
 use Rattle.gptp_links.specs.Fate.{Draw}
 use Rattle.gptp_pdelay.specs.declared.answer.Answer.{Answer as Owed}
-use Rattle.gptp_pdelay.specs.Clock.{local_clock}
 use Rattle.gptp_pdelay.specs.Peer.{after_interval}
 use Rattle.gptp_system.specs.declared.port.Port.{Port}
 use Rattle.gptp_system.specs.declared.sending.Sending.{Sending}
@@ -17,7 +16,7 @@ use Rattle.gptp_setup.specs.Intervals.{interval_of}
 use Rattle.gptp_system.specs.Measures.{Part, part_answered, part_asked, measure_at}
 use Rattle.gptp_system.specs.Measuring.{Responds, RespondsIf, owed_at}
 use Rattle.gptp_system.specs.Messages.{AreSent}
-use Rattle.gptp_system.specs.State.{SystemState, clock, due, local_time, number, own}
+use Rattle.gptp_system.specs.State.{SystemState, clock, due, number, own, stamp_time}
 use Rattle.gptp_model.specs.declared.station.Station.{Station}
 use Rattle.gptp_model.specs.Act.{TimerRunsOut}
 use Rattle.gptp_model.specs.Agrees.{stopped}
@@ -31,21 +30,21 @@ use Rattle.gptp_pdelay_machine.specs.Asker.{Closed, asks_now, asker_after_interv
 use Rattle.gptp_pdelay_machine.specs.Meter.{MeterActs, meter_answered, meter_asks}
 use Rattle.gptp_pdelay_machine.specs.Lanes.{LaneFrame as SeenFrame, AreMute, FirstIs}
 use Rattle.gptp_pdelay_machine.specs.Messages.{Request, Response, FollowUp}
-use Rattle.gptp_invariants.specs.DelayLinkView.{IsEndOf, IsLinkOf, LinkPlace, RequestFits, asked_at, asker_view, reads_as_request, link_frame_view, link_identity, meter, other_direction, pair, progress_view, reads_as_reply, request_from, link_setting, waits_by, waits_view}
+use Rattle.gptp_invariants.specs.DelayLinkView.{IsEndOf, IsLinkOf, LinkPlace, RequestFits, asked_at, asker_view, reads_as_request, link_frame_view, link_identity, meter, other_direction, pair, progress_view, reads_as_reply, request_from, link_setting, waits_by, waits_view, setup_stamps}
 use Rattle.gptp_invariants.specs.DelayLinkActs.{IsOneAct, IsSeenAtLink}
 use Rattle.gptp_invariants.proofs.DelayLinkCallLemmas.{answerer_timer, asker_is, asker_timer, back_in_time, back_is, back_late, back_mute, back_stays, others_send as others_seen, out_in_time, out_is, out_late, out_mute, out_stays}
 use Rattle.gptp_invariants.specs.ChoiceSaid.{said_at}
-use Rattle.gptp_invariants.proofs.DelayLinkLemmas.{IsOrderly, LinkStep, end_fits, end_named, end_next, end_request, link_called, sender_opposite, sound_orderly}
+use Rattle.gptp_invariants.proofs.DelayLinkLemmas.{IsOrderly, LinkStep, end_fits, end_named, end_next, end_request, link_called, sender_opposite, sound_orderly, stamped_as_set_up}
 use Rattle.gptp_invariants.proofs.DelayPartLemmas.{AsksAsBefore, asked_measured, asked_seen, asks_still}
 use Rattle.gptp_invariants.proofs.DelaySentLemmas.{next_of, sends_answer, sends_request}
 use Rattle.gptp_model.proofs.ActsByLemmas.{expires_due, expires_timely}
 
 -- ---- the ends
 
--- what a port shows on its clock is what its system does
+-- what a port stamps is what its system does
 pub clock_is : (place : ℕ) (port : PortId) (w : WorldState) (e : IsEndOf place port w) (t : ℕ)
-    → local_clock e.station.setup.phase e.station.setup.drift t ≡ local_time e.station.system t
-clock_is place port w e t = λ i. local_clock (sym e.set_up.phase i) (sym e.set_up.drift i) t
+    → setup_stamps e.station.setup t ≡ stamp_time e.station.system t
+clock_is place port w e t = sym (stamped_as_set_up e.station e.set_up t)
 
 module _ (at : LinkPlace) (place : ℕ) (timer : Timer) (w : WorldState) (draws : List Draw) (w' : WorldState)
     (k : TimerRunsOut place timer w draws w') (sound : IsSound w) (l : IsLinkOf at w) where
@@ -131,17 +130,17 @@ module _ (at : LinkPlace) (place : ℕ) (timer : Timer) (w : WorldState) (draws 
 
     asks_next : (pair at w' step.after).asker
         ≡ asks_now w.time l.asking.state.peer.next
-        (local_clock l.asking.station.setup.phase l.asking.station.setup.drift w.time)
+        (setup_stamps l.asking.station.setup w.time)
         (gives_up l.asking.station.setup.params.lost (progress_view l.asking.state.peer.progress)
         (asker_view period (measure_at l.asking.state)))
     asks_next =
         let x : Part = measure_at l.asking.state in
         let old : SystemState = l.asking.station.system in
         let seen : asker_view period (part_asked old w.time after_interval x)
-        ≡ asks_now w.time x.peer.next (local_time old w.time)
+        ≡ asks_now w.time x.peer.next (stamp_time old w.time)
         (gives_up x.peer.allowed (progress_view x.peer.progress) (asker_view period x)) =
         subst (λ (p : Params). asker_view (interval_of p.pdelay) (part_asked old w.time after_interval x)
-        ≡ asks_now w.time x.peer.next (local_time old w.time)
+        ≡ asks_now w.time x.peer.next (stamp_time old w.time)
         (gives_up x.peer.allowed (progress_view x.peer.progress) (asker_view (interval_of p.pdelay) x)))
         l.asking.set_up.params (asked_seen old w.time x) in
         asker_is step
@@ -150,7 +149,7 @@ module _ (at : LinkPlace) (place : ℕ) (timer : Timer) (w : WorldState) (draws 
         (gives_up x.peer.allowed (progress_view x.peer.progress) (asker_view period x)))
         (sym (clock_is at.asking asker_port w l.asking w.time))
         ∙ ap (λ n. asks_now w.time x.peer.next
-        (local_clock l.asking.station.setup.phase l.asking.station.setup.drift w.time)
+        (setup_stamps l.asking.station.setup w.time)
         (gives_up n (progress_view x.peer.progress) (asker_view period x)))
         l.asking.measures.allowed
 
@@ -242,9 +241,9 @@ module _ (at : LinkPlace) (place : ℕ) (timer : Timer) (w : WorldState) (draws 
         let own_fits = subst PortFits (sym mine) (end_fits at.answering answerer_port w orderly.setups l.answering) in
         let said = step.grows.said (other_direction at.direction)
         ∙ ap (λ port. said_at s' port sends) (sender_opposite at.direction l.channel ∙ sym mine) in
-        let shows : local_time s w.time
-        ≡ local_clock l.answering.station.setup.phase l.answering.station.setup.drift w.time =
-        ap (λ x. local_time x w.time) system ∙ sym (clock_is at.answering answerer_port w l.answering w.time) in
+        let shows : stamp_time s w.time
+        ≡ setup_stamps l.answering.station.setup w.time =
+        ap (λ x. stamp_time x w.time) system ∙ sym (clock_is at.answering answerer_port w l.answering w.time) in
         subst (λ (t : ℤ). FirstIs reads_as_reply
         (λ (f : SeenFrame). reads_as_reply f.octets (Response (link_identity answerer_port) waiting.request owed.t2))
         (FirstIs reads_as_reply
@@ -254,7 +253,7 @@ module _ (at : LinkPlace) (place : ℕ) (timer : Timer) (w : WorldState) (draws 
         (λ (f : SeenFrame). reads_as_reply f.octets (Response (link_identity port) waiting.request owed.t2))
         (FirstIs reads_as_reply
         (λ (f : SeenFrame). reads_as_reply f.octets
-        (FollowUp (link_identity port) waiting.request (local_time s w.time)))
+        (FollowUp (link_identity port) waiting.request (stamp_time s w.time)))
         (AreMute reads_as_reply)) (map link_frame_view (step.grows.news (other_direction at.direction)))) mine
         (sends_answer s s' p w.time owed sends responds own_fits fits (own_kept p)
         (step.grows.news (other_direction at.direction)) said))

@@ -33,7 +33,7 @@ among_stays w w' port stays among place station there named =
 pub started_measured : (setup : Setup) (now : ℕ) (live : Bool)
     → IsStationMeasured now (record { setup = setup; system = started setup now; live = live })
 started_measured setup now live = record {
-  set_up = record { params = refl; phase = refl; drift = refl };
+  set_up = record { params = refl; phase = refl; drift = refl; seed = refl; named = refl };
   in_time = starts_in_time setup now;
   ports = ports;
 }

@@ -1,5 +1,5 @@
 -- What a call makes of a link that loses nothing: the parts of its two ends, and what is sent onto it.
-use Rattle.std.proofs.Common.{◌≡◌, ◌≢◌, ◌⊎◌, ◌^◌, ◌<◌, ◌≤◌, ℕ, zero, suc, List, [], ◌∷◌, Some, length, slice_get, refl, sym, ap, subst, ◌∙◌, inl, inr, arith}
+use Rattle.std.proofs.Common.{◌≡◌, ◌≢◌, ◌⊎◌, ◌+◌, ◌^◌, ◌<◌, ◌≤◌, ℕ, zero, suc, List, [], ◌∷◌, Some, length, slice_get, refl, sym, ap, subst, ◌∙◌, inl, inr, arith}
 use Rattle.std.specs.Option.{option_map_or}
 use Rattle.std.proofs.lemmas.Nat.{mod_below}
 use Rattle.std.proofs.lemmas.Option.{none-some, slice_get_within}
@@ -12,16 +12,18 @@ use Rattle.gptp_links.specs.declared.link.Direction.{Direction}
 use Rattle.gptp_links.specs.declared.link.Direction.TheVariants.{FromA, FromB}
 use Rattle.gptp_links.specs.Fate.{Draw}
 use Rattle.gptp_links.specs.Queue.{Frame}
-use Rattle.gptp_pdelay.specs.Clock.{local_clock}
+use Rattle.gptp_pdelay.specs.Clock.{clock_stamp}
 use Rattle.gptp_pdelay.specs.GoodLink.{IsGoodLink}
 use Rattle.gptp_system.specs.declared.answer.Answer.{Answer}
 use Rattle.gptp_system.specs.declared.port.Port.{Port}
 use Rattle.gptp_system.specs.declared.sending.Sending.{Sending}
 use Rattle.gptp_system.specs.Input.{Input, IsTimely}
+use Rattle.gptp_setup.specs.declared.setup.Params.{Params}
 use Rattle.gptp_setup.specs.Intervals.{AreParams, interval_of}
+use Rattle.gptp_setup.specs.Stamping.{blur_of}
 use Rattle.gptp_system.specs.Measures.{measure_at}
 use Rattle.gptp_system.specs.Messages.{AreSent}
-use Rattle.gptp_system.specs.State.{SystemState, clock, number, own}
+use Rattle.gptp_system.specs.State.{SystemState, clock, number, own, stamp_time}
 use Rattle.gptp_system.proofs.SentLemmas.{steps_send}
 use Rattle.gptp_model.specs.declared.station.Station.{Station}
 use Rattle.gptp_model.specs.Act.{Calls, all_timers, in_state}
@@ -31,7 +33,7 @@ use Rattle.gptp_lists.proofs.MappedLemmas.{same_there}
 use Rattle.gptp_lists.proofs.PlaceLemmas.{same_place}
 use Rattle.gptp_model.proofs.SteadyLemmas.{same_clock}
 use Rattle.gptp_model.proofs.StayLemmas.{JoinTheSame, begins_same, sender_same}
-use Rattle.gptp_invariants.specs.DelayLinkView.{IsEndOf, IsLinkOf, LinkPlace, RequestFits, RequestSaysWhatFits, link_identity, other_direction, link_setting}
+use Rattle.gptp_invariants.specs.DelayLinkView.{IsEndOf, IsLinkOf, LinkPlace, RequestFits, RequestSaysWhatFits, link_identity, other_direction, link_setting, IsAsSetUp, IsGoodBetween, setup_stamps}
 use Rattle.gptp_invariants.proofs.DelayEndLemmas.{EndStep, HearsWhatFits, PartStep, call_end, renamed}
 use Rattle.gptp_invariants.specs.ChoiceSaid.{said_at}
 use Rattle.gptp_invariants.proofs.DelayLinkLaneLemmas.{Grows, GrowsIn, IsAlone, same_false, sends_grow}
@@ -98,6 +100,24 @@ clocks_apart at w l clocks e =
 ends_apart : (at : LinkPlace) (w : WorldState) (l : IsLinkOf at w) → HaveOwnClocks w → l.channel.a ≢ l.channel.b
 ends_apart at w l clocks e =
     clocks_apart at w l clocks (ap (λ (p : PortId). p.clock) (one_end at.direction l.channel e))
+
+-- a system stamps its clock as it is set up
+pub stamped_as_set_up : (station : Station) → IsAsSetUp station → (t : ℕ)
+    → stamp_time station.system t ≡ setup_stamps station.setup t
+stamped_as_set_up station is t = λ i. clock_stamp
+    (record {
+      granularity = (is.params i).granularity;
+      most_noise = (is.params i).noise;
+      seed = is.seed i;
+      clock = is.named i;
+    }) (is.phase i) (is.drift i) t
+
+-- a link that is good in a network is good between two of its systems
+pub good_between : (most : ℕ) (p asking answering : Params) → asking ≡ p → answering ≡ p
+    → IsGoodLink (most + blur_of p) p.turnaround p.threshold → IsGoodBetween most asking answering
+good_between most p asking answering asks answers good =
+    let alike : IsGoodBetween most p p = record { short = good; granularity = refl; noise = refl } in
+    subst (λ q. IsGoodBetween most q answering) (sym asks) (subst (IsGoodBetween most p) (sym answers) alike)
 
 -- each direction begins at an end
 record BeginsAt (channel : Channel) (direction : Direction) (w : WorldState) : Type 0 where
@@ -257,8 +277,8 @@ module _ (at : LinkPlace) (place : ℕ) (input : Input) (w : WorldState) (draws 
   most_same : grown.new.bounds.max ≡ l.channel.bounds.max
   most_same = ap (λ (b : Bounds). b.max) grown.grows.bounds
 
-  good_on : IsGoodLink grown.new.bounds.max answering_step.after.station.setup.params.turnaround
-      asking_step.after.station.setup.params.threshold
+  good_on : IsGoodBetween grown.new.bounds.max asking_step.after.station.setup.params
+      answering_step.after.station.setup.params
   good_on = rw (most_same, asking_step.setup, answering_step.setup) l.good
 
   abbrev link_after : IsLinkOf at w'
@@ -286,8 +306,8 @@ module _ (at : LinkPlace) (place : ℕ) (input : Input) (w : WorldState) (draws 
       turnaround = (answering_step.setup i).params.turnaround;
       period = interval_of (asking_step.setup i).params.pdelay;
       allowed = (asking_step.setup i).params.lost;
-      asking_clock = local_clock (asking_step.setup i).phase (asking_step.setup i).drift;
-      answering_clock = local_clock (answering_step.setup i).phase (answering_step.setup i).drift;
+      asking_clock = setup_stamps (asking_step.setup i);
+      answering_clock = setup_stamps (answering_step.setup i);
     };
     time = ap (λ (v : WorldState). v.time) k.is;
     asking = asking_step.part;

@@ -72,6 +72,8 @@ step_measured input now station s' sends answer timely steady k given is =
         params = kept.params ∙ is.set_up.params;
         phase = kept.phase ∙ is.set_up.phase;
         drift = kept.drift ∙ is.set_up.drift;
+        seed = kept.seed ∙ is.set_up.seed;
+        named = kept.same_clock ∙ is.set_up.named;
       };
       in_time = stays_in_time input now station.system s' sends answer timely steady.shown steady.rest is.in_time k;
       ports = ports_measure input now station s' sends answer k given is;

@@ -23,7 +23,7 @@ use Rattle.gptp_setup.specs.declared.timer.Timer.TheVariants as timers
 use Rattle.gptp_system.specs.Input.{Input, IsTimely, Steps, PortUp, PortDown, Frame, Expires, Priority}
 use Rattle.gptp_system.specs.Measures.{IsPartAfter, Part, only_at, part_answered, part_asked, part_down, part_heard, measure_at, part_owing, part_stepped}
 use Rattle.gptp_system.specs.Start.{started}
-use Rattle.gptp_system.specs.State.{SystemState, local_time, own}
+use Rattle.gptp_system.specs.State.{SystemState, own, stamp_time}
 use Rattle.gptp_system.specs.Steps.{IsUp}
 use Rattle.gptp_system.proofs.MeasureLemmas.{steps_measure}
 use Rattle.gptp_system.proofs.StartLemmas.{new_port_at}
@@ -94,7 +94,7 @@ module _ (p : Params) (itself : PortId) where
   asked : (s : SystemState) (now : ℕ) (step : PeerState → PeerState) (x : Part) → MeasuresWithItsOwn p itself x
       → KeepsPeer x.peer (step x.peer) → MeasuresWithItsOwn p itself (part_asked s now step x)
   asked s now step x is on = record {
-    peer = requested_peer_of (local_time s now) (step x.peer) on.peer;
+    peer = requested_peer_of (stamp_time s now) (step x.peer) on.peer;
     owes = λ t due. subst IsSome (sym on.waits) (is.owes t due);
     idle = λ none. absurd cc;
   }
@@ -143,7 +143,7 @@ module _ (p : Params) (itself : PortId) where
         idle = λ none. absurd (runs none);
       }
   heard s now (messages.PdelayResp m) x runs is =
-      stepped (after_response m (local_time s now)) x runs is (response_heard m (local_time s now) x.peer is.peer)
+      stepped (after_response m (stamp_time s now)) x runs is (response_heard m (stamp_time s now) x.peer is.peer)
   heard s now (messages.PdelayRespFollowUp m) x runs is =
       stepped (after_follow_up m) x runs is (follow_up_heard m x.peer is.peer)
   heard s now (messages.Announce m) x runs is = is

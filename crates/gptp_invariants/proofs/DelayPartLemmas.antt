@@ -17,7 +17,7 @@ use Rattle.gptp_pdelay.specs.declared.progress.Progress.TheVariants as progresse
 use Rattle.gptp_pdelay.specs.Peer.{PeerState, after_interval, given_up, is_open, requested, reset_peer}
 use Rattle.gptp_setup.specs.Intervals.{interval_of}
 use Rattle.gptp_system.specs.Measures.{Part, part_asked, part_answered, part_heard}
-use Rattle.gptp_system.specs.State.{SystemState, local_time}
+use Rattle.gptp_system.specs.State.{SystemState, stamp_time}
 use Rattle.gptp_system.proofs.MeasuringLemmas.{follow_up_keeps, interval_keeps, response_keeps}
 use Rattle.gptp_system.proofs.SentLemmas.{interval_next}
 use Rattle.gptp_pdelay_machine.specs.Asker.{Closed, Asked, Answered, asks_now, asker_after_interval as gives_up, asker_given_up as lost_one}
@@ -97,14 +97,14 @@ gives_up_seen period x = go x.peer.progress refl
 -- the port's Pdelay timer expires: what was open is given up, and the next request goes
 pub asked_seen : (s : SystemState) (now : ℕ) (x : Part)
     → asker_view (interval_of s.params.pdelay) (part_asked s now after_interval x)
-    ≡ asks_now now x.peer.next (local_time s now)
+    ≡ asks_now now x.peer.next (stamp_time s now)
     (gives_up x.peer.allowed (progress_view x.peer.progress) (asker_view (interval_of s.params.pdelay) x))
 asked_seen s now x =
     let period = interval_of s.params.pdelay in
-    asking_seen now period (local_time s now) (after_interval x.peer) x
-    ∙ ap (λ n. asks_now now n (local_time s now) (asker_view period (record x { peer = after_interval x.peer })))
+    asking_seen now period (stamp_time s now) (after_interval x.peer) x
+    ∙ ap (λ n. asks_now now n (stamp_time s now) (asker_view period (record x { peer = after_interval x.peer })))
     (interval_next x.peer)
-    ∙ ap (asks_now now x.peer.next (local_time s now)) (gives_up_seen period x)
+    ∙ ap (asks_now now x.peer.next (stamp_time s now)) (gives_up_seen period x)
 
 -- where no request was open the last measurement stays
 pub asked_measured : (s : SystemState) (now : ℕ) (x : Part) → progress_view x.peer.progress ≡ Closed
@@ -155,7 +155,7 @@ pub heard_waits : (s : SystemState) (now : ℕ) (m : Message) (x : Part) → ((h
 heard_waits s now (messages.Sync head) x other = refl
 heard_waits s now (messages.PdelayReq head) x other = absurd (other head refl)
 heard_waits s now (messages.PdelayResp m) x other =
-    ap (waits_by x.respond) (response_keeps m (local_time s now) x.peer)
+    ap (waits_by x.respond) (response_keeps m (stamp_time s now) x.peer)
 heard_waits s now (messages.FollowUp m) x other = refl
 heard_waits s now (messages.PdelayRespFollowUp m) x other = ap (waits_by x.respond) (follow_up_keeps m x.peer)
 heard_waits s now (messages.Announce a) x other = refl

@@ -5,10 +5,9 @@ use Rattle.gptp_links.specs.declared.bounds.Bounds.{Bounds}
 use Rattle.gptp_links.specs.declared.link.Direction.{Direction}
 use Rattle.gptp_links.specs.declared.link.Direction.TheVariants.{FromA, FromB}
 use Rattle.gptp_links.specs.Queue.{Frame}
-use Rattle.gptp_pdelay.specs.GoodLink.{IsGoodLink}
 use Rattle.gptp_model.specs.World.{Channel, Net, WorldState, world_queue, receiver, sender, with_queue}
 use Rattle.gptp_model.proofs.StayLemmas.{sender_same}
-use Rattle.gptp_invariants.specs.DelayLinkView.{IsLinkOf, LinkPlace, link_identity, other_direction, link_setting}
+use Rattle.gptp_invariants.specs.DelayLinkView.{IsLinkOf, LinkPlace, link_identity, other_direction, link_setting, IsGoodBetween}
 use Rattle.gptp_invariants.proofs.DelayEndLemmas.{renamed}
 use Rattle.gptp_invariants.proofs.DelayLinkLemmas.{receiver_same}
 
@@ -100,8 +99,8 @@ module _ (at : LinkPlace) (w : WorldState) (l : IsLinkOf at w) (direction : Dire
     answering = renamed at.answering (receiver at.direction l.channel) (receiver at.direction popped) w
         (sym popped_receiver) l.answering;
     apart = l.apart;
-    good = subst (λ most. IsGoodLink most l.answering.station.setup.params.turnaround
-        l.asking.station.setup.params.threshold) (sym most_same) l.good;
+    good = subst (λ most. IsGoodBetween most l.asking.station.setup.params l.answering.station.setup.params)
+        (sym most_same) l.good;
     fit = λ way f member. l.fit way f (left_there way f member);
   }
 

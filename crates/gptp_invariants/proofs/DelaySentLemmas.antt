@@ -23,7 +23,7 @@ use Rattle.gptp_setup.specs.Intervals.{IsLog}
 use Rattle.gptp_system.specs.Measuring.{Responds, RespondsIf, owed_at, request_of}
 use Rattle.gptp_system.specs.Messages.{Announcing, Answering, AreSent, Asking, AsksOnce, Kind, Telling, message_kind}
 use Rattle.gptp_system.specs.Sends.{head_from, pdelay_response, response_follow_up, sends_up_to}
-use Rattle.gptp_system.specs.State.{SystemState, local_time, own, trace}
+use Rattle.gptp_system.specs.State.{SystemState, own, stamp_time, trace}
 use Rattle.gptp_system.proofs.SendLemmas.{responds_answer, with_send-from}
 use Rattle.gptp_model.specs.Sends.{written}
 use Rattle.gptp_pdelay_machine.specs.Lanes.{LaneFrame as SeenFrame, AreMute, FirstIs}
@@ -298,7 +298,7 @@ module _ (s s' : SystemState) (p now : ℕ) (owed : Owed) (sends : List Sending)
       }))
 
   second_said : reads_as_reply (written s' second)
-      (FollowUp (link_identity (own s p)) answered_request (local_time s now))
+      (FollowUp (link_identity (own s p)) answered_request (stamp_time s now))
   second_said =
       let message : PdelayRespFollowUp = record { head = second.head; stamp = sent.went; requester = owed.requester } in
       subst (λ t. reads_as_reply (written s' second) (FollowUp (link_identity (own s p)) answered_request t))
@@ -315,7 +315,7 @@ module _ (s s' : SystemState) (p now : ℕ) (owed : Owed) (sends : List Sending)
       (λ (f : SeenFrame). reads_as_reply f.octets (Response (link_identity (own s p)) answered_request owed.t2))
       (FirstIs reads_as_reply
       (λ (f : SeenFrame). reads_as_reply f.octets
-      (FollowUp (link_identity (own s p)) answered_request (local_time s now)))
+      (FollowUp (link_identity (own s p)) answered_request (stamp_time s now)))
       (AreMute reads_as_reply))
       (map link_frame_view news)
   sends_answer =
@@ -325,7 +325,7 @@ module _ (s s' : SystemState) (p now : ℕ) (owed : Owed) (sends : List Sending)
       first_news reads_as_reply (Response (link_identity (own s p)) answered_request owed.t2) _ news []
       (written s' first)
       (written s' second ∷ []) whole (λ o member. absurd member) first_said
-      (λ rest is. first_news reads_as_reply (FollowUp (link_identity (own s p)) answered_request (local_time s now))
+      (λ rest is. first_news reads_as_reply (FollowUp (link_identity (own s p)) answered_request (stamp_time s now))
       (AreMute reads_as_reply) rest [] (written s' second) [] is (λ o member. absurd member) second_said
       (λ none is. mute_news reads_as_reply none (λ octets member. absurd (subst (In octets) is member))))
 

@@ -446,14 +446,14 @@ module _ {F : Type 0} (answers : Bounds → ℕ → F → Option ℕ → F → T
 
   unborn : AreUnborn 0 places (initial n)
   unborn q member station there =
-      let (m, stood, made) = mapped (station_of (pace_of n)) n.systems q station there in
+      let (m, stood, made) = mapped (station_of n) n.systems q station there in
       subst (λ (x : Station). x.system ≡ started x.setup 0) made refl
 
   pub start_lives : AllLive w
   start_lives place station there =
       let stays = starts_all_stay places (initial n) k.draws w sound.wired.setups k.starts in
       let old = stays.stations place station there in
-      let (m, stood, made) = mapped (station_of (pace_of n)) n.systems place old.old old.here in
+      let (m, stood, made) = mapped (station_of n) n.systems place old.old old.here in
       let below = within n.systems place m stood in
       starts_live place places (initial n) k.draws w k.starts
       (inl (in_range 0 (length n.systems) place (omega arith) (omega (arith, below)))) station there
@@ -508,7 +508,13 @@ module _ {F : Type 0} (answers : Bounds → ℕ → F → Option ℕ → F → T
             let is = old.stations place was here in
             subst (IsStationMeasured 0) made
             (record {
-              set_up = record { params = is.set_up.params; phase = is.set_up.phase; drift = is.set_up.drift };
+              set_up = record {
+                params = is.set_up.params;
+                phase = is.set_up.phase;
+                drift = is.set_up.drift;
+                seed = is.set_up.seed;
+                named = is.set_up.named;
+              };
               in_time = is.in_time;
               ports = is.ports;
             });
@@ -519,7 +525,7 @@ module _ {F : Type 0} (answers : Bounds → ℕ → F → Option ℕ → F → T
       → station.setup.params ≡ (pace_of n).params
   params place station there =
       let (was, here, made) = from_wake place station there in
-      let (m, stood, is) = mapped (station_of (pace_of n)) n.systems place was here in
+      let (m, stood, is) = mapped (station_of n) n.systems place was here in
       ap (λ (x : Station). x.setup.params) (sym made) ∙ ap (λ (x : Station). x.setup.params) (sym is)
 
   none_flies : (link : ℕ) (channel : Channel) → slice_get first_world.net.channels link ≡ Some channel
@@ -540,8 +546,8 @@ module _ {F : Type 0} (answers : Bounds → ℕ → F → Option ℕ → F → T
       by zero there = absurd (none-some e.state there)
       by (suc i) there =
           let (was, here, made) = from_wake place e.station e.here in
-          let (m, stood, is) = mapped (station_of (pace_of n)) n.systems place was here in
-          let set = setup_of (pace_of n) m in
+          let (m, stood, is) = mapped (station_of n) n.systems place was here in
+          let set = setup_of n m in
           let system_is : e.station.system ≡ started set 0 =
           ap (λ (x : Station). x.system) (sym made) ∙ ap (λ (x : Station). x.system) (sym is) in
           let (log, found, port_is) = new_port_at (clock_of set.identity) set.params set.intervals.items i e.state
@@ -601,7 +607,7 @@ module _ {F : Type 0} (answers : Bounds → ℕ → F → Option ℕ → F → T
         let pace = keeps_pace n network in
         let asking = params at.asking stood.asking.station stood.asking.here in
         let answering = params at.answering stood.answering.station stood.answering.here in
-        let good = stood.good in
+        let good = stood.good.short in
         let answered = pace.params.answered in
         record {
           link = link;
@@ -623,7 +629,7 @@ module _ {F : Type 0} (answers : Bounds → ℕ → F → Option ℕ → F → T
     asking_there : In at.asking places
     asking_there =
         let (was, here, made) = from_wake at.asking stood.asking.station stood.asking.here in
-        let (m, there, is_made) = mapped (station_of (pace_of n)) n.systems at.asking was here in
+        let (m, there, is_made) = mapped (station_of n) n.systems at.asking was here in
         let below = within n.systems at.asking m there in
         in_range 0 (length n.systems) at.asking (omega arith) (omega (arith, below))
 

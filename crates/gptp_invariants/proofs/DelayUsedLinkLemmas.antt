@@ -13,7 +13,7 @@ use Rattle.gptp_lists.proofs.MappedLemmas.{same_there, some_same}
 use Rattle.gptp_invariants.specs.DelayMeasured.{StationIsLiveAt, LinkStandsAt}
 use Rattle.gptp_invariants.specs.DelayLinkView.{LinkPlace, other_direction, link_setting}
 use Rattle.gptp_invariants.specs.DelayWatched.{IsWatched}
-use Rattle.gptp_invariants.proofs.DelayLinkLemmas.{sender_opposite}
+use Rattle.gptp_invariants.proofs.DelayLinkLemmas.{sender_opposite, good_between}
 use Rattle.gptp_invariants.specs.ChoiceView.{port_identity_number}
 use Rattle.gptp_invariants.specs.ChoiceCalm.{HaveQuietLinks}
 use Rattle.gptp_invariants.specs.WorldStanding.{stations_have_clock, channel_is_used, live_stations, snapshot_of}
@@ -105,7 +105,8 @@ module _ (p : SettlingParams) (w : WorldState) (pace : KeepPace p) (is : IsWorld
             (ap (λ (x : Station). clock x.system) alike
             ∙ other.at.named
             ∙ ap (λ (x : PortIdentity). x.clock) way.to);
-        good = rw (answering, asking) links.good;
+        good = good_between way.channel.bounds.max p.params station.setup.params other.at.station.setup.params asking
+            answering links.good;
       }
 
   -- so it is watched, where the way from the port stands

@@ -4,7 +4,6 @@ use Rattle.gptp_lists.specs.Members.{In}
 use Rattle.gptp_vector.specs.declared.port.PortId.{PortId}
 use Rattle.gptp_links.specs.Fate.{Draw}
 use Rattle.gptp_links.specs.Queue.{Frame}
-use Rattle.gptp_pdelay.specs.Clock.{local_clock}
 use Rattle.gptp_system.specs.declared.answer.Answer.{Answer}
 use Rattle.gptp_setup.specs.declared.setup.Setup.{Setup}
 use Rattle.gptp_system.specs.Input.{Input}
@@ -18,7 +17,7 @@ use Rattle.gptp_model.specs.World.{WorldState, receiver, sender, world_queue}
 use Rattle.gptp_lists.proofs.MappedLemmas.{same_there}
 use Rattle.gptp_lists.proofs.PlaceLemmas.{get-set_other}
 use Rattle.gptp_model.proofs.StayLemmas.{sender_same}
-use Rattle.gptp_invariants.specs.DelayLinkView.{IsEndOf, LinkPlace, asker_view, link_identity, other_direction}
+use Rattle.gptp_invariants.specs.DelayLinkView.{IsEndOf, LinkPlace, asker_view, link_identity, other_direction, setup_stamps}
 use Rattle.gptp_invariants.proofs.DelayEndLemmas.{EndStep, HearsWhatFits, PartStep, call_end, renamed}
 use Rattle.gptp_invariants.proofs.DelayLinkLemmas.{receiver_same, sender_opposite}
 use Rattle.gptp_invariants.specs.FailedUnanswered.{IsFailedAmong, IsOldBy, IsUnansweredAt, silent_setting, silent_view}
@@ -63,8 +62,8 @@ module _ (at : LinkPlace) (w w' : WorldState) (l : IsUnansweredAt at w) (lane : 
     turnaround = (answerer i).params.turnaround;
     period = interval_of (asker i).params.pdelay;
     allowed = (asker i).params.lost;
-    asking_clock = local_clock (asker i).phase (asker i).drift;
-    answering_clock = local_clock (answerer i).phase (answerer i).drift;
+    asking_clock = setup_stamps (asker i);
+    answering_clock = setup_stamps (answerer i);
   }
 
 -- a failed station isn't at the place of a live one

@@ -19,7 +19,7 @@ use Rattle.gptp_system.specs.declared.answer.Answer.{Answer}
 use Rattle.gptp_system.specs.Input.{Frame as FrameHeard}
 use Rattle.gptp_setup.specs.Intervals.{interval_of}
 use Rattle.gptp_system.specs.Measures.{HearsPart, Part, part_heard, measure_at}
-use Rattle.gptp_system.specs.State.{SystemState, clock, local_time}
+use Rattle.gptp_system.specs.State.{SystemState, clock, stamp_time}
 use Rattle.gptp_model.specs.declared.station.Station.{Station}
 use Rattle.gptp_model.specs.Act.{Calls, Delivers, Hears}
 use Rattle.gptp_model.specs.Sound.{IsSound}
@@ -67,7 +67,7 @@ message_heard s now m x = record { asked = heard_asked s now m x; lost = by m }
     by : (one : Message) → (part_heard s now one x).peer.lost ≤ x.peer.lost
     by (messages.Sync head) = omega arith
     by (messages.PdelayReq head) = omega arith
-    by (messages.PdelayResp r) = response_lost r (local_time s now) x.peer
+    by (messages.PdelayResp r) = response_lost r (stamp_time s now) x.peer
     by (messages.FollowUp r) = omega arith
     by (messages.PdelayRespFollowUp r) = follow_up_lost r x.peer
     by (messages.Announce a) = omega arith

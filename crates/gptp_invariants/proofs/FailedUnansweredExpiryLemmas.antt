@@ -11,7 +11,7 @@ use Rattle.gptp_setup.specs.declared.timer.Timer.TheVariants as timers
 use Rattle.gptp_system.specs.Input.{Expires as TimerExpires}
 use Rattle.gptp_setup.specs.Intervals.{interval_of}
 use Rattle.gptp_system.specs.Measures.{Part, part_asked, measure_at}
-use Rattle.gptp_system.specs.State.{SystemState, due, local_time}
+use Rattle.gptp_system.specs.State.{SystemState, due, stamp_time}
 use Rattle.gptp_model.specs.Act.{TimerRunsOut}
 use Rattle.gptp_model.specs.Agrees.{stopped}
 use Rattle.gptp_model.specs.Sound.{IsSound}
@@ -68,14 +68,14 @@ module _ (gone : ℕ) (at : LinkPlace) (place : ℕ) (timer : Timer) (w : WorldS
 
     -- as its system asks, by the parameters of its setup
     asks_next : asker_view period (part_asked s w.time after_interval x)
-        ≡ asks_now w.time x.peer.next (local_time s w.time)
+        ≡ asks_now w.time x.peer.next (stamp_time s w.time)
         (gives_up l.asking.station.setup.params.lost (progress_view x.peer.progress) (asker_view period x))
     asks_next =
         subst (λ (p : Params). asker_view (interval_of p.pdelay) (part_asked s w.time after_interval x)
-        ≡ asks_now w.time x.peer.next (local_time s w.time)
+        ≡ asks_now w.time x.peer.next (stamp_time s w.time)
         (gives_up x.peer.allowed (progress_view x.peer.progress) (asker_view (interval_of p.pdelay) x)))
         l.asking.set_up.params (asked_seen s w.time x)
-        ∙ ap (λ n. asks_now w.time x.peer.next (local_time s w.time)
+        ∙ ap (λ n. asks_now w.time x.peer.next (stamp_time s w.time)
         (gives_up n (progress_view x.peer.progress) (asker_view period x))) l.asking.measures.allowed
 
     asks_in_vain : AsksInVain (silent_setting at w l) (silent_view at w l) (silent_view at w' step.after)
@@ -83,7 +83,7 @@ module _ (gone : ℕ) (at : LinkPlace) (place : ℕ) (timer : Timer) (w : WorldS
       time = step.time;
       now = request_now;
       sequence = x.peer.next;
-      t1 = local_time s w.time;
+      t1 = stamp_time s w.time;
       asker = asker_is step ∙ ap (asker_view period) part ∙ asks_next;
     }
 

@@ -42,7 +42,7 @@ use Rattle.gptp_invariants.specs.ChoiceCalm.{IsQuietWorld, clock_place, sync_pat
 use Rattle.gptp_invariants.specs.WorldCalmFor.{IsCalmFor}
 use Rattle.gptp_invariants.specs.WorldSettlingInvariant.{SettlingInvariant, KeepsAll}
 use Rattle.gptp_invariants.specs.SyncExact.{IsAhead, IsWayError, IsHeardExact, exact_span}
-use Rattle.gptp_invariants.specs.SyncFollowers.{HasWay, follower_clock, follower_setting, follower_parts}
+use Rattle.gptp_invariants.specs.SyncFollowers.{HasWay, follower_clock, follower_setting, follower_parts, stamps_of}
 use Rattle.gptp_invariants.specs.WorldEncodableLaws.{SetsAnOctet}
 use Rattle.gptp_invariants.specs.WorldStanding.{snapshot_of}
 use Rattle.gptp_invariants.specs.SyncTimedClaim.{WorldInvariant, CarriesWhereCalm, IsCalmBy}
@@ -190,6 +190,8 @@ module _ (link : ℕ) (direction : Direction) (w w' : WorldState) (draws : List 
   has_way = record {
     way = way.way;
     phase = way.phase;
+    stamps = stamps_of w.stations (follower_clock followed.at w followed.follower);
+    stamped = refl;
     is = subst (λ n. IsWayTo (follower_parts p.params w) (snapshot_of w) (suc steps) n way.way way.phase) (sym named_so)
         way.leads;
   }

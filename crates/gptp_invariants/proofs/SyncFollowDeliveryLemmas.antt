@@ -48,7 +48,7 @@ use Rattle.gptp_invariants.proofs.SyncFollowHearLemmas.{HearsTime, StaysPut, els
 use Rattle.gptp_invariants.proofs.SyncFollowHeardLemmas.{hears_seen}
 use Rattle.gptp_invariants.proofs.SyncFollowLaneLemmas.{lane_seen}
 use Rattle.gptp_invariants.proofs.SyncFollowSayLemmas.{heard_tells_none}
-use Rattle.gptp_invariants.proofs.SyncFollowSettingLemmas.{own_shown, residence_is}
+use Rattle.gptp_invariants.proofs.SyncFollowSettingLemmas.{own_stamped, residence_is}
 use Rattle.gptp_invariants.proofs.SyncFollowStepLemmas.{RelayStops, apart, inv_on, k as next_setting, others, root_stays, slave_stays, step_seen, way_was}
 use Rattle.gptp_invariants.proofs.SyncFollowBaseLemmas.{GoesOn, calls_go_on}
 use Rattle.gptp_invariants.proofs.SyncFollowTreeLemmas.{FollowedBefore, followed_before, slave_is, takes_time, well_formed}
@@ -424,7 +424,7 @@ module _ (p : SettlingParams) (settled longest : ℕ) (w : WorldState) (is : IsS
                     (subst (λ y. Steps (FrameHeard port octets) w.time s y c.sends told) (sym now) c.steps)))
                     (root_stays p settled longest w w' is is' keeps time goes at g f' a b bounds)
                     (slave_stays p settled longest w w' is is' keeps time goes at g f' a b bounds)
-                    (own_shown p settled longest w is at g steps h w.time)
+                    (own_stamped p settled longest w is at g steps h w.time)
                     (ap (λ (y : Params). y.residence) (is.world.known.set at.answering g.own.station g.own.here).params
                     ∙ sym (residence_is p settled longest w is at g steps h))
                     on_time;

@@ -16,7 +16,7 @@ use Rattle.gptp_system.specs.declared.answer.Answer.{Answer}
 use Rattle.gptp_system.specs.declared.sending.Sending.{Sending}
 use Rattle.gptp_system.specs.Input.{Steps, Frame as FrameHeard}
 use Rattle.gptp_system.specs.Selection.{kept_if}
-use Rattle.gptp_system.specs.State.{SystemState, held_at, local_time}
+use Rattle.gptp_system.specs.State.{SystemState, held_at, stamp_time}
 use Rattle.gptp_system.specs.Syncing.{KnowsBy, came_from, delay_at, is_followed, is_slave_at, root_rate_at, said_on}
 use Rattle.gptp_invariants.specs.SyncView.{TakesTime}
 use Rattle.gptp_invariants.specs.ChoiceView.{port_identity_number}
@@ -49,7 +49,7 @@ pub record HasKept (p : ℕ) (octets : List ℕ) (now : ℕ) (s s' : SystemState
   pub head : Head
   pub reads : Reads octets (messages.Sync head)
   pub follows : is_followed p head s ≡ true
-  pub sync_in : s'.sync_in ≡ Some (kept_as head.source head.sequence (local_time s now))
+  pub sync_in : s'.sync_in ≡ Some (kept_as head.source head.sequence (stamp_time s now))
   pub known : s'.known ≡ s.known
   pub relay : s'.relay ≡ s.relay
 

@@ -13,11 +13,11 @@ use Rattle.gptp_correction.specs.SyncIn.{KeptSync as KeptInSystem, together}
 use Rattle.gptp_system.specs.declared.answer.Answer.{Answer}
 use Rattle.gptp_system.specs.declared.sending.Sending.{Sending}
 use Rattle.gptp_system.specs.Input.{Steps, Frame as FrameHeard}
-use Rattle.gptp_system.specs.State.{SystemState, local_time}
+use Rattle.gptp_system.specs.State.{SystemState, stamp_time}
 use Rattle.gptp_model.specs.World.{Channel}
 use Rattle.gptp_pdelay_machine.specs.Setting.{IsByMost}
 use Rattle.gptp_sync_machine.specs.Acts.{FollowerHears, IsUnmoved, KeepsSync, Knows, KnowsAnew, KnowsStill, kept_at_ingress}
-use Rattle.gptp_sync_machine.specs.Follower.{Follower, FollowerSync, FollowerSetting, own_clock}
+use Rattle.gptp_sync_machine.specs.Follower.{Follower, FollowerSync, FollowerSetting}
 use Rattle.gptp_sync_machine.specs.Messages.{FollowUp, Message, Sync}
 use Rattle.gptp_sync_machine.specs.Right.{info_of}
 use Rattle.gptp_invariants.specs.SyncFollowView.{follower_view, kept_sync, tells, told_in}
@@ -70,7 +70,7 @@ seen_kept x source sequence ingress was = by x.sync_in refl was
 module _ (k : FollowerSetting) (now : ℕ) (direction : Direction) (old new : Channel) (p : ℕ) (octets : List ℕ)
     (x x' : SystemState) (sends : List Sending) (answer : Answer) (takes : TakesTime x p k.parent)
     (steps : Steps (FrameHeard p octets) now x x' sends answer) (root : x'.root ≡ x.root) (slave : x'.slave ≡ x.slave)
-    (shows : local_time x now ≡ own_clock k now) (residence : x.params.residence ≡ k.way.residence)
+    (shows : stamp_time x now ≡ k.stamps now) (residence : x.params.residence ≡ k.way.residence)
     (relays : RelaysInTime x now x.params.residence) where
   abbrev before : Follower
   before = follower_view now direction old x
@@ -128,7 +128,7 @@ module _ (k : FollowerSetting) (now : ℕ) (direction : Direction) (old new : Ch
       one_head has.head head (one_reading octets (messages.Sync has.head) (messages.Sync head) has.reads reads) in
       record {
         kept = ap (option_map kept_sync) has.sync_in
-            ∙ ap (λ (h : Head). Some (kept_at_ingress (port_identity_number h.source) h.sequence (local_time x now)))
+            ∙ ap (λ (h : Head). Some (kept_at_ingress (port_identity_number h.source) h.sequence (stamp_time x now)))
             same
             ∙ (λ i. Some (kept_at_ingress (sym from i) (sym number i) (shows i)));
         still = record { known = has.known; relay = has.relay };

@@ -41,7 +41,8 @@ module _ (p : Params) (w : WorldState) (time : ℕ) (at : LinkPlace) (f' : IsFol
   }
 
   abbrev way_earlier : HasWay p at w earlier steps
-  way_earlier = record { way = h'.way; phase = h'.phase; is = h'.is }
+  way_earlier =
+      record { way = h'.way; phase = h'.phase; stamps = h'.stamps; is = h'.is; stamped = h'.stamped }
 
 pub time_carries : TimeCarriesTime
 time_carries p settled longest w time later carries = record {

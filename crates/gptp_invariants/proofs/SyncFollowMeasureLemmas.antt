@@ -1,14 +1,16 @@
 -- What ports have measured of their links is right of the links that are followed.
-use Rattle.std.proofs.Common.{◌≡◌, ℕ, zero, suc, ℤ, pos, Some, slice_get, refl, sym, ap, subst, ◌∙◌, arith}
+use Rattle.std.proofs.Common.{◌≡◌, ◌≤◌, ◌+◌, ◌-◌, ◌*◌, ℕ, zero, suc, ℤ, pos, Some, slice_get, refl, sym, ap, subst, ◌∙◌, arith}
 use Rattle.std.specs.Option.{option_map, option_map_or}
 use Rattle.gptp_graph.specs.Snapshot.{Joins, PortIdentity, Snapshot}
 use Rattle.gptp_vector.specs.declared.port.PortId.{PortId}
 use Rattle.gptp_lists.proofs.PlaceLemmas.{member_there}
-use Rattle.gptp_pdelay.specs.Clock.{local_clock}
+use Rattle.gptp_pdelay.specs.GoodLink.{IsGoodLink}
+use Rattle.gptp_pdelay.proofs.MeasurementLemmas.{rest_is_long}
 use Rattle.gptp_pdelay.specs.Peer.{delay_of, rate_of_peer}
 use Rattle.gptp_pdelay.specs.declared.exchange.Measurement.{Measurement}
 use Rattle.gptp_setup.specs.declared.setup.Params.{Params}
 use Rattle.gptp_setup.specs.Intervals.{interval_of}
+use Rattle.gptp_setup.specs.Stamping.{blur_of}
 use Rattle.gptp_setup.specs.SettlingParams.{SettlingParams}
 use Rattle.gptp_system.specs.declared.port.Port.{Port}
 use Rattle.gptp_system.specs.State.{SystemState, number, own}
@@ -18,16 +20,16 @@ use Rattle.gptp_pdelay_machine.specs.Measured.{HasMeasured}
 use Rattle.gptp_pdelay_machine.specs.Setting.{Setting as Measuring}
 use Rattle.gptp_sync_machine.specs.Right.{IsMeasuredAt}
 use Rattle.gptp_sync_machine.specs.Tree.{Parts}
-use Rattle.gptp_sync_machine.specs.TreeLaws.{MeasuresParent}
+use Rattle.gptp_sync_machine.specs.TreeLaws.{AreStampsOf, MeasuresParent}
 use Rattle.gptp_sync_machine.proofs.RightLemmas.{exchanges_measure_right}
 use Rattle.gptp_sync_machine.proofs.TreeLemmas.{parents_are_measured}
 use Rattle.gptp_invariants.specs.SyncFollowers.{HasWay, IsFollower, follower_clock, parent_link, follower_parts, follower_state}
-use Rattle.gptp_invariants.specs.DelayLinkView.{IsEndOf, LinkPlace, other_direction, link_setting}
+use Rattle.gptp_invariants.specs.DelayLinkView.{IsEndOf, LinkPlace, other_direction, link_setting, setup_stamps}
 use Rattle.gptp_invariants.specs.DelayMeasuredLinks.{HasMeasuredLink, HaveMeasuredLinks}
 use Rattle.gptp_invariants.specs.WorldStanding.{snapshot_of}
 use Rattle.gptp_invariants.specs.SyncTimed.{AllMeasureRight, IsSettledFrom}
 use Rattle.gptp_invariants.specs.ChoiceView.{port_identity_number}
-use Rattle.gptp_invariants.proofs.SyncFollowPartLemmas.{bound_is, set_up_is}
+use Rattle.gptp_invariants.proofs.SyncFollowPartLemmas.{bound_is, setup_read}
 use Rattle.gptp_invariants.proofs.SyncFollowSettingLemmas.{fit, least_is}
 use Rattle.gptp_invariants.proofs.SyncFollowTreeLemmas.{own_port, slave_is, steady}
 use Rattle.gptp_invariants.proofs.DelayLinkLemmas.{sender_opposite}
@@ -63,17 +65,16 @@ module _ (p : SettlingParams) (settled longest : ℕ) (w : WorldState) (is : IsS
   abbrev to : PortId
   to = receiver at.direction f.channel
 
-  -- the clock of an end of a link is that of the parts
-  end_clock : (place : ℕ) (port : PortId) (e : IsEndOf place port w) (t : ℕ)
-      → local_clock e.station.setup.phase e.station.setup.drift t
-      ≡ local_clock (x.phase port.clock) (x.drift port.clock) t
-  end_clock place port e t =
-      let clocks = is.world.sound.wired.clocks in
-      let phase = sym (set_up_is (λ setup. setup.phase) 0 w clocks place e.station e.here)
-      ∙ ap x.phase e.named in
-      let drift = sym (set_up_is (λ setup. setup.drift) (pos 0) w clocks place e.station e.here)
-      ∙ ap x.drift e.named in
-      λ i. local_clock (phase i) (drift i) t
+  set_to : (place : ℕ) (port : PortId) (e : IsEndOf place port w) → e.station.setup.params ≡ p.params
+  set_to place port e = (is.world.known.set place e.station e.here).starts.params
+
+  -- an end of a link stamps the clock of the parts
+  end_read : (place : ℕ) (port : PortId) (e : IsEndOf place port w)
+      → AreStampsOf x port.clock (setup_stamps e.station.setup)
+  end_read place port e =
+      subst (λ n. AreStampsOf x n (setup_stamps e.station.setup)) e.named
+      (setup_read p.params w is.world.sound.wired.clocks is.world.sound.wired.setups place e.station e.here
+      (set_to place port e))
 
   -- the link that the port has measured is the one over which its system follows
   module _ (q : Port) (m : HasMeasuredLink w (port_identity_number to)
@@ -87,9 +88,6 @@ module _ (p : SettlingParams) (settled longest : ℕ) (w : WorldState) (is : IsS
         m.link.channel f.channel m.link.here f.here
         (m.from_is ∙ sym (ap port_identity_number (sender_opposite at.direction f.channel)))).same_channel
 
-    set_to : (place : ℕ) (port : PortId) (e : IsEndOf place port w) → e.station.setup.params ≡ p.params
-    set_to place port e = (is.world.known.set place e.station e.here).starts.params
-
     most : k.most ≡ x.most (port_identity_number to)
     most =
         ap (λ (c : Channel). c.bounds.max) same_channel
@@ -98,6 +96,21 @@ module _ (p : SettlingParams) (settled longest : ℕ) (w : WorldState) (is : IsS
     least : x.least (port_identity_number to) ≡ f.channel.bounds.min
     least = bound_is (λ b. b.min) w is.world.sound is.world.encodable at.link at.direction f.channel f.here f.used
 
+    turnaround : k.turnaround ≡ p.params.turnaround
+    turnaround = ap (λ (y : Params). y.turnaround) (set_to m.at.answering _ m.link.answering)
+
+    -- an exchange leaves so much to the next
+    rested : 12 * x.blur ≤ x.interval - (2 * k.most + k.turnaround)
+    rested =
+        let good : IsGoodLink (k.most + blur_of p.params) k.turnaround p.params.threshold =
+        subst (λ (q : Params). IsGoodLink (k.most + blur_of q) k.turnaround q.threshold)
+        (set_to m.at.asking _ m.link.asking) m.link.good.short in
+        let answered = is.pace.params.answered in
+        let fits = fit p settled longest w is at f steps h in
+        let long = rest_is_long (blur_of p.params) k.most k.turnaround p.params.threshold x.interval good
+        (omega (arith, answered, turnaround)) fits.long fits.little in
+        omega (arith, long)
+
     measures : MeasuresParent x (follower_clock at w f) (parent_link at.direction f.channel) k
     measures = record {
       least =
@@ -105,12 +118,13 @@ module _ (p : SettlingParams) (settled longest : ℕ) (w : WorldState) (is : IsS
           let up = ap (λ (c : Channel). c.bounds.max) same_channel in
           omega (arith, order, up, least);
       most = most;
-      turnaround = ap (λ (y : Params). y.turnaround) (set_to m.at.answering _ m.link.answering);
+      turnaround = turnaround;
       period = ap (λ (y : Params). interval_of y.pdelay) (set_to m.at.asking _ m.link.asking);
-      asking = λ t. end_clock m.at.asking _ m.link.asking t
-          ∙ ap (λ (y : PortIdentity). local_clock (x.phase y.clock) (x.drift y.clock) t) m.from_is;
-      answering = λ t. end_clock m.at.answering _ m.link.answering t
-          ∙ ap (λ (y : PortIdentity). local_clock (x.phase y.clock) (x.drift y.clock) t) m.to_is;
+      rested = rested;
+      asking = subst (λ (y : PortIdentity). AreStampsOf x y.clock k.asking_clock) m.from_is
+          (end_read m.at.asking _ m.link.asking);
+      answering = subst (λ (y : PortIdentity). AreStampsOf x y.clock k.answering_clock) m.to_is
+          (end_read m.at.answering _ m.link.answering);
     }
 
     right : (one : Measurement) × (q.peer.last ≡ Some one) × IsMeasuredAt h.way steps one.rate one.delay

@@ -10,27 +10,29 @@ use Rattle.gptp_links.specs.declared.bounds.Bounds.{Bounds}
 use Rattle.gptp_links.specs.declared.link.Direction.{Direction}
 use Rattle.gptp_links.specs.declared.link.Direction.TheVariants.{FromA, FromB}
 use Rattle.gptp_lists.proofs.MappedLemmas.{mapped, mapped_there}
-use Rattle.gptp_pdelay.specs.Clock.{IsDrift, local_clock}
+use Rattle.gptp_pdelay.specs.Clock.{IsDrift, IsStampClock, local_clock}
+use Rattle.gptp_pdelay.proofs.ClockLemmas.{stamps_make_clock}
 use Rattle.gptp_setup.specs.declared.setup.Params.{Params}
 use Rattle.gptp_setup.specs.declared.setup.Setup.{Setup}
 use Rattle.gptp_setup.specs.Intervals.{AreParams, IsLog, interval_of}
+use Rattle.gptp_setup.specs.Stamping.{behind_of, blur_of}
 use Rattle.gptp_setup.proofs.IntervalLemmas.{interval_rises}
-use Rattle.gptp_system.specs.State.{clock, local_time}
+use Rattle.gptp_system.specs.State.{clock, local_time, stamp_time}
 use Rattle.gptp_model.proofs.BareLemmas.{bare}
 use Rattle.gptp_model.specs.declared.station.Station.{Station}
 use Rattle.gptp_model.specs.Sound.{HaveOwnClocks, HaveTheirSetups, IsSound}
 use Rattle.gptp_model.specs.World.{Channel, WorldState, receiver, sender}
-use Rattle.gptp_sync_machine.specs.TreeLaws.{ArePartsOf}
+use Rattle.gptp_sync_machine.specs.TreeLaws.{ArePartsOf, AreStampsOf}
 use Rattle.gptp_invariants.specs.ChoiceCalm.{delay_in, greatest_channel_delay, has_port_id, clock_place, setups_of}
-use Rattle.gptp_invariants.specs.SyncFollowers.{bound_at, follower_parts, set_up_with}
+use Rattle.gptp_invariants.specs.SyncFollowers.{bound_at, follower_parts, set_up_with, stamps_of}
 use Rattle.gptp_invariants.specs.WorldEncodable.{IsEncodable}
-use Rattle.gptp_invariants.specs.DelayLinkView.{other_direction}
+use Rattle.gptp_invariants.specs.DelayLinkView.{other_direction, setup_stamping, setup_stamps}
 use Rattle.gptp_invariants.specs.DelayMeasured.{LinkIsMeasured}
 use Rattle.gptp_invariants.specs.WorldStanding.{channel_is_used, live_stations}
 use Rattle.gptp_invariants.specs.ChoiceView.{port_identity_number}
 use Rattle.gptp_invariants.proofs.ChoiceCalmKeptLemmas.{KeepsNetwork, of_kept}
 use Rattle.gptp_invariants.proofs.ChoiceFoundLemmas.{is_port_from, is_port_there, place_is}
-use Rattle.gptp_invariants.proofs.DelayLinkLemmas.{sender_opposite}
+use Rattle.gptp_invariants.proofs.DelayLinkLemmas.{sender_opposite, stamped_as_set_up}
 use Rattle.gptp_invariants.proofs.WorldWayLemmas.{one_way}
 
 -- ---- setups
@@ -58,6 +60,41 @@ clock_shown p w sound measured place station here t =
     let phase = set_up.phase ∙ sym (set_up_is (λ setup. setup.phase) 0 w own place station here) in
     let drift = set_up.drift ∙ sym (set_up_is (λ setup. setup.drift) (pos 0) w own place station here) in
     λ i. local_clock (phase i) (drift i) t
+
+-- its time stamps are those of its setup, by its clock
+pub clock_stamped : (w : WorldState) → IsSound w → LinkIsMeasured w → (place : ℕ) (station : Station)
+    → slice_get w.stations place ≡ Some station → (t : ℕ)
+    → stamp_time station.system t ≡ stamps_of w.stations (clock station.system) t
+clock_stamped w sound measured place station here t =
+    stamped_as_set_up station (measured.stations place station here).set_up t
+    ∙ ap (λ (stamps : ℕ → ℤ). stamps t)
+    (sym (set_up_is setup_stamps (λ t. pos 0) w sound.wired.clocks place station here))
+
+-- and these are time stamps of the clock, as exact as those of all systems
+pub setup_read : (p : Params) (w : WorldState) → HaveOwnClocks w → HaveTheirSetups w → (place : ℕ) (station : Station)
+    → slice_get w.stations place ≡ Some station → station.setup.params ≡ p
+    → AreStampsOf (follower_parts p w) (clock station.system) (setup_stamps station.setup)
+setup_read p w own setups place station here set =
+    let setup = station.setup in
+    let x = follower_parts p w in
+    let number = clock station.system in
+    let phase = set_up_is (λ (y : Setup). y.phase) 0 w own place station here in
+    let drift = set_up_is (λ (y : Setup). y.drift) (pos 0) w own place station here in
+    let made = stamps_make_clock (setup_stamping setup) setup.phase setup.drift (setups place station here).drift in
+    subst (λ (q : Params). IsStampClock (blur_of q) (behind_of q) (x.phase number) (x.drift number)
+    (setup_stamps setup)) set
+    (subst (λ ahead. IsStampClock (blur_of setup.params) (behind_of setup.params) ahead (x.drift number)
+    (setup_stamps setup)) (sym phase)
+    (subst (λ rate. IsStampClock (blur_of setup.params) (behind_of setup.params) setup.phase rate (setup_stamps setup))
+    (sym drift) made))
+
+pub stamps_read : (p : Params) (w : WorldState) → HaveOwnClocks w → HaveTheirSetups w → (place : ℕ) (station : Station)
+    → slice_get w.stations place ≡ Some station → station.setup.params ≡ p
+    → AreStampsOf (follower_parts p w) (clock station.system) (stamps_of w.stations (clock station.system))
+stamps_read p w own setups place station here set =
+    subst (AreStampsOf (follower_parts p w) (clock station.system))
+    (sym (set_up_is setup_stamps (λ t. pos 0) w own place station here))
+    (setup_read p w own setups place station here set)
 
 -- each drift is within its limits
 drifts_fit : (stations : List Station)
@@ -166,6 +203,7 @@ interval_long log k = interval_rises (negsuc 3) log k.low
 pub parts_fit : (p : Params) (w : WorldState) (longest : ℕ) → AreParams p → HaveTheirSetups w → delay_in w ≤ longest
     → ArePartsOf (follower_parts p w) longest
 parts_fit p w longest params setups short = record {
+  little = let granularity = params.granularity in let noise = params.noise in omega (arith, granularity, noise);
   long = interval_long p.pdelay params.pdelay;
   waits = params.turnaround-least;
   drifts = drifts_fit w.stations (λ place station here. (setups place station here).drift);
@@ -199,7 +237,14 @@ same_parts p w w' k =
           (slice_get (k.setups i) (k.places number i)) 0;
       least = λ port. bounds (λ b. b.min) port i;
       most = λ port. bounds (λ b. b.max) port i;
+      blur = blur_of p;
+      behind = behind_of p;
       interval = interval_of p.pdelay;
       turnaround = p.turnaround;
       residence = p.residence;
     }
+
+pub same_stamps : (w w' : WorldState) → KeepsNetwork w w' → (number : ℕ)
+    → stamps_of w'.stations number ≡ stamps_of w.stations number
+same_stamps w w' k number =
+    λ i. option_map_or setup_stamps (slice_get (k.setups i) (k.places number i)) (λ t. pos 0)

@@ -1,6 +1,6 @@
 -- What the parent of a system tells is right, where it may come after what comes is right: a root tells its own clock,
 -- and a bridge what it knows.
-use Rattle.std.proofs.Common.{◌≡◌, ◌⊎◌, ◌<◌, ◌≤◌, ◌+◌, ◌*◌, ℕ, zero, suc, ℤ, true, List, Some, refl, sym, ap, subst, ◌∙◌, inl, inr, arith, eqb-true, Option, None, ◌+ℤ◌, if◌then◌else◌}
+use Rattle.std.proofs.Common.{◌≡◌, ◌⊎◌, ◌<◌, ◌≤◌, ◌+◌, ◌*◌, ◌-ℤ◌, ℕ, zero, suc, ℤ, true, List, Some, refl, sym, ap, subst, ◌∙◌, inl, inr, arith, eqb-true, Option, None, ◌+ℤ◌, if◌then◌else◌, pos}
 use Rattle.std.specs.Prelude.{◌==◌}
 use Rattle.std.specs.List.{list_any}
 use Rattle.std.proofs.lemmas.Bool.{and_parts}
@@ -13,21 +13,25 @@ use Rattle.gptp_graph.proofs.SystemLemmas.{same_identity}
 use Rattle.gptp_graph.proofs.TreeLemmas.{best_has_no_parent}
 use Rattle.gptp_scaled.specs.Interval.{FitsInterval}
 use Rattle.gptp_scaled.specs.Rate.{FitsRate}
-use Rattle.gptp_scaled.specs.Stamp.{IsSplit, Timestamp}
+use Rattle.gptp_scaled.specs.Counts.{AreWithin}
+use Rattle.gptp_scaled.specs.Stamp.{Timestamp}
+use Rattle.gptp_scaled.proofs.TimeStampLemmas.{time_stamp_is_centred}
 use Rattle.gptp_pdelay.specs.Clock.{local_clock}
 use Rattle.gptp_correction.specs.declared.correction.Relayed.{Relayed}
 use Rattle.gptp_correction.specs.declared.sync_in.SyncInfo.{SyncInfo}
 use Rattle.gptp_correction.specs.Correction.{bridge, carried, carried_on, held_sum, relayed, BridgeFits}
+use Rattle.gptp_setup.specs.declared.setup.Params.{Params}
 use Rattle.gptp_setup.specs.SettlingParams.{SettlingParams}
+use Rattle.gptp_setup.specs.Stamping.{behind_of, blur_of}
 use Rattle.gptp_system.specs.declared.sending.Sending.{Sending}
-use Rattle.gptp_system.specs.State.{SystemState, can_lead, clock, local_time, is_mine}
+use Rattle.gptp_system.specs.State.{SystemState, can_lead, clock, local_time, is_mine, stamp_time, stamping}
 use Rattle.gptp_system.specs.Syncing.{HopFits, IsRelayed, IsSentOn, IsToldAtLimits, LeadsTime, hop_of, is_leading, own_time, slave_delay, slave_rate, told_by}
-use Rattle.gptp_system.specs.Takeover.{base_after}
+use Rattle.gptp_system.specs.Takeover.{base_after, leading, told_stamp, told_time}
 use Rattle.gptp_model.specs.declared.station.Station.{Station}
 use Rattle.gptp_model.specs.World.{WorldState, sender}
 use Rattle.gptp_error_laws.specs.TimeError.{Way}
 use Rattle.gptp_error_laws.specs.WayLaws.{shown_at}
-use Rattle.gptp_sync_machine.specs.Follower.{FollowerSetting, from, own_clock}
+use Rattle.gptp_sync_machine.specs.Follower.{FollowerSetting, from}
 use Rattle.gptp_sync_machine.specs.Follower as followers
 use Rattle.gptp_sync_machine.specs.FollowerLaws.{IsParentOf}
 use Rattle.gptp_sync_machine.specs.Right.{IsHeldAt, IsMeasuredAt, FollowUpIsRight}
@@ -36,7 +40,7 @@ use Rattle.gptp_sync_machine.proofs.ModestLemmas.{rates_are_held, ways_are_modes
 use Rattle.gptp_sync_machine.proofs.TellingLemmas.{parent_tells_right, parents_numbers_fit, root_tells}
 use Rattle.gptp_sync_machine.proofs.TreeLemmas.{parents_are_parents, way_ends_at_parent}
 use Rattle.gptp_invariants.specs.SyncFollowView.{tells}
-use Rattle.gptp_invariants.specs.SyncFollowers.{HasWay, IsFollower, follower, follower_clock, follower_setting, parent_link, follower_parts, state_above, follower_state, base_at, told_base}
+use Rattle.gptp_invariants.specs.SyncFollowers.{HasWay, IsFollower, follower, follower_clock, follower_setting, parent_link, follower_parts, state_above, follower_state, base_at, told_base, stamps_of}
 use Rattle.gptp_invariants.specs.DelayLinkView.{LinkPlace}
 use Rattle.gptp_invariants.specs.ChoiceSettled.{IsSettledSystem}
 use Rattle.gptp_invariants.specs.WorldStanding.{snapshot_of, standing_system}
@@ -44,7 +48,7 @@ use Rattle.gptp_invariants.specs.SyncTimed.{AllMeasureRight, CarriesTime, IsSett
 use Rattle.gptp_invariants.proofs.SyncFollowOctetLemmas.{ToldFits}
 use Rattle.gptp_invariants.proofs.SyncFollowPartLemmas.{clock_shown}
 use Rattle.gptp_invariants.proofs.SyncFollowSayLemmas.{SendsOn}
-use Rattle.gptp_invariants.proofs.SyncFollowSettingLemmas.{is_setting, own_shown, residence_is}
+use Rattle.gptp_invariants.proofs.SyncFollowSettingLemmas.{is_setting, own_stamped, residence_is}
 use Rattle.gptp_invariants.proofs.SyncFollowBaseLemmas.{GoesOn, right_goes_on, root_above, taken_over}
 use Rattle.gptp_invariants.proofs.SyncFollowTreeLemmas.{well_formed, same_root, settled_system}
 use Rattle.gptp_invariants.proofs.SyncFollowWayLemmas.{Follows, correction_small, documented, few, follows_parent, long, own_time_fits}
@@ -178,8 +182,8 @@ leader_right p settled longest w is at f zero h base s' sends told leading maste
   small = k.split.stamp.nanos;
   are = k.sends_are;
   right = λ late.
-      root_tells (record (follower_setting p.params settled longest at w f zero h) { base = base }) ahead k.stamp k.rest
-      w.time refl base_is (subst (λ t. IsSplit (t +ℤ ahead) k.stamp k.rest) shown k.split);
+      root_tells (record (follower_setting p.params settled longest at w f zero h) { base = base }) ahead said k.stamp
+      k.rest w.time refl base_is near k.split;
   fits = λ late. record {
     origin = k.split.stamp;
     correction = let small = k.split.small in record { sfits = omega (arith, small) };
@@ -202,6 +206,25 @@ leader_right p settled longest w is at f zero h base s' sends told leading maste
         ∙ ap (λ n. local_clock (x.phase n) (x.drift n) w.time) f.above.named
         ∙ sym (way_ends_at_parent.clock x (snapshot_of w) zero (follower_clock at w f) w.time
         (parent_link at.direction f.channel) h.way h.phase f.parent h.is)
+
+    -- the time stamp that it sends is near what it tells
+    said : ℤ
+    said = told_stamp (leading w.time (state_above at w f)) w.time
+
+    near : AreWithin (32768 * h.way.blur) said (shown_at h.way h.phase 0 w.time +ℤ ahead -ℤ pos h.way.behind)
+    near =
+        let s = state_above at w f in
+        let all = way_ends_at_parent.common (follower_parts p.params w) (snapshot_of w) 1 (follower_clock at w f) h.way
+        h.phase h.is in
+        let set : s.params ≡ p.params = (is.world.known.set at.asking f.above.station f.above.here).params in
+        subst (λ b. AreWithin (32768 * b) said (shown_at h.way h.phase 0 w.time +ℤ ahead -ℤ pos h.way.behind))
+        (sym all.3)
+        (subst (λ b. AreWithin (32768 * blur_of p.params) said (shown_at h.way h.phase 0 w.time +ℤ ahead -ℤ pos b))
+        (sym all.4)
+        (subst (λ t. AreWithin (32768 * blur_of p.params) said (t +ℤ ahead -ℤ pos (behind_of p.params))) shown
+        (subst (λ (q : Params). AreWithin (32768 * blur_of q) said
+        (local_time s w.time +ℤ ahead -ℤ pos (behind_of q))) set
+        (time_stamp_is_centred (stamping s) w.time (told_time (leading w.time s) w.time) k.from))))
 
 -- correction and rate fit their octets
 record BridgeFitsTold (told : Relayed) : Type 0 where
@@ -243,6 +266,8 @@ module _ (p : SettlingParams) (settled longest : ℕ) (w : WorldState) (is : IsS
   h2 = record {
     way = up.way;
     phase = h.phase;
+    stamps = stamps_of w.stations (follower_clock at2 w f2);
+    stamped = refl;
     is = subst (λ n. IsWayTo (follower_parts p.params w) (snapshot_of w) (suc steps) n up.way h.phase)
         (sym f.above.named ∙ sym bridge_follows.named) up.leads_there;
   }
@@ -260,16 +285,16 @@ module _ (p : SettlingParams) (settled longest : ℕ) (w : WorldState) (is : IsS
 
   is_parent : IsParentOf k2 kset
   is_parent =
-      subst (λ root. IsParentOf (follower_of up.way h.phase (base_at w.stations (clock_of root)) steps k2.parent settled
-      longest) kset) (sym roots_agree)
+      subst (λ root. IsParentOf (follower_of up.way h.phase (base_at w.stations (clock_of root)) steps k2.stamps
+      k2.parent settled longest) kset) (sym roots_agree)
       (parents_are_parents (follower_parts p.params w) (snapshot_of w) steps (follower_clock at w f) settled longest
-      (parent_link at.direction f.channel) k2.parent kset.parent up.way h.way h.phase h.phase kset.base f.parent
-      up.leads_there h.is)
+      (parent_link at.direction f.channel) k2.stamps kset.stamps k2.parent kset.parent up.way h.way h.phase h.phase
+      kset.base f.parent up.leads_there h.is)
 
   module _ (info : SyncInfo) (known : s2.known ≡ Some info) (relay : s2.relay ≡ Some w.time)
       (late : from kset ≤ w.time + (followers.parent_link kset).most) where
-    own : local_time s2 w.time ≡ own_clock k2 w.time
-    own = own_shown p settled longest w is at2 f2 steps h2 w.time
+    own : stamp_time s2 w.time ≡ k2.stamps w.time
+    own = own_stamped p settled longest w is at2 f2 steps h2 w.time
 
     measured : IsMeasuredAt h2.way steps (slave_rate s2) (slave_delay s2)
     measured = right at2 f2 steps h2

@@ -29,7 +29,7 @@ use Rattle.gptp_sync_machine.specs.Right.{FollowUpIsRight}
 use Rattle.gptp_sync_machine.specs.Tree.{IsWayTo, follower_of}
 use Rattle.gptp_sync_machine.proofs.FollowerLemmas.{inv_kept}
 use Rattle.gptp_invariants.specs.SyncFollowView.{follower_view, kept_sync, tells}
-use Rattle.gptp_invariants.specs.SyncFollowers.{HasWay, IsFollower, base_at, root_base, follower, follower_clock, follower_setting, follower_parts, state_above, follower_state}
+use Rattle.gptp_invariants.specs.SyncFollowers.{HasWay, IsFollower, base_at, root_base, follower, follower_clock, follower_setting, follower_parts, state_above, follower_state, stamps_of}
 use Rattle.gptp_invariants.specs.DelayLinkView.{LinkPlace, link_frame_view}
 use Rattle.gptp_invariants.specs.ChoiceSaid.{said_at}
 use Rattle.gptp_invariants.specs.WorldStanding.{snapshot_of}
@@ -40,7 +40,7 @@ use Rattle.gptp_invariants.proofs.SyncFollowBaseLemmas.{GoesOn, best, invariant_
 use Rattle.gptp_invariants.proofs.SyncFollowHeardLemmas.{put_unmoved}
 use Rattle.gptp_invariants.proofs.SyncFollowHearLemmas.{StaysPut}
 use Rattle.gptp_invariants.proofs.SyncFollowLaneLemmas.{in_order, lane_seen, order_behind}
-use Rattle.gptp_invariants.proofs.SyncFollowPartLemmas.{same_parts}
+use Rattle.gptp_invariants.proofs.SyncFollowPartLemmas.{same_parts, same_stamps}
 use Rattle.gptp_invariants.proofs.SyncFollowRightLemmas.{TellsRight}
 use Rattle.gptp_invariants.proofs.SyncFollowSayLemmas.{NoneTells, PairOrNone, TellsPair, none_mute, pair_sends, told_pair}
 use Rattle.gptp_invariants.proofs.SyncFollowSettingLemmas.{least_is, most_is}
@@ -114,6 +114,9 @@ module _ (p : SettlingParams) (settled longest : ℕ) (w w' : WorldState) (is : 
     way_was = record {
       way = h'.way;
       phase = h'.phase;
+      stamps = h'.stamps;
+      stamped = h'.stamped ∙ ap (λ (q : PortId). stamps_of w'.stations q.clock) same_to
+          ∙ same_stamps w w' keeps (follower_clock at w f);
       is = subst (λ y. IsWayTo y (snapshot_of w) (suc steps) (follower_clock at w f) h'.way h'.phase)
           (same_parts p.params w w' keeps)
           (subst (λ g. IsWayTo (follower_parts p.params w') g (suc steps) (follower_clock at w f) h'.way h'.phase)
@@ -140,7 +143,8 @@ module _ (p : SettlingParams) (settled longest : ℕ) (w w' : WorldState) (is : 
         subst (λ t. FollowerInvariant (follower_setting p.params settled longest at w' f' steps h') tells
         (follower_view t at.direction f'.channel x')) (sym time)
         (subst (λ (q : PortId). FollowerInvariant
-        (follower_of h'.way h'.phase (root_base w' x') steps (port_identity_number q) settled longest) tells after)
+        (follower_of h'.way h'.phase (root_base w' x') steps h'.stamps (port_identity_number q) settled longest) tells
+        after)
         (sym same_from) kept)
 
     -- ---- what is sent

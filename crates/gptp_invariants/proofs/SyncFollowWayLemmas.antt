@@ -8,15 +8,15 @@ use Rattle.gptp_graph.specs.Snapshot.{IsWellFormed, PortIdentity, Snapshot, Syst
 use Rattle.gptp_graph.proofs.DistanceLemmas.{IsDistance-unique}
 use Rattle.gptp_graph.proofs.LinkLemmas.{Joins-sym}
 use Rattle.gptp_pdelay.specs.Clock.{IsDrift, IsTime}
-use Rattle.gptp_pdelay.proofs.ClockLemmas.{clock_shows_time}
+use Rattle.gptp_pdelay.proofs.ClockLemmas.{stamp_shows_time}
+use Rattle.gptp_setup.specs.declared.setup.Params.{Params}
 use Rattle.gptp_setup.specs.SettlingParams.{SettlingParams}
-use Rattle.gptp_system.specs.State.{clock}
+use Rattle.gptp_system.specs.State.{clock, stamping}
 use Rattle.gptp_model.specs.declared.station.Station.{Station}
 use Rattle.gptp_model.specs.World.{WorldState, receiver, sender}
 use Rattle.gptp_error_laws.specs.TimeError.{WayLink, Way, link_at}
 use Rattle.gptp_error_laws.specs.WayLaws.{IsDocumented}
 use Rattle.gptp_error_laws.proofs.LongerLemmas.{link_same}
-use Rattle.gptp_sync_machine.specs.Follower.{own_clock}
 use Rattle.gptp_sync_machine.specs.Right.{most_correction_at}
 use Rattle.gptp_sync_machine.specs.Tree.{IsWayTo, Parts, last_link}
 use Rattle.gptp_sync_machine.specs.TreeLaws.{ArePartsOf}
@@ -26,7 +26,7 @@ use Rattle.gptp_invariants.specs.SyncFollowers.{HasWay, IsFollower, follower_clo
 use Rattle.gptp_invariants.specs.DelayLinkView.{LinkPlace}
 use Rattle.gptp_invariants.specs.WorldStanding.{live_stations, snapshot_of}
 use Rattle.gptp_invariants.specs.SyncTimed.{IsSettledFrom}
-use Rattle.gptp_invariants.proofs.SyncFollowSettingLemmas.{fit, is_setting, own_shown}
+use Rattle.gptp_invariants.proofs.SyncFollowSettingLemmas.{fit, is_setting, own_stamped}
 use Rattle.gptp_invariants.proofs.SyncFollowTreeLemmas.{well_formed}
 use Rattle.gptp_invariants.proofs.WorldStandsLemmas.{sender_lives}
 use Rattle.gptp_invariants.proofs.WorldSystemLemmas.{clock_lives, live_from}
@@ -89,8 +89,8 @@ module _ (p : SettlingParams) (settled longest : ℕ) (w : WorldState) (is : IsS
   pub long : length h.way.links ≡ suc steps
   long = way_leads_to.long x g (suc steps) (follower_clock at w f) h.way h.phase h.is
 
-  common : (h.way.interval ≡ x.interval) × (h.way.turnaround ≡ x.turnaround) × (h.way.residence ≡ x.residence)
-      × (h.way.blur ≡ 0)
+  pub common : (h.way.interval ≡ x.interval) × (h.way.turnaround ≡ x.turnaround) × (h.way.residence ≡ x.residence)
+      × (h.way.blur ≡ x.blur) × (h.way.behind ≡ x.behind)
   common = way_ends_at_parent.common x g (suc steps) (follower_clock at w f) h.way h.phase h.is
 
   pub documented : IsDocumented h.way
@@ -112,23 +112,26 @@ module _ (p : SettlingParams) (settled longest : ℕ) (w : WorldState) (is : IsS
       let residence : h.way.residence ≤ 1000000000 = omega (arith, most_residence, common.2) in
       let limit = is.limit in
       let less = few in
-      let each : 131072 * (2 * longest + h.way.blur + h.way.turnaround + h.way.residence + 1) ≤ 524288131072000 =
-      omega (arith, turnaround, residence, limit, common.3) in
+      let little = documented.little in
+      let each : 131072 * (2 * longest + 3 * h.way.blur + h.way.turnaround + h.way.residence + 1) ≤ 524289179779072 =
+      omega (arith, turnaround, residence, limit, little) in
       let most_steps : suc steps ≤ 255 = omega (arith, less) in
-      let product : suc steps * (131072 * (2 * longest + h.way.blur + h.way.turnaround + h.way.residence + 1))
-      ≤ 255 * 524288131072000 = mul-le-mul most_steps each in
+      let product : suc steps * (131072 * (2 * longest + 3 * h.way.blur + h.way.turnaround + h.way.residence + 1))
+      ≤ 255 * 524289179779072 = mul-le-mul most_steps each in
       omega (arith, within, product)
 
-  -- its own clock shows times
+  -- its time stamps are times
   pub own_time_fits : (t : ℕ) → t ≤ w.time
-      → IsTime (own_clock (follower_setting p.params settled longest at w f steps h) t)
+      → IsTime ((follower_setting p.params settled longest at w f steps h).stamps t)
   own_time_fits t before =
       let shown = is.shown in
       let its = is.world.sound.wired.setups at.answering f.own.station f.own.here in
       let set_up = (is.measured.stations at.answering f.own.station f.own.here).set_up in
-      subst IsTime (own_shown p settled longest w is at f steps h t)
-      (clock_shows_time (follower_state at w f).phase (follower_state at w f).drift t
+      let set = (is.world.known.set at.answering f.own.station f.own.here).params in
+      subst IsTime (own_stamped p settled longest w is at f steps h t)
+      (stamp_shows_time (stamping (follower_state at w f)) (follower_state at w f).phase (follower_state at w f).drift t
       (subst (λ n. n ≤ 10 ^ 18) (sym set_up.phase) its.phase) (omega (arith, before, shown))
+      (subst (λ (q : Params). q.noise ≤ 1000) (sym set) is.pace.params.ranges.params.noise)
       (subst IsDrift (sym set_up.drift) its.drift))
 
 -- ---- a parent

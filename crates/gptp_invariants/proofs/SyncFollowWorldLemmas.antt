@@ -17,7 +17,7 @@ use Rattle.gptp_model.specs.declared.done.Done.{Done}
 use Rattle.gptp_model.specs.World.{Channel, WorldState}
 use Rattle.gptp_sync_machine.proofs.TreeLemmas.{way_exists}
 use Rattle.gptp_invariants.specs.ChoiceCalm.{greatest_channel_delay}
-use Rattle.gptp_invariants.specs.SyncFollowers.{follower_clock, follower_parts}
+use Rattle.gptp_invariants.specs.SyncFollowers.{follower_clock, follower_parts, stamps_of}
 use Rattle.gptp_invariants.specs.WorldStanding.{channel_is_used, live_stations, snapshot_of}
 use Rattle.gptp_invariants.specs.WorldKnown.{IsKnown}
 use Rattle.gptp_invariants.specs.ChoiceSeenLaws.{IsNoChange}
@@ -108,5 +108,11 @@ others_follow p settled longest w place station best is here live near is_best o
       follower = f.follower;
       is = f.named;
       steps = follows.nearer.distance;
-      way = record { way = way; phase = phase; is = leads };
+      way = record {
+        way = way;
+        phase = phase;
+        stamps = stamps_of w.stations (follower_clock f.at w f.follower);
+        is = leads;
+        stamped = refl;
+      };
     }

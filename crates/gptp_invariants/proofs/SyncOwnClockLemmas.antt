@@ -5,7 +5,7 @@ use Rattle.std.specs.List.{range_with_len}
 use Rattle.gptp_lists.proofs.MappedLemmas.{mapped}
 use Rattle.gptp_links.specs.declared.bounds.Bounds.{Bounds}
 use Rattle.gptp_scenario.specs.declared.change.Timed.{Timed}
-use Rattle.gptp_scenario.specs.Network.{NetworkState, pace_of}
+use Rattle.gptp_scenario.specs.Network.{NetworkState}
 use Rattle.gptp_system.specs.Input.{Input}
 use Rattle.gptp_system.specs.State.{SystemState, local_time}
 use Rattle.gptp_system.specs.Syncing.{is_leading}
@@ -60,7 +60,7 @@ pub own_begins : {F : Type 0} (answers : Bounds → ℕ → F → Option ℕ →
 own_begins answers n fate fate_after w k =
     starts_by keeps (range_with_len 0 (length n.systems)) (initial n) k.draws w k.starts
     (λ place station here.
-    let (member, there, is) = mapped (station_of (pace_of n)) n.systems place station here in
+    let (member, there, is) = mapped (station_of n) n.systems place station here in
     subst TellsAsSetUp is (record { continues = refl; own = λ off. refl }))
 
 -- and stays so

@@ -9,7 +9,7 @@ use Rattle.gptp_links.specs.Fate.{Draw}
 use Rattle.gptp_links.specs.Queue.{Frame, frame}
 use Rattle.gptp_scenario.specs.declared.change.Act.{Act}
 use Rattle.gptp_scenario.specs.declared.network.LinkSpec.{LinkSpec}
-use Rattle.gptp_scenario.specs.Network.{IsNetwork, NetworkState, pace_of}
+use Rattle.gptp_scenario.specs.Network.{IsNetwork, NetworkState}
 use Rattle.gptp_system.specs.Input.{Input, Expires, Frame as FrameHeard, PortDown, PortUp, Priority}
 use Rattle.gptp_system.specs.Start.{started}
 use Rattle.gptp_system.proofs.TimersChangedLemmas.{priority_clock}
@@ -171,8 +171,8 @@ initial_encodable n is = record { stations = stations; links = links }
   where
     stations : (place : ℕ) (station : Station) → slice_get (stations_of n) place ≡ Some station → StationFits station
     stations place station there =
-        let (m, stands, same) = mapped (station_of (pace_of n)) n.systems place station there in
-        subst StationFits same (new_fits 0 (setup_of (pace_of n) m) false (is.identities place m stands))
+        let (m, stands, same) = mapped (station_of n) n.systems place station there in
+        subst StationFits same (new_fits 0 (setup_of n m) false (is.identities place m stands))
 
     links : (link : ℕ) (channel : Channel) → slice_get (channels_of n) link ≡ Some channel → ChannelFits channel
     links link channel there =

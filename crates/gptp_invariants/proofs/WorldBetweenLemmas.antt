@@ -13,7 +13,7 @@ use Rattle.gptp_model.specs.declared.station.Station.{Station}
 use Rattle.gptp_model.specs.Acts.{Acts}
 use Rattle.gptp_model.specs.Changing.{StartsAll}
 use Rattle.gptp_model.specs.Initial.{channel_from, initial, setup_of, station_of, stations_of}
-use Rattle.gptp_scenario.specs.Network.{IsNetwork, IsPort, IsWire, NetworkState, pace_of}
+use Rattle.gptp_scenario.specs.Network.{IsNetwork, IsPort, IsWire, NetworkState}
 use Rattle.gptp_model.specs.Sound.{IsSound}
 use Rattle.gptp_model.specs.World.{WorldState}
 use Rattle.gptp_lists.proofs.MappedLemmas.{mapped, mapped_there, same_there}
@@ -27,14 +27,14 @@ use Rattle.gptp_invariants.proofs.WorldOutlineLemmas.{acts_count, count, starts_
 port_made : (n : NetworkState) → IsNetwork n → (port : PortId) → IsPort n.systems port
     → StationsHavePort (stations_of n) port
 port_made n is port k =
-    let setup = setup_of (pace_of n) k.system in
-    let made : Station = station_of (pace_of n) k.system in
+    let setup = setup_of n k.system in
+    let made : Station = station_of n k.system in
     let ports = length-new_ports (clock_of setup.identity) setup.params 1 setup.intervals.items
     ∙ (is.systems k.place k.system k.there).many in
     record {
       place = k.place;
       station = made;
-      here = mapped_there (station_of (pace_of n)) n.systems k.place k.system k.there;
+      here = mapped_there (station_of n) n.systems k.place k.system k.there;
       named = k.clock;
       is = record { least = k.first; most = subst (λ count. port.port ≤ count) (sym ports) k.last };
     }

@@ -86,9 +86,9 @@ all_among So (log ∷ logs) each = (each log (inl refl), all_among So logs (λ x
 
 -- a system as the network has it, before it starts
 initial_station : (n : NetworkState) → IsNetwork n → (place : ℕ) (m : SystemSpec) → slice_get n.systems place ≡ Some m
-    → IsKeptStation (pace_of n) (IsOf n) 0 (station_of (pace_of n) m)
+    → IsKeptStation (pace_of n) (IsOf n) 0 (station_of n m)
 initial_station n is place m there =
-    let setup : Setup = setup_of (pace_of n) m in
+    let setup : Setup = setup_of n m in
     let params = is.params.ranges.params in
     let logs = log_of_system n place m there in
     let intervals : AreIntervals setup = record {
@@ -145,7 +145,7 @@ initial_kept : (n : NetworkState) → IsNetwork n → IsKept (pace_of n) (IsOf n
 initial_kept n is = record {
   change = omega arith;
   stations = λ place station here.
-      let member = mapped (station_of (pace_of n)) n.systems place station here in
+      let member = mapped (station_of n) n.systems place station here in
       subst (IsKeptStation (pace_of n) (IsOf n) 0) member.2 (initial_station n is place member.0 member.1);
   largest = inl refl;
   near = λ log so. initial_limited n (within (interval_of log) 0)
@@ -156,7 +156,7 @@ initial_kept n is = record {
 -- no system is live yet, so no port measures
 initial_measure : (n : NetworkState) → MeasureLinks (initial n)
 initial_measure n place station here live =
-    let member = mapped (station_of (pace_of n)) n.systems place station here in
+    let member = mapped (station_of n) n.systems place station here in
     let both : true ≡ false = sym live ∙ ap (λ (x : Station). x.live) (sym member.2) in
     absurd cc
 

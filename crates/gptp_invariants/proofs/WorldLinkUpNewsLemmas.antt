@@ -106,7 +106,8 @@ module _ (p : SettlingParams) (start number port : ℕ) (w : WorldState) (draws 
 
     down_silent : AreSilentBy p start w'
     down_silent at s =
-        up_silences p start at k.place k.channel w draws w' is.sound.wired k.is.here (λ same. apart at s k.place k.channel k.is (sym same))
+        up_silences p start at k.place k.channel w draws w' is.sound.wired k.is.here
+        (λ same. apart at s k.place k.channel k.is (sym same))
         (subst (λ b. ComesUpIf b k.place k.channel now draws w') down k.so)
         silent s
 

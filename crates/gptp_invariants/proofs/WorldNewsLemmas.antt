@@ -80,7 +80,7 @@ use Rattle.gptp_invariants.proofs.WorldGreatestDelayLemmas.{delay_of_used, delay
 use Rattle.gptp_invariants.proofs.DelayElsewhereLemmas.{watch_goes_through, watched_stay_capable}
 use Rattle.gptp_invariants.proofs.DelayFirstAtLemmas.{by_goes_on, by_goes_through, first_full}
 use Rattle.gptp_bmca_machine.proofs.TimesLemmas.{times_fit}
-use Rattle.gptp_invariants.proofs.DelayLinkLemmas.{sender_opposite}
+use Rattle.gptp_invariants.proofs.DelayLinkLemmas.{sender_opposite, good_between}
 use Rattle.gptp_invariants.proofs.ChoiceSeenActLemmas.{acts_seen}
 use Rattle.gptp_invariants.proofs.ChoiceSettledLemmas.{settles_so}
 use Rattle.gptp_invariants.proofs.WorldSettledLemmas.{still_acts_stay, time_stays}
@@ -154,7 +154,8 @@ module _ (p : SettlingParams) (w : WorldState) (is : IsWorld p w) (quiet : HaveQ
             (ap (λ (x : PortIdentity). x.clock) (sym way.from) ∙ sym one.named
             ∙ ap (λ (x : Station). clock x.system) alike ∙ other.named
             ∙ ap (λ (x : PortIdentity). x.clock) way.to);
-        good = rw (answering, asking) links.good;
+        good = good_between way.channel.bounds.max p.params one.station.setup.params other.station.setup.params asking
+            answering links.good;
       }
 
 -- ---- a link that is ready

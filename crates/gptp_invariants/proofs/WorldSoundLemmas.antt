@@ -17,7 +17,7 @@ use Rattle.gptp_scenario.specs.declared.change.Act.TheVariants.{Change as Changi
 use Rattle.gptp_scenario.specs.declared.change.Change.{Change}
 use Rattle.gptp_scenario.specs.declared.change.Change.TheVariants.{LinkDown, LinkUp, LinkSet, Fail, Recover, Priority1, Inject}
 use Rattle.gptp_scenario.specs.declared.network.LinkSpec.{LinkSpec}
-use Rattle.gptp_scenario.specs.Network.{NetworkState, pace_of}
+use Rattle.gptp_scenario.specs.Network.{NetworkState}
 use Rattle.gptp_receipt.specs.Held.{received}
 use Rattle.gptp_setup.specs.SettlingParams.{largest_interval}
 use Rattle.gptp_system.specs.declared.answer.Answer.{Answer}
@@ -475,7 +475,7 @@ initial_all_sound n = record {
       (subst (λ (x : Lane). In f x.frames) at.is member)));
   stations = λ i s there live.
       let at = station_from (stations_of n) i s there in
-      let (member, stood, made) = mapped (station_of (pace_of n)) n.systems i at.station at.here in
+      let (member, stood, made) = mapped (station_of n) n.systems i at.station at.here in
       let dead : at.station.live ≡ false = ap (λ (x : Station). x.live) (sym made) in
       let lives : at.station.live ≡ true = ap (λ (x : SeenStation). x.live) (sym at.is) ∙ live in
       absurd cc;
@@ -489,7 +489,7 @@ initial_all_sound n = record {
 initial_identity : (n : NetworkState) → HaveOwnIdentity (initial n)
 unfolding HaveOwnIdentity
 initial_identity n place station there =
-    let (member, stood, made) = mapped (station_of (pace_of n)) n.systems place station there in
+    let (member, stood, made) = mapped (station_of n) n.systems place station there in
     subst (λ (x : Station). x.system.identity ≡ x.setup.identity) made refl
 
 pub sound_begins : {F : Type 0} (answers : Bounds → ℕ → F → Option ℕ → F → Type 0) → SoundBegins answers

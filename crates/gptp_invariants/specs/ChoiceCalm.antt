@@ -25,10 +25,10 @@ use Rattle.gptp_invariants.specs.WorldStanding.{channel_is_used, live_stations, 
 
 -- ---- links
 
--- a link loses nothing, and is short enough for the threshold
+-- a link loses nothing, and is short enough for the threshold by time stamps
 pub record IsQuietLink (p : Params) (channel : Channel) : Type 0 where
   pub lossless : channel.bounds.loss ≡ 0
-  pub good : IsGoodLink channel.bounds.max p.turnaround p.threshold
+  pub good : IsGoodLink (channel.bounds.max + blur_of p) p.turnaround p.threshold
 
 -- each link that is up between two live systems loses nothing, and is short enough for the threshold
 abbrev pub HaveQuietLinks : Params → WorldState → Type 0

@@ -3,11 +3,10 @@ use Rattle.std.specs.Prelude.{◌≡◌, ◌≢◌, ◌<◌, ◌+◌, ◌*◌, �
 use Rattle.gptp_pdelay_machine.specs.Facts.{Facts}
 use Rattle.gptp_pdelay_machine.specs.First.{InvFirst}
 use Rattle.gptp_pdelay_machine.specs.FirstLaws.{exchange_span}
-use Rattle.gptp_pdelay.specs.GoodLink.{IsGoodLink}
 use Rattle.gptp_setup.specs.Intervals.{interval_of}
 use Rattle.gptp_model.specs.World.{Channel, WorldState, receiver, sender}
 use Rattle.gptp_invariants.specs.DelayMeasured.{StationIsLiveAt}
-use Rattle.gptp_invariants.specs.DelayLinkView.{IsLinkOf, LinkPlace, reads_as_request, least_delay, meter, pair, reads_as_reply, link_setting}
+use Rattle.gptp_invariants.specs.DelayLinkView.{IsGoodBetween, IsLinkOf, LinkPlace, reads_as_request, least_delay, meter, pair, reads_as_reply, link_setting}
 
 -- The port that asks sent it at this time: since then exchanges are in their phases, and what they had to measure is
 -- measured.
@@ -35,7 +34,6 @@ pub record StandsDown (at : LinkPlace) (w : WorldState) : Type 0 where
   pub asking : StationIsLiveAt at.asking (sender at.direction channel).clock w
   pub answering : StationIsLiveAt at.answering (receiver at.direction channel).clock w
   pub apart : at.asking ≢ at.answering
-  pub good : IsGoodLink channel.bounds.max answering.station.setup.params.turnaround
-      asking.station.setup.params.threshold
+  pub good : IsGoodBetween channel.bounds.max asking.station.setup.params answering.station.setup.params
   pub short : 2 * asking.station.setup.params.threshold + answering.station.setup.params.turnaround
       < interval_of asking.station.setup.params.pdelay

@@ -1,5 +1,5 @@
 -- A world as the machine of gptp_pdelay_machine sees it at one link, in one direction.
-use Rattle.std.specs.Prelude.{◌≡◌, ◌≢◌, ◌⊎◌, ◌≤◌, ◌<◌, ◌-◌, ◌^◌, ℕ, true, List, map, Option, Some, None, is_some, slice_get}
+use Rattle.std.specs.Prelude.{◌≡◌, ◌≢◌, ◌⊎◌, ◌≤◌, ◌<◌, ◌+◌, ◌-◌, ◌^◌, ℕ, ℤ, true, List, map, Option, Some, None, is_some, slice_get}
 use Rattle.std.specs.Option.{option_map_or}
 use Rattle.gptp_lists.specs.Members.{In}
 use Rattle.gptp_graph.specs.Snapshot.{PortIdentity, port_of}
@@ -13,10 +13,12 @@ use Rattle.gptp_messages.specs.Grammar.{Reads}
 use Rattle.gptp_links.specs.declared.link.Direction.{Direction}
 use Rattle.gptp_links.specs.declared.link.Direction.TheVariants.{FromA, FromB}
 use Rattle.gptp_links.specs.Queue.{Frame}
+use Rattle.gptp_roles.specs.Selection.{clock_of}
+use Rattle.gptp_scaled.specs.declared.time_stamp.Stamping.{Stamping}
 use Rattle.gptp_pdelay.specs.declared.answer.Answer.{Answer as Owed}
 use Rattle.gptp_pdelay.specs.declared.progress.Progress.{Progress}
 use Rattle.gptp_pdelay.specs.declared.progress.Progress.TheVariants as progresses
-use Rattle.gptp_pdelay.specs.Clock.{local_clock}
+use Rattle.gptp_pdelay.specs.Clock.{clock_stamp}
 use Rattle.gptp_pdelay.specs.Exchange.{carried_time}
 use Rattle.gptp_pdelay.specs.GoodLink.{IsGoodLink}
 use Rattle.gptp_pdelay.specs.Peer.{is_capable}
@@ -24,6 +26,7 @@ use Rattle.gptp_system.specs.declared.port.Port.{Port}
 use Rattle.gptp_setup.specs.declared.setup.Params.{Params}
 use Rattle.gptp_setup.specs.declared.setup.Setup.{Setup}
 use Rattle.gptp_setup.specs.Intervals.{interval_of}
+use Rattle.gptp_setup.specs.Stamping.{blur_of}
 use Rattle.gptp_system.specs.Measures.{Part, measure_at}
 use Rattle.gptp_system.specs.State.{clock, number}
 use Rattle.gptp_model.specs.declared.station.Station.{Station}
@@ -124,6 +127,18 @@ link_frame_view f = record { due = f.due; octets = f.octets }
 abbrev pub link_lane_view : Direction → Channel → List SeenFrame
 link_lane_view direction channel = map link_frame_view (world_queue direction channel)
 
+-- how a system that is set up so stamps time, and the time stamps that it takes of its clock
+abbrev pub setup_stamping : Setup → Stamping
+setup_stamping setup = record {
+  granularity = setup.params.granularity;
+  most_noise = setup.params.noise;
+  seed = setup.seed;
+  clock = clock_of setup.identity;
+}
+
+abbrev pub setup_stamps : Setup → ℕ → ℤ
+setup_stamps setup t = clock_stamp (setup_stamping setup) setup.phase setup.drift t
+
 -- the link, with the setups of the systems of its asking and of its answering port
 abbrev pub setting_view : Direction → Channel → Setup → Setup → Setting
 setting_view direction channel asking answering = record {
@@ -133,8 +148,8 @@ setting_view direction channel asking answering = record {
   turnaround = answering.params.turnaround;
   period = interval_of asking.params.pdelay;
   allowed = asking.params.lost;
-  asking_clock = local_clock asking.phase asking.drift;
-  answering_clock = local_clock answering.phase answering.drift;
+  asking_clock = setup_stamps asking;
+  answering_clock = setup_stamps answering;
 }
 
 -- the two ports and the lanes between them, where the asking port asks at this interval
@@ -170,11 +185,13 @@ pub record IsMeasuring (params : Params) (port : PortId) (x : Part) : Type 0 whe
   pub owes : (due : ℕ) → x.respond ≡ Some due
       → (owed : Owed) × (x.peer.waiting ≡ Some owed) × RequestFits owed.requester owed.sequence
 
--- a system has the parameters and the clock of its setup
+-- a system has the parameters, the clock and the seed of its setup
 pub record IsAsSetUp (station : Station) : Type 0 where
   pub params : station.system.params ≡ station.setup.params
   pub phase : station.system.phase ≡ station.setup.phase
   pub drift : station.system.drift ≡ station.setup.drift
+  pub seed : station.system.seed ≡ station.setup.seed
+  pub named : clock station.system ≡ clock_of station.setup.identity
 
 -- the station at a place is live, as it was set up, and has this port, which measures
 pub record IsEndAmong (place : ℕ) (port : PortId) (stations : List Station) : Type 0 where
@@ -190,6 +207,13 @@ pub record IsEndAmong (place : ℕ) (port : PortId) (stations : List Station) : 
 abbrev pub IsEndOf : ℕ → PortId → WorldState → Type 0
 IsEndOf place port w = IsEndAmong place port w.stations
 
+-- A link of this greatest delay is good between two systems with these parameters: it is short enough for the threshold
+-- by time stamps, and both stamp time alike.
+pub record IsGoodBetween (most : ℕ) (asking answering : Params) : Type 0 where
+  pub short : IsGoodLink (most + blur_of asking) answering.turnaround asking.threshold
+  pub granularity : answering.granularity ≡ asking.granularity
+  pub noise : answering.noise ≡ asking.noise
+
 -- At this place stands a link that is up, loses nothing and is good, between ports of two live stations that measure.
 pub record IsLinkAmong (at : LinkPlace) (channels : List Channel) (stations : List Station) : Type 0 where
   pub channel : Channel
@@ -199,8 +223,7 @@ pub record IsLinkAmong (at : LinkPlace) (channels : List Channel) (stations : Li
   pub asking : IsEndAmong at.asking (sender at.direction channel) stations
   pub answering : IsEndAmong at.answering (receiver at.direction channel) stations
   pub apart : at.asking ≢ at.answering
-  pub good : IsGoodLink channel.bounds.max answering.station.setup.params.turnaround
-      asking.station.setup.params.threshold
+  pub good : IsGoodBetween channel.bounds.max asking.station.setup.params answering.station.setup.params
   pub fit : (direction : Direction) (f : Frame) → In f (world_queue direction channel) → RequestSaysWhatFits f.octets
 
 abbrev pub IsLinkOf : LinkPlace → WorldState → Type 0

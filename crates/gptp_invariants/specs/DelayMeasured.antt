@@ -4,14 +4,13 @@ use Rattle.std.specs.Prelude.{◌≡◌, ◌≢◌, ℕ, true, List, Some, slice
 use Rattle.gptp_lists.specs.Members.{In}
 use Rattle.gptp_links.specs.declared.link.Direction.{Direction}
 use Rattle.gptp_links.specs.Queue.{Frame}
-use Rattle.gptp_pdelay.specs.GoodLink.{IsGoodLink}
 use Rattle.gptp_system.specs.declared.port.Port.{Port}
 use Rattle.gptp_system.specs.Measures.{measure_at}
 use Rattle.gptp_system.specs.State.{clock, number, own}
 use Rattle.gptp_system.specs.Times.{IsInTime}
 use Rattle.gptp_model.specs.declared.station.Station.{Station}
 use Rattle.gptp_model.specs.World.{Channel, WorldState, world_queue, receiver, sender}
-use Rattle.gptp_invariants.specs.DelayLinkView.{IsAsSetUp, IsMeasuring, LinkPlace, RequestSaysWhatFits}
+use Rattle.gptp_invariants.specs.DelayLinkView.{IsAsSetUp, IsGoodBetween, IsMeasuring, LinkPlace, RequestSaysWhatFits}
 
 -- a station is as it was set up, its timers are in time, and each of its ports measures
 pub record IsStationMeasured (time : ℕ) (station : Station) : Type 0 where
@@ -46,5 +45,4 @@ pub record LinkStandsAt (at : LinkPlace) (w : WorldState) : Type 0 where
   pub asking : StationIsLiveAt at.asking (sender at.direction channel).clock w
   pub answering : StationIsLiveAt at.answering (receiver at.direction channel).clock w
   pub apart : at.asking ≢ at.answering
-  pub good : IsGoodLink channel.bounds.max answering.station.setup.params.turnaround
-      asking.station.setup.params.threshold
+  pub good : IsGoodBetween channel.bounds.max asking.station.setup.params answering.station.setup.params

@@ -10,6 +10,7 @@ use Rattle.gptp_links.specs.declared.link.Direction.{Direction}
 use Rattle.gptp_setup.specs.declared.setup.Params.{Params}
 use Rattle.gptp_setup.specs.declared.setup.Setup.{Setup}
 use Rattle.gptp_setup.specs.Intervals.{interval_of}
+use Rattle.gptp_setup.specs.Stamping.{behind_of, blur_of}
 use Rattle.gptp_roles.specs.Selection.{clock_of}
 use Rattle.gptp_system.specs.State.{SystemState}
 use Rattle.gptp_system.specs.Takeover.{reads_own}
@@ -20,7 +21,7 @@ use Rattle.gptp_sync_machine.specs.Follower.{Follower, FollowerSetting}
 use Rattle.gptp_sync_machine.specs.Tree.{IsWayTo, Parts, follower_of}
 use Rattle.gptp_invariants.specs.ChoiceCalm.{has_port_id, clock_place, setups_of}
 use Rattle.gptp_invariants.specs.SyncFollowView.{follower_view}
-use Rattle.gptp_invariants.specs.DelayLinkView.{LinkPlace}
+use Rattle.gptp_invariants.specs.DelayLinkView.{LinkPlace, setup_stamps}
 use Rattle.gptp_invariants.specs.DelayMeasured.{StationIsLiveAt}
 use Rattle.gptp_invariants.specs.WorldStanding.{channel_is_used, live_stations, snapshot_of}
 use Rattle.gptp_invariants.specs.ChoiceView.{port_identity_number}
@@ -39,6 +40,10 @@ bound_at f systems (channel ∷ channels) port =
     then f channel.bounds
     else bound_at f systems channels port
 
+-- the time stamps that the system with a clock takes of it, by its setup
+abbrev pub stamps_of : List Station → ℕ → ℕ → ℤ
+stamps_of stations clock = set_up_with setup_stamps (λ t. pos 0) stations clock
+
 -- the drifts and phases of clocks are those of the setups, and delays those of the links in use
 abbrev pub follower_parts : Params → WorldState → Parts
 follower_parts p w = record {
@@ -46,6 +51,8 @@ follower_parts p w = record {
   phase = set_up_with (λ setup. setup.phase) 0 w.stations;
   least = bound_at (λ b. b.min) (live_stations w.stations) w.net.channels;
   most = bound_at (λ b. b.max) (live_stations w.stations) w.net.channels;
+  blur = blur_of p;
+  behind = behind_of p;
   interval = interval_of p.pdelay;
   turnaround = p.turnaround;
   residence = p.residence;
@@ -104,16 +111,18 @@ follower at w f = follower_view w.time at.direction f.channel (follower_state at
 
 -- ---- its way
 
--- it has a way with so many links and one more
+-- it has a way with so many links and one more, and takes these time stamps of its clock
 pub record HasWay (p : Params) (at : LinkPlace) (w : WorldState) (f : IsFollower at w) (steps : ℕ) : Type 0 where
   pub way : Way
   pub phase : ℕ → ℕ
+  pub stamps : ℕ → ℤ
   pub is : IsWayTo (follower_parts p w) (snapshot_of w) (suc steps) (follower_clock at w f) way phase
+  pub stamped : stamps ≡ stamps_of w.stations (follower_clock at w f)
 
 -- the setting that it then has, in a network that is settled from a time on, where no delay is above the longest, and
 -- the root tells time by the base that it has
 abbrev pub follower_setting : (p : Params) (settled longest : ℕ) (at : LinkPlace) (w : WorldState)
     (f : IsFollower at w) (steps : ℕ) → HasWay p at w f steps → FollowerSetting
 follower_setting p settled longest at w f steps h =
-    follower_of h.way h.phase (root_base w (follower_state at w f)) steps
+    follower_of h.way h.phase (root_base w (follower_state at w f)) steps h.stamps
     (port_identity_number (sender at.direction f.channel)) settled longest

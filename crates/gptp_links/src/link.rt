@@ -214,6 +214,8 @@ impl Link {
     }
 
     /// Makes room for exactly so many more frames from each end. Where it is refused nothing changes.
+    #[cold]
+    #[inline(never)]
     fn make_room(&mut self, from_a: usize, from_b: usize) -> Result<(), AllocError>
         ensures frames { SameFrames self.old self.new }
         ensures ok { OnOk result ((self.new.from_a.room ≡ from_a) × (self.new.from_b.room ≡ from_b)) }

@@ -67,6 +67,7 @@ impl Head {
 }
 
 /// Appends a message: its header, and the octets after it. Without memory nothing is appended.
+#[inline(always)]
 pub(crate) fn put_message(
     head: &Head,
     message_type: MessageType,

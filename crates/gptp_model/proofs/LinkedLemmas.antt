@@ -316,13 +316,15 @@ goes_down place channel w draws w' here setups ports apart linked tells =
     has_b =
         stays_has_port tells.place_b channel.b down tells.between
         (calls_if_live_stay tells.place_a (PortDown channel.a.port) down tells.first tells.between setups tells.at_a)
-        (among_has tells.place_b channel.b tells.station_b down tells.is_b (join_among w place channel ports here FromB))
+        (among_has tells.place_b channel.b tells.station_b down tells.is_b
+        (join_among w place channel ports here FromB))
 
     told : LinkedBut (IsJoined channel) w'
     told =
         down_if_live (IsJoined channel) tells.place_b channel.b tells.between tells.second w' (inr refl) has_b
         (down_if_live (IsJoined channel) tells.place_a channel.a down tells.first tells.between (inl refl)
-        (among_has tells.place_a channel.a tells.station_a down tells.is_a (join_among w place channel ports here FromA))
+        (among_has tells.place_a channel.a tells.station_a down tells.is_a
+        (join_among w place channel ports here FromA))
         but tells.at_a) tells.at_b
 
 goes_down_linked : (up : Bool) (place : ℕ) (channel : Channel) (w : WorldState) (draws : List Draw)
@@ -357,7 +359,8 @@ brought_up_linked place channel w draws w' here setups clocks ports linked tells
     (among_has tells.place_b channel.b tells.station_b at tells.is_b (join_among w place channel ports here FromB)))
     (λ port is. inr is)
     (up_if_live (IsJoined channel) (λ port. port ≡ channel.b) tells.place_a channel.a at tells.first tells.between
-    clocks (among_has tells.place_a channel.a tells.station_a at tells.is_a (join_among w place channel ports here FromA))
+    clocks
+    (among_has tells.place_a channel.a tells.station_a at tells.is_a (join_among w place channel ports here FromA))
     less (brought_up_but place channel w here linked) tells.at_a) tells.at_b)
   where
     at : WorldState

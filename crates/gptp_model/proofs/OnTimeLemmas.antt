@@ -164,7 +164,8 @@ module _ (link : ℕ) (direction : Direction) (octets : List ℕ) (w : WorldStat
       by (Some one) c =
           let timely = heard_timely up one c in
           let call = calls_due_by k.place heard emptied draws one w' c
-          (subst (λ (x : Station). IsSteady x.system) timely.0 steady) timely.1 (taken_fit link direction octets k.channel w k.net k.takes fit)
+          (subst (λ (x : Station). IsSteady x.system) timely.0 steady) timely.1
+          (taken_fit link direction octets k.channel w k.net k.takes fit)
           (heard_pending one c timely.0 agree) in
           let first = less in
           omega arith

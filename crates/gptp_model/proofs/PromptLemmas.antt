@@ -14,7 +14,7 @@ use Rattle.gptp_model.specs.declared.item.Item.TheVariants.{Expiry, Arrival}
 use Rattle.gptp_model.specs.declared.station.Station.{Station}
 use Rattle.gptp_model.specs.Course.{Begun}
 use Rattle.gptp_model.specs.Initial.{initial, station_of}
-use Rattle.gptp_scenario.specs.Network.{NetworkState, pace_of, smallest_of}
+use Rattle.gptp_scenario.specs.Network.{NetworkState, smallest_of}
 use Rattle.gptp_scenario.specs.Prompt.{ArePromptActs, DelayFitsInterval}
 use Rattle.gptp_scenario.proofs.LogLemmas.{In-flat_map, interval_least}
 use Rattle.gptp_model.specs.Prompt.{AllDelaysFitIntervals, DelaysFitIntervals, NoneFaster}
@@ -67,7 +67,7 @@ all_prompt least acts w none prompt place timed here = prompt_within least timed
 
 initial_none_faster : (n : NetworkState) → NoneFaster (interval_of (smallest_of n)) (initial n)
 initial_none_faster n place station log here among =
-    let (member, there, is) = mapped (station_of (pace_of n)) n.systems place station here in
+    let (member, there, is) = mapped (station_of n) n.systems place station here in
     interval_least n log
     (In-flat_map _ log n.systems place member there
     (subst (λ (x : Station). In log x.setup.intervals.items) (sym is) among))

@@ -8,7 +8,8 @@ use Rattle.gptp_scenario.specs.Calm.{last_change}
 use Rattle.gptp_network.specs.declared.keys.TheConstants.{LATEST_EVENT}
 use Rattle.gptp_network.specs.Events.{timed, AreInOrder, AreEvents, IsEvent, IsPossibleChange}
 use Rattle.gptp_network.specs.declared.events.Event.{Event}
-use Rattle.gptp_scenario.specs.Network.{NetworkState, smallest_of}
+use Rattle.gptp_scenario.specs.Network.{NetworkState, seeded, smallest_of}
+use Rattle.gptp_scenario.proofs.NetworkLemmas.{seeded_smallest}
 use Rattle.gptp_scenario.specs.Allowed.{AreAllowed, IsAllowed}
 use Rattle.gptp_scenario.specs.Prompt.{ArePromptActs, DelayFitsInterval}
 use Rattle.gptp_scenario.specs.declared.change.Act.TheVariants as acts
@@ -77,6 +78,42 @@ early_from n es h = from_each es h.each where
   from_each [] h = omega arith
   from_each (e ∷ []) h = h.0.early
   from_each (e ∷ f ∷ es) h = from_each (f ∷ es) h.1
+
+-- ---- the seed
+
+-- they are those of the network whatever its seed
+possible_seeded : (n : NetworkState) (seed : ℕ) (change : Change) → IsPossibleChange n change
+    → IsPossibleChange (seeded seed n) change
+possible_seeded n seed (changes.LinkDown name port) is = is
+possible_seeded n seed (changes.LinkUp name port) is = is
+possible_seeded n seed (changes.LinkSet name port least greatest loss) (there, bounds) = (
+  there,
+  record {
+    positive = bounds.positive;
+    ordered = bounds.ordered;
+    prompt = subst (λ log. greatest ≤ interval_of log) (sym (seeded_smallest n seed)) bounds.prompt;
+    share = bounds.share;
+  },
+)
+possible_seeded n seed (changes.Fail name) is = is
+possible_seeded n seed (changes.Recover name) is = is
+possible_seeded n seed (changes.Priority1 name value) is = is
+possible_seeded n seed (changes.Inject name port frame) is = is
+
+pub events_seeded : (n : NetworkState) (seed : ℕ) (es : List Timed) → AreEvents n es → AreEvents (seeded seed n) es
+events_seeded n seed es h = record { in_order = h.in_order; each = each es h.each }
+  where
+    each : (es : List Timed) → AllByRecursion (IsEvent n) es → AllByRecursion (IsEvent (seeded seed n)) es
+    each [] none = tt
+    each (e ∷ es) h = (
+      record {
+        early = h.0.early;
+        change = h.0.change;
+        act = h.0.act;
+        fits = possible_seeded n seed h.0.change h.0.fits;
+      },
+      each es h.1,
+    )
 
 -- ---- events as acts
 

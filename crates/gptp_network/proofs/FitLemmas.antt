@@ -198,8 +198,6 @@ in_range p is =
     let counts : are_counts_in_range p ≡ true = intervals.1 in
     let times : are_times_in_range p ≡ true = counted.1 in
     let stamps : are_stamps_in_range p ≡ true = whole.1 in
-    let granularity : p.granularity ≤ 0 = grind (arith, nat_tests) in
-    let noise : p.noise ≤ 0 = grind (arith, nat_tests) in
     let most : p.window ≤ 1 = grind (arith, nat_tests) in
     let least : 1 ≤ p.window = grind (arith, nat_tests) in
     let window : p.window ≡ 1 = omega (arith, most, least) in
@@ -219,8 +217,8 @@ in_range p is =
         residence-least = grind (arith, nat_tests);
         residence = grind (arith, nat_tests);
         sync-timeout = grind (arith, nat_tests);
-        granularity = omega (arith, granularity);
-        noise = omega (arith, noise);
+        granularity = grind (arith, nat_tests);
+        noise = grind (arith, nat_tests);
         window-least = omega (arith, window);
         window = omega (arith, window);
       };
@@ -228,7 +226,6 @@ in_range p is =
       lost-least = grind (arith, nat_tests);
       threshold-least = grind (arith, nat_tests);
       threshold = grind (arith, nat_tests);
-      exact = omega (arith, granularity, noise);
       one_exchange = window;
     }
 

@@ -213,9 +213,9 @@ params_is t =
     (natural_is RESIDENCE t) (λ residence.
     step (natural_at SYNC_TIMEOUT t) (natural (codes "sync_timeout") 0 10 (Some 0) t) _ _
     (natural_is SYNC_TIMEOUT t) (λ sync_timeout.
-    step (natural_at GRANULARITY t) (natural (codes "granularity") 0 0 (Some 0) t) _ _ (natural_is GRANULARITY t)
+    step (natural_at GRANULARITY t) (natural (codes "granularity") 0 1000 (Some 0) t) _ _ (natural_is GRANULARITY t)
     (λ granularity.
-    step (natural_at NOISE t) (natural (codes "noise") 0 0 (Some 0) t) _ _ (natural_is NOISE t) (λ noise.
+    step (natural_at NOISE t) (natural (codes "noise") 0 1000 (Some 0) t) _ _ (natural_is NOISE t) (λ noise.
     step (natural_at WINDOW t) (natural (codes "window") 1 1 (Some 1) t) _ _ (natural_is WINDOW t) (λ window.
     refl))))))))))))
 

@@ -2,7 +2,7 @@
 use Rattle.std.specs.Prelude.{◌≡◌, ◌⊎◌, ℕ, codes, List, Some, None, Result, Ok, Err, IsUtf8}
 use Rattle.toml.specs.Data.{Members}
 use Rattle.toml.specs.Parse.{parse_document}
-use Rattle.gptp_scenario.specs.Network.{NetworkState}
+use Rattle.gptp_scenario.specs.Network.{NetworkState, seeded}
 use Rattle.gptp_scenario.specs.declared.change.Timed.{Timed}
 use Rattle.gptp_network.specs.Events.{events_of}
 use Rattle.gptp_network.specs.Faults.{◌>>=◌}
@@ -17,6 +17,10 @@ use Rattle.gptp_network.specs.declared.fault.DocumentFault.TheVariants.{NotToml}
 pub record DocumentState : Type 0 where
   pub network : NetworkState
   pub events : List Timed
+
+-- its systems draw noise from this seed
+abbrev pub seeded_document : ℕ → DocumentState → DocumentState
+seeded_document seed d = record d { network = seeded seed d.network }
 
 -- the network of a document of this version
 unfoldable pub whole_network_of : ℕ → Members → Result NetworkState DocumentFault

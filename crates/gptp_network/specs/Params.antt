@@ -20,8 +20,8 @@ params_of t = do
   turnaround ← natural (codes "turnaround") 1 1000000000 (Some 1000) t
   residence ← natural (codes "residence") 1 1000000000 (Some 1000) t
   sync_timeout ← natural (codes "sync_timeout") 0 10 (Some 0) t
-  granularity ← natural (codes "granularity") 0 0 (Some 0) t
-  noise ← natural (codes "noise") 0 0 (Some 0) t
+  granularity ← natural (codes "granularity") 0 1000 (Some 0) t
+  noise ← natural (codes "noise") 0 1000 (Some 0) t
   window ← natural (codes "window") 1 1 (Some 1) t
   Ok (record {
     announce = announce;

@@ -12,7 +12,7 @@ ghost use Rattle.gptp_network.specs.Adding.{adding_fault, with_event, with_first
 ghost use Rattle.gptp_network.specs.Events.{AreEvents, IsInRange};
 ghost use Rattle.gptp_network.specs.Faults.{RefusesDocument};
 ghost use Rattle.gptp_network.specs.Snapshot.{IsSnapshot, events_by};
-ghost use Rattle.gptp_network.specs.Document.{Parses, Means, Fails, IsNoToml, document_of};
+ghost use Rattle.gptp_network.specs.Document.{Parses, Means, Fails, IsNoToml, document_of, seeded_document};
 ghost use Rattle.gptp_network.specs.ReadDocument.{read_document, read_version, read_whole_network};
 ghost use Rattle.gptp_network.specs.Why.{StopsAt};
 
@@ -170,6 +170,13 @@ impl Document {
         ensures { self.new ≡ with_first count self.old }
     {
         self.events.truncate(count);
+    }
+
+    /// The systems of the network draw the noise of their time stamps from this seed.
+    pub fn set_seed(&mut self, seed: u64)
+        ensures { self.new ≡ seeded_document seed self.old }
+    {
+        self.network.set_seed(seed);
     }
 
     /// What is changed when, in the order of the document.

@@ -132,12 +132,11 @@ pub(crate) const RESIDENCE: Natural = (Name::Residence, 1, 1_000_000_000, Some(1
 
 pub(crate) const SYNC_TIMEOUT: Natural = (Name::SyncTimeout, 0, 10, Some(0));
 
-// Systems take no time stamps yet, nor measure a rate over more than one exchange: the three have their defaults alone.
+pub(crate) const GRANULARITY: Natural = (Name::Granularity, 0, 1000, Some(0));
 
-pub(crate) const GRANULARITY: Natural = (Name::Granularity, 0, 0, Some(0));
+pub(crate) const NOISE: Natural = (Name::Noise, 0, 1000, Some(0));
 
-pub(crate) const NOISE: Natural = (Name::Noise, 0, 0, Some(0));
-
+// No system measures a rate over more than one exchange yet: the window has its default alone.
 pub(crate) const WINDOW: Natural = (Name::Window, 1, 1, Some(1));
 
 // ---- `[[system]]`, whose `announce` is an array of the numbers that are the network's

@@ -78,6 +78,7 @@ short_way = record {
   drift = pos 0;
   links = record { least = 500; most = 500; drift = pos 0 } ∷ [];
   blur = 0;
+  behind = 0;
   interval = 1000000000;
   turnaround = 1000;
   residence = 1000;
@@ -154,8 +155,8 @@ module _ (w : WorldState) (time : ℕ) (k : IsPairSince 27000000000 w) (sound : 
   module _ (place number identity : ℕ) (stands : slice_get pair_network.systems place ≡ Some (end_station identity))
       (is : clock_of identity ≡ number) where
     pub found : (station : Station) × (slice_get w.stations place ≡ Some station)
-        × (shape station ≡ shape_after (pace_of pair_network) [] (end_station identity))
-    found = alike shape (shape_after (pace_of pair_network) []) w.stations pair_network.systems k.stands.systems place
+        × (shape station ≡ shape_after pair_network [] (end_station identity))
+    found = alike shape (shape_after pair_network []) w.stations pair_network.systems k.stands.systems place
         (end_station identity) stands
 
     named : clock found.0.system ≡ number
@@ -225,6 +226,7 @@ module _ (w : WorldState) (time : ℕ) (k : IsPairSince 27000000000 w) (sound : 
         drift = root i;
         links = record { least = least i; most = most i; drift = own i } ∷ [];
         blur = 0;
+        behind = 0;
         interval = 1000000000;
         turnaround = 1000;
         residence = 1000;

@@ -74,6 +74,7 @@ pair_network = record {
   params = params;
   systems = end_station first_member ∷ end_station second_member ∷ [];
   links = wire 0 (port_id 1 1) (port_id 2 1) 500 500 0 true ∷ [];
+  seed = 1;
 }
 
 -- by what its settling is counted

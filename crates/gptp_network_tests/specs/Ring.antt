@@ -37,6 +37,7 @@ ring_network = record {
       ∷ fibre 2 0x80e1fffe00000c 2 0x80e1fffe00000d 1
       ∷ fibre 3 0x80e1fffe00000d 2 0x80e1fffe00000a 2
       ∷ [];
+  seed = 1;
 }
 
 abbrev pub ring_document : DocumentState

@@ -3,8 +3,8 @@ use Rattle.std.proofs.lemmas.Int.{ints}
 use Rattle.gptp_scaled.specs.Rate.{unit}
 use Rattle.gptp_scaled.proofs.FloorLemmas.{floor_is}
 use Rattle.gptp_scaled.proofs.ProductLemmas.{distribute, times_grows}
-use Rattle.gptp_scaled.proofs.TimeStampLemmas.{stamp_is_centred}
-use Rattle.gptp_pdelay.specs.Clock.{IsDrift, ClockElapses, ClockIsRead, ClockShowsTime, StampsMakeClock, drift_limit, local_clock}
+use Rattle.gptp_scaled.proofs.TimeStampLemmas.{time_stamp_is_centred, time_stamp_is_near}
+use Rattle.gptp_pdelay.specs.Clock.{IsDrift, ClockElapses, ClockIsRead, ClockShowsTime, StampShowsTime, StampsMakeClock, drift_limit, local_clock}
 
 -- what a clock gains by its drift in so many units of time, before rounding
 record Gains (n : ℕ) (drift : ℤ) : Type 0 where
@@ -51,8 +51,8 @@ shows_some phase drift t d =
     omega (arith, ints, floor.passed, gained.low)
 
 pub stamps_make_clock : StampsMakeClock
-stamps_make_clock g e phase drift noise d within = record {
-  near = λ t. stamp_is_centred g e (noise t) (local_clock phase drift t) (shows_some phase drift t d) (within t);
+stamps_make_clock k phase drift d = record {
+  near = λ t. time_stamp_is_centred k t (local_clock phase drift t) (shows_some phase drift t d);
 }
 
 -- a clock within its limits shows a time
@@ -63,4 +63,15 @@ clock_shows_time phase drift t p q d =
     record {
       low = omega (arith, ints, floor.passed, gained.low);
       high = omega (arith, ints, floor.reached, gained.high);
+    }
+
+-- and what it stamps, little more
+pub stamp_shows_time : StampShowsTime
+stamp_shows_time k phase drift t p q few d =
+    let floor = floor_is (pos (65536 * t) *ℤ drift) unit (omega (arith, ints)) in
+    let gained = gains (65536 * t) drift d in
+    let near = time_stamp_is_near k t (local_clock phase drift t) (shows_some phase drift t d) in
+    record {
+      low = near.positive;
+      high = omega (arith, ints, floor.reached, gained.high, near.below, few);
     }

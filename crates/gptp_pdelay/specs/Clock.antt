@@ -3,7 +3,8 @@ use Rattle.std.specs.Prelude.{ℕ, ◌+◌, ◌*◌, ◌^◌, ◌≤◌, ℤ, po
 use Rattle.gptp_scaled.specs.Floor.{floor_div}
 use Rattle.gptp_scaled.specs.Rate.{unit}
 use Rattle.gptp_scaled.specs.Counts.{AreWithin}
-use Rattle.gptp_scaled.specs.TimeStamp.{IsNoise, stamp_blur, stamp_of}
+use Rattle.gptp_scaled.specs.declared.time_stamp.Stamping.{Stamping}
+use Rattle.gptp_scaled.specs.TimeStamp.{stamp_blur, time_stamp}
 
 -- the largest drift, in units of 2^-41: 100 parts in a million (IEEE 802.1AS-2020, B.1.1)
 abbrev pub drift_limit : ℤ
@@ -30,12 +31,15 @@ abbrev pub ClockIsRead : Type 0
 ClockIsRead = (w behind phase : ℕ) (drift : ℤ) → behind ≤ 32768 * w →
     IsStampClock w behind phase drift (local_clock phase drift)
 
--- Time stamps are of such a clock, whatever the noise is within its limit at each time.
+-- the time stamp that a system takes of its clock
+abbrev pub clock_stamp : Stamping → ℕ → ℤ → ℕ → ℤ
+clock_stamp k phase drift t = time_stamp k t (local_clock phase drift t)
+
+-- Time stamps are of such a clock, whatever noise is drawn.
 abbrev pub StampsMakeClock : Type 0
-StampsMakeClock = (granularity most_noise phase : ℕ) (drift : ℤ) (noise : ℕ → ℤ) → IsDrift drift →
-    ((t : ℕ) → IsNoise most_noise (noise t)) →
-    IsStampClock (stamp_blur granularity most_noise) (32768 * granularity) phase drift
-    (λ t. stamp_of granularity (noise t) (local_clock phase drift t))
+StampsMakeClock = (k : Stamping) (phase : ℕ) (drift : ℤ) → IsDrift drift →
+    IsStampClock (stamp_blur k.granularity k.most_noise) (32768 * k.granularity) phase drift
+    (clock_stamp k phase drift)
 
 -- While a span of time passes, in ns, a clock within the limit is read to count this much, in units of 2^-16 ns:
 -- between what the slowest and the fastest count, within w ns and less than one unit of rounding either way.
@@ -57,3 +61,8 @@ pub record IsTime (t : ℤ) : Type 0 where
 abbrev pub ClockShowsTime : Type 0
 ClockShowsTime = (phase : ℕ) (drift : ℤ) (t : ℕ) → phase ≤ 1000000000000000000 → t ≤ 1000000000000000000 → IsDrift drift
     → IsTime (local_clock phase drift t)
+
+-- and so are its time stamps, with a noise of at most 1000 ns
+abbrev pub StampShowsTime : Type 0
+StampShowsTime = (k : Stamping) (phase : ℕ) (drift : ℤ) (t : ℕ) → phase ≤ 1000000000000000000 → t ≤ 1000000000000000000
+    → k.most_noise ≤ 1000 → IsDrift drift → IsTime (clock_stamp k phase drift t)

@@ -2,7 +2,7 @@
 //! above find each as a lemma of the same name in the public modules of `proofs/`.
 
 ghost use Rattle.gptp_pdelay.specs.Capability.{CapabilityTurns, CapableByTwoExchanges, LostStaysAllowed};
-ghost use Rattle.gptp_pdelay.specs.Clock.{ClockElapses, ClockIsRead, ClockShowsTime, StampsMakeClock};
+ghost use Rattle.gptp_pdelay.specs.Clock.{ClockElapses, ClockIsRead, ClockShowsTime, StampShowsTime, StampsMakeClock};
 ghost use Rattle.gptp_pdelay.specs.Exchange.{NeighborRateIsWithin};
 ghost use Rattle.gptp_pdelay.specs.GoodLink.{GoodLink, GoodLinkByElapsed, GoodLinkShowsNeighbor};
 ghost use Rattle.gptp_pdelay.specs.Late.{LateIsAbove, LateIsBelow};
@@ -15,7 +15,7 @@ pub fn clock_is_read()
 {}
 
 /// Time stamps of a granularity and with a noise are readings of the local clock less half of the granularity, of which
-/// two are off together by the granularity and twice the noise at most.
+/// two are off together by the granularity and twice the noise at most, whatever noise is drawn.
 pub fn stamps_make_clock()
     ensures { StampsMakeClock }
 {}
@@ -29,6 +29,11 @@ pub fn clock_elapses()
 /// A clock within its limit shows a time that the calls of a `Peer` take.
 pub fn clock_shows_time()
     ensures { ClockShowsTime }
+{}
+
+/// A time stamp of such a clock is a time that they take.
+pub fn stamp_shows_time()
+    ensures { StampShowsTime }
 {}
 
 /// The neighbour rate is within 200 parts in a million, whatever the times.

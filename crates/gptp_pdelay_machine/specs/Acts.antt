@@ -20,7 +20,7 @@ abbrev pub SendsReply : (List ℕ → Reply → Type 0) → Reply → (List Lane
 SendsReply replies reply Q news = FirstIs replies (λ (f : LaneFrame). replies f.octets reply) Q news
 
 -- of the frames two are replies: the response to the request that waited, with its t2, and after it the follow-up,
--- which has the local time as t3
+-- which has the time stamp of the answer as t3
 abbrev pub SendsAnswer : Setting → (List ℕ → Reply → Type 0) → Waiting → ℕ → List LaneFrame → Type 0
 SendsAnswer k replies waiting time news = SendsReply replies (Response k.answering waiting.request waiting.t2)
     (SendsReply replies (FollowUp k.answering waiting.request (k.answering_clock time)) (AreMute replies)) news

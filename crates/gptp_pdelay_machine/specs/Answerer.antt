@@ -4,7 +4,7 @@ use Rattle.std.specs.Prelude.{◌≡◌, ◌⊎◌, ℕ, ◌+◌, ℤ, List, Opt
 use Rattle.gptp_pdelay_machine.specs.Messages.{Request}
 use Rattle.gptp_pdelay_machine.specs.Setting.{Setting}
 
--- the request, the local time t2 at which it came, and the time at which it is to be answered
+-- the request, the time stamp t2 of its arrival, and the time at which it is to be answered
 pub record Waiting : Type 0 where
   pub request : Request
   pub t2 : ℤ

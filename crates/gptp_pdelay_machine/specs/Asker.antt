@@ -50,9 +50,9 @@ asker_completed good a =
     record a { progress = Closed; measured = true; lost = 0; capable = a.measured && good }
 
 -- What the port makes of octets that it hears. Nothing, where they are no reply. Where a request is open, a response to
--- it is recorded, with the local time as t4. Where one is recorded, a follow-up to it completes the exchange, which is
--- good at least where the four times are those of one exchange over the link. Other replies send no request; no more is
--- said of them.
+-- it is recorded, with the time stamp of its arrival as t4. Where one is recorded, a follow-up to it completes the
+-- exchange, which is good at least where the four times are those of one exchange over the link. Other replies send no
+-- request; no more is said of them.
 --
 -- These are contracts of the calls for a frame. Shown of worlds by own_deliveries_are_heard of gptp_invariants. A
 -- `follow_up` is good by exchanges_are_good and exchanges_show_neighbor: the link is good, the clocks are within their

@@ -84,6 +84,7 @@ impl Order {
     }
 
     /// Takes the least entry out.
+    #[inline(always)]
     pub fn take(&mut self)
         requires { IsSome self.old.first }
         ensures taken { IfSome self.old.first (λ d. TakesLeast self.old.parts self.new.parts d) }

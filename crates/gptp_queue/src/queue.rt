@@ -151,6 +151,7 @@ impl Queue {
 
     /// Nothing is due at a place any more, as what was due there has happened. Does what [`cancel`](Self::cancel) does.
     /// Where the least entry is at that place, the 2,048 ns in which entries are quick begin at its time.
+    #[inline(always)]
     pub fn take(&mut self, place: usize)
         requires { place < self.old.places }
         ensures { self.new ≡ record self.old { entries = without_place place self.old.entries } }

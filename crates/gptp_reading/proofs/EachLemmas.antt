@@ -16,7 +16,7 @@ use Rattle.gptp_scenario.specs.declared.change.Act.{Act}
 use Rattle.gptp_scenario.specs.declared.change.Act.TheVariants.{Deliver, Expire, Change as Changing}
 use Rattle.gptp_scenario.specs.declared.change.Change.{Change}
 use Rattle.gptp_scenario.specs.declared.change.Change.TheVariants.{LinkDown, LinkUp, LinkSet, Fail, Recover, Priority1, Inject}
-use Rattle.gptp_scenario.specs.Network.{NetworkState, pace_of}
+use Rattle.gptp_scenario.specs.Network.{NetworkState}
 use Rattle.gptp_model.specs.Act.{Calls, Hears, in_state}
 use Rattle.gptp_model.specs.Acts.{Acts, Changes}
 use Rattle.gptp_model.specs.Agrees.{stopped}
@@ -99,7 +99,7 @@ module _ (Q : SystemState → Type 0)
   -- no system lives before that
   pub none_lives : (n : NetworkState) → Each Q (initial n)
   none_lives n place station here live =
-      let (member, there, same) = mapped (station_of (pace_of n)) n.systems place station here in
+      let (member, there, same) = mapped (station_of n) n.systems place station here in
       let off : false ≡ true = ap (λ (x : Station). x.live) same ∙ live in absurd cc
 
   -- ---- changes

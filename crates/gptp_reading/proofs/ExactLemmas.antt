@@ -48,7 +48,7 @@ use Rattle.gptp_sync_machine.proofs.TreeLemmas.{way_ends_at_parent}
 use Rattle.gptp_invariants.specs.ChoiceCalm.{clock_place, sync_paths_of}
 use Rattle.gptp_invariants.specs.WorldCalmFor.{IsCalmFor, span_over}
 use Rattle.gptp_invariants.specs.WorldSettlingInvariant.{KeepsAll}
-use Rattle.gptp_invariants.specs.SyncFollowers.{HasWay, IsFollower, base_at, follower_clock, follower_setting, follower_parts, follower_state}
+use Rattle.gptp_invariants.specs.SyncFollowers.{HasWay, IsFollower, base_at, follower_clock, follower_setting, follower_parts, follower_state, stamps_of}
 use Rattle.gptp_invariants.specs.DelayLinkView.{LinkPlace, other_direction}
 use Rattle.gptp_invariants.specs.WorldStanding.{snapshot_of}
 use Rattle.gptp_invariants.specs.SyncTimed.{AllMeasureRight, CarriesTime, IsSettledFrom}
@@ -238,6 +238,8 @@ module _ (link : ℕ) (direction : Direction) (w w' : WorldState) (draws : List 
   has_way = record {
     way = way;
     phase = phase;
+    stamps = stamps_of w.stations (follower_clock followed.at w followed.follower);
+    stamped = refl;
     is = subst (λ n. IsWayTo (follower_parts p.params w) (snapshot_of w) (suc steps) n way phase) (sym named_so) leads;
   }
 

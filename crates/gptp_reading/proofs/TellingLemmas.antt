@@ -24,6 +24,7 @@ use Rattle.gptp_sync_machine.specs.Invariant.{FollowerInvariant, IsKept}
 use Rattle.gptp_sync_machine.proofs.RightLemmas.{bridge_numbers_fit}
 use Rattle.gptp_reading.specs.Reading.{read_after}
 use Rattle.gptp_reading.proofs.WayLemmas.{later_within, reading_is_right}
+use Rattle.gptp_reading.specs.ReadingLaws.{IsBehindBy}
 
 -- what is known was told on the way
 on_way : (k : FollowerSetting) (told : Relayed) (sent came heard : ℕ) → IsSetting k → AreCarried k sent came heard
@@ -38,14 +39,14 @@ on_way k told sent came heard is carried right = record {
 
 -- ---- as it was sent
 
--- What a Follow_Up tells that comes then was right as it was sent, and the ingress of its Sync is the own clock as that
--- came.
+-- What a Follow_Up tells that comes then was right as it was sent, and the ingress of its Sync is the time stamp of the
+-- own clock as that came.
 pub record IsAsSent (k : FollowerSetting) (told : Relayed) (ingress : ℤ) (heard : ℕ) : Type 0 where
   pub sent : ℕ
   pub came : ℕ
   pub carried : AreCarried k sent came heard
   pub right : FollowUpIsRight k.way k.phase k.base k.place told sent
-  pub ingress_is : ingress ≡ own_clock k came
+  pub ingress_is : ingress ≡ k.stamps came
 
 module _ (k : FollowerSetting) (says : List ℕ → Message → Type 0) where
   pub told_as_sent : (s : Follower) (front : LaneFrame) (rest : List LaneFrame) (source : PortIdentity)
@@ -78,7 +79,7 @@ module _ (k : FollowerSetting) (says : List ℕ → Message → Type 0) where
             carried = subst (λ t. AreCarried k is_told.sent is_told.came t) now is_told.carried;
             right = subst (λ (m : Relayed). FollowUpIsRight k.way k.phase k.base k.place m is_told.sent)
                 (told_is (one.only (FollowUp k.parent sequence' told') said)) is_told.right;
-            ingress_is = ingress_is (sym keeps ∙ at) ∙ ap (λ c. own_clock k c) (came_is is_told.kept_is);
+            ingress_is = ingress_is (sym keeps ∙ at) ∙ ap k.stamps (came_is is_told.kept_is);
           }
         where
           told_is : FollowUp k.parent sequence' told' ≡ FollowUp source sequence told → told' ≡ told
@@ -88,16 +89,16 @@ module _ (k : FollowerSetting) (says : List ℕ → Message → Type 0) where
           came_is e = cc
 
           ingress_is : Some (kept_at_ingress source sequence ingress) ≡ Some
-              (kept_at_ingress k.parent a.sequence (own_clock k a.came))
-              → ingress ≡ own_clock k a.came
+              (kept_at_ingress k.parent a.sequence (k.stamps a.came))
+              → ingress ≡ k.stamps a.came
           ingress_is e =
               let same : kept_at_ingress source sequence ingress ≡ kept_at_ingress k.parent a.sequence
-              (own_clock k a.came) = cc in
+              (k.stamps a.came) = cc in
               ap (λ (sync : FollowerSync). sync.ingress) same
 
   pub reading_is_exact : (s : Follower) (front : LaneFrame) (rest : List LaneFrame) (source : PortIdentity)
-      (sequence : ℕ) (told : Relayed) (ingress rate delay held : ℤ) (later : ℕ)
-      → IsSetting k → FollowerInvariant k says s
+      (sequence : ℕ) (told : Relayed) (ingress rate delay held : ℤ) (later g : ℕ)
+      → IsBehindBy k.way g → IsSetting k → FollowerInvariant k says s
       → s.lane ≡ front ∷ rest → front.due ≡ s.time → from k ≤ s.time
       → IsOneMessage says front.octets (FollowUp source sequence told)
       → s.kept ≡ Some (kept_at_ingress source sequence ingress) → IsMeasuredAt k.way k.place rate delay
@@ -108,17 +109,18 @@ module _ (k : FollowerSetting) (says : List ℕ → Message → Type 0) where
       (pos 33550000
       *ℤ read_after (info_of (at_rate told held) ingress) delay rate (own_clock k (s.time + later) -ℤ ingress))
       (pos 33550000 *ℤ root_told k ahead (s.time + later))
-  reading_is_exact s front rest source sequence told ingress rate delay held later is inv was now late one keeps
-      measured held_at =
+  reading_is_exact s front rest source sequence told ingress rate delay held later g behind is inv was now late one
+      keeps measured held_at =
       let t = told_as_sent s front rest source sequence told ingress inv was now late one keeps in
       let carried = t.carried in
-      let right = reading_is_right k.way k.phase k.base k.place told t.sent t.came (s.time + later) rate delay held
-      (on_way k told t.sent t.came s.time is carried t.right) measured held_at (omega (arith, carried.behind)) in
+      let right = reading_is_right k.way g k.phase k.base k.place k.stamps told t.sent t.came (s.time + later) rate
+      delay held behind is.read (on_way k told t.sent t.came s.time is carried t.right) measured held_at
+      (omega (arith, carried.behind)) in
       let wide = later_within (33550000 * time_error_at k.way (suc k.place)) (rates_error_at k.way k.place)
       (s.time + later - t.came + k.way.blur) (later + measured_jitter_at k.way k.place)
       (pos 33550000
-      *ℤ read_after (info_of (at_rate told held) (own_clock k t.came)) delay rate
-      (own_clock k (s.time + later) -ℤ own_clock k t.came))
+      *ℤ read_after (info_of (at_rate told held) (k.stamps t.came)) delay rate
+      (own_clock k (s.time + later) -ℤ k.stamps t.came))
       (pos 33550000 *ℤ root_told k right.0 (s.time + later))
       (omega (arith, carried.long, carried.behind, carried.short)) right.2 in (
         right.0,
@@ -157,14 +159,14 @@ sums_fit info delay rate link fits scaled carries seconds nanos shown = record {
 pub offset_fits : (k : FollowerSetting) (told : Relayed) (ingress rate delay held : ℤ) (heard : ℕ) → IsSetting k
     → (t : IsAsSent k told ingress heard) → IsMeasuredAt k.way k.place rate delay
     → IsHeldAt k.way k.place told.rate rate held → most_correction_at k.way (suc k.place) < 2 ^ 63
-    → IsTime (own_clock k t.came) → IsTimestamp told.origin
+    → IsTime (k.stamps t.came) → IsTimestamp told.origin
     → OffsetFits (info_of (at_rate told held) ingress) delay rate
 offset_fits k told ingress rate delay held heard is t measured held_at short shown stamp =
-    let own = own_clock k t.came in
+    let own = k.stamps t.came in
     let info = info_of (at_rate told held) own in
-    let fits = bridge_numbers_fit k.way k.phase k.base k.place told t.sent t.came t.came rate delay held
-    (on_way k told t.sent t.came heard is t.carried t.right) measured (omega arith, omega arith) held_at short shown
-    shown in
+    let fits = bridge_numbers_fit k.way k.phase k.base k.place k.stamps told t.sent t.came t.came rate delay held
+    is.read (on_way k told t.sent t.came heard is t.carried t.right) measured (omega arith, omega arith) held_at short
+    shown shown in
     let same : scaled_by (held +ℤ rate) (passage (bridge info delay rate own))
     ≡ scaled_by (held +ℤ rate) (link_time delay rate) =
     ap (λ x. scaled_by (held +ℤ rate) x) (same_passage own (link_time delay rate)) in

@@ -51,13 +51,14 @@ use Rattle.gptp_invariants.proofs.SyncFollowOffsetLemmas.{IsUsed, is_used}
 use Rattle.gptp_invariants.proofs.SyncFollowPartLemmas.{clock_shown}
 use Rattle.gptp_invariants.proofs.SyncFollowSettingLemmas.{is_setting, own_shown}
 use Rattle.gptp_invariants.proofs.SyncFollowTreeLemmas.{slave_is, well_formed}
-use Rattle.gptp_invariants.proofs.SyncFollowWayLemmas.{correction_small, documented, few, long, own_time_fits}
+use Rattle.gptp_invariants.proofs.SyncFollowWayLemmas.{common, correction_small, documented, few, long, own_time_fits}
 use Rattle.gptp_invariants.proofs.SyncHeardLemmas.{heard_as}
 use Rattle.gptp_invariants.proofs.SyncTimeStepLemmas.{can_lapse}
 use Rattle.gptp_reading.specs.Reading.{read_after, reading}
 use Rattle.gptp_reading.specs.Readings.{LeavesTime}
 use Rattle.gptp_reading.proofs.TellingLemmas.{IsAsSent, offset_fits, reading_is_exact, told_as_sent}
 use Rattle.gptp_reading.proofs.WayLemmas.{in_units}
+use Rattle.gptp_reading.specs.ReadingLaws.{IsBehindBy}
 
 -- ---- rates that are held
 
@@ -298,6 +299,13 @@ module _ (p : SettlingParams) (settled longest : ℕ) (w : WorldState) (is : IsS
       read_after (info_of (at_rate (told_in m) held) sync.ingress) (delay_at x n) (root_rate_at x n)
       (own_clock k t -ℤ sync.ingress)
 
+  -- time stamps are behind by half of their granularity
+  grained : IsBehindBy h.way p.params.granularity
+  grained =
+      let all = common p settled longest w is place f steps h in
+      let blur = all.3 in
+      record { half = all.4; fine = omega (arith, blur) }
+
   exact : (later : ℕ) → (ahead : ℤ) × (k.base ≡ Some ahead)
       × AreWithin (33550000 * time_error_at h.way (suc steps)
       + rates_error_at h.way steps * (later + measured_jitter_at h.way steps))
@@ -305,7 +313,7 @@ module _ (p : SettlingParams) (settled longest : ℕ) (w : WorldState) (is : IsS
   exact later =
       reading_is_exact k tells (follower place w f) (link_frame_view (frame w.time octets)) (map link_frame_view rest)
       (port_identity_number sync.source) sync.sequence (told_in m) sync.ingress (root_rate_at x n)
-      (delay_at x n) held later
+      (delay_at x n) held later p.params.granularity grained
       (is_setting p settled longest w is place f steps h) (carries.follow place f steps h)
       (ap (map link_frame_view) front) refl late one (ap (option_map kept_sync) used.keeps) measured allowed
 

@@ -8,7 +8,7 @@ use Rattle.gptp_correction.specs.declared.sync_in.SyncInfo.{SyncInfo}
 use Rattle.gptp_pdelay_machine.specs.Lanes.{LaneFrame}
 use Rattle.gptp_error_laws.specs.HopLaws.{IsOverLink, IsRateBehind}
 use Rattle.gptp_error_laws.specs.TimeError.{Way, hop_error, measured_jitter_at, rates_error_at, time_error_at}
-use Rattle.gptp_error_laws.specs.WayLaws.{shown_at}
+use Rattle.gptp_error_laws.specs.WayLaws.{IsReadAt, shown_at}
 use Rattle.gptp_sync_machine.specs.Acts.{kept_at_ingress}
 use Rattle.gptp_sync_machine.specs.Follower.{Follower, IsSetting, FollowerSetting, from, own_clock, root_told}
 use Rattle.gptp_sync_machine.specs.Invariant.{FollowerInvariant}
@@ -37,14 +37,20 @@ ReadingIsWithin = (w g least most turnaround root up own above behind delay span
     (pos 33550000 *ℤ (read_after s link_delay neighbour (pos (count + 32768 * g) +ℤ off)
     -ℤ (scaled_of s.origin +ℤ s.correction))) (pos (33550000 * (passed + 32768 * g)))
 
+-- time stamps are behind by half of so many ns, which are no more than the blur
+pub record IsBehindBy (w : Way) (g : ℕ) : Type 0 where
+  pub half : w.behind ≡ 32768 * g
+  pub fine : g ≤ w.blur
+
 -- Where what was told on a way was right, what is read so long after the Sync came is within the time error there, and
--- within the error of the rate so far times that span and the blur.
+-- within the error of the rate so far times that span and the blur. The ingress is a time stamp, and what is read later
+-- is what the own clock then shows. So what time stamps are behind is made up for.
 abbrev pub ReadingIsRight : Type 0
-ReadingIsRight = (w : Way) (phase : ℕ → ℕ) (base : Option ℤ) (i : ℕ) (told : Relayed) (sent came now : ℕ)
-    (rate delay held : ℤ)
-    → IsOnWay w phase base i told sent came → IsMeasuredAt w i rate delay → IsHeldAt w i told.rate rate held
-    → came ≤ now
-    → let ingress = shown_at w phase (suc i) came in
+ReadingIsRight = (w : Way) (g : ℕ) (phase : ℕ → ℕ) (base : Option ℤ) (i : ℕ) (stamps : ℕ → ℤ) (told : Relayed)
+    (sent came now : ℕ) (rate delay held : ℤ)
+    → IsBehindBy w g → IsReadAt w phase (suc i) stamps → IsOnWay w phase base i told sent came
+    → IsMeasuredAt w i rate delay → IsHeldAt w i told.rate rate held → came ≤ now
+    → let ingress = stamps came in
     (ahead : ℤ) × (base ≡ Some ahead)
     × AreWithin (33550000 * time_error_at w (suc i) + rates_error_at w i * (now - came + w.blur))
     (pos 33550000
@@ -57,8 +63,8 @@ ReadingIsRight = (w : Way) (phase : ℕ → ℕ) (base : Option ℤ) (i : ℕ) (
 abbrev pub ReadingIsExact : (List ℕ → Message → Type 0) → Type 0
 ReadingIsExact says = (k : FollowerSetting) (s : Follower) (front : LaneFrame) (rest : List LaneFrame)
     (source : PortIdentity)
-    (sequence : ℕ) (told : Relayed) (ingress rate delay held : ℤ) (later : ℕ)
-    → IsSetting k → FollowerInvariant k says s
+    (sequence : ℕ) (told : Relayed) (ingress rate delay held : ℤ) (later g : ℕ)
+    → IsBehindBy k.way g → IsSetting k → FollowerInvariant k says s
     → s.lane ≡ front ∷ rest → front.due ≡ s.time → from k ≤ s.time
     → IsOneMessage says front.octets (FollowUp source sequence told)
     → s.kept ≡ Some (kept_at_ingress source sequence ingress) → IsMeasuredAt k.way k.place rate delay

@@ -1,10 +1,12 @@
-use Rattle.std.proofs.Common.{◌≡◌, ℕ, ◌^◌, ℤ, pos, negsuc, neg_ℤ, ◌+ℤ◌, ◌-ℤ◌, ◌*ℤ◌, ◌<ℤ◌, ◌*◌, ◌-◌, ◌<◌, unsigned_abs, FitsSigned, to_z, of_z, ap, ◌∙◌, refl, arith}
-use Rattle.std.specs.Int.{Width, w32, w128, int_div_euclid}
-use Rattle.std.proofs.lemmas.Int.{ints, clamps, to_z-of_z}
+use Rattle.std.proofs.Common.{◌≡◌, ℕ, ◌^◌, ◌+◌, ◌%◌, ℤ, pos, negsuc, neg_ℤ, ◌+ℤ◌, ◌-ℤ◌, ◌*ℤ◌, ◌<ℤ◌, ◌*◌, ◌-◌, ◌<◌, unsigned_abs, FitsSigned, to_z, of_z, ap, ◌∙◌, refl, arith}
+use Rattle.std.specs.Int.{Width, w32, w128, int_div_euclid, int_max}
+use Rattle.std.proofs.lemmas.Int.{ints, clamps, to_z-of_z, to_z_pos}
+use Rattle.std.proofs.lemmas.Nat.{mod_below}
 use Rattle.std.proofs.Math.Nat.{div-le_self}
 use Rattle.gptp_scaled.specs.Floor.{floor_div}
 use Rattle.gptp_scaled.specs.Rate.{FitsRate, unit, clamped, scaled_by, unscaled_by, neighbor_rate_of}
 use Rattle.gptp_scaled.specs.ScaledNs.{FitsScaled}
+use Rattle.gptp_scaled.specs.TimeStamp.{drawn_noise, grain, stamp_of}
 use Rattle.gptp_scaled.proofs.FloorLemmas.{floor_is}
 use Rattle.gptp_scaled.proofs.ProductLemmas.{IsWithin, times_within}
 use Rattle.gptp_scaled.proofs.RateLemmas.{unscaled_parts}
@@ -127,3 +129,35 @@ neighbor_back gain elapsed s r p f high low h e =
     let wide : back w128 r ≡ r = to_z-of_z w128 r (omega (arith, ints, clamps)) in
     let narrow : back w32 r ≡ r = to_z-of_z w32 r (omega (arith, ints, clamps)) in
     ap (back w32) wide ∙ narrow ∙ value
+
+-- ---- time stamps
+
+-- what the machine numbers of `stamp_of` in src/time_stamp.rt come to: v is what is shown, f the noise, t both, r that
+-- rounded, and m is not below 0
+pub stamped_back : (g : ℕ) (z x v f t r m : ℤ) → FitsSigned w32 z → FitsScaled x → v ≡ x → f ≡ back w32 z
+    → t ≡ back w128 (back w128 v +ℤ back w128 (pos 65536 *ℤ back w128 f))
+    → r ≡ floor_div t (pos (grain g)) *ℤ pos (grain g) → unsigned_abs r < 2 ^ 98 → m ≡ int_max (back w128 r) (pos 0)
+    → back w128 m ≡ stamp_of g z x
+stamped_back g z x v f t r m fits held value from both rounded small greater =
+    let noise : back w128 f ≡ z =
+    ap (back w128) (from ∙ to_z-of_z w32 z fits) ∙ to_z-of_z w128 z (omega (arith, ints, fits)) in
+    let shown : back w128 v ≡ x = ap (back w128) value ∙ to_z-of_z w128 x (omega (arith, ints, held)) in
+    let product : back w128 (pos 65536 *ℤ z) ≡ pos 65536 *ℤ z =
+    to_z-of_z w128 (pos 65536 *ℤ z) (omega (arith, ints, fits)) in
+    let sum : back w128 (x +ℤ pos 65536 *ℤ z) ≡ x +ℤ pos 65536 *ℤ z =
+    to_z-of_z w128 (x +ℤ pos 65536 *ℤ z) (omega (arith, ints, fits, held)) in
+    let is : t ≡ x +ℤ pos 65536 *ℤ z = rw (shown, noise, product, sum) at both in
+    let same : back w128 r ≡ r = to_z-of_z w128 r (omega (arith, ints, small)) in
+    let above : m ≡ int_max (pos 0) r = omega (arith, ints, clamps, greater, same) in
+    to_z-of_z w128 m (omega (arith, ints, clamps, above, small)) ∙ above
+    ∙ ap (int_max (pos 0)) (rounded ∙ ap (λ v. floor_div v (pos (grain g)) *ℤ pos (grain g)) is)
+
+-- and those of `drawn_noise`: f and k are the most noise
+pub drawn_back : (most word f : ℕ) (k : ℤ) → most < 65536 → f ≡ most → k ≡ pos most
+    → back w32 (to_z w32 (word % (2 * f + 1)) -ℤ back w32 k) ≡ drawn_noise most word
+drawn_back most word f k few is same =
+    let m : word % (2 * most + 1) < 2 * most + 1 = mod_below word (2 * most + 1) (omega arith) in
+    let drawn : to_z w32 (word % (2 * most + 1)) ≡ pos (word % (2 * most + 1)) =
+    to_z_pos w32 (word % (2 * most + 1)) (omega (arith, m, few)) in
+    let held : back w32 (pos most) ≡ pos most = to_z-of_z w32 (pos most) (omega (arith, ints, few)) in
+    rw (is, same, drawn, held) (to_z-of_z w32 (drawn_noise most word) (omega (arith, ints, m, few)))

@@ -1,8 +1,10 @@
-use Rattle.std.proofs.Common.{ℕ, zero, suc, ◌*◌, ◌+◌, ◌<◌, ◌≤◌, ℤ, pos, ◌+ℤ◌, ◌*ℤ◌, ◌≤ℤ◌, arith}
+use Rattle.std.proofs.Common.{ℕ, zero, suc, ◌*◌, ◌+◌, ◌%◌, ◌<◌, ◌≤◌, ℤ, pos, ◌+ℤ◌, ◌*ℤ◌, ◌≤ℤ◌, arith}
 use Rattle.std.specs.Int.{int_max}
 use Rattle.std.proofs.lemmas.Int.{ints, clamps}
+use Rattle.std.proofs.lemmas.Nat.{mod_below}
 use Rattle.gptp_scaled.specs.Floor.{floor_div}
-use Rattle.gptp_scaled.specs.TimeStamp.{IsNearShown, IsNoise, StampIsCentred, StampIsNear}
+use Rattle.gptp_scaled.specs.TimeStamp.{IsNearShown, IsNoise, NoiseIsWithin, StampIsCentred, StampIsNear}
+use Rattle.gptp_scaled.specs.TimeStamp.{TimeStampIsCentred, TimeStampIsNear, TimeStampIsShown, drawn_noise, noise_at, time_stamp}
 use Rattle.gptp_scaled.proofs.FloorLemmas.{floor_is}
 use Rattle.gptp_scaled.proofs.ProductLemmas.{distribute, swap}
 
@@ -28,3 +30,28 @@ pub stamp_is_centred : StampIsCentred
 stamp_is_centred g e z x shown n =
     let near = stamp_is_near g e z x shown n in
     record { low = omega (arith, ints, near.above); high = omega (arith, ints, near.below) }
+
+-- ---- drawn noise
+
+pub drawn_within : (most word : ℕ) → IsNoise most (drawn_noise most word)
+drawn_within most word =
+    let m : word % (2 * most + 1) < 2 * most + 1 = mod_below word (2 * most + 1) (omega arith) in
+    record { low = omega (arith, ints); high = omega (arith, ints, m) }
+
+pub noise_is_within : NoiseIsWithin
+unfolding noise_at
+noise_is_within k t = drawn_within k.most_noise _
+
+pub time_stamp_is_near : TimeStampIsNear
+unfolding time_stamp
+time_stamp_is_near k t x shown =
+    stamp_is_near k.granularity k.most_noise (noise_at k t) x shown (noise_is_within k t)
+
+pub time_stamp_is_centred : TimeStampIsCentred
+unfolding time_stamp
+time_stamp_is_centred k t x shown =
+    stamp_is_centred k.granularity k.most_noise (noise_at k t) x shown (noise_is_within k t)
+
+pub time_stamp_is_shown : TimeStampIsShown
+time_stamp_is_shown k t x fine still shown =
+    let near = time_stamp_is_near k t x shown in omega (arith, ints, near.below, near.above, fine, still)

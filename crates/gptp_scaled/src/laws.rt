@@ -2,7 +2,8 @@
 //! `CountLemmas` and `TimeStampLemmas` of `proofs/` have each law as a lemma for the crates above.
 
 ghost use Rattle.gptp_scaled.specs.Counts.{MeasuredWithin, RateIsWithin};
-ghost use Rattle.gptp_scaled.specs.TimeStamp.{StampIsCentred, StampIsNear};
+ghost use Rattle.gptp_scaled.specs.TimeStamp.{NoiseIsWithin, StampIsCentred, StampIsNear};
+ghost use Rattle.gptp_scaled.specs.TimeStamp.{TimeStampIsCentred, TimeStampIsNear, TimeStampIsShown};
 ghost use Rattle.gptp_scaled.specs.Laws.{FloorIsExact, FloorIsMonotone, RateRoundsDown, RateZeroIsIdentity, RateIsMonotone, NeighborRateIsNear, SplitIsExact};
 
 /// The quotient rounded down is the one whole number f with d f <= x < d (f + 1), for d above 0.
@@ -68,4 +69,24 @@ pub fn stamp_is_near()
 /// A time stamp is half of the blur from the clock less half of the granularity, at most.
 pub fn stamp_is_centred()
     ensures { StampIsCentred }
+{}
+
+/// The noise that is drawn is within its limits, whatever the seed, the clock and the time are.
+pub fn noise_is_within()
+    ensures { NoiseIsWithin }
+{}
+
+/// A time stamp with a noise that is drawn is near what is shown.
+pub fn time_stamp_is_near()
+    ensures { TimeStampIsNear }
+{}
+
+/// Such a time stamp is half of the blur from what is shown less half of the granularity, at most.
+pub fn time_stamp_is_centred()
+    ensures { TimeStampIsCentred }
+{}
+
+/// Without granularity and noise a time stamp is what is shown.
+pub fn time_stamp_is_shown()
+    ensures { TimeStampIsShown }
 {}

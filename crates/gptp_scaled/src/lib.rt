@@ -13,9 +13,11 @@ mod out_of_range;
 mod rate;
 mod scaled_ns;
 mod stamp;
+mod time_stamp;
 
 pub use interval::Interval;
 pub use out_of_range::OutOfRange;
 pub use rate::Rate;
 pub use scaled_ns::ScaledNs;
 pub use stamp::{Stamp, StampError};
+pub use time_stamp::Stamping;

@@ -8,8 +8,10 @@ use Rattle.gptp_vector.specs.declared.port.PortId.{PortId}
 use Rattle.gptp_roles.specs.Selection.{clock_of}
 use Rattle.gptp_setup.specs.declared.setup.Params.{Params}
 use Rattle.gptp_setup.specs.Intervals.{interval_of}
-use Rattle.gptp_scenario.specs.Network.{NetworkState, without_members, with_system, with_link, logs_of, ArePrompt, IsKeptNetwork, IsMember, IsMemberTimed, IsPort, IsWire, IsEnd, IsNetwork, CanAddSystem, CanAddLink}
+use Rattle.gptp_scenario.specs.Network.{NetworkState, without_members, with_system, with_link, logs_of, ArePrompt, IsKeptNetwork, IsMember, IsMemberTimed, IsPort, IsWire, IsEnd, IsNetwork, CanAddSystem, CanAddLink, seeded, largest_of, smallest_of}
+use Rattle.gptp_scenario.specs.Calm.{IsCalm}
 use Rattle.gptp_scenario.specs.Params.{KeepParams}
+use Rattle.gptp_scenario.specs.declared.change.Timed.{Timed}
 use Rattle.gptp_scenario.specs.declared.network.SystemSpec.{SystemSpec}
 use Rattle.gptp_scenario.specs.declared.network.LinkSpec.{LinkSpec}
 use Rattle.gptp_lists.specs.Members.{In}
@@ -155,3 +157,49 @@ pub link_added : (n : NetworkState) (w : LinkSpec) (smallest largest : Option �
     → CanAddLink n w → IsKeptNetwork (with_link w n) smallest largest
 link_added n w smallest largest h c =
     record { network = network_with_link n w h.network c; smallest = h.smallest; largest = h.largest }
+
+-- ---- the seed
+
+-- a network has its limits whatever the seed
+seeded_wire : (n : NetworkState) (seed i : ℕ) (w : LinkSpec) → IsWire n i w → IsWire (seeded seed n) i w
+seeded_wire n seed i w k = record {
+  number = k.number;
+  fit = k.fit;
+  prompt = k.prompt;
+  a = k.a;
+  b = k.b;
+  apart = k.apart;
+}
+
+pub seeded_network : (n : NetworkState) (seed : ℕ) → IsNetwork n → IsNetwork (seeded seed n)
+seeded_network n seed h = record {
+  params = h.params;
+  few_systems = h.few_systems;
+  few_links = h.few_links;
+  systems = h.systems;
+  identities = h.identities;
+  clocks = h.clocks;
+  timed = h.timed;
+  links = λ i w there. seeded_wire n seed i w (h.links i w there);
+  one_link = h.one_link;
+}
+
+pub seeded_kept : (n : NetworkState) (seed : ℕ) (smallest largest : Option ℤ) → IsKeptNetwork n smallest largest
+    → IsKeptNetwork (seeded seed n) smallest largest
+seeded_kept n seed smallest largest h =
+    record { network = seeded_network n seed h.network; smallest = h.smallest; largest = h.largest }
+
+pub seeded_smallest : (n : NetworkState) (seed : ℕ) → smallest_of (seeded seed n) ≡ smallest_of n
+unfolding smallest_of
+seeded_smallest n seed = refl
+
+pub seeded_largest : (n : NetworkState) (seed : ℕ) → largest_of (seeded seed n) ≡ largest_of n
+unfolding largest_of
+seeded_largest n seed = refl
+
+-- and it is calm whatever the seed
+pub calm_seeded : (n : NetworkState) (seed : ℕ) (events : List Timed) → IsCalm n events → IsCalm (seeded seed n) events
+calm_seeded n seed events h = record { links = h.links; lapses = h.lapses }
+
+pub seeded_calm : (n : NetworkState) (seed : ℕ) (events : List Timed) → IsCalm (seeded seed n) events → IsCalm n events
+seeded_calm n seed events h = record { links = h.links; lapses = h.lapses }

@@ -21,14 +21,17 @@ use Rattle.gptp_scenario.specs.declared.fault.NetworkFault.TheVariants.{OutOfRan
 use Rattle.gptp_scenario.specs.declared.network.SystemSpec.{SystemSpec}
 use Rattle.gptp_scenario.specs.declared.network.LinkSpec.{LinkSpec}
 
--- a network: what is the same for all systems, and its systems and links in the order in which they were added
+-- a network: what is the same for all systems, and its systems and links in the order in which they were added; and the
+-- seed from which the systems draw the noise of their time stamps
 pub record NetworkState : Type 0 where
   pub params : Params
   pub systems : List SystemSpec
   pub links : List LinkSpec
+  pub seed : ℕ
 
+-- the seed is 1 at first
 abbrev pub without_members : Params → NetworkState
-without_members params = record { params = params; systems = []; links = [] }
+without_members params = record { params = params; systems = []; links = []; seed = 1 }
 
 -- a system of this identity, with so many ports, whose clock has this phase and drift, which goes on with the time that
 -- it read where it becomes grandmaster, or doesn't, and whose ports announce at these intervals
@@ -53,10 +56,14 @@ wire number a b least greatest loss up = record {
 
 -- one more system or link, after the others
 abbrev pub with_system : SystemSpec → NetworkState → NetworkState
-with_system m n = record { params = n.params; systems = n.systems ++ m ∷ []; links = n.links }
+with_system m n = record n { systems = n.systems ++ m ∷ [] }
 
 abbrev pub with_link : LinkSpec → NetworkState → NetworkState
-with_link w n = record { params = n.params; systems = n.systems; links = n.links ++ w ∷ [] }
+with_link w n = record n { links = n.links ++ w ∷ [] }
+
+-- noise is drawn from this seed
+abbrev pub seeded : ℕ → NetworkState → NetworkState
+seeded seed n = record n { seed = seed }
 
 -- what the ports of a network announce at, as logarithms to base 2 of seconds, in the order of systems and ports
 abbrev pub logs_of : NetworkState → List ℤ

@@ -2,7 +2,6 @@
 use Rattle.std.specs.Prelude.{◌≡◌, ◌<◌, ◌≤◌, ℕ, ◌+◌, ◌*◌, ℤ, pos, neg_ℤ, Bool, not, ◌&&◌, nat_lt, nat_le, int_le, [], ◌∷◌, Option}
 use Rattle.gptp_setup.specs.Intervals.{AreParams, interval_of, IsLog}
 use Rattle.gptp_setup.specs.SettlingParams.{largest_interval, SettlingParams}
-use Rattle.gptp_setup.specs.Stamping.{blur_of}
 use Rattle.gptp_setup.specs.declared.setup.Params.{Params}
 use Rattle.gptp_scenario.specs.Faults.{first_fault}
 use Rattle.gptp_scenario.specs.declared.fault.NetworkFault.{NetworkFault}
@@ -27,9 +26,9 @@ abbrev pub are_times_in_range : Params → Bool
 are_times_in_range p =
     is_between 1 1000000000 p.threshold && is_between 1 1000000000 p.turnaround && is_between 1 1000000000 p.residence
 
--- No system takes time stamps yet, and none measures a rate over more than one exchange: each key has its default.
+-- No system measures a rate over more than one exchange yet: the window has its default.
 abbrev pub are_stamps_in_range : Params → Bool
-are_stamps_in_range p = is_between 0 0 p.granularity && is_between 0 0 p.noise && is_between 1 1 p.window
+are_stamps_in_range p = is_between 0 1000 p.granularity && is_between 0 1000 p.noise && is_between 1 1 p.window
 
 abbrev pub are_in_range : Params → Bool
 are_in_range p =
@@ -54,7 +53,6 @@ pub record AreInRange (p : Params) : Type 0 where
   pub lost-least : 1 ≤ p.lost
   pub threshold-least : 1 ≤ p.threshold
   pub threshold : p.threshold ≤ 1000000000
-  pub exact : blur_of p ≡ 0
   pub one_exchange : p.window ≡ 1
 
 pub record KeepParams (p : Params) : Type 0 where

@@ -6,7 +6,7 @@ ghost use Rattle.std.specs.Option.{option_and_then, option_map};
 ghost use Rattle.gptp_lists.specs.Members.{In};
 ghost use Rattle.gptp_scenario.specs.Faults.{IsRefusal};
 ghost use Rattle.gptp_scenario.specs.Params.{is_log, params_fault};
-ghost use Rattle.gptp_scenario.specs.Network.{member, wire, without_members, with_system, with_link, logs_of, smallest_of, largest_of, is_member_in_range, is_member_timed, is_any_slower, is_wire_in_range, are_bounds_in_range, members_have_clock, has_port, is_taken, system_fault, link_fault, IsNetwork, IsMember, IsMemberTimed, IsPort, IsFree, IsNewClock, CanAddSystem, CanAddLink};
+ghost use Rattle.gptp_scenario.specs.Network.{member, wire, without_members, with_system, with_link, logs_of, smallest_of, largest_of, is_member_in_range, is_member_timed, is_any_slower, is_wire_in_range, are_bounds_in_range, members_have_clock, has_port, is_taken, system_fault, link_fault, IsNetwork, IsMember, IsMemberTimed, IsPort, IsFree, IsNewClock, CanAddSystem, CanAddLink, seeded};
 ghost use Rattle.gptp_links.specs.Bounds.{Fit};
 ghost use Rattle.gptp_scenario.specs.Calm.{IsCalm};
 ghost use Rattle.gptp_scenario.specs.Change.{joined_after, live_after};
@@ -49,12 +49,14 @@ pub(crate) struct LinkSpec {
 }
 
 /// A network: what is the same for all its systems, its systems, and the links that join two of their ports. It is seen
-/// as these, systems and links in the order in which they were added.
+/// as these, systems and links in the order in which they were added, and the seed from which the systems draw the noise
+/// of their time stamps.
 #[derive(Drop)]
 pub struct Network {
     params: Params,
     systems: Vec<SystemSpec>,
     links: Vec<LinkSpec>,
+    seed: u64,
     // The smallest and the largest announce interval of its ports, where it has any.
     smallest: Option<i8>,
     largest: Option<i8>,
@@ -67,13 +69,13 @@ impl Model for Network {
 
     ghost use Rattle.gptp_scenario.specs.Network.{IsKeptNetwork};
 
-    ghost view = { λ n. record { params = n.params; systems = n.systems.items; links = n.links.items } };
+    ghost view = { λ n. record { params = n.params; systems = n.systems.items; links = n.links.items; seed = n.seed } };
 
-    ghost invariant = { λ n. IsKeptNetwork (record { params = n.params; systems = n.systems.items; links = n.links.items }) n.smallest n.largest };
+    ghost invariant = { λ n. IsKeptNetwork (record { params = n.params; systems = n.systems.items; links = n.links.items; seed = n.seed }) n.smallest n.largest };
 }
 
 impl Network {
-    /// A network with no system. Takes no memory.
+    /// A network with no system, whose seed is 1. Takes no memory.
     ///
     /// Refused with `OutOfRange` where a value lies outside of its range, and with `Timing` where the intervals don't
     /// go together: twice the threshold and the turnaround are less than the interval of requests, that is at most the
@@ -89,10 +91,25 @@ impl Network {
                 params,
                 systems: Vec::new(alloc),
                 links: Vec::new(alloc),
+                seed: 1,
                 smallest: None,
                 largest: None,
             }),
         }
+    }
+
+    /// The seed from which the systems of the network draw the noise of their time stamps.
+    pub fn seed(&self) -> u64
+        ensures { result ≡ self.now.seed }
+    {
+        self.seed
+    }
+
+    /// The systems of the network draw the noise of their time stamps from this seed.
+    pub fn set_seed(&mut self, seed: u64)
+        ensures { self.new ≡ seeded seed self.old }
+    {
+        self.seed = seed;
     }
 
     /// Adds a system with that identity and so many ports, 0 to [`MOST_PORTS`], whose local clock is that phase ahead

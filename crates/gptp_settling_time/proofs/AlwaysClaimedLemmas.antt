@@ -54,7 +54,7 @@ use Rattle.gptp_invariants.proofs.ChoicePlaceLemmas.{port_from, station_from}
 use Rattle.gptp_invariants.proofs.ChoiceSeenActLemmas.{acts_seen}
 use Rattle.gptp_invariants.proofs.ChoiceSeenLaneLemmas.{lane_there}
 use Rattle.gptp_invariants.proofs.ChoiceSettlesAsMachineLemmas.{kept_back}
-use Rattle.gptp_invariants.proofs.DelayLinkLemmas.{sender_opposite}
+use Rattle.gptp_invariants.proofs.DelayLinkLemmas.{sender_opposite, good_between}
 use Rattle.gptp_invariants.proofs.WorldGreatestDelayLemmas.{delay_of_used}
 use Rattle.gptp_invariants.proofs.WorldNewsLemmas.{news_are_kept, news_go_on, silent_off}
 use Rattle.gptp_invariants.proofs.WorldStandsLemmas.{stands_well}
@@ -122,7 +122,8 @@ module _ (p : SettlingParams) (w : WorldState) (is : IsWorld p w) (quiet : HaveQ
             (ap (λ (x : PortIdentity). x.clock) (sym way.from) ∙ sym one.named
             ∙ ap (λ (x : Station). clock x.system) alike ∙ other.named
             ∙ ap (λ (x : PortIdentity). x.clock) way.to);
-        good = rw (answering, asking) links.good;
+        good = good_between way.channel.bounds.max p.params one.station.setup.params other.station.setup.params asking
+            answering links.good;
       }
 
 -- the way back

@@ -93,7 +93,7 @@ module _ (p : SettlingParams) (next port : ℕ) (at : LinkPlace) (w : WorldState
 
   short : exchange_span set < set.period
   short =
-      let good = l.good in
+      let good = l.good.short in
       let threshold = ap (λ (y : Params). y.threshold) asks_by in
       let turnaround = turnaround_is in
       let interval = period_is in

@@ -8,7 +8,7 @@ use Rattle.gptp_links.specs.declared.bounds.Bounds.{Bounds}
 use Rattle.gptp_links.specs.declared.link.Direction.TheVariants.{FromA, FromB}
 use Rattle.gptp_scenario.specs.Calm.{IsLive, IsUsed}
 use Rattle.gptp_scenario.specs.Change.{link_after, system_after}
-use Rattle.gptp_scenario.specs.Network.{IsEnd, NetworkState, pace_of}
+use Rattle.gptp_scenario.specs.Network.{IsEnd, NetworkState}
 use Rattle.gptp_scenario.specs.declared.change.Change.{Change}
 use Rattle.gptp_scenario.specs.declared.change.Change.TheVariants.{LinkDown, LinkUp, LinkSet, Fail, Recover, Priority1, Inject}
 use Rattle.gptp_scenario.specs.declared.change.Timed.{Timed}
@@ -49,13 +49,13 @@ clock_shape station setup = by station.live
 pub record IsMemberAt (n : NetworkState) (events : List Timed) (place : ℕ) (station : Station) : Type 0 where
   pub member : SystemSpec
   pub there : slice_get n.systems place ≡ Some member
-  pub is : shape_after (pace_of n) events member ≡ shape station
+  pub is : shape_after n events member ≡ shape station
 
 module _ (n : NetworkState) (events : List Timed) (w : WorldState) (so : StandsAsPlanned n events w) where
   pub member_at : (place : ℕ) (station : Station) → slice_get w.stations place ≡ Some station
       → IsMemberAt n events place station
   member_at place station here =
-      let (m, there, is) = alike (shape_after (pace_of n) events) shape n.systems w.stations (sym so.systems) place
+      let (m, there, is) = alike (shape_after n events) shape n.systems w.stations (sym so.systems) place
       station here in
       record { member = m; there = there; is = is }
 
@@ -109,7 +109,7 @@ module _ (n : NetworkState) (events : List Timed) (w : WorldState) (so : StandsA
     pub lives_so : (number : ℕ) → IsLive n.systems events number → (place : ℕ) (station : Station)
         → IsStation number place w station → station.live ≡ true
     lives_so number lives place station k =
-        let (other, here, same) = alike shape (shape_after (pace_of n) events) w.stations n.systems so.systems
+        let (other, here, same) = alike shape (shape_after n events) w.stations n.systems so.systems
         lives.place lives.system lives.there in
         let named : clock other.system ≡ number =
         sym (clock_shape other (sound.wired.setups lives.place other here))
@@ -223,7 +223,7 @@ module _ (n : NetworkState) (events : List Timed) (w : WorldState) (so : StandsA
     found_so : (number : ℕ) → IsLive n.systems events number
         → stations_have_clock (live_stations w.stations) number ≡ true
     found_so number lives =
-        let (other, here, same) = alike shape (shape_after (pace_of n) events) w.stations n.systems so.systems
+        let (other, here, same) = alike shape (shape_after n events) w.stations n.systems so.systems
         lives.place lives.system lives.there in
         let named : clock other.system ≡ number =
         sym (clock_shape other (sound.wired.setups lives.place other here))

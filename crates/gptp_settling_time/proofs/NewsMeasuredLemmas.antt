@@ -24,6 +24,7 @@ use Rattle.gptp_invariants.proofs.DelayFirstAtLemmas.{first_full}
 use Rattle.gptp_invariants.proofs.WorldStandsLemmas.{stands_well, used_up}
 use Rattle.gptp_invariants.proofs.WorldWayLemmas.{IsWay, way_of}
 use Rattle.gptp_invariants.proofs.DelayUsedLinkLemmas.{receiver_lives}
+use Rattle.gptp_invariants.proofs.DelayLinkLemmas.{good_between}
 
 -- ---- a link that is ready
 
@@ -90,7 +91,8 @@ module _ (p : SettlingParams) (start : ℕ) (w : WorldState) (is : IsWorld p w) 
             (ap (λ (x : Station). clock x.system) alike
             ∙ other.at.named
             ∙ ap (λ (x : PortIdentity). x.clock) way.to);
-        good = rw (answering, asking) links.good;
+        good = good_between way.channel.bounds.max p.params station.setup.params other.at.station.setup.params asking
+            answering links.good;
       }
 
   -- so it is measured, where the way from the port stands

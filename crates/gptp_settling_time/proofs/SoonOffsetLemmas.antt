@@ -29,7 +29,7 @@ use Rattle.gptp_sync_machine.proofs.TreeLemmas.{way_ends_at_parent, way_leads_to
 use Rattle.gptp_sync_machine.specs.Follower.{from}
 use Rattle.gptp_sync_machine.specs.Tree.{IsWayTo}
 use Rattle.gptp_invariants.specs.SyncExact.{IsAhead, IsWayError}
-use Rattle.gptp_invariants.specs.SyncFollowers.{HasWay, follower_clock, follower_setting, follower_parts}
+use Rattle.gptp_invariants.specs.SyncFollowers.{HasWay, follower_clock, follower_setting, follower_parts, stamps_of}
 use Rattle.gptp_invariants.specs.WorldStanding.{snapshot_of}
 use Rattle.gptp_invariants.specs.SyncTimed.{AllMeasureRight, CarriesTime, IsSettledFrom}
 use Rattle.gptp_invariants.specs.SyncTimedLaws.{IsRootOf}
@@ -70,6 +70,8 @@ module _ (link : ℕ) (direction : Direction) (w w' : WorldState) (draws : List 
   has_way = record {
     way = way.way;
     phase = way.phase;
+    stamps = stamps_of w.stations (follower_clock followed.at w followed.follower);
+    stamped = refl;
     is = subst (λ n. IsWayTo (follower_parts p.params w) (snapshot_of w) (suc steps) n way.way way.phase) (sym named_so)
         way.leads;
   }

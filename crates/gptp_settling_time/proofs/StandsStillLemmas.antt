@@ -7,16 +7,21 @@ use Rattle.gptp_lists.proofs.MappedLemmas.{alike}
 use Rattle.gptp_lists.proofs.PlaceLemmas.{map-set_same}
 use Rattle.gptp_graph.specs.Snapshot.{PortIdentity}
 use Rattle.gptp_vector.specs.declared.port.PortId.{PortId}
+use Rattle.gptp_links.specs.declared.link.Direction.{Direction}
+use Rattle.gptp_pdelay.specs.Clock.{clock_stamp}
+use Rattle.gptp_roles.specs.Selection.{clock_of}
 use Rattle.gptp_scenario.specs.SyncWait.{sync_wait}
 use Rattle.gptp_setup.specs.declared.setup.Params.{Params}
 use Rattle.gptp_setup.specs.declared.setup.Setup.{Setup}
 use Rattle.gptp_setup.specs.Intervals.{interval_of}
 use Rattle.gptp_setup.specs.SettlingParams.{SettlingParams, lapse_span, largest_interval}
 use Rattle.gptp_system.specs.Measures.{measure_at}
+use Rattle.gptp_system.specs.Start.{started}
 use Rattle.gptp_system.specs.State.{clock, number}
+use Rattle.gptp_system.proofs.TimersChangedLemmas.{priority_clock}
 use Rattle.gptp_model.specs.Changing.{with_setup, with_station}
 use Rattle.gptp_model.specs.declared.station.Station.{Station}
-use Rattle.gptp_model.specs.World.{WorldState, receiver, sender}
+use Rattle.gptp_model.specs.World.{Channel, WorldState, receiver, sender}
 use Rattle.gptp_pdelay_machine.specs.Setting.{Setting}
 use Rattle.gptp_pdelay_machine.specs.Silence.{InvUnanswered, Unanswered}
 use Rattle.gptp_bmca_machine.specs.Frame.{Lane}
@@ -27,7 +32,7 @@ use Rattle.gptp_bmca_machine.specs.Syncs.{SyncsAreExpected, TellsBy}
 use Rattle.gptp_invariants.specs.ChoiceCalm.{HaveQuietLinks, clock_place, delay_in, greatest_channel_delay, lane_of, log_at, log_of, paths_with, setups_of}
 use Rattle.gptp_invariants.specs.ChoiceSettlesAsMachine.{IsWorld}
 use Rattle.gptp_invariants.specs.ChoiceView.{lanes_view, says_announce, says_sync, station_view, view}
-use Rattle.gptp_invariants.specs.DelayLinkView.{IsEndAmong, IsLinkOf, IsMeasuring, LinkPlace, asker_view, pair_view, setting_view}
+use Rattle.gptp_invariants.specs.DelayLinkView.{IsEndAmong, IsLinkOf, IsMeasuring, LinkPlace, asker_view, pair_view, setting_view, setup_stamping}
 use Rattle.gptp_invariants.specs.DelayMeasured.{LinkIsMeasured, LinkStandsAt, StationIsLiveAt}
 use Rattle.gptp_invariants.specs.FailedUnanswered.{IsFailedAmong, IsNeverAnswered, IsSilent, IsUnansweredAt, IsUnmeasured, StandsUnanswered, silent_setting, silent_view}
 use Rattle.gptp_invariants.specs.WorldNews.{AreSilentBy, IsNews, turn_network}
@@ -41,9 +46,9 @@ use Rattle.gptp_settling_time.proofs.SameLinkLemmas.{StaysSameLink}
 use Rattle.gptp_settling_time.proofs.NewsSoonLemmas.{IsNewsFrom, from_silent, from_sound}
 use Rattle.gptp_settling_time.proofs.StandsLikeLemmas.{StandsLike, claims_like, from_like, news_like, turn_like_network}
 
--- a station but for the identity that it starts with
+-- a station but for the priority1 that it starts with
 abbrev pub plain : Station → Station
-plain station = record station { setup = record station.setup { identity = 0 } }
+plain station = record station { setup = record station.setup { identity = clock_of station.setup.identity } }
 
 -- nothing that is claimed of is another
 pub record StandsStill (w w' : WorldState) : Type 0 where
@@ -55,16 +60,18 @@ pub record StandsStill (w w' : WorldState) : Type 0 where
 pub changed_still : (w w' : WorldState) → w' ≡ record w { last_change = w.time } → StandsStill w w'
 changed_still w w' same = subst (StandsStill w) (sym same) (record { time = refl; stations = refl; channels = refl })
 
--- the identity that a system starts with is another, and the time of the last change
+-- the priority1 that a system starts with is another, and the time of the last change
 pub set_still : (value place : ℕ) (station : Station) (w : WorldState) → slice_get w.stations place ≡ Some station
     → StandsStill w (with_station place (with_setup value station) (record w { last_change = w.time }))
 set_still value place station w here = record {
   time = refl;
-  stations = map-set_same plain w.stations place station (with_setup value station) here refl;
+  stations = map-set_same plain w.stations place station (with_setup value station) here
+      (ap (λ clock. record station { setup = record station.setup { identity = clock } })
+      (priority_clock value (started station.setup 0)));
   channels = refl;
 }
 
--- ---- what doesn't look at the identity that systems start with
+-- ---- what doesn't look at the priority1 that systems start with
 
 seen_plain : (stations : List Station) → map station_view (map plain stations) ≡ map station_view stations
 seen_plain [] = refl
@@ -133,6 +140,17 @@ module _ (n : Network) (gone : ℕ) where
         ];
         soon = e.soon;
       }
+
+-- ---- what is set of a link
+
+-- by setups that have a clock for an identity
+abbrev setting_named : Direction → Channel → Setup → Setup → Setting
+setting_named direction channel asking answering = record (setting_view direction channel asking answering) {
+  asking_clock = λ t. clock_stamp (record (setup_stamping asking) { clock = asking.identity }) asking.phase asking.drift
+      t;
+  answering_clock = λ t. clock_stamp (record (setup_stamping answering) { clock = answering.identity }) answering.phase
+      answering.drift t;
+}
 
 -- ---- such a world
 
@@ -227,6 +245,10 @@ module _ (w w' : WorldState) (still : StandsStill w w') where
                 ∙ sym (ap (λ (s : Station). s.setup.phase) x.same);
             drift = ap (λ (s : Station). s.system.drift) x.same ∙ e.set_up.drift
                 ∙ sym (ap (λ (s : Station). s.setup.drift) x.same);
+            seed = ap (λ (s : Station). s.system.seed) x.same ∙ e.set_up.seed
+                ∙ sym (ap (λ (s : Station). s.setup.seed) x.same);
+            named = ap (λ (s : Station). clock s.system) x.same ∙ e.set_up.named
+                ∙ sym (ap (λ (s : Station). s.setup.identity) x.same);
           };
           named = ap (λ (s : Station). clock s.system) x.same ∙ e.named;
           there = ap (λ (s : Station). number s.system.ports port.port) x.same ∙ e.there;
@@ -258,7 +280,7 @@ module _ (w w' : WorldState) (still : StandsStill w w') where
       } in
       record {
         after = after;
-        settled = λ i. setting_view at.direction l.channel (a.same i).setup (b.same i).setup;
+        settled = λ i. setting_named at.direction l.channel (a.same i).setup (b.same i).setup;
         seen = λ i. record {
           pair = pair_view (time i) (interval_of (a.same i).setup.params.pdelay) at.direction l.channel
               (measure_at (a.state i)) (measure_at (b.state i));
@@ -323,7 +345,7 @@ module _ (w w' : WorldState) (still : StandsStill w w') where
       let time = still.time in
       let after = unanswered_still at l in
       let settled : silent_setting at w' after ≡ silent_setting at w l =
-      λ i. setting_view at.direction l.channel (a.same i).setup (b.same i).setup in
+      λ i. setting_named at.direction l.channel (a.same i).setup (b.same i).setup in
       let seen : silent_view at w' after ≡ silent_view at w l = λ i. record {
         time = time i;
         asker = asker_view (interval_of (a.same i).setup.params.pdelay) (measure_at (a.state i));

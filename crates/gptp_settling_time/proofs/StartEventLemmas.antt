@@ -10,7 +10,6 @@ use Rattle.gptp_links.specs.declared.link.Direction.{Direction}
 use Rattle.gptp_links.specs.declared.link.Direction.TheVariants.{FromA, FromB}
 use Rattle.gptp_links.specs.Fate.{Draw}
 use Rattle.gptp_links.specs.Queue.{frame}
-use Rattle.gptp_pdelay.specs.GoodLink.{IsGoodLink}
 use Rattle.gptp_roles.specs.Selection.{clock_of}
 use Rattle.gptp_setup.specs.declared.setup.Params.{Params}
 use Rattle.gptp_setup.specs.SettlingParams.{SettlingParams}
@@ -43,7 +42,7 @@ use Rattle.gptp_invariants.specs.ChoiceSeenLaws.{IsNoChange}
 use Rattle.gptp_invariants.specs.ChoiceSettlesAsMachine.{IsWorld}
 use Rattle.gptp_invariants.specs.DelayFirstAt.{IsFirstAt}
 use Rattle.gptp_invariants.specs.DelayElsewhere.{IsOtherLink}
-use Rattle.gptp_invariants.specs.DelayLinkView.{LinkPlace}
+use Rattle.gptp_invariants.specs.DelayLinkView.{IsGoodBetween, LinkPlace}
 use Rattle.gptp_invariants.specs.DelayMeasured.{LinkIsMeasured, LinkStandsAt, StationIsLiveAt}
 use Rattle.gptp_invariants.specs.WorldEncodableLaws.{SetsAnOctet}
 use Rattle.gptp_invariants.specs.WorldNews.{AreSilentBy, IsNews}
@@ -297,12 +296,11 @@ module _ {F : Type 0} (answers : Bounds → ℕ → F → Option ℕ → F → T
             named = answering.named ∙ sym (receiver_wire at.direction old stands.channel wire);
           };
           apart = stands.apart;
-          good = subst (λ (x : LinkSpec). IsGoodLink x.bounds.max answering.station.setup.params.turnaround
-              asking.station.setup.params.threshold) (sym wire)
-              (subst (λ (x : Params). IsGoodLink stands.channel.bounds.max x.turnaround
-              asking.station.setup.params.threshold) (sym answered)
-              (subst (λ (x : Params). IsGoodLink stands.channel.bounds.max
-              stands.answering.station.setup.params.turnaround x.threshold) (sym asks) stands.good));
+          good = subst (λ (x : LinkSpec). IsGoodBetween x.bounds.max asking.station.setup.params
+              answering.station.setup.params) (sym wire)
+              (subst (IsGoodBetween stands.channel.bounds.max asking.station.setup.params) (sym answered)
+              (subst (λ (x : Params). IsGoodBetween stands.channel.bounds.max x
+              stands.answering.station.setup.params) (sym asks) stands.good));
         }
       where
         sender_wire : (direction : Direction) (c e : Channel) → channel_wire c ≡ channel_wire e

@@ -11,7 +11,7 @@ use Rattle.gptp_pdelay.specs.Peer.{after_interval, reset_peer}
 use Rattle.gptp_roles.specs.Selection.{clock_of}
 use Rattle.gptp_setup.specs.declared.setup.Setup.{Setup}
 use Rattle.gptp_setup.specs.declared.timer.Timer.TheVariants as timers
-use Rattle.gptp_scenario.specs.Network.{NetworkState, pace_of}
+use Rattle.gptp_scenario.specs.Network.{NetworkState}
 use Rattle.gptp_scenario.specs.declared.network.LinkSpec.{LinkSpec}
 use Rattle.gptp_system.specs.declared.answer.Answer.{Answer}
 use Rattle.gptp_system.specs.declared.port.Port.{Port}
@@ -165,8 +165,8 @@ module _ (place : ℕ) (input : Input) (w : WorldState) (draws : List Draw) (ans
 pub initial_untold : (n : NetworkState) → IsUntold (initial n)
 initial_untold n = record {
   measured = λ place station there.
-      let (member, stood, made) = mapped (station_of (pace_of n)) n.systems place station there in
-      subst HasMeasuredNothing made (started_unmeasured (station_of (pace_of n) member).setup 0 false);
+      let (member, stood, made) = mapped (station_of n) n.systems place station there in
+      subst HasMeasuredNothing made (started_unmeasured (station_of n member).setup 0 false);
   lanes = λ j l f a there member said.
       let at = lane_from (channels_of n) j l there in
       let (wire, stood, made) = mapped channel_from n.links at.link at.channel at.here in

@@ -23,6 +23,7 @@ use Rattle.gptp_setup.specs.declared.setup.Params.{Params}
 use Rattle.gptp_setup.specs.declared.setup.Setup.{Setup}
 use Rattle.gptp_setup.specs.Intervals.{interval_of}
 use Rattle.gptp_setup.specs.SettlingParams.{SettlingParams, largest_interval}
+use Rattle.gptp_setup.specs.Stamping.{blur_of}
 use Rattle.gptp_system.specs.Measures.{Part, measure_at}
 use Rattle.gptp_model.specs.Acts.{Acts, set_to}
 use Rattle.gptp_model.specs.Changing.{with_bounds}
@@ -51,6 +52,7 @@ use Rattle.gptp_invariants.specs.WorldNews.{AreReadyBy, AreSilentBy, IsNews, IsR
 use Rattle.gptp_invariants.specs.WorldSound.{IsSoundWorld}
 use Rattle.gptp_invariants.specs.WorldStanding.{channel_is_used, live_stations, snapshot_of, standing_link, used_channels}
 use Rattle.gptp_invariants.proofs.DelayEndLemmas.{renamed}
+use Rattle.gptp_invariants.proofs.DelayLinkLemmas.{good_between}
 use Rattle.gptp_invariants.proofs.DelayUsedLinkLemmas.{receiver_lives}
 use Rattle.gptp_invariants.proofs.FailedUnansweredCallLemmas.{failed_apart}
 use Rattle.gptp_invariants.proofs.WorldSoundLemmas.{sound_gains}
@@ -223,7 +225,8 @@ module _ (p : SettlingParams) (start next by place : ℕ) (w : WorldState) (is :
             named = s.answering.named ∙ ap (λ (q : PortId). q.clock) ends;
           };
           apart = s.apart;
-          good = rw (answers, asks) good;
+          good = good_between channel.bounds.max p.params s.asking.station.setup.params
+              s.answering.station.setup.params asks answers good;
         }
 
     stood : LinkStandsAt at w
@@ -259,17 +262,17 @@ module _ (p : SettlingParams) (start next by place : ℕ) (w : WorldState) (is :
         same_there w.net.channels place l.channel channel
         (subst (λ i. slice_get w.net.channels i ≡ Some l.channel) same l.here) here
 
-    good : IsGoodLink b.max p.params.turnaround p.params.threshold
+    good : IsGoodLink (b.max + blur_of p.params) p.params.turnaround p.params.threshold
     good =
         let one : s.channel ≡ new =
         same_there widened.net.channels place s.channel new
         (subst (λ i. slice_get widened.net.channels i ≡ Some s.channel) same s.here) there in
         let asks = (is.known.set at.asking s.asking.station s.asking.here).starts.params in
         let answers = (is.known.set at.answering s.answering.station s.answering.here).starts.params in
-        subst (λ (c : Channel). IsGoodLink c.bounds.max p.params.turnaround p.params.threshold) one
-        (subst (λ (x : Params). IsGoodLink s.channel.bounds.max p.params.turnaround x.threshold) asks
-        (subst (λ (x : Params). IsGoodLink s.channel.bounds.max x.turnaround s.asking.station.setup.params.threshold)
-        answers s.good))
+        subst (λ (c : Channel). IsGoodLink (c.bounds.max + blur_of p.params) p.params.turnaround p.params.threshold) one
+        (subst (λ (x : Params). IsGoodLink (s.channel.bounds.max + blur_of x) p.params.turnaround x.threshold) asks
+        (subst (λ (x : Params). IsGoodLink (s.channel.bounds.max + blur_of s.asking.station.setup.params) x.turnaround
+        s.asking.station.setup.params.threshold) answers s.good.short))
 
     asks_by : l.asking.station.setup.params ≡ p.params
     asks_by = (is.known.set at.asking l.asking.station l.asking.here).starts.params
@@ -290,7 +293,8 @@ module _ (p : SettlingParams) (start next by place : ℕ) (w : WorldState) (is :
           (receiver at.direction (record l.channel { bounds = b })) w (sym (receiver_set at.direction l.channel b))
           l.answering;
       apart = l.apart;
-      good = (let is_good = good in rw (answers_by, asks_by) is_good);
+      good = good_between b.max p.params l.asking.station.setup.params l.answering.station.setup.params asks_by
+          answers_by good;
       fit = λ direction f member.
           l.fit direction f (subst (λ (fs : List Frame). In f fs) (queue_set direction l.channel b) member);
     }

@@ -54,6 +54,8 @@ pub struct Setup {
     pub intervals: ArrayVec<i8, MOST_PORTS>,
     /// The largest announce interval of any port of the network, -4 to 4.
     pub largest: i8,
+    /// From what the noise of its time stamps is drawn, with its clock and the time.
+    pub seed: u64,
     /// What is the same for all systems.
     pub params: Params,
 }
@@ -81,6 +83,7 @@ impl Setup {
             continues: self.continues,
             intervals: copy_intervals(self.intervals.as_slice()),
             largest: self.largest,
+            seed: self.seed,
             params: self.params,
         }
     }

@@ -3,15 +3,17 @@ use Rattle.std.proofs.Common.{◌≡◌, ◌≤◌, ◌+◌, ◌++◌, ℕ, zero
 use Rattle.std.proofs.lemmas.Int.{ints}
 use Rattle.gptp_lists.specs.Members.{In}
 use Rattle.gptp_pdelay.specs.Clock.{IsDrift}
+use Rattle.gptp_pdelay.proofs.ClockLemmas.{clock_is_read}
 use Rattle.gptp_correction.specs.declared.correction.Relayed.{Relayed}
 use Rattle.gptp_correction.specs.declared.sync_in.SyncInfo.{SyncInfo}
 use Rattle.gptp_pdelay_machine.specs.Lanes.{LaneFrame}
 use Rattle.gptp_pdelay_machine.proofs.LaneLemmas.{no_frames_mute}
 use Rattle.gptp_error_laws.specs.TimeError.{drift_at}
 use Rattle.gptp_error_laws.specs.Examples.{two_links_way}
+use Rattle.gptp_error_laws.specs.WayLaws.{shown_at}
 use Rattle.gptp_sync_machine.specs.Messages.{Message, Sync, FollowUp, IsOneMessage}
 use Rattle.gptp_sync_machine.specs.Right.{IsHeldAt, IsMeasuredAt, FollowUpIsRight, info_of}
-use Rattle.gptp_sync_machine.specs.Follower.{Follower, IsSetting, FollowerSync, FollowerSetting, from, parent_link, own_clock}
+use Rattle.gptp_sync_machine.specs.Follower.{Follower, IsSetting, FollowerSync, FollowerSetting, from, parent_link}
 use Rattle.gptp_sync_machine.specs.Acts.{FollowerHears, ParentTells, hears, kept_at_ingress, parent_tells, relays}
 use Rattle.gptp_sync_machine.specs.Invariant.{IsJustSettled}
 use Rattle.gptp_sync_machine.specs.FollowerLaws.{IsParentOf}
@@ -59,7 +61,7 @@ module _ (k : FollowerSetting) (speaks : List ℕ → Message → Type 0) (x : S
   hears_sync = record {
     nothing = λ none. absurd (none (Sync k.parent x.sequence) one_sync.said);
     sync = λ sequence says. record {
-      kept = ap (λ n. Some (kept_at_ingress k.parent n (own_clock k (came k x))))
+      kept = ap (λ n. Some (kept_at_ingress k.parent n (k.stamps (came k x))))
           (sym (same sequence (one_sync.only _ says)));
       still = record { known = refl; relay = refl };
     };
@@ -80,7 +82,7 @@ module _ (k : FollowerSetting) (speaks : List ℕ → Message → Type 0) (x : S
     nothing = λ none. absurd (none (FollowUp k.parent x.sequence x.told) one_follow_up.said);
     sync = λ sequence says. absurd (other sequence (one_follow_up.only _ says));
     follow_up = λ sequence example_told ingress says is. inl (record {
-      known = ap (λ (m : Relayed). Some (info_of m (own_clock k (came k x))))
+      known = ap (λ (m : Relayed). Some (info_of m (k.stamps (came k x))))
           (sym (same sequence example_told (one_follow_up.only _ says)))
           ∙ ap (λ t. Some (info_of example_told t)) (came_then sequence ingress is);
       anew = anew;
@@ -97,7 +99,7 @@ module _ (k : FollowerSetting) (speaks : List ℕ → Message → Type 0) (x : S
       same sequence example_told e = cc
 
       came_then : (sequence : ℕ) (ingress : ℤ) → Some (sync k x) ≡ Some (kept_at_ingress k.parent sequence ingress)
-          → own_clock k (came k x) ≡ ingress
+          → k.stamps (came k x) ≡ ingress
       came_then sequence ingress e =
           let one : sync k x ≡ kept_at_ingress k.parent sequence ingress = cc
           in ap (λ (s : FollowerSync). s.ingress) one
@@ -171,6 +173,7 @@ bridge_is = record {
   documented = record { little = omega arith; long = omega arith; waits = omega arith; drifts = bridge_drifts };
   on_way = omega arith;
   short = omega arith;
+  read = clock_is_read 0 0 0 (drift_at at_bridge.way 1) (omega arith);
 }
 
 slave_is : IsSetting at_slave
@@ -178,6 +181,7 @@ slave_is = record {
   documented = record { little = omega arith; long = omega arith; waits = omega arith; drifts = drifts };
   on_way = omega arith;
   short = omega arith;
+  read = clock_is_read 0 0 0 (drift_at at_slave.way 2) (omega arith);
 }
 
 parent_is : IsParentOf at_bridge at_slave
@@ -210,7 +214,9 @@ bridge_comes : IsFollowerRun at_bridge says (ready at_bridge from_root)
     (coming at_bridge from_root ++ going_on at_bridge from_root)
 bridge_comes = comes at_bridge says from_root (omega arith) (says_one (0 ∷ []) _ refl) (says_one (1 ∷ []) _ refl)
     (going_on at_bridge from_root) (λ late.
-    root_tells at_bridge (pos 0) (record { seconds = 2; nanos = 0 }) 0 from_root.sent refl refl
+    root_tells at_bridge (pos 0) (shown_at at_bridge.way at_bridge.phase 0 from_root.sent)
+    (record { seconds = 2; nanos = 0 }) 0 from_root.sent refl refl
+    (record { low = omega (arith, ints); high = omega (arith, ints) })
     (record { stamp = record { seconds = omega arith; nanos = omega arith }; small = omega arith; whole = refl }))
     (goes_on at_bridge says from_root (omega arith) (says_one (0 ∷ []) _ refl) (says_one (1 ∷ []) _ refl))
 

@@ -4,7 +4,7 @@ use Rattle.gptp_correction.specs.declared.correction.Relayed.{Relayed}
 use Rattle.gptp_pdelay_machine.specs.Lanes.{LaneFrame, IsMute}
 use Rattle.gptp_sync_machine.specs.Messages.{Message}
 use Rattle.gptp_sync_machine.specs.Right.{FollowUpIsRight, follow_up_told, info_of}
-use Rattle.gptp_sync_machine.specs.Follower.{Follower, IsSetting, FollowerSync, FollowerSetting, from, own_clock}
+use Rattle.gptp_sync_machine.specs.Follower.{Follower, IsSetting, FollowerSync, FollowerSetting, from}
 use Rattle.gptp_sync_machine.specs.Flows.{Arrival, FramesFlow, TellsRight, arrival}
 use Rattle.gptp_sync_machine.specs.Acts.{FollowerActs, FrameArrives, Knows, KnowsAnew, KnowsStill, FollowerWaits, hears, kept_at_ingress, others_send, parent_tells, relays}
 use Rattle.gptp_sync_machine.specs.Invariant.{FollowerInvariant, IsJustSettled, IsKept, IsKnownRight}
@@ -31,18 +31,18 @@ module _ (k : FollowerSetting) (says : List ℕ → Message → Type 0) where
 
   -- what a Follow_Up tells is right, and is known from then on
   known_told : (s s' : Follower) (sequence : ℕ) (told : Relayed) (a : Arrival)
-      → TellsRight k (Some a) sequence s.time told → Knows k told (own_clock k a.came) s s' → IsKnownRight k s'
+      → TellsRight k (Some a) sequence s.time told → Knows k told (k.stamps a.came) s s' → IsKnownRight k s'
   known_told s s' sequence told a is knows info due known relay late = rw one (record {
     sent = is.sent;
     came = is.came;
     heard = s.time;
     carried = is.carried;
     stay = knows.anew info due known relay;
-    ingress = ap (λ t. own_clock k t) then;
+    ingress = ap k.stamps then;
     right = is.right;
   })
     where
-      one : info ≡ info_of told (own_clock k a.came)
+      one : info ≡ info_of told (k.stamps a.came)
       one = cc
 
       then : a.came ≡ is.came
@@ -92,7 +92,7 @@ module _ (k : FollowerSetting) (says : List ℕ → Message → Type 0) where
 
       -- a Follow_Up
       told_or_none : (a : Arrival) (sequence : ℕ) (told : Relayed) → TellsRight k (Some a) sequence act.front.due told
-          → Knows k told (own_clock k a.came) s s' ⊎ (s'.known ≡ None) → IsKnownRight k s'
+          → Knows k told (k.stamps a.came) s s' ⊎ (s'.known ≡ None) → IsKnownRight k s'
       told_or_none a sequence told is (inl knows) =
           known_told s s' sequence told a (subst (λ t. TellsRight k (Some a) sequence t told) act.now is) knows
       told_or_none a sequence told is (inr none) = known_none s' none
@@ -105,7 +105,7 @@ module _ (k : FollowerSetting) (says : List ℕ → Message → Type 0) where
           let keeps = act.hears.sync sequence said in
           record {
             arrival = Some (arrival sequence act.front.due);
-            is_kept = keeps.kept ∙ ap (λ t. Some (kept_at_ingress k.parent sequence (own_clock k t))) (sym act.now);
+            is_kept = keeps.kept ∙ ap (λ t. Some (kept_at_ingress k.parent sequence (k.stamps t))) (sym act.now);
             flows = flows_in (Some (arrival sequence act.front.due)) act.rest s'.lane act.lane behind;
             known = known_still s s' keeps.still inv.known;
           }
@@ -117,8 +117,8 @@ module _ (k : FollowerSetting) (says : List ℕ → Message → Type 0) where
           let number : a.sequence ≡ sequence = number_is told_is.kept_is in
           unkept behind
           (told_or_none a sequence told told_is
-          (act.hears.follow_up sequence told (own_clock k a.came) said
-          (is ∙ ap (λ n. Some (kept_at_ingress k.parent n (own_clock k a.came))) number)))
+          (act.hears.follow_up sequence told (k.stamps a.came) said
+          (is ∙ ap (λ n. Some (kept_at_ingress k.parent n (k.stamps a.came))) number)))
         where
           number_is : {b : Arrival} → Some a ≡ Some b → a.sequence ≡ b.sequence
           number_is e = cc

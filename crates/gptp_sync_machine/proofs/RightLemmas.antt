@@ -8,7 +8,6 @@ use Rattle.gptp_scaled.specs.Counts.{AreWithin}
 use Rattle.gptp_scaled.proofs.CountLemmas.{rate_is_bounded}
 use Rattle.gptp_pdelay.specs.Clock.{IsTime}
 use Rattle.gptp_pdelay.specs.GoodLink.{ceil_div}
-use Rattle.gptp_pdelay.proofs.ClockLemmas.{clock_is_read}
 use Rattle.gptp_pdelay.specs.Measured.{AreMeasured}
 use Rattle.gptp_pdelay.proofs.MeasurementLemmas.{clock_counts, counts_between, measurement_is_within}
 use Rattle.gptp_correction.specs.declared.correction.Relayed.{Relayed}
@@ -17,25 +16,25 @@ use Rattle.gptp_correction.specs.Sum.{sum_below}
 use Rattle.gptp_pdelay_machine.specs.Setting.{IsByMost}
 use Rattle.gptp_error_laws.specs.TimeError.{WayLink, Way, clock_at, drift_at, jitter_at, link_at, measured_jitter_at, measured_most_at, rate_error_at, rates_error_at, steady_rate_at, time_error_at, total_below}
 use Rattle.gptp_error_laws.specs.HopLaws.{IsOverLink, IsRateBehind, IsRateWithin}
-use Rattle.gptp_error_laws.specs.WayLaws.{IsDocumented, longer, shown_at}
+use Rattle.gptp_error_laws.specs.WayLaws.{IsDocumented, IsReadAt, longer, shown_at}
 use Rattle.gptp_error_laws.proofs.HopLemmas.{hop_keeps, offset_is_within}
 use Rattle.gptp_error_laws.proofs.CutLemmas.{neighbours_are_near}
-use Rattle.gptp_error_laws.proofs.WayLemmas.{adds, ceil_reaches, error_before, error_behind, error_sent, link_grows, natural, rate_so_far, size_is, stay_grows, steady_is_limited}
+use Rattle.gptp_error_laws.proofs.WayLemmas.{adds, ceil_reaches, error_before, error_behind, error_sent, link_grows, natural, off_within, rate_so_far, size_is, stay_grows, steady_is_limited}
 use Rattle.gptp_error_laws.proofs.LongerLemmas.{link_same, parents_error_stays, rates_same, steady_same, sum_same, total_same}
 use Rattle.gptp_sync_machine.proofs.SizeLemmas.{IsSmall, passage_small}
 use Rattle.gptp_sync_machine.specs.Right.{IsHeldAt, IsMeasuredAt, IsModest, FollowUpIsRight, at_rate, info_of, measured_error_at, most_correction_at, sent_error_at, told_at}
 use Rattle.gptp_sync_machine.specs.RightLaws.{BridgeNumbersFit, BridgeTellsRight, ExchangesMeasureRight, HeldIsRight, IsOnWay, OffsetIsRight, RightStays, RootTellsRight}
 
 pub root_tells_right : RootTellsRight
-root_tells_right w phase ahead stamp rest sent split =
+root_tells_right w phase ahead said stamp rest sent near split =
     let whole = split.whole in
     let small = split.small in
     record {
       ahead = ahead;
       base_is = refl;
       origin = split.stamp;
-      time = record { low = omega (arith, ints, whole); high = omega (arith, ints, whole) };
-      later = omega (arith, ints);
+      time = record { low = omega (arith, ints, whole, near.low); high = omega (arith, ints, whole, near.high) };
+      least = omega (arith, ints);
       small = omega (arith, ints, small);
       rate = record { low = omega (arith, ints); high = omega (arith, ints) };
       fits = omega (arith, ints);
@@ -57,7 +56,7 @@ held_is_right w phase base i told sent neighbour held limited at right = by_case
       base_is = right.base_is;
       origin = right.origin;
       time = right.time;
-      later = right.later;
+      least = right.least;
       small = right.small;
       rate = within;
       fits = fits';
@@ -164,38 +163,46 @@ held_on_way w phase base i told sent came rate delay held on measured at = recor
   right = held_is_right w phase base i told sent rate held measured.limited at on.right;
 }
 
--- two times that a base moves
-pub both_moved : (a b base : ℤ) (passed : ℕ) → b -ℤ a ≡ pos passed → (b +ℤ base) -ℤ (a +ℤ base) ≡ pos passed
-both_moved a b base passed is = omega (arith, ints, is)
+-- two times that a base and what time stamps are behind move
+pub both_moved : (a b base : ℤ) (behind passed : ℕ) → b -ℤ a ≡ pos passed
+    → (b +ℤ base -ℤ pos behind) -ℤ (a +ℤ base -ℤ pos behind) ≡ pos passed
+both_moved a b base behind passed is = omega (arith, ints, is)
 
--- what a bridge adds to the correction isn't negative, and is small
-added_small : (w : Way) (phase : ℕ → ℕ) (base : Option ℤ) (i : ℕ) (told : Relayed) (sent came due : ℕ) (rate delay : ℤ)
-    → IsOnWay w phase base i told sent came → IsMeasuredAt w i rate delay →
+-- what passes between two time stamps, and by how much that is another count than the clock's
+passes_by : (from to count : ℤ) → to -ℤ from ≡ count +ℤ (to -ℤ from -ℤ count)
+passes_by from to count = omega (arith, ints)
+
+-- what a bridge adds to the correction is small
+added_small : (w : Way) (phase : ℕ → ℕ) (base : Option ℤ) (i : ℕ) (stamps : ℕ → ℤ) (told : Relayed)
+    (sent came due : ℕ) (rate delay : ℤ) →
+    IsReadAt w phase (suc i) stamps → IsOnWay w phase base i told sent came → IsMeasuredAt w i rate delay →
     IsByMost came due (w.residence + jitter_at w i) → FitsRate (told.rate +ℤ rate) →
-    let info = info_of told (shown_at w phase (suc i) came) in
-    IsSmall (measured_most_at w i + w.turnaround + w.residence + jitter_at w i + 1)
-    (bridge info delay rate (shown_at w phase (suc i) due)) (told.rate +ℤ rate)
-added_small w phase base i told sent came due rate delay on measured (later, soon) fits =
+    IsSmall (measured_most_at w i + w.turnaround + w.residence + measured_jitter_at w i + 1)
+    (bridge (info_of told (stamps came)) delay rate (stamps due)) (told.rate +ℤ rate)
+added_small w phase base i stamps told sent came due rate delay read on measured (later, soon) fits =
     let l = link_at w i in
-    let info = info_of told (shown_at w phase (suc i) came) in
-    let hop = bridge info delay rate (shown_at w phase (suc i) due) in
+    let hop = bridge (info_of told (stamps came)) delay rate (stamps due) in
     let drifts = on.documented.drifts (suc i) on.on_way in
     let count = counts_between (phase (suc i)) (drift_at w (suc i)) came due drifts later in
-    passage_small w.blur l.least l.most w.turnaround (clock_at w i) (clock_at w (suc i)) (due - came) count.count _ hop
-    (told.rate +ℤ rate) (clock_counts.rate (drift_at w i) (on.documented.drifts i (omega (arith, on.on_way))))
-    (clock_counts.rate (drift_at w (suc i)) drifts) measured.limited measured.delay_within fits count.is count.counted
-    (omega (arith, soon, later))
+    passage_small w.blur l.least l.most w.turnaround (clock_at w i) (clock_at w (suc i)) (due - came) count.count
+    (measured_most_at w i + w.turnaround + w.residence + measured_jitter_at w i + 1)
+    (stamps due -ℤ stamps came -ℤ pos count.count) hop (told.rate +ℤ rate)
+    (clock_counts.rate (drift_at w i) (on.documented.drifts i (omega (arith, on.on_way))))
+    (clock_counts.rate (drift_at w (suc i)) drifts) measured.limited measured.delay_within fits
+    (passes_by (stamps came) (stamps due) (pos count.count))
+    (off_within w.blur w.behind (phase (suc i)) (drift_at w (suc i)) stamps read came due count.count count.is)
+    count.counted (omega (arith, soon, later))
 
-right_behind : (w : Way) (phase : ℕ → ℕ) (base : Option ℤ) (i : ℕ) (told : Relayed) (sent came due : ℕ)
-    (rate delay : ℤ) →
-    IsOnWay w phase base i told sent came → IsMeasuredAt w i rate delay →
+right_behind : (w : Way) (phase : ℕ → ℕ) (base : Option ℤ) (i : ℕ) (stamps : ℕ → ℤ) (told : Relayed)
+    (sent came due : ℕ) (rate delay : ℤ) →
+    IsReadAt w phase (suc i) stamps → IsOnWay w phase base i told sent came → IsMeasuredAt w i rate delay →
     IsByMost came due (w.residence + jitter_at w i) → FitsRate (told.rate +ℤ rate) →
-    let info = info_of told (shown_at w phase (suc i) came) in
-    FollowUpIsRight w phase base (suc i) (relayed info (bridge info delay rate (shown_at w phase (suc i) due))) due
-right_behind w phase base i told sent came due rate delay on measured (later, soon) fits =
+    let info = info_of told (stamps came) in
+    FollowUpIsRight w phase base (suc i) (relayed info (bridge info delay rate (stamps due))) due
+right_behind w phase base i stamps told sent came due rate delay read on measured (later, soon) fits =
     let l = link_at w i in
-    let ingress = shown_at w phase (suc i) came in
-    let egress = shown_at w phase (suc i) due in
+    let ingress = stamps came in
+    let egress = stamps due in
     let info = info_of told ingress in
     let hop = bridge info delay rate egress in
     let passing = came - sent in
@@ -206,45 +213,48 @@ right_behind w phase base i told sent came due rate delay on measured (later, so
     (omega (arith, on.long, later)) in
     let parts : due - sent ≡ passing + stay = omega (arith, on.long, later) in
     let added = hop_keeps w.blur l.least l.most w.turnaround (clock_at w 0) (clock_at w i) (clock_at w (suc i))
-    (error_before w i) (rates_error_at w i) passing stay count.count passed.count (pos 0) info hop
+    (error_before w i) (rates_error_at w i) passing stay count.count passed.count
+    (egress -ℤ ingress -ℤ pos count.count) info hop
     (over_link w phase base i told sent came rate delay on measured)
     (rate_behind w phase base i told sent came rate delay on measured fits)
     (clock_counts.rate (drift_at w (suc i)) drifts) (omega (arith, on.long)) (omega (arith, on.short, on.long))
-    count.counted (record { low = omega (arith, ints); high = omega (arith, ints) }) (omega (arith, ints, count.is))
-    (rw parts at passed.counted) in
+    count.counted
+    (off_within w.blur w.behind (phase (suc i)) (drift_at w (suc i)) stamps read came due count.count count.is)
+    (passes_by ingress egress (pos count.count)) (rw parts at passed.counted) in
     let sum = adds (sent_error_at w i) _ (sent_error_at w (suc i)) (scaled_of told.origin) told.correction
-    ((relayed info hop).correction -ℤ told.correction) (told_at w phase on.right.ahead sent)
-    (told_at w phase on.right.ahead due) passed.count
+    ((relayed info hop).correction -ℤ told.correction) (told_at w phase on.right.ahead sent -ℤ pos w.behind)
+    (told_at w phase on.right.ahead due -ℤ pos w.behind) passed.count
     (omega (arith, sent_error_is w i, sent_error_is w (suc i), stay_grows w i stay (omega (arith, later, soon))))
-    (both_moved (shown_at w phase 0 sent) (shown_at w phase 0 due) on.right.ahead passed.count passed.is) on.right.time
-    added in
-    let more = added_small w phase base i told sent came due rate delay on measured (later, soon) fits in
+    (both_moved (shown_at w phase 0 sent) (shown_at w phase 0 due) on.right.ahead w.behind passed.count passed.is)
+    on.right.time added in
+    let more = added_small w phase base i stamps told sent came due rate delay read on measured (later, soon) fits in
     record {
       ahead = on.right.ahead;
       base_is = on.right.base_is;
       origin = on.right.origin;
       time = record { low = omega (arith, ints, sum.low); high = omega (arith, ints, sum.high) };
-      later = omega (arith, ints, on.right.later, more.later);
-      small = omega (arith, ints, on.right.small, more.small);
+      least = omega (arith, ints, on.right.least, more.scaled.low);
+      small = omega (arith, ints, on.right.small, more.scaled.high);
       rate = rates_add w phase base i told sent rate delay on.right measured;
       fits = fits;
     }
 
 pub bridge_tells_right : BridgeTellsRight
-bridge_tells_right w phase base i told sent came due rate delay held on measured in_time at =
-    right_behind w phase base i (at_rate told held) sent came due rate delay
+bridge_tells_right w phase base i stamps told sent came due rate delay held read on measured in_time at =
+    right_behind w phase base i stamps (at_rate told held) sent came due rate delay read
     (held_on_way w phase base i told sent came rate delay held on measured at) measured in_time at.fits
 
 -- the numbers fit
-numbers_fit : (w : Way) (phase : ℕ → ℕ) (base : Option ℤ) (i : ℕ) (told : Relayed) (sent came due : ℕ) (rate delay : ℤ)
-    → IsOnWay w phase base i told sent came → IsMeasuredAt w i rate delay →
+numbers_fit : (w : Way) (phase : ℕ → ℕ) (base : Option ℤ) (i : ℕ) (stamps : ℕ → ℤ) (told : Relayed)
+    (sent came due : ℕ) (rate delay : ℤ) →
+    IsReadAt w phase (suc i) stamps → IsOnWay w phase base i told sent came → IsMeasuredAt w i rate delay →
     IsByMost came due (w.residence + jitter_at w i) → FitsRate (told.rate +ℤ rate) →
-    most_correction_at w (suc i) < 2 ^ 63 → IsTime (shown_at w phase (suc i) came) →
-    IsTime (shown_at w phase (suc i) due) → let info = info_of told (shown_at w phase (suc i) came) in
-    let hop = bridge info delay rate (shown_at w phase (suc i) due) in
+    most_correction_at w (suc i) < 2 ^ 63 → IsTime (stamps came) → IsTime (stamps due) →
+    let info = info_of told (stamps came) in let hop = bridge info delay rate (stamps due) in
     BridgeFits hop (carried_on (carried info) hop)
-numbers_fit w phase base i told sent came due rate delay on measured in_time fits short at_ingress at_egress =
-    let more = added_small w phase base i told sent came due rate delay on measured in_time fits in
+numbers_fit w phase base i stamps told sent came due rate delay read on measured in_time fits short at_ingress
+    at_egress =
+    let more = added_small w phase base i stamps told sent came due rate delay read on measured in_time fits in
     let right = on.right in
     record {
       link = record {
@@ -258,30 +268,37 @@ numbers_fit w phase base i told sent came due rate delay on measured in_time fit
       };
       rate = fits;
       between = record {
-        low = omega (arith, ints, more.passage_is);
-        high = omega (arith, ints, more.passage_is, more.passage_small, short);
+        low = omega (arith, ints, more.passed.low, short);
+        high = omega (arith, ints, more.passed.high, short);
       };
-      scaled = record { low = omega (arith, ints, more.later); high = omega (arith, ints, more.small, short) };
-      correction = omega (arith, ints, right.later, right.small, more.later, more.small, short);
+      scaled = record {
+        low = omega (arith, ints, more.scaled.low, short);
+        high = omega (arith, ints, more.scaled.high, short);
+      };
+      correction = omega (arith, ints, right.least, right.small, more.scaled.low, more.scaled.high, short);
     }
 
 pub bridge_numbers_fit : BridgeNumbersFit
-bridge_numbers_fit w phase base i told sent came due rate delay held on measured in_time at short ingress egress =
-    numbers_fit w phase base i (at_rate told held) sent came due rate delay
+bridge_numbers_fit w phase base i stamps told sent came due rate delay held read on measured in_time at short ingress
+    egress =
+    numbers_fit w phase base i stamps (at_rate told held) sent came due rate delay read
     (held_on_way w phase base i told sent came rate delay held on measured at) measured in_time at.fits short ingress
     egress
 
 -- the offset that is computed from what was told
-offset_within : (w : Way) (phase : ℕ → ℕ) (base : Option ℤ) (i : ℕ) (told : Relayed) (sent came now : ℕ)
-    (rate delay : ℤ) →
-    IsOnWay w phase base i told sent came → IsMeasuredAt w i rate delay → came ≤ now → now ≤ sent + (link_at w i).most →
-    let ingress = shown_at w phase (suc i) came in
+offset_within : (w : Way) (phase : ℕ → ℕ) (base : Option ℤ) (i : ℕ) (stamps : ℕ → ℤ) (told : Relayed)
+    (sent came now : ℕ) (rate delay : ℤ) →
+    IsReadAt w phase (suc i) stamps → IsOnWay w phase base i told sent came → IsMeasuredAt w i rate delay →
+    came ≤ now → now ≤ sent + (link_at w i).most →
+    let ingress = stamps came in
     (ahead : ℤ) × (base ≡ Some ahead)
     × AreWithin (time_error_at w (suc i)) (ingress -ℤ sync_received (info_of told ingress) delay rate)
     (shown_at w phase (suc i) now -ℤ told_at w phase ahead now)
-offset_within w phase base i told sent came now rate delay on measured later soon =
+offset_within w phase base i stamps told sent came now rate delay read on measured later soon =
     let l = link_at w i in
-    let ingress = shown_at w phase (suc i) came in
+    let ingress = stamps came in
+    let near = read.near came in
+    let off = shown_at w phase (suc i) came -ℤ pos w.behind -ℤ ingress in
     let info = info_of told ingress in
     let passing = came - sent in
     let wait = now - came in
@@ -291,25 +308,26 @@ offset_within w phase base i told sent came now rate delay on measured later soo
     (omega (arith, on.long, later)) in
     let parts : now - sent ≡ passing + wait = omega (arith, on.long, later) in
     let added = sync_received info delay rate -ℤ (scaled_of told.origin +ℤ told.correction) +ℤ pos count.count
-    +ℤ pos 0 in
+    +ℤ off in
     let within = offset_is_within w.blur l.least l.most w.turnaround (clock_at w 0) (clock_at w i) (clock_at w (suc i))
-    (error_before w i) passing wait count.count passed.count (pos 0) info delay rate
+    (error_before w i) passing wait count.count passed.count off info delay rate
     (over_link w phase base i told sent came rate delay on measured) (clock_counts.rate (drift_at w (suc i)) drifts)
     (omega (arith, on.long)) (omega (arith, on.short, on.long)) (omega (arith, on.long, soon)) count.counted
-    (record { low = omega (arith, ints); high = omega (arith, ints) }) (rw parts at passed.counted) in
+    (record { low = omega (arith, ints, near.high); high = omega (arith, ints, near.low) })
+    (rw parts at passed.counted) in
     let sum = adds (sent_error_at w i) _ (33550000 * time_error_at w (suc i)) (scaled_of told.origin) told.correction
-    added (told_at w phase on.right.ahead sent) (told_at w phase on.right.ahead now) passed.count
-    (omega (arith, sent_error_is w i, error_behind w i, link_grows w i))
-    (both_moved (shown_at w phase 0 sent) (shown_at w phase 0 now) on.right.ahead passed.count passed.is) on.right.time
-    within in (
+    added (told_at w phase on.right.ahead sent -ℤ pos w.behind) (told_at w phase on.right.ahead now -ℤ pos w.behind)
+    passed.count (omega (arith, sent_error_is w i, error_behind w i, link_grows w i))
+    (both_moved (shown_at w phase 0 sent) (shown_at w phase 0 now) on.right.ahead w.behind passed.count passed.is)
+    on.right.time within in (
       on.right.ahead,
       on.right.base_is,
       record { low = omega (arith, ints, sum.high, count.is); high = omega (arith, ints, sum.low, count.is) },
     )
 
 pub offset_is_right : OffsetIsRight
-offset_is_right w phase base i told sent came now rate delay held on measured at later soon =
-    offset_within w phase base i (at_rate told held) sent came now rate delay
+offset_is_right w phase base i stamps told sent came now rate delay held read on measured at later soon =
+    offset_within w phase base i stamps (at_rate told held) sent came now rate delay read
     (held_on_way w phase base i told sent came rate delay held on measured at) measured later soon
 
 -- what is measured on the links that a way had stays as it was
@@ -333,7 +351,7 @@ sent_same w l (suc i) h =
 
 -- what passes on the link at a place and at the bridge after it
 abbrev passing_at : Way → ℕ → ℕ
-passing_at w j = 131072 * (measured_most_at w j + w.turnaround + w.residence + jitter_at w j + 1)
+passing_at w j = 131072 * (measured_most_at w j + w.turnaround + w.residence + measured_jitter_at w j + 1)
 
 pub right_stays : RightStays
 right_stays w l phase phase' base i told sent h root right =
@@ -342,37 +360,39 @@ right_stays w l phase phase' base i told sent h root right =
     let rates = sum_same i (steady_rate_at (longer w l)) (steady_rate_at w)
     (λ j m. steady_same w l j (omega (arith, h, m))) in
     let most = total_same i (passing_at (longer w l)) (passing_at w)
-    (λ j m. ap (λ (k : WayLink). 131072 * (k.most + w.blur + w.turnaround + w.residence + (k.most - k.least) + 1))
+    (λ j m. ap
+    (λ (k : WayLink). 131072 * (k.most + w.blur + w.turnaround + w.residence + (k.most - k.least + 2 * w.blur) + 1))
     (link_same w l j (omega (arith, h, m)))) in
+    let least = right.least in
     let small = right.small in
     record {
       ahead = right.ahead;
       base_is = right.base_is;
       origin = right.origin;
       time = rw (sent_same w l i h, root) right.time;
-      later = right.later;
+      least = omega (arith, ints, most, least);
       small = omega (arith, ints, most, small);
       rate = rw (errors, rates) right.rate;
       fits = right.fits;
     }
 
 -- two exchanges over the link at a place
-measured_right : (w : Way) (phase : ℕ → ℕ) (i : ℕ) (rate delay : ℤ) → IsDocumented w → i < length w.links →
+measured_right : (w : Way) (phase : ℕ → ℕ) (i : ℕ) (mine yours : ℕ → ℤ) (rate delay : ℤ) → IsDocumented w →
+    i < length w.links → IsReadAt w phase (suc i) mine → IsReadAt w phase i yours →
     (link_at w i).least ≤ (link_at w i).most →
     12 * w.blur ≤ w.interval - (2 * (link_at w i).most + w.turnaround) →
-    AreMeasured (link_at w i).least (link_at w i).most w.turnaround w.interval (shown_at w phase (suc i))
-    (shown_at w phase i) rate delay → IsMeasuredAt w i rate delay
-measured_right w phase i rate delay k h order rested a =
+    AreMeasured (link_at w i).least (link_at w i).most w.turnaround w.interval mine yours rate delay →
+    IsMeasuredAt w i rate delay
+measured_right w phase i mine yours rate delay k h read_mine read_yours order rested a =
     let l = link_at w i in
     let first = a.earlier_carried in
-    let is = measurement_is_within w.blur 0 l.least l.most w.turnaround w.interval
+    let is = measurement_is_within w.blur w.behind l.least l.most w.turnaround w.interval
     (ceil_div (2202000000000 * measured_jitter_at w i) w.interval) (phase (suc i)) (phase i) (drift_at w (suc i))
-    (drift_at w i) rate delay (shown_at w phase (suc i)) (shown_at w phase i) (k.drifts (suc i) h)
-    (k.drifts i (omega (arith, h))) (clock_is_read w.blur 0 (phase (suc i)) (drift_at w (suc i)) (omega arith))
-    (clock_is_read w.blur 0 (phase i) (drift_at w i) (omega arith)) order k.waits k.little k.long
+    (drift_at w i) rate delay mine yours (k.drifts (suc i) h)
+    (k.drifts i (omega (arith, h))) read_mine read_yours order k.waits k.little k.long
     (ceil_reaches (2202000000000 * measured_jitter_at w i) w.interval (omega (arith, k.long))) a
     (omega (arith, rested, a.apart, a.ended, first.there_short, first.home_short)) in
-    let limited = bounded (shown_at w phase (suc i)) (shown_at w phase i) a in
+    let limited = bounded a in
     record {
       limited = limited;
       rate_within = neighbours_are_near (ceil_div (2202000000000 * measured_jitter_at w i) w.interval) rate
@@ -380,32 +400,27 @@ measured_right w phase i rate delay k h order rested a =
       delay_within = is.delay_within;
     }
   where
-    bounded : (mine yours : ℕ → ℤ) → let l = link_at w i in
+    bounded : let l = link_at w i in
         AreMeasured l.least l.most w.turnaround w.interval mine yours rate delay → IsNeighborRate rate
-    bounded mine yours m =
+    bounded m =
         rw m.rate_is (rate_is_bounded (yours (m.later.heard + w.turnaround) -ℤ yours (m.earlier.heard + w.turnaround))
         (mine m.later.came -ℤ mine m.earlier.came))
 
--- the same delays, parameters and clocks
-same_exchanges : (least most most' turnaround turnaround' interval interval' : ℕ) (mine mine' yours yours' : ℕ → ℤ)
-    (rate delay : ℤ) → most' ≡ most → turnaround' ≡ turnaround → interval' ≡ interval → mine' ≡ mine → yours' ≡ yours →
+-- the same delays and parameters
+same_exchanges : (least most most' turnaround turnaround' interval interval' : ℕ) (mine yours : ℕ → ℤ)
+    (rate delay : ℤ) → most' ≡ most → turnaround' ≡ turnaround → interval' ≡ interval →
     AreMeasured least most turnaround interval mine yours rate delay →
-    AreMeasured least most' turnaround' interval' mine' yours' rate delay
-same_exchanges least most most' turnaround turnaround' interval interval' mine mine' yours yours' rate delay a b c d e
-    m =
-    rw (a, b, c, d, e) m
+    AreMeasured least most' turnaround' interval' mine yours rate delay
+same_exchanges least most most' turnaround turnaround' interval interval' mine yours rate delay a b c m = rw (a, b, c) m
 
 pub exchanges_measure_right : ExchangesMeasureRight
 exchanges_measure_right k w phase i last on h =
     let l = link_at w i in
-    let m = h.measured in
-    let mine : k.asking_clock ≡ shown_at w phase (suc i) = λ j t. on.asking t j in
-    let yours : k.answering_clock ≡ shown_at w phase i = λ j t. on.answering t j in (
+    let m = h.measured in (
       m,
       h.is,
-      measured_right w phase i m.rate m.delay on.documented on.on_way (omega (arith, on.order, on.most))
-          (omega (arith, on.rested, on.most, on.turnaround))
+      measured_right w phase i k.asking_clock k.answering_clock m.rate m.delay on.documented on.on_way on.asking
+          on.answering (omega (arith, on.order, on.most)) (omega (arith, on.rested, on.most, on.turnaround))
           (same_exchanges l.least k.most l.most k.turnaround w.turnaround k.period w.interval k.asking_clock
-          (shown_at w phase (suc i)) k.answering_clock (shown_at w phase i) m.rate m.delay (sym on.most)
-          (sym on.turnaround) (sym on.period) (sym mine) (sym yours) h.exchanges),
+          k.answering_clock m.rate m.delay (sym on.most) (sym on.turnaround) (sym on.period) h.exchanges),
     )

@@ -20,10 +20,10 @@ use Rattle.gptp_sync_machine.specs.FollowerLaws.{IsParentOf, RootTells}
 use Rattle.gptp_sync_machine.proofs.RightLemmas.{bridge_numbers_fit, bridge_tells_right, offset_is_right, right_stays, root_tells_right}
 
 pub root_tells : RootTells
-root_tells k ahead stamp rest sent first told split =
+root_tells k ahead said stamp rest sent first told near split =
     subst (λ i. FollowUpIsRight k.way k.phase k.base i (root_time stamp rest) sent) (sym first)
     (subst (λ base. FollowUpIsRight k.way k.phase base 0 (root_time stamp rest) sent) (sym told)
-    (root_tells_right k.way k.phase ahead stamp rest sent split))
+    (root_tells_right k.way k.phase ahead said stamp rest sent near split))
 
 -- what comes to those that follow the system when it is right there was heard when what comes is right here
 parents_time : (k k' : FollowerSetting) (time : ℕ) → IsSetting k' → IsParentOf k k'
@@ -55,9 +55,9 @@ module _ (k : FollowerSetting) (says : List ℕ → Message → Type 0) where
       let stay = i.stay in
       (omega (arith, carried.behind, stay.0), omega (arith, carried.long, carried.short, stay.1))
 
-  -- what is known is what was told, and the own clock as the Sync came
+  -- what is known is what was told, and the time stamp of the own clock as the Sync came
   info_is : (info : SyncInfo) (due : ℕ) (held : ℤ) (i : IsInformed k info due)
-      → info_of (at_rate (follow_up_told info) held) (own_clock k i.came) ≡ record info { rate = held }
+      → info_of (at_rate (follow_up_told info) held) (k.stamps i.came) ≡ record info { rate = held }
   info_is info due held i = ap (λ t. info_of (at_rate (follow_up_told info) held) t) (sym i.ingress)
 
   -- what is known and sent on is right as it is sent
@@ -66,48 +66,48 @@ module _ (k : FollowerSetting) (says : List ℕ → Message → Type 0) where
       → s.known ≡ Some info → s.relay ≡ Some s.time → from k + k.way.residence ≤ s.time
       → IsMeasuredAt k.way k.place rate delay → IsHeldAt k.way k.place info.rate rate held
       → let used = record info { rate = held } in
-      FollowUpIsRight k.way k.phase k.base (suc k.place) (relayed used (bridge used delay rate (own_clock k s.time)))
+      FollowUpIsRight k.way k.phase k.base (suc k.place) (relayed used (bridge used delay rate (k.stamps s.time)))
       s.time
   relay_tells_right s info rate delay held is inv known relay late measured at =
       let i = inv.known info s.time known relay late in
-      let right = bridge_tells_right k.way k.phase k.base k.place (follow_up_told info) i.sent i.came s.time rate delay
-      held
+      let right = bridge_tells_right k.way k.phase k.base k.place k.stamps (follow_up_told info) i.sent i.came s.time
+      rate delay held is.read
       (on_way k (follow_up_told info) i.sent i.came i.heard is i.carried i.right) measured (stays info s.time i) at in
       subst (λ (x : SyncInfo). FollowUpIsRight k.way k.phase k.base (suc k.place)
-      (relayed x (bridge x delay rate (own_clock k s.time))) s.time) (info_is info s.time held i) right
+      (relayed x (bridge x delay rate (k.stamps s.time))) s.time) (info_is info s.time held i) right
 
   pub parents_numbers_fit : (s : Follower) (info : SyncInfo) (rate delay held : ℤ) → IsSetting k
       → FollowerInvariant k says s
       → s.known ≡ Some info → s.relay ≡ Some s.time → from k + k.way.residence ≤ s.time
       → IsMeasuredAt k.way k.place rate delay → IsHeldAt k.way k.place info.rate rate held
       → most_correction_at k.way (suc k.place) < 2 ^ 63
-      → ((t : ℕ) → t ≤ s.time → IsTime (own_clock k t))
+      → ((t : ℕ) → t ≤ s.time → IsTime (k.stamps t))
       → let used = record info { rate = held } in
-      let hop = bridge used delay rate (own_clock k s.time) in
+      let hop = bridge used delay rate (k.stamps s.time) in
       BridgeFits hop (carried_on (carried used) hop)
   parents_numbers_fit s info rate delay held is inv known relay late measured at short shown =
       let i = inv.known info s.time known relay late in
       let stay = stays info s.time i in
-      let fits = bridge_numbers_fit k.way k.phase k.base k.place (follow_up_told info) i.sent i.came s.time rate delay
-      held
+      let fits = bridge_numbers_fit k.way k.phase k.base k.place k.stamps (follow_up_told info) i.sent i.came s.time
+      rate delay held is.read
       (on_way k (follow_up_told info) i.sent i.came i.heard is i.carried i.right) measured stay at short
       (shown i.came stay.0) (shown s.time (omega arith)) in
-      subst (λ (x : SyncInfo). BridgeFits (bridge x delay rate (own_clock k s.time))
-      (carried_on (carried x) (bridge x delay rate (own_clock k s.time)))) (info_is info s.time held i) fits
+      subst (λ (x : SyncInfo). BridgeFits (bridge x delay rate (k.stamps s.time))
+      (carried_on (carried x) (bridge x delay rate (k.stamps s.time)))) (info_is info s.time held i) fits
 
   pub parent_tells_right : (k' : FollowerSetting) (s : Follower) (info : SyncInfo) (rate delay held : ℤ)
       → IsSetting k → IsSetting k' → IsParentOf k k' → FollowerInvariant k says s
       → s.known ≡ Some info → s.relay ≡ Some s.time → from k' ≤ s.time + (parent_link k').most
       → IsMeasuredAt k.way k.place rate delay → IsHeldAt k.way k.place info.rate rate held
       → let used = record info { rate = held } in
-      FollowUpIsRight k'.way k'.phase k'.base k'.place (relayed used (bridge used delay rate (own_clock k s.time)))
+      FollowUpIsRight k'.way k'.phase k'.base k'.place (relayed used (bridge used delay rate (k.stamps s.time)))
       s.time
   parent_tells_right k' s info rate delay held is is' parent inv known relay late measured at =
       let used : SyncInfo = record info { rate = held } in
       let right = relay_tells_right s info rate delay held is inv known relay
       (parents_time k k' s.time is' parent late) measured at in
       let there = right_stays k.way parent.link k.phase k'.phase k.base (suc k.place)
-      (relayed used (bridge used delay rate (own_clock k s.time))) s.time (omega (arith, parent.end)) parent.root
+      (relayed used (bridge used delay rate (k.stamps s.time))) s.time (omega (arith, parent.end)) parent.root
       right in
       rw (parent.way, parent.place, parent.base) there
 
@@ -131,14 +131,14 @@ module _ (k : FollowerSetting) (says : List ℕ → Message → Type 0) where
           (own_clock k s.time -ℤ root_told k ahead s.time)
 
       -- of what was told as it was sent
-      exact : (told' : Relayed) (a : Arrival) → told' ≡ told → ingress ≡ own_clock k a.came
+      exact : (told' : Relayed) (a : Arrival) → told' ≡ told → ingress ≡ k.stamps a.came
           → (sequence' : ℕ) → TellsRight k (Some a) sequence' s.time told' → Claim
       exact told' a e at sequence' t =
           let came : a.came ≡ t.came = came_is t.kept_is in
-          let then : own_clock k t.came ≡ ingress = ap (λ c. own_clock k c) (sym came) ∙ sym at in
+          let then : k.stamps t.came ≡ ingress = ap k.stamps (sym came) ∙ sym at in
           let carried = t.carried in
-          let right = offset_is_right k.way k.phase k.base k.place told t.sent t.came s.time rate delay held
-          (on_way k told t.sent t.came s.time is carried
+          let right = offset_is_right k.way k.phase k.base k.place k.stamps told t.sent t.came s.time rate delay held
+          is.read (on_way k told t.sent t.came s.time is carried
           (subst (λ (m : Relayed). FollowUpIsRight k.way k.phase k.base k.place m t.sent) e t.right)) measured held_at
           carried.behind
           carried.short in (
@@ -172,9 +172,9 @@ module _ (k : FollowerSetting) (says : List ℕ → Message → Type 0) where
           told_is e = cc
 
           ingress_is : Some (kept_at_ingress source sequence ingress) ≡ Some
-              (kept_at_ingress k.parent a.sequence (own_clock k a.came))
-              → ingress ≡ own_clock k a.came
+              (kept_at_ingress k.parent a.sequence (k.stamps a.came))
+              → ingress ≡ k.stamps a.came
           ingress_is e =
               let same : kept_at_ingress source sequence ingress ≡ kept_at_ingress k.parent a.sequence
-              (own_clock k a.came) = cc in
+              (k.stamps a.came) = cc in
               ap (λ (sync : FollowerSync). sync.ingress) same

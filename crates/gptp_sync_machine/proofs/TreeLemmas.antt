@@ -1,5 +1,5 @@
 -- The ways of a settled network.
-use Rattle.std.proofs.Common.{◌≡◌, ◌≤◌, ℕ, zero, suc, true, false, length, refl, sym, ap, ap₂, subst, ◌∙◌, arith}
+use Rattle.std.proofs.Common.{◌≡◌, ◌≤◌, ℕ, ℤ, zero, suc, true, false, length, refl, sym, ap, ap₂, subst, ◌∙◌, arith}
 use Rattle.std.specs.Prelude.{if◌then◌else◌, nat_lt}
 use Rattle.std.proofs.lemmas.Bool.Decides.{nat_tests}
 use Rattle.gptp_graph.specs.Best.{IsBest}
@@ -9,12 +9,12 @@ use Rattle.gptp_graph.specs.Snapshot.{IsWellFormed, Snapshot, System}
 use Rattle.gptp_graph.proofs.BestLemmas.{IsBest-neighbour}
 use Rattle.gptp_graph.proofs.DistanceLemmas.{best_at_zero}
 use Rattle.gptp_graph.proofs.ParentLemmas.{IsParent-unique, LeadsNearer-distance, parent_exists}
-use Rattle.gptp_pdelay.specs.Clock.{IsDrift, local_clock}
+use Rattle.gptp_pdelay.specs.Clock.{IsDrift, IsStampClock, local_clock}
 use Rattle.gptp_error_laws.specs.TimeError.{WayLink, Way, drift_at, link_at}
-use Rattle.gptp_error_laws.specs.WayLaws.{IsDocumented, longer, shown_at}
+use Rattle.gptp_error_laws.specs.WayLaws.{IsDocumented, IsReadAt, longer, shown_at}
 use Rattle.gptp_error_laws.proofs.LongerLemmas.{documented_longer, drift_last, drift_same, link_last, longer_length}
 use Rattle.gptp_sync_machine.specs.Tree.{IsWayTo, Parts, last_link, tree_root_way}
-use Rattle.gptp_sync_machine.specs.TreeLaws.{ArePartsOf, ParentsAreMeasured, ParentsAreParents, WayEndsAtParent, WayExists, WayIsOne, WayLeadsTo, WaysAreSettings}
+use Rattle.gptp_sync_machine.specs.TreeLaws.{ArePartsOf, AreStampsOf, ParentsAreMeasured, ParentsAreParents, WayEndsAtParent, WayExists, WayIsOne, WayLeadsTo, WaysAreSettings}
 
 -- a way is the same by phases that are the same on it
 same_phases : (x : Parts) (g : Snapshot) (steps clock : ℕ) (w : Way) (phase phase' : ℕ → ℕ)
@@ -127,26 +127,37 @@ end_is x g steps clock parent w phase follows (other, above, follows', way, is, 
     ∙ ap (last_link x clock) (IsParent-unique g clock other parent follows' follows)
 
 -- and the clock before it is the parent's
+drift_before : (x : Parts) (g : Snapshot) (steps clock : ℕ) (parent : ParentLink) (w : Way) (phase : ℕ → ℕ)
+    → IsParent g clock parent → IsWayTo x g (suc steps) clock w phase → drift_at w steps ≡ x.drift parent.clock
+drift_before x g steps clock parent w phase follows (other, above, follows', way, is, last) =
+    let all = long x g steps other.clock above phase way in
+    ap (λ (v : Way). drift_at v steps) is
+    ∙ drift_same above (last_link x clock other) steps (omega (arith, all))
+    ∙ drift_is x g steps other.clock above phase way
+    ∙ ap (λ (p : ParentLink). x.drift p.clock) (IsParent-unique g clock other parent follows' follows)
+
+phase_before : (x : Parts) (g : Snapshot) (steps clock : ℕ) (parent : ParentLink) (w : Way) (phase : ℕ → ℕ)
+    → IsParent g clock parent → IsWayTo x g (suc steps) clock w phase → phase steps ≡ x.phase parent.clock
+phase_before x g steps clock parent w phase follows (other, above, follows', way, is, last) =
+    phase_is x g steps other.clock above phase way
+    ∙ ap (λ (p : ParentLink). x.phase p.clock) (IsParent-unique g clock other parent follows' follows)
+
 clock_is : (x : Parts) (g : Snapshot) (steps clock t : ℕ) (parent : ParentLink) (w : Way) (phase : ℕ → ℕ)
     → IsParent g clock parent → IsWayTo x g (suc steps) clock w phase
     → shown_at w phase steps t ≡ local_clock (x.phase parent.clock) (x.drift parent.clock) t
-clock_is x g steps clock t parent w phase follows (other, above, follows', way, is, last) =
-    let same : other ≡ parent = IsParent-unique g clock other parent follows' follows in
-    let all = long x g steps other.clock above phase way in
-    ap (λ (v : Way). local_clock (phase steps) (drift_at v steps) t) is
-    ∙ ap (λ d. local_clock (phase steps) d t)
-    (drift_same above (last_link x clock other) steps (omega (arith, all))
-    ∙ drift_is x g steps other.clock above phase way)
-    ∙ ap (λ p. local_clock p (x.drift other.clock) t) (phase_is x g steps other.clock above phase way)
-    ∙ ap (λ (p : ParentLink). local_clock (x.phase p.clock) (x.drift p.clock) t) same
+clock_is x g steps clock t parent w phase follows way =
+    ap (λ p. local_clock p (drift_at w steps) t) (phase_before x g steps clock parent w phase follows way)
+    ∙ ap (λ d. local_clock (x.phase parent.clock) d t) (drift_before x g steps clock parent w phase follows way)
 
 common : (x : Parts) (g : Snapshot) (steps clock : ℕ) (w : Way) (phase : ℕ → ℕ) → IsWayTo x g steps clock w phase
-    → (w.interval ≡ x.interval) × (w.turnaround ≡ x.turnaround) × (w.residence ≡ x.residence) × (w.blur ≡ 0)
+    → (w.interval ≡ x.interval) × (w.turnaround ≡ x.turnaround) × (w.residence ≡ x.residence)
+    × (w.blur ≡ x.blur) × (w.behind ≡ x.behind)
 common x g zero clock w phase (distance, is, first) = (
   ap (λ (v : Way). v.interval) is,
   ap (λ (v : Way). v.turnaround) is,
   ap (λ (v : Way). v.residence) is,
   ap (λ (v : Way). v.blur) is,
+  ap (λ (v : Way). v.behind) is,
 )
 common x g (suc steps) clock w phase (parent, above, follows, way, is, last) =
     let up = common x g steps parent.clock above phase way in (
@@ -154,6 +165,7 @@ common x g (suc steps) clock w phase (parent, above, follows, way, is, last) =
       ap (λ (v : Way). v.turnaround) is ∙ up.1,
       ap (λ (v : Way). v.residence) is ∙ up.2,
       ap (λ (v : Way). v.blur) is ∙ up.3,
+      ap (λ (v : Way). v.behind) is ∙ up.4,
     )
 
 pub way_ends_at_parent : WayEndsAtParent
@@ -162,7 +174,7 @@ way_ends_at_parent = record { link = end_is; clock = clock_is; common = common }
 documented : (x : Parts) (g : Snapshot) (steps clock longest : ℕ) (w : Way) (phase : ℕ → ℕ) → ArePartsOf x longest
     → IsWayTo x g steps clock w phase → IsDocumented w
 documented x g zero clock longest w phase parts (distance, is, first) = subst IsDocumented (sym is) (record {
-  little = omega arith;
+  little = parts.little;
   long = parts.long;
   waits = parts.waits;
   drifts = drifts;
@@ -175,8 +187,32 @@ documented x g (suc steps) clock longest w phase parts (parent, above, follows, 
     subst IsDocumented (sym is) (documented_longer above (last_link x clock parent)
     (documented x g steps parent.clock longest above phase parts way) (parts.drifts clock))
 
+-- the time stamps of a clock with the same numbers
+stamps_same : (blur blur' behind behind' phase phase' : ℕ) (drift drift' : ℤ) (stamps : ℕ → ℤ) → blur' ≡ blur
+    → behind' ≡ behind → phase' ≡ phase → drift' ≡ drift → IsStampClock blur behind phase drift stamps
+    → IsStampClock blur' behind' phase' drift' stamps
+stamps_same blur blur' behind behind' phase phase' drift drift' stamps a b c d is = rw (a, b, c, d) is
+
+-- those of the clock at the end of a way, and of the one before it
+stamps_at_end : (x : Parts) (g : Snapshot) (steps clock : ℕ) (w : Way) (phase : ℕ → ℕ) (stamps : ℕ → ℤ)
+    → IsWayTo x g steps clock w phase → AreStampsOf x clock stamps → IsReadAt w phase steps stamps
+stamps_at_end x g steps clock w phase stamps way is =
+    let all = common x g steps clock w phase way in
+    stamps_same x.blur w.blur x.behind w.behind (x.phase clock) (phase steps) (x.drift clock) (drift_at w steps) stamps
+    all.3 all.4 (phase_is x g steps clock w phase way) (drift_is x g steps clock w phase way) is
+
+stamps_before : (x : Parts) (g : Snapshot) (steps clock : ℕ) (parent : ParentLink) (w : Way) (phase : ℕ → ℕ)
+    (stamps : ℕ → ℤ) → IsParent g clock parent → IsWayTo x g (suc steps) clock w phase
+    → AreStampsOf x parent.clock stamps → IsReadAt w phase steps stamps
+stamps_before x g steps clock parent w phase stamps follows way is =
+    let all = common x g (suc steps) clock w phase way in
+    stamps_same x.blur w.blur x.behind w.behind (x.phase parent.clock) (phase steps) (x.drift parent.clock)
+    (drift_at w steps) stamps all.3 all.4 (phase_before x g steps clock parent w phase follows way)
+    (drift_before x g steps clock parent w phase follows way) is
+
 pub ways_are_settings : WaysAreSettings
-ways_are_settings x g steps clock settled longest port w phase base parts (parent, above, follows, way, is, last) =
+ways_are_settings x g steps clock settled longest stamps port w phase base parts
+    (parent, above, follows, way, is, last) taken =
     let whole : IsWayTo x g (suc steps) clock w phase = (parent, above, follows, way, is, last) in
     let end = end_is x g steps clock parent w phase follows whole in
     let short = parts.short in
@@ -184,10 +220,11 @@ ways_are_settings x g steps clock settled longest port w phase base parts (paren
       documented = documented x g (suc steps) clock longest w phase parts whole;
       on_way = let all = long x g (suc steps) clock w phase whole in omega (arith, all);
       short = subst (λ (l : WayLink). l.most ≤ longest) (sym end) (short _);
+      read = stamps_at_end x g (suc steps) clock w phase stamps whole taken;
     }
 
 pub parents_are_parents : ParentsAreParents
-parents_are_parents x g steps clock settled longest l port port' w w' phase phase' base follows way
+parents_are_parents x g steps clock settled longest l stamps stamps' port port' w w' phase phase' base follows way
     (parent, above, follows', way', is, last) =
     let same : parent ≡ l = IsParent-unique g clock parent l follows' follows in
     let up = way_is_one x g (suc steps) l.clock above w phase' phase
@@ -214,7 +251,7 @@ parents_are_measured x g steps clock longest parent w phase k parts follows way 
       most = m.most ∙ ap (λ (l : WayLink). l.most) (sym end);
       turnaround = m.turnaround ∙ sym all.1;
       period = m.period ∙ sym all.0;
-      rested = omega (arith, all.3);
-      asking = λ t. m.asking t ∙ sym (way_leads_to.own x g (suc steps) clock t w phase way);
-      answering = λ t. m.answering t ∙ sym (clock_is x g steps clock t parent w phase follows way);
+      rested = omega (arith, all.3, all.0, m.rested);
+      asking = stamps_at_end x g (suc steps) clock w phase k.asking_clock way m.asking;
+      answering = stamps_before x g steps clock parent w phase k.answering_clock follows way m.answering;
     }

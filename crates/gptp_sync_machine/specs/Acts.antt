@@ -10,7 +10,7 @@ use Rattle.gptp_pdelay_machine.specs.Lanes.{LaneFrame, AreMute, FirstIs}
 use Rattle.gptp_pdelay_machine.specs.Setting.{IsByMost}
 use Rattle.gptp_sync_machine.specs.Messages.{Message, Sync, FollowUp}
 use Rattle.gptp_sync_machine.specs.Right.{FollowUpIsRight, info_of}
-use Rattle.gptp_sync_machine.specs.Follower.{Follower, FollowerSync, FollowerSetting, follower_at_time, from, parent_link, own_clock}
+use Rattle.gptp_sync_machine.specs.Follower.{Follower, FollowerSync, FollowerSetting, follower_at_time, from, parent_link}
 
 -- the Sync of this source and number that came at that ingress
 abbrev pub kept_at_ingress : PortIdentity → ℕ → ℤ → FollowerSync
@@ -34,7 +34,7 @@ pub record IsUnmoved (s s' : Follower) : Type 0 where
 
 -- a Sync of the parent is kept
 pub record KeepsSync (k : FollowerSetting) (sequence : ℕ) (s s' : Follower) : Type 0 where
-  pub kept : s'.kept ≡ Some (kept_at_ingress k.parent sequence (own_clock k s.time))
+  pub kept : s'.kept ≡ Some (kept_at_ingress k.parent sequence (k.stamps s.time))
   pub still : KnowsStill s s'
 
 -- What a Follow_Up tells is known, with the ingress of its Sync. It is to be sent on a residence from now, or where a

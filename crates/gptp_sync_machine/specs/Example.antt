@@ -1,5 +1,5 @@
 -- A Sync over two links, state by state: from the root over a bridge to a slave.
-use Rattle.std.specs.Prelude.{◌≡◌, ℕ, ◌+◌, ◌≤◌, ℤ, pos, ◌-ℤ◌, neg_ℤ, List, [], ◌∷◌, ◌++◌, Some, None, slice_get, get_or}
+use Rattle.std.specs.Prelude.{◌≡◌, ℕ, suc, ◌+◌, ◌≤◌, ℤ, pos, ◌-ℤ◌, neg_ℤ, List, [], ◌∷◌, ◌++◌, Some, None, slice_get, get_or}
 use Rattle.gptp_graph.specs.Snapshot.{port_of}
 use Rattle.gptp_correction.specs.declared.correction.Relayed.{Relayed}
 use Rattle.gptp_correction.specs.declared.sync_in.SyncInfo.{SyncInfo}
@@ -7,9 +7,10 @@ use Rattle.gptp_correction.specs.Correction.{bridge, sync_received, relayed}
 use Rattle.gptp_pdelay_machine.specs.Lanes.{LaneFrame}
 use Rattle.gptp_error_laws.specs.TimeError.{Way, time_error_at}
 use Rattle.gptp_error_laws.specs.Examples.{two_links_way}
+use Rattle.gptp_error_laws.specs.WayLaws.{shown_at}
 use Rattle.gptp_sync_machine.specs.Messages.{Message, Sync, FollowUp, IsOneMessage}
 use Rattle.gptp_sync_machine.specs.Right.{IsHeldAt, IsMeasuredAt, info_of, root_time}
-use Rattle.gptp_sync_machine.specs.Follower.{Follower, IsSetting, FollowerSync, FollowerSetting, follower_at_time, from, parent_link, own_clock}
+use Rattle.gptp_sync_machine.specs.Follower.{Follower, IsSetting, FollowerSync, FollowerSetting, follower_at_time, from, parent_link}
 use Rattle.gptp_sync_machine.specs.Acts.{kept_at_ingress}
 use Rattle.gptp_sync_machine.specs.Invariant.{IsJustSettled}
 use Rattle.gptp_sync_machine.specs.FollowerLaws.{IsParentOf}
@@ -41,10 +42,10 @@ module _ (k : FollowerSetting) (x : SyncAndFollowUp) where
   example_follow_up_frame = record { due = heard; octets = x.follow_up }
 
   abbrev pub sync : FollowerSync
-  sync = kept_at_ingress k.parent x.sequence (own_clock k came)
+  sync = kept_at_ingress k.parent x.sequence (k.stamps came)
 
   abbrev pub info : SyncInfo
-  info = info_of x.told (own_clock k came)
+  info = info_of x.told (k.stamps came)
 
   -- before; when both are sent; when the Sync comes, and when it has come
   abbrev pub ready : Follower
@@ -80,13 +81,14 @@ module _ (k : FollowerSetting) (x : SyncAndFollowUp) where
   going_on = known ∷ relay_due ∷ sent_on ∷ []
 
 -- The first two links of the plant's ring, of 390 to 410 ns, where the network is settled 10 microseconds before the
--- Sync; the phases and the base are 0.
+-- Sync; the phases and the base are 0, and clocks are read as they are.
 abbrev pub ring_setting : Way → ℕ → ℕ → FollowerSetting
 ring_setting w place parent = record {
   way = w;
   phase = λ i. 0;
   base = Some (pos 0);
   place = place;
+  stamps = shown_at w (λ i. 0) (suc place);
   parent = port_of parent 2;
   settled = 1999990000;
   longest = 410;
@@ -124,7 +126,7 @@ abbrev pub from_bridge : SyncAndFollowUp
 from_bridge = record {
   sequence = 9;
   told = relayed (info at_bridge from_root)
-      (bridge (info at_bridge from_root) delay rate (own_clock at_bridge (example_due at_bridge from_root)));
+      (bridge (info at_bridge from_root) delay rate (at_bridge.stamps (example_due at_bridge from_root)));
   sent = example_due at_bridge from_root;
   sync = 2 ∷ [];
   follow_up = 3 ∷ [];
@@ -154,6 +156,6 @@ pub record SyncOverTwoLinks : Type 0 where
   pub slave_run : IsFollowerRun at_slave says (ready at_slave from_bridge) (coming at_slave from_bridge)
   pub late : from at_slave ≤ heard at_slave from_bridge
   pub one : IsOneMessage says from_bridge.follow_up (FollowUp at_slave.parent from_bridge.sequence from_bridge.told)
-  pub offset : own_clock at_slave (came at_slave from_bridge)
+  pub offset : at_slave.stamps (came at_slave from_bridge)
       -ℤ sync_received (info at_slave from_bridge) delay rate ≡ neg_ℤ (pos 1310722)
   pub error : time_error_at at_slave.way 2 ≡ 2622278

@@ -1,5 +1,5 @@
 -- Laws on a system that follows its parent.
-use Rattle.std.specs.Prelude.{◌≡◌, ℕ, suc, ◌+◌, ◌^◌, ◌<◌, ◌≤◌, ℤ, ◌-ℤ◌, List, ◌∷◌, None, Some, length}
+use Rattle.std.specs.Prelude.{◌≡◌, ℕ, suc, ◌+◌, ◌*◌, ◌^◌, ◌<◌, ◌≤◌, ℤ, pos, ◌-ℤ◌, List, ◌∷◌, None, Some, length}
 use Rattle.gptp_lists.specs.Members.{In}
 use Rattle.gptp_graph.specs.Snapshot.{PortIdentity}
 use Rattle.gptp_scaled.specs.Stamp.{Timestamp, IsSplit}
@@ -54,7 +54,7 @@ module _ (says : List ℕ → Message → Type 0) where
       → s.known ≡ Some info → s.relay ≡ Some s.time → from k' ≤ s.time + (parent_link k').most
       → IsMeasuredAt k.way k.place rate delay → IsHeldAt k.way k.place info.rate rate held
       → let used = record info { rate = held } in
-      FollowUpIsRight k'.way k'.phase k'.base k'.place (relayed used (bridge used delay rate (own_clock k s.time)))
+      FollowUpIsRight k'.way k'.phase k'.base k'.place (relayed used (bridge used delay rate (k.stamps s.time)))
       s.time
 
   -- The numbers of what a bridge sends on fit, from a residence after the time from which on what comes is right.
@@ -64,9 +64,9 @@ module _ (says : List ℕ → Message → Type 0) where
       → s.known ≡ Some info → s.relay ≡ Some s.time → from k + k.way.residence ≤ s.time
       → IsMeasuredAt k.way k.place rate delay → IsHeldAt k.way k.place info.rate rate held
       → most_correction_at k.way (suc k.place) < 2 ^ 63
-      → ((t : ℕ) → t ≤ s.time → IsTime (own_clock k t))
+      → ((t : ℕ) → t ≤ s.time → IsTime (k.stamps t))
       → let used = record info { rate = held } in
-      let hop = bridge used delay rate (own_clock k s.time) in
+      let hop = bridge used delay rate (k.stamps s.time) in
       BridgeFits hop (carried_on (carried used) hop)
 
   -- At each Follow_Up that belongs to the Sync that is kept, from when on what comes is right, the offset that is
@@ -84,10 +84,11 @@ module _ (says : List ℕ → Message → Type 0) where
       (ingress -ℤ sync_received (info_of (at_rate told held) ingress) delay rate)
       (own_clock k s.time -ℤ root_told k ahead s.time)
 
--- what the root sends is right for those that follow it
+-- the time stamp that the root sends is right for those that follow it
 abbrev pub RootTells : Type 0
-RootTells = (k : FollowerSetting) (ahead : ℤ) (stamp : Timestamp) (rest sent : ℕ)
-    → k.place ≡ 0 → k.base ≡ Some ahead → IsSplit (root_told k ahead sent) stamp rest
+RootTells = (k : FollowerSetting) (ahead said : ℤ) (stamp : Timestamp) (rest sent : ℕ)
+    → k.place ≡ 0 → k.base ≡ Some ahead
+    → AreWithin (32768 * k.way.blur) said (root_told k ahead sent -ℤ pos k.way.behind) → IsSplit said stamp rest
     → FollowUpIsRight k.way k.phase k.base k.place (root_time stamp rest) sent
 
 -- what holds while a root has no base by which it tells time holds when it has one: nothing that comes is right yet

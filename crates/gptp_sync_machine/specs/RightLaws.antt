@@ -11,13 +11,13 @@ use Rattle.gptp_correction.specs.Correction.{bridge, carried, carried_on, sync_r
 use Rattle.gptp_pdelay_machine.specs.Setting.{IsByMost, Setting}
 use Rattle.gptp_pdelay_machine.specs.Measured.{HasMeasured}
 use Rattle.gptp_error_laws.specs.TimeError.{WayLink, Way, jitter_at, link_at, time_error_at}
-use Rattle.gptp_error_laws.specs.WayLaws.{IsDocumented, longer, shown_at}
+use Rattle.gptp_error_laws.specs.WayLaws.{IsDocumented, IsReadAt, longer, shown_at}
 use Rattle.gptp_sync_machine.specs.Right.{IsHeldAt, IsMeasuredAt, IsModest, FollowUpIsRight, at_rate, info_of, most_correction_at, root_time, told_at}
 
--- what the root tells as the Sync is sent is right
+-- the time stamp of what the root tells as the Sync is sent is right
 abbrev pub RootTellsRight : Type 0
-RootTellsRight = (w : Way) (phase : ℕ → ℕ) (ahead : ℤ) (stamp : Timestamp) (rest sent : ℕ)
-    → IsSplit (told_at w phase ahead sent) stamp rest
+RootTellsRight = (w : Way) (phase : ℕ → ℕ) (ahead said : ℤ) (stamp : Timestamp) (rest sent : ℕ)
+    → AreWithin (32768 * w.blur) said (told_at w phase ahead sent -ℤ pos w.behind) → IsSplit said stamp rest
     → FollowUpIsRight w phase (Some ahead) 0 (root_time stamp rest) sent
 
 -- On the way of a document with at most 10000 links the sum of the rates is far from the limits of 32 bits: without
@@ -28,7 +28,7 @@ WaysAreModest = (w : Way) (i : ℕ) → IsDocumented w → i ≤ length w.links 
 -- where no link takes longer than a delay, corrections are no larger than that of so many links of it
 abbrev pub CorrectionsAreSmall : Type 0
 CorrectionsAreSmall = (w : Way) (longest i : ℕ) → ((j : ℕ) → j < i → (link_at w j).most ≤ longest)
-    → most_correction_at w i ≤ 65536 + i * (131072 * (2 * longest + w.blur + w.turnaround + w.residence + 1))
+    → most_correction_at w i ≤ 65536 + i * (131072 * (2 * longest + 3 * w.blur + w.turnaround + w.residence + 1))
 
 -- The rate whose sum with the neighbour rate is the nearest number of 32 bits to that of the rate that was told is such
 -- a rate; and so is the rate that was told, where that sum has 32 bits.
@@ -55,36 +55,35 @@ pub record IsOnWay (w : Way) (phase : ℕ → ℕ) (base : Option ℤ) (i : ℕ)
 
 -- What a bridge tells is right, where what it knows was right as it was told, where it has measured the link well, and
 -- where it keeps the Sync for at most the jitter and a residence: the jitter until the Follow_Up comes, and a residence
--- from then on.
+-- from then on. It stamps ingress and egress.
 abbrev pub BridgeTellsRight : Type 0
-BridgeTellsRight = (w : Way) (phase : ℕ → ℕ) (base : Option ℤ) (i : ℕ) (told : Relayed) (sent came due : ℕ)
-    (rate delay held : ℤ)
-    → IsOnWay w phase base i told sent came → IsMeasuredAt w i rate delay
+BridgeTellsRight = (w : Way) (phase : ℕ → ℕ) (base : Option ℤ) (i : ℕ) (stamps : ℕ → ℤ) (told : Relayed)
+    (sent came due : ℕ) (rate delay held : ℤ)
+    → IsReadAt w phase (suc i) stamps → IsOnWay w phase base i told sent came → IsMeasuredAt w i rate delay
     → IsByMost came due (w.residence + jitter_at w i) → IsHeldAt w i told.rate rate held
-    → let info = info_of (at_rate told held) (shown_at w phase (suc i) came) in
-    FollowUpIsRight w phase base (suc i) (relayed info (bridge info delay rate (shown_at w phase (suc i) due))) due
+    → let info = info_of (at_rate told held) (stamps came) in
+    FollowUpIsRight w phase base (suc i) (relayed info (bridge info delay rate (stamps due))) due
 
 -- all numbers by which a bridge sends a Sync on fit, where it has measured the link well, keeps the Sync for at most
 -- the jitter and a residence, and the correction may have 63 bits
 abbrev pub BridgeNumbersFit : Type 0
-BridgeNumbersFit = (w : Way) (phase : ℕ → ℕ) (base : Option ℤ) (i : ℕ) (told : Relayed) (sent came due : ℕ)
-    (rate delay held : ℤ)
-    → IsOnWay w phase base i told sent came → IsMeasuredAt w i rate delay
+BridgeNumbersFit = (w : Way) (phase : ℕ → ℕ) (base : Option ℤ) (i : ℕ) (stamps : ℕ → ℤ) (told : Relayed)
+    (sent came due : ℕ) (rate delay held : ℤ)
+    → IsReadAt w phase (suc i) stamps → IsOnWay w phase base i told sent came → IsMeasuredAt w i rate delay
     → IsByMost came due (w.residence + jitter_at w i) → IsHeldAt w i told.rate rate held
-    → most_correction_at w (suc i) < 2 ^ 63
-    → IsTime (shown_at w phase (suc i) came) → IsTime (shown_at w phase (suc i) due)
-    → let info = info_of (at_rate told held) (shown_at w phase (suc i) came) in
-    let hop = bridge info delay rate (shown_at w phase (suc i) due) in
+    → most_correction_at w (suc i) < 2 ^ 63 → IsTime (stamps came) → IsTime (stamps due)
+    → let info = info_of (at_rate told held) (stamps came) in
+    let hop = bridge info delay rate (stamps due) in
     BridgeFits hop (carried_on (carried info) hop)
 
--- The offset that a system computes at a Follow_Up, which is its clock as the Sync came less the root's time then, is
--- within the time error of what its clock shows as the Follow_Up comes less what the root tells.
+-- The offset that a system computes at a Follow_Up, which is the time stamp of its clock as the Sync came less the
+-- root's time then, is within the time error of what its clock shows as the Follow_Up comes less what the root tells.
 abbrev pub OffsetIsRight : Type 0
-OffsetIsRight = (w : Way) (phase : ℕ → ℕ) (base : Option ℤ) (i : ℕ) (told : Relayed) (sent came now : ℕ)
-    (rate delay held : ℤ)
-    → IsOnWay w phase base i told sent came → IsMeasuredAt w i rate delay → IsHeldAt w i told.rate rate held
-    → came ≤ now → now ≤ sent + (link_at w i).most
-    → let ingress = shown_at w phase (suc i) came in
+OffsetIsRight = (w : Way) (phase : ℕ → ℕ) (base : Option ℤ) (i : ℕ) (stamps : ℕ → ℤ) (told : Relayed)
+    (sent came now : ℕ) (rate delay held : ℤ)
+    → IsReadAt w phase (suc i) stamps → IsOnWay w phase base i told sent came → IsMeasuredAt w i rate delay
+    → IsHeldAt w i told.rate rate held → came ≤ now → now ≤ sent + (link_at w i).most
+    → let ingress = stamps came in
     (ahead : ℤ) × (base ≡ Some ahead)
     × AreWithin (time_error_at w (suc i)) (ingress -ℤ sync_received (info_of (at_rate told held) ingress) delay rate)
     (shown_at w phase (suc i) now -ℤ told_at w phase ahead now)
@@ -95,8 +94,8 @@ RightStays = (w : Way) (l : WayLink) (phase phase' : ℕ → ℕ) (base : Option
     → i ≤ length w.links → phase' 0 ≡ phase 0 → FollowUpIsRight w phase base i told sent
     → FollowUpIsRight (longer w l) phase' base i told sent
 
--- A port measures the link at a place: delays, parameters and clocks are those of the way. An exchange leaves 12 times
--- the blur to the next, where there is a blur.
+-- A port measures the link at a place: delays and parameters are those of the way, and the clocks of the way are
+-- stamped. An exchange leaves 12 times the blur to the next, where there is a blur.
 pub record MeasuresOnWay (k : Setting) (w : Way) (phase : ℕ → ℕ) (i : ℕ) : Type 0 where
   pub documented : IsDocumented w
   pub on_way : i < length w.links
@@ -105,8 +104,8 @@ pub record MeasuresOnWay (k : Setting) (w : Way) (phase : ℕ → ℕ) (i : ℕ)
   pub turnaround : k.turnaround ≡ w.turnaround
   pub period : k.period ≡ w.interval
   pub rested : 12 * w.blur ≤ w.interval - (2 * k.most + k.turnaround)
-  pub asking : (t : ℕ) → k.asking_clock t ≡ shown_at w phase (suc i) t
-  pub answering : (t : ℕ) → k.answering_clock t ≡ shown_at w phase i t
+  pub asking : IsReadAt w phase (suc i) k.asking_clock
+  pub answering : IsReadAt w phase i k.answering_clock
 
 -- what such a port has measured, once that is of two exchanges, one after the other, is right
 abbrev pub ExchangesMeasureRight : Type 0

@@ -8,22 +8,26 @@ use Rattle.gptp_error_laws.specs.WayLaws.{longer}
 use Rattle.gptp_sync_machine.specs.Follower.{FollowerSetting}
 
 -- What ways are made of: the drift of the system with a clock, and its phase, in ns; the least and the greatest delay
--- of the link at a port, in ns; and for all the interval between two requests, the turnaround and the residence.
+-- of the link at a port, in ns; and for all how exactly they stamp time, the interval between two requests, the
+-- turnaround and the residence.
 pub record Parts : Type 0 where
   pub drift : ℕ → ℤ
   pub phase : ℕ → ℕ
   pub least : PortIdentity → ℕ
   pub most : PortIdentity → ℕ
+  pub blur : ℕ
+  pub behind : ℕ
   pub interval : ℕ
   pub turnaround : ℕ
   pub residence : ℕ
 
--- the way to a root: no link; clocks are read as they are
+-- the way to a root: no link
 abbrev pub tree_root_way : Parts → ℕ → Way
 tree_root_way x clock = record {
   drift = x.drift clock;
   links = [];
-  blur = 0;
+  blur = x.blur;
+  behind = x.behind;
   interval = x.interval;
   turnaround = x.turnaround;
   residence = x.residence;
@@ -45,13 +49,15 @@ IsWayTo x g (suc steps) clock w phase =
     (parent : ParentLink) × (above : Way) × IsParent g clock parent × IsWayTo x g steps parent.clock above phase
     × (w ≡ longer above (last_link x clock parent)) × (phase (suc steps) ≡ x.phase clock)
 
--- a system after the last link of a way from a root with this base, which the parent's port sends on
-abbrev pub follower_of : Way → (ℕ → ℕ) → Option ℤ → ℕ → PortIdentity → ℕ → ℕ → FollowerSetting
-follower_of w phase base place parent settled longest = record {
+-- a system after the last link of a way from a root with this base, which takes these time stamps of its clock, and to
+-- which the parent's port sends on
+abbrev pub follower_of : Way → (ℕ → ℕ) → Option ℤ → ℕ → (ℕ → ℤ) → PortIdentity → ℕ → ℕ → FollowerSetting
+follower_of w phase base place stamps parent settled longest = record {
   way = w;
   phase = phase;
   base = base;
   place = place;
+  stamps = stamps;
   parent = parent;
   settled = settled;
   longest = longest;

@@ -1,10 +1,10 @@
 -- Laws on the ways of a settled network.
-use Rattle.std.specs.Prelude.{◌≡◌, ℕ, suc, ◌≤◌, ℤ, length, Option}
+use Rattle.std.specs.Prelude.{◌≡◌, ℕ, suc, ◌+◌, ◌-◌, ◌*◌, ◌≤◌, ℤ, length, Option}
 use Rattle.gptp_graph.specs.Best.{IsBest}
 use Rattle.gptp_graph.specs.Distance.{IsDistance}
 use Rattle.gptp_graph.specs.Parent.{ParentLink, IsParent}
 use Rattle.gptp_graph.specs.Snapshot.{IsWellFormed, PortIdentity, Snapshot, System, port_of}
-use Rattle.gptp_pdelay.specs.Clock.{IsDrift, local_clock}
+use Rattle.gptp_pdelay.specs.Clock.{IsDrift, IsStampClock, local_clock}
 use Rattle.gptp_error_laws.specs.TimeError.{Way, link_at}
 use Rattle.gptp_error_laws.specs.WayLaws.{shown_at}
 use Rattle.gptp_pdelay_machine.specs.Setting.{Setting as Measuring}
@@ -47,38 +47,46 @@ pub record WayEndsAtParent : Type 0 where
       → shown_at w phase steps t ≡ local_clock (x.phase parent.clock) (x.drift parent.clock) t
   pub common : (x : Parts) (g : Snapshot) (steps clock : ℕ) (w : Way) (phase : ℕ → ℕ)
       → IsWayTo x g steps clock w phase
-      → (w.interval ≡ x.interval) × (w.turnaround ≡ x.turnaround) × (w.residence ≡ x.residence) × (w.blur ≡ 0)
+      → (w.interval ≡ x.interval) × (w.turnaround ≡ x.turnaround) × (w.residence ≡ x.residence)
+      × (w.blur ≡ x.blur) × (w.behind ≡ x.behind)
 
 -- the numbers of the parts are those of a document, and no link takes longer than this
 pub record ArePartsOf (x : Parts) (longest : ℕ) : Type 0 where
+  pub little : x.blur ≤ 3000
   pub long : 62500000 ≤ x.interval
   pub waits : 1 ≤ x.turnaround
   pub drifts : (clock : ℕ) → IsDrift (x.drift clock)
   pub short : (port : PortIdentity) → x.most port ≤ longest
 
+-- these are time stamps of the clock of a system
+abbrev pub AreStampsOf : Parts → ℕ → (ℕ → ℤ) → Type 0
+AreStampsOf x clock stamps = IsStampClock x.blur x.behind (x.phase clock) (x.drift clock) stamps
+
 -- a system that isn't the best, on its way, is such a setting as the laws of followers ask for
 abbrev pub WaysAreSettings : Type 0
-WaysAreSettings = (x : Parts) (g : Snapshot) (steps clock settled longest : ℕ) (parent : PortIdentity) (w : Way)
-    (phase : ℕ → ℕ) (base : Option ℤ) → ArePartsOf x longest → IsWayTo x g (suc steps) clock w phase
-    → IsSetting (follower_of w phase base steps parent settled longest)
+WaysAreSettings = (x : Parts) (g : Snapshot) (steps clock settled longest : ℕ) (stamps : ℕ → ℤ) (parent : PortIdentity)
+    (w : Way) (phase : ℕ → ℕ) (base : Option ℤ) → ArePartsOf x longest → IsWayTo x g (suc steps) clock w phase
+    → AreStampsOf x clock stamps → IsSetting (follower_of w phase base steps stamps parent settled longest)
 
 -- where neither a system nor its parent is the best, the parent's follower is the parent of the system's follower
 abbrev pub ParentsAreParents : Type 0
 ParentsAreParents = (x : Parts) (g : Snapshot) (steps clock settled longest : ℕ) (l : ParentLink)
-    (port port' : PortIdentity) (w w' : Way) (phase phase' : ℕ → ℕ) (base : Option ℤ)
+    (stamps stamps' : ℕ → ℤ) (port port' : PortIdentity) (w w' : Way) (phase phase' : ℕ → ℕ) (base : Option ℤ)
     → IsParent g clock l → IsWayTo x g (suc steps) l.clock w phase
     → IsWayTo x g (suc (suc steps)) clock w' phase'
-    → IsParentOf (follower_of w phase base steps port settled longest)
-    (follower_of w' phase' base (suc steps) port' settled longest)
+    → IsParentOf (follower_of w phase base steps stamps port settled longest)
+    (follower_of w' phase' base (suc steps) stamps' port' settled longest)
 
--- a system measures its link to its parent: delays, parameters and clocks are those of the parts
+-- A system measures its link to its parent: delays and parameters are those of the parts, and the clocks of the two are
+-- stamped. An exchange leaves 12 times the blur to the next.
 pub record MeasuresParent (x : Parts) (clock : ℕ) (parent : ParentLink) (k : Measuring) : Type 0 where
   pub least : x.least (port_of clock parent.own_port) ≤ k.most
   pub most : k.most ≡ x.most (port_of clock parent.own_port)
   pub turnaround : k.turnaround ≡ x.turnaround
   pub period : k.period ≡ x.interval
-  pub asking : (t : ℕ) → k.asking_clock t ≡ local_clock (x.phase clock) (x.drift clock) t
-  pub answering : (t : ℕ) → k.answering_clock t ≡ local_clock (x.phase parent.clock) (x.drift parent.clock) t
+  pub rested : 12 * x.blur ≤ x.interval - (2 * k.most + k.turnaround)
+  pub asking : AreStampsOf x clock k.asking_clock
+  pub answering : AreStampsOf x parent.clock k.answering_clock
 
 -- a system that measures its link to its parent measures the last link of its way, as `ExchangesMeasureRight` asks
 abbrev pub ParentsAreMeasured : Type 0

@@ -20,7 +20,7 @@ use Rattle.gptp_system.specs.declared.port.Port.{Port}
 use Rattle.gptp_system.specs.declared.sending.Sending.{Sending}
 use Rattle.gptp_setup.specs.declared.timer.Timer.{Timer}
 use Rattle.gptp_setup.specs.declared.timer.Timer.TheVariants as timers
-use Rattle.gptp_system.specs.State.{SystemState, clock, due, held_at, is_capable_at, local_time, own, with_peer}
+use Rattle.gptp_system.specs.State.{SystemState, clock, due, held_at, is_capable_at, own, stamp_time, with_peer}
 use Rattle.gptp_system.specs.Selection.{SelectsIf}
 use Rattle.gptp_system.specs.Measuring.{answering_done, down, owed_at, owes, owing, responded}
 use Rattle.gptp_system.specs.Announcing.{HearsQualified, aged_at, compared, replaces_held, with_priority}
@@ -218,10 +218,10 @@ hears_message p octets (messages.PdelayReq head) now s s' sends answer shown r r
 hears_message p octets (messages.PdelayResp m) now s s' sends answer shown r reads k =
     by_other (IsFrameSeenAs s p octets) s now s' sends
     (unheard s p octets (messages.PdelayResp m) reads (λ a e. absurd cc) Other (inr (inr refl)))
-    (becomes now s (with_peer p (after_response m (local_time s now)) s) s' sends r
+    (becomes now s (with_peer p (after_response m (stamp_time s now)) s) s' sends r
     (later_port p (λ (q : Port). record q {
       peer =
-          after_response m (local_time s now) q.peer;
+          after_response m (stamp_time s now) q.peer;
     }) s (λ q. refl) (λ q. refl)) k.becomes)
 hears_message p octets (messages.FollowUp m) now s s' sends answer shown r reads k =
     by_other (IsFrameSeenAs s p octets) s now s' sends

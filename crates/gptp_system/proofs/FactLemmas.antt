@@ -34,6 +34,7 @@ keeps_on s t u a b = record {
   phase = b.phase ∙ a.phase;
   drift = b.drift ∙ a.drift;
   continues = b.continues ∙ a.continues;
+  seed = b.seed ∙ a.seed;
   same_clock = b.same_clock ∙ a.same_clock;
   places = b.places ∙ a.places;
   logs = b.logs ∙ a.logs;
@@ -85,6 +86,7 @@ pub record Quiet (s s' : SystemState) : Type 0 where
   pub phase : s'.phase ≡ s.phase
   pub drift : s'.drift ≡ s.drift
   pub continues : s'.continues ≡ s.continues
+  pub seed : s'.seed ≡ s.seed
   pub identity : s'.identity ≡ s.identity
   pub held : s'.held ≡ s.held
   pub root : s'.root ≡ s.root
@@ -101,6 +103,7 @@ quiet_keeps s s' k = record {
   phase = k.phase;
   drift = k.drift;
   continues = k.continues;
+  seed = k.seed;
   same_clock = ap clock_of k.identity;
   places = ap length k.held;
   logs = k.logs;
@@ -153,6 +156,7 @@ ports_quiet s qs logs alike = record {
   phase = refl;
   drift = refl;
   continues = refl;
+  seed = refl;
   identity = refl;
   held = refl;
   root = refl;
@@ -201,6 +205,7 @@ choosing_keeps v now s = record {
   phase = refl;
   drift = refl;
   continues = refl;
+  seed = refl;
   same_clock = refl;
   places = length-each_from (held_after_selection v (clock s)) 1 s.held;
   logs = all_announced-map (λ (q : Port). q.log_interval) now (λ q. refl) (fresh_ports v s) s.ports;

@@ -17,7 +17,7 @@ use Rattle.gptp_system.specs.declared.sending.Sending.{Sending}
 use Rattle.gptp_setup.specs.declared.timer.Timer.{Timer}
 use Rattle.gptp_setup.specs.declared.timer.Timer.TheVariants as timers
 use Rattle.gptp_setup.specs.Intervals.{interval_of}
-use Rattle.gptp_system.specs.State.{SystemState, held_at, is_capable_at, local_time, number, on_port, own, with_peer}
+use Rattle.gptp_system.specs.State.{SystemState, held_at, is_capable_at, number, on_port, own, stamp_time, with_peer}
 use Rattle.gptp_system.specs.Selection.{Becomes, Selects, SelectsIf, announced_again, choosing, fresh_ports}
 use Rattle.gptp_system.specs.Measuring.{Turns, TurnsAndAsks, TurnsIf, answering_done, asking, down, is_turned, owes, owing, silenced, turned}
 use Rattle.gptp_system.specs.Announcing.{aged_at, announced_at, compared, replaces_held, with_priority}
@@ -127,9 +127,9 @@ turns_and_asks p step now s s' sends k i q' there =
     ask x = part_asked s now (λ y. y) x
 
     asks_same : (q : Port)
-        → measure_at (asking (local_time k.between now) (now + interval_of k.between.params.pdelay) q) ≡ ask
+        → measure_at (asking (stamp_time k.between now) (now + interval_of k.between.params.pdelay) q) ≡ ask
         (measure_at q)
-    asks_same q = rw (kept.phase, kept.drift, kept.params) refl
+    asks_same q = rw (kept.phase, kept.drift, kept.seed, kept.same_clock, kept.params) refl
 
     both : Parts (λ n x. only_at p ask n (only_at p (part_stepped step) n x)) s s'
     both =
@@ -137,7 +137,7 @@ turns_and_asks p step now s s' sends k i q' there =
         (turns p step now s k.between k.first k.turns)
         (subst (Parts (only_at p ask) k.between) (sym k.state)
         (on_port_parts p
-        (asking (local_time k.between now)
+        (asking (stamp_time k.between now)
         (now + interval_of k.between.params.pdelay)) ask k.between asks_same))
 
 goes_down : (p now : ℕ) (s s' : SystemState) (sends : List Sending) → Selects now (down p s) s' sends
@@ -245,14 +245,14 @@ hears_message p (messages.PdelayReq head) now s s' sends answer k =
       requester =
           head.source;
       sequence = head.sequence;
-      t2 = local_time s now;
+      t2 = stamp_time s now;
     }) (now + s.params.turnaround))
     (part_owing s now head) s (λ q. refl))
     k.becomes
 hears_message p (messages.PdelayResp m) now s s' sends answer k =
-    becomes (only_at p (part_stepped (after_response m (local_time s now)))) s
-    (with_peer p (after_response m (local_time s now)) s) s' sends
-    (peer_parts p (after_response m (local_time s now)) s) k.becomes
+    becomes (only_at p (part_stepped (after_response m (stamp_time s now)))) s
+    (with_peer p (after_response m (stamp_time s now)) s) s' sends
+    (peer_parts p (after_response m (stamp_time s now)) s) k.becomes
 hears_message p (messages.FollowUp m) now s s' sends answer k =
     still_heard p s s' (hears_follow_up (is_capable_at s p) p m now s s' sends answer k)
 hears_message p (messages.PdelayRespFollowUp m) now s s' sends answer k =

@@ -22,7 +22,7 @@ use Rattle.gptp_setup.specs.declared.timer.Timer.{Timer}
 use Rattle.gptp_setup.specs.declared.timer.Timer.TheVariants as timers
 use Rattle.gptp_setup.specs.Intervals.{interval_of}
 use Rattle.gptp_setup.specs.SettlingParams.{has_sync_timeout}
-use Rattle.gptp_system.specs.State.{SystemState, held_at, is_capable_at, local_time, number, on_port, own, with_peer}
+use Rattle.gptp_system.specs.State.{SystemState, held_at, is_capable_at, number, on_port, own, stamp_time, with_peer}
 use Rattle.gptp_system.specs.Sends.{with_send}
 use Rattle.gptp_system.specs.Selection.{Becomes, Selects, SelectsIf, announced_again}
 use Rattle.gptp_system.specs.Measuring.{responded, Turns, TurnsAndAsks, TurnsIf, answering_done, asking, down, is_turned, owed_at, owes, owing, request_of, silenced, turned}
@@ -134,7 +134,7 @@ turns_and_asks stops p step now s s' sends is k = record {
     touched : Timer → Bool
     touched = is_touched_asking stops p
 
-    spares : Spares touched p (asking (local_time k.between now) (now + interval_of k.between.params.pdelay))
+    spares : Spares touched p (asking (stamp_time k.between now) (now + interval_of k.between.params.pdelay))
     spares = record {
       announce = λ off q. refl;
       pdelay = λ off q. absurd (first_touched p _ off);
@@ -153,7 +153,7 @@ turns_and_asks stops p step now s s' sends is k = record {
     asked : Calm touched k.between s'
     asked =
         subst (Calm touched k.between) (sym k.state)
-        (calm_port touched p (asking (local_time k.between now) (now + interval_of k.between.params.pdelay)) k.between
+        (calm_port touched p (asking (stamp_time k.between now) (now + interval_of k.between.params.pdelay)) k.between
         spares (λ q. refl) (λ q. refl))
 
     sent : (b : Bool) → TurnsIf b p step now s k.between k.first → is_turned step (number s.ports p) ≡ b
@@ -341,8 +341,8 @@ hears_message p (messages.PdelayReq head) now s s' sends answer k =
     k.becomes
 hears_message p (messages.PdelayResp m) now s s' sends answer k =
     becomes reaches.Nothing (is_touched_by 0x3 p) s
-    (with_peer p (after_response m (local_time s now)) s) s' sends
-    (calm_peer (is_touched_by 0x3 p) p (after_response m (local_time s now)) s) k.becomes
+    (with_peer p (after_response m (stamp_time s now)) s) s' sends
+    (calm_peer (is_touched_by 0x3 p) p (after_response m (stamp_time s now)) s) k.becomes
 hears_message p (messages.FollowUp m) now s s' sends answer k =
     hears_follow_up (is_capable_at s p) p m now s s' sends answer k
 hears_message p (messages.PdelayRespFollowUp m) now s s' sends answer k =

@@ -14,7 +14,7 @@ use Rattle.gptp_system.specs.declared.reading.TimeRead.{TimeRead}
 use Rattle.gptp_system.specs.declared.sending.Sending.{Sending}
 use Rattle.gptp_setup.specs.declared.timer.Timer.TheVariants as timers
 use Rattle.gptp_setup.specs.Intervals.{interval_of}
-use Rattle.gptp_system.specs.State.{SystemState, announce_due, clock, due, held_at, local_time, number, on_port, own, with_peer}
+use Rattle.gptp_system.specs.State.{SystemState, announce_due, clock, due, held_at, number, on_port, own, stamp_time, with_peer}
 use Rattle.gptp_system.specs.Sends.{announcement, with_send}
 use Rattle.gptp_system.specs.Selection.{Becomes, announced_again}
 use Rattle.gptp_system.specs.Measuring.{Turns, TurnsAndAsks, TurnsIf, asking, is_turned, request_of, turned}
@@ -151,7 +151,7 @@ pub turns_and_asks : (p : ℕ) (step : PeerState → PeerState) (now : ℕ) (s s
     → TurnsAndAsks p step now s s' sends → Halves p s now s' sends
 turns_and_asks p step now s s' sends shown r k =
     let h = turns p step now s k.between k.first shown r k.turns in
-    let f = asking (local_time k.between now) (now + interval_of k.between.params.pdelay) in
+    let f = asking (stamp_time k.between now) (now + interval_of k.between.params.pdelay) in
     let after = later_port p f k.between (λ q. refl) (λ q. refl) in
     record {
       touch = h.touch;

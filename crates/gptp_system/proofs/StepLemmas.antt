@@ -20,7 +20,7 @@ use Rattle.gptp_setup.specs.declared.timer.Timer.{Timer}
 use Rattle.gptp_setup.specs.declared.timer.Timer.TheVariants as timers
 use Rattle.gptp_setup.specs.Intervals.{interval_of}
 use Rattle.gptp_setup.specs.SettlingParams.{has_sync_timeout}
-use Rattle.gptp_system.specs.State.{SystemState, held_at, is_capable_at, local_time, number, on_port, own, with_peer}
+use Rattle.gptp_system.specs.State.{SystemState, held_at, is_capable_at, number, on_port, own, stamp_time, with_peer}
 use Rattle.gptp_system.specs.Selection.{Becomes, SelectsIf, announced_again}
 use Rattle.gptp_system.specs.Measuring.{GoesDown, Turns, TurnsAndAsks, TurnsIf, answering_done, asking, down, is_turned, owes, owing, turned}
 use Rattle.gptp_system.specs.Announcing.{HearsQualified, aged_at, compared, replaces_held, with_priority}
@@ -55,6 +55,7 @@ apart s sync_in known offset reads base sync relay lapse = record {
   phase = refl;
   drift = refl;
   continues = refl;
+  seed = refl;
   identity = refl;
   held = refl;
   root = refl;
@@ -126,7 +127,7 @@ turns_and_asks : (p : ℕ) (step : PeerState → PeerState) (now : ℕ) (s s' : 
 turns_and_asks p step now s s' sends k =
     steady_on s k.between s' (turns p step now s k.between k.first k.turns)
     (subst (Steady k.between) (sym k.state)
-    (port_steady p (asking (local_time k.between now) (now + interval_of k.between.params.pdelay)) k.between (λ q. refl)
+    (port_steady p (asking (stamp_time k.between now) (now + interval_of k.between.params.pdelay)) k.between (λ q. refl)
     (λ q there. refl)))
 
 goes_down : (p now : ℕ) (s s' : SystemState) (sends : List Sending) → GoesDown p now s s' sends → Steady s s'
@@ -237,9 +238,9 @@ hears_message p (messages.Sync head) now s s' sends answer k =
 hears_message p (messages.PdelayReq head) now s s' sends answer k =
     becomes s (owes p head now s) s' sends (port_steady p (owing _ _) s (λ q. refl) (λ q there. refl)) k.becomes
 hears_message p (messages.PdelayResp m) now s s' sends answer k =
-    becomes s (with_peer p (after_response m (local_time s now)) s) s' sends
-    (port_steady p (λ (q : Port). record q { peer = after_response m (local_time s now) q.peer }) s (λ q. refl)
-    (λ q there. response_capable m (local_time s now) q.peer))
+    becomes s (with_peer p (after_response m (stamp_time s now)) s) s' sends
+    (port_steady p (λ (q : Port). record q { peer = after_response m (stamp_time s now) q.peer }) s (λ q. refl)
+    (λ q there. response_capable m (stamp_time s now) q.peer))
     k.becomes
 hears_message p (messages.FollowUp m) now s s' sends answer k =
     hears_follow_up (is_capable_at s p) p m now s s' sends answer k

@@ -4,13 +4,14 @@ use Rattle.std.proofs.lemmas.Int.{ints}
 use Rattle.std.proofs.lemmas.Bool.Decides.{nat_tests}
 use Rattle.gptp_scaled.specs.Rate.{unit}
 use Rattle.gptp_scaled.specs.Stamp.{FitsStamp}
-use Rattle.gptp_pdelay.specs.Clock.{IsDrift, drift_limit, local_clock}
-use Rattle.gptp_pdelay.proofs.ClockLemmas.{clock_elapses, clock_is_read, clock_shows_time}
+use Rattle.gptp_scaled.proofs.TimeStampLemmas.{time_stamp_is_near}
+use Rattle.gptp_pdelay.specs.Clock.{IsDrift, IsTime, drift_limit, local_clock}
+use Rattle.gptp_pdelay.proofs.ClockLemmas.{clock_elapses, clock_is_read, clock_shows_time, stamp_shows_time}
 use Rattle.gptp_setup.specs.Intervals.{interval_of, IsMoment}
 use Rattle.gptp_system.specs.Ready.{IsReady}
-use Rattle.gptp_system.specs.State.{SystemState, local_time}
+use Rattle.gptp_system.specs.State.{SystemState, local_time, stamp_time, stamping}
 use Rattle.gptp_system.specs.Syncing.{restarted}
-use Rattle.gptp_system.specs.Takeover.{base_after, base_to, can_go_on, leading, reading, takes_over, time_limit, told_time}
+use Rattle.gptp_system.specs.Takeover.{base_after, base_to, can_go_on, leading, reading, takes_over, time_limit, told_stamp, told_time}
 
 -- ---- a clock goes on
 
@@ -35,6 +36,11 @@ pub time_from_zero : (phase : ℕ) (drift : ℤ) (t : ℕ) → phase ≤ 1000000
 time_from_zero phase drift t few d =
     let start = (clock_shows_time phase drift 0 few (omega arith) d).low in
     let later = clock_rises phase drift 0 t d (omega arith) in omega (arith, ints, start, later)
+
+-- what it stamps is a time
+pub stamps_time : (s : SystemState) (now : ℕ) → IsReady s → IsMoment now → IsTime (stamp_time s now)
+stamps_time s now ready moment =
+    stamp_shows_time (stamping s) s.phase s.drift now ready.phase (omega (arith, moment)) ready.params.noise ready.drift
 
 -- ---- bases
 
@@ -66,6 +72,19 @@ base_high (Some time) shown from = go (can_go_on time) refl
 shown_from_zero : (s : SystemState) (now : ℕ) → IsReady s → pos 0 ≤ℤ local_time s now
 shown_from_zero s now ready = time_from_zero s.phase s.drift now ready.phase ready.drift
 
+-- ---- what is sent
+
+-- the time stamp of what is told, from 0 on and by a base below the limit, is a timestamp
+pub told_fits : (s : SystemState) (now : ℕ) → IsReady s → IsMoment now → pos 0 ≤ℤ told_time s now
+    → FitsStamp (told_stamp s now)
+told_fits s now ready moment from =
+    let shown = clock_shows_time s.phase s.drift now ready.phase (omega (arith, moment)) ready.drift in
+    let soon = shown.high in
+    let base = ready.based in
+    let few = ready.params.noise in
+    let near = time_stamp_is_near (stamping s) now (told_time s now) from in
+    record { low = near.positive; high = omega (arith, ints, near.below, soon, base, few) }
+
 -- ---- a system that leads
 
 -- what it tells from now on is from 0 on
@@ -89,15 +108,6 @@ led_high s now ready = go (takes_over s && s.continues)
     go true = base_high (reading s now) (local_time s now) (shown_from_zero s now ready)
     go false = ready.based
 
--- what it tells now is a timestamp
-pub led_fits : (s : SystemState) (now : ℕ) → IsReady s → IsMoment now → s.sync ≤ now
-    → FitsStamp (told_time (leading now s) now)
-led_fits s now ready moment due =
-    let shown = clock_shows_time s.phase s.drift now ready.phase (omega (arith, moment)) ready.drift in
-    let soon = shown.high in
-    let base = led_high s now ready in
-    record { low = led_low s now now ready due (omega arith); high = omega (arith, ints, soon, base) }
-
 pub led_ready : (s : SystemState) (now : ℕ) → IsReady s → s.sync ≤ now → IsReady (restarted now (leading now s))
 led_ready s now ready due = record {
   params = ready.params;
@@ -113,6 +123,13 @@ led_ready s now ready due = record {
   told = led_low s now (now + interval_of s.params.sync) ready due (omega arith);
   based = led_high s now ready;
 }
+
+-- what it tells now is a timestamp
+pub led_fits : (s : SystemState) (now : ℕ) → IsReady s → IsMoment now → s.sync ≤ now
+    → FitsStamp (told_stamp (leading now s) now)
+led_fits s now ready moment due =
+    told_fits (restarted now (leading now s)) now (led_ready s now ready due) moment
+    (led_low s now now ready due (omega arith))
 
 -- ---- one that doesn't
 

@@ -40,13 +40,14 @@ abbrev pub intervals : SystemState → List ℤ
 intervals s = map (λ (q : Port). q.log_interval) s.ports
 
 -- what no call changes: the network's parameters and largest interval, the local clock, whether it goes on with the
--- time that it read, the clockIdentity, and how many ports there are, with their intervals
+-- time that it read, the seed of its noise, the clockIdentity, and how many ports there are, with their intervals
 pub record Keeps (s s' : SystemState) : Type 0 where
   pub params : s'.params ≡ s.params
   pub largest : s'.largest ≡ s.largest
   pub phase : s'.phase ≡ s.phase
   pub drift : s'.drift ≡ s.drift
   pub continues : s'.continues ≡ s.continues
+  pub seed : s'.seed ≡ s.seed
   pub same_clock : clock s' ≡ clock s
   pub places : length s'.held ≡ length s.held
   pub logs : intervals s' ≡ intervals s

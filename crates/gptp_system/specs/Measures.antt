@@ -10,7 +10,7 @@ use Rattle.gptp_pdelay.specs.Peer.{requested, reset_peer}
 use Rattle.gptp_system.specs.declared.port.Port.{Port}
 use Rattle.gptp_setup.specs.declared.timer.Timer.TheVariants as timers
 use Rattle.gptp_setup.specs.Intervals.{interval_of}
-use Rattle.gptp_system.specs.State.{SystemState, local_time}
+use Rattle.gptp_system.specs.State.{SystemState, stamp_time}
 use Rattle.gptp_system.specs.Input.{Input, PortUp, PortDown, Frame, Expires, Priority}
 
 -- what a port measures its link with, and when it asks and answers next
@@ -29,7 +29,7 @@ part_stepped step x = record x { peer = step x.peer }
 -- it takes a step, and then the port asks, and again one interval later
 abbrev pub part_asked : SystemState → ℕ → (PeerState → PeerState) → Part → Part
 part_asked s now step x =
-    record x { peer = requested (local_time s now) (step x.peer); pdelay = Some (now + interval_of s.params.pdelay) }
+    record x { peer = requested (stamp_time s now) (step x.peer); pdelay = Some (now + interval_of s.params.pdelay) }
 
 -- the link is down
 abbrev pub part_down : Part → Part
@@ -42,14 +42,14 @@ part_answered x = record x { peer = answered x.peer; respond = None }
 -- a request is to be answered one turnaround later
 abbrev pub part_owing : SystemState → ℕ → Head → Part → Part
 part_owing s now head x = record x {
-  peer = answering (record { requester = head.source; sequence = head.sequence; t2 = local_time s now }) x.peer;
+  peer = answering (record { requester = head.source; sequence = head.sequence; t2 = stamp_time s now }) x.peer;
   respond = Some (now + s.params.turnaround);
 }
 
 -- a message is heard
 abbrev pub part_heard : SystemState → ℕ → Message → Part → Part
 part_heard s now (messages.PdelayReq head) x = part_owing s now head x
-part_heard s now (messages.PdelayResp m) x = part_stepped (after_response m (local_time s now)) x
+part_heard s now (messages.PdelayResp m) x = part_stepped (after_response m (stamp_time s now)) x
 part_heard s now (messages.PdelayRespFollowUp m) x = part_stepped (after_follow_up m) x
 part_heard s now _ x = x
 

@@ -18,7 +18,7 @@ use Rattle.gptp_system.specs.declared.answer.Answer.TheVariants as answers
 use Rattle.gptp_system.specs.declared.port.Port.{Port}
 use Rattle.gptp_system.specs.declared.sending.Sending.{Sending}
 use Rattle.gptp_setup.specs.Intervals.{interval_of}
-use Rattle.gptp_system.specs.State.{SystemState, number, is_capable_at, own, local_time, on_port, on_held, with_peer}
+use Rattle.gptp_system.specs.State.{SystemState, number, is_capable_at, own, on_port, on_held, stamp_time, with_peer}
 use Rattle.gptp_system.specs.Sends.{pdelay_request, pdelay_response, response_follow_up, with_send}
 use Rattle.gptp_system.specs.Selection.{Selects, Becomes}
 
@@ -61,7 +61,7 @@ abbrev pub asking : ℤ → ℕ → Port → Port
 asking t1 due q = record q { peer = requested t1 q.peer; pdelay = Some due }
 
 abbrev pub port_asks : ℕ → ℕ → SystemState → SystemState
-port_asks p now s = on_port p (asking (local_time s now) (now + interval_of s.params.pdelay)) s
+port_asks p now s = on_port p (asking (stamp_time s now) (now + interval_of s.params.pdelay)) s
 
 -- the request has the next sequence number of the port
 abbrev pub request_of : ℕ → SystemState → Sending
@@ -107,14 +107,14 @@ answering_done q = record q { peer = answered q.peer; respond = None }
 abbrev pub responded : ℕ → SystemState → SystemState
 responded p s = on_port p answering_done s
 
--- the two responses: the time that the request came at, and the local time now
+-- the two responses: the time stamps of the request as it came, and of now
 pub record Responds (p now : ℕ) (s : SystemState) (owed : Owed) (sends : List Sending) : Type 0 where
   pub came : Timestamp
   pub came-rest : ℕ
   pub went : Timestamp
   pub went-rest : ℕ
   pub came_is : IsSplit owed.t2 came came-rest
-  pub went_is : IsSplit (local_time s now) went went-rest
+  pub went_is : IsSplit (stamp_time s now) went went-rest
   pub sends_are : sends ≡ pdelay_response (own s p) owed came came-rest ∷ response_follow_up
       (own s p) owed went went-rest ∷ []
 
@@ -138,7 +138,7 @@ owing owed due q = record q { peer = answering owed q.peer; respond = Some due }
 
 abbrev pub owes : ℕ → Head → ℕ → SystemState → SystemState
 owes p head now s =
-    let owed : Owed = record { requester = head.source; sequence = head.sequence; t2 = local_time s now } in
+    let owed : Owed = record { requester = head.source; sequence = head.sequence; t2 = stamp_time s now } in
     on_port p (owing owed (now + s.params.turnaround)) s
 
 pub record HearsRequest (p : ℕ) (head : Head) (now : ℕ) (s s' : SystemState) (sends : List Sending)
@@ -156,8 +156,8 @@ step_at f q = option_map_or (λ (q : Port). f q.peer) q steps.Ignored
 
 pub record HearsResponse (p : ℕ) (m : PdelayResp) (now : ℕ) (s s' : SystemState) (sends : List Sending)
     (answer : Answer) : Type 0 where
-  pub becomes : Becomes (with_peer p (after_response m (local_time s now)) s) s' sends
-  pub answer_is : answer ≡ measuring_answer (step_at (response_step m (local_time s now)) (number s.ports p))
+  pub becomes : Becomes (with_peer p (after_response m (stamp_time s now)) s) s' sends
+  pub answer_is : answer ≡ measuring_answer (step_at (response_step m (stamp_time s now)) (number s.ports p))
 
 pub record HearsResponseFollowUp (p : ℕ) (m : PdelayRespFollowUp) (now : ℕ) (s s' : SystemState)
     (sends : List Sending) (answer : Answer) : Type 0 where

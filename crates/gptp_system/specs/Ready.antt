@@ -23,6 +23,7 @@ state_of s = record {
   phase = s.phase;
   drift = s.drift;
   continues = s.continues;
+  seed = s.seed;
   identity = s.identity;
   held = s.held.items;
   ports = s.ports.items;

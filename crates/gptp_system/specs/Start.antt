@@ -45,6 +45,7 @@ started setup now = record {
   phase = setup.phase;
   drift = setup.drift;
   continues = setup.continues;
+  seed = setup.seed;
   identity = setup.identity;
   held = all_disabled (length setup.intervals.items);
   ports = new_ports (clock_of setup.identity) setup.params 1 setup.intervals.items;

@@ -9,7 +9,8 @@ use Rattle.gptp_receipt.specs.declared.held.Reception.{Reception}
 use Rattle.gptp_receipt.specs.Held.{received}
 use Rattle.gptp_roles.specs.Selection.{clock_of}
 use Rattle.gptp_roles.specs.SystemTrace.{system_trace}
-use Rattle.gptp_pdelay.specs.Clock.{local_clock}
+use Rattle.gptp_scaled.specs.declared.time_stamp.Stamping.{Stamping}
+use Rattle.gptp_pdelay.specs.Clock.{clock_stamp, local_clock}
 use Rattle.gptp_pdelay.specs.Peer.{PeerState, is_capable}
 use Rattle.gptp_correction.specs.SyncIn.{KeptSync}
 use Rattle.gptp_correction.specs.declared.sync_in.SyncInfo.{SyncInfo}
@@ -29,6 +30,7 @@ pub record SystemState : Type 0 where
   pub phase : ℕ
   pub drift : ℤ
   pub continues : Bool
+  pub seed : ℕ
   pub identity : ℕ
   pub held : List Held
   pub ports : List Port
@@ -75,6 +77,19 @@ own s p = record { clock = clock s; port = p }
 -- what the local clock shows, in units of 2^-16 ns
 abbrev pub local_time : SystemState → ℕ → ℤ
 local_time s now = local_clock s.phase s.drift now
+
+-- how it stamps time
+abbrev pub stamping : SystemState → Stamping
+stamping s = record {
+  granularity = s.params.granularity;
+  most_noise = s.params.noise;
+  seed = s.seed;
+  clock = clock s;
+}
+
+-- the time stamp that it takes now of its local clock, in units of 2^-16 ns
+abbrev pub stamp_time : SystemState → ℕ → ℤ
+stamp_time s now = clock_stamp (stamping s) s.phase s.drift now
 
 -- what a port holds; Disabled where there is none
 abbrev pub held_at : SystemState → ℕ → Held

@@ -1,5 +1,5 @@
 -- Time: what a Sync, a Follow_Up and the timers of both make of a system (IEEE 802.1AS-2020, 10.2.9, 11.2.14, 11.2.15).
-use Rattle.std.specs.Prelude.{◌≡◌, ◌⊎◌, ℕ, ◌+◌, ◌==◌, ◌&&◌, ℤ, pos, ◌-ℤ◌, Bool, true, false}
+use Rattle.std.specs.Prelude.{◌≡◌, ◌⊎◌, ℕ, ◌+◌, ◌==◌, ◌&&◌, ℤ, pos, ◌-ℤ◌, ◌≤ℤ◌, Bool, true, false}
 use Rattle.std.specs.Prelude.{if◌then◌else◌, List, [], ◌∷◌, Option, Some, None}
 use Rattle.std.specs.Option.{option_and_then, option_map, option_map_or, unwrap_or}
 use Rattle.gptp_vector.specs.declared.port.PortId.{PortId}
@@ -27,12 +27,12 @@ use Rattle.gptp_system.specs.declared.sending.Sending.{Sending}
 use Rattle.gptp_system.specs.declared.sending.Body.TheVariants as bodies
 use Rattle.gptp_setup.specs.Intervals.{interval_of}
 use Rattle.gptp_setup.specs.SettlingParams.{has_sync_timeout}
-use Rattle.gptp_system.specs.State.{SystemState, number, clock, local_time, held_at, is_capable_at, is_mine}
+use Rattle.gptp_system.specs.State.{SystemState, number, clock, held_at, is_capable_at, is_mine, stamp_time}
 use Rattle.gptp_system.specs.State.{can_lead, lapse_of}
 use Rattle.gptp_system.specs.Sends.{head_from, next_sequence}
 use Rattle.gptp_system.specs.Selection.{Becomes}
 use Rattle.gptp_system.specs.Reading.{reading_of}
-use Rattle.gptp_system.specs.Takeover.{leading, told_time}
+use Rattle.gptp_system.specs.Takeover.{leading, told_stamp, told_time}
 
 -- ---- sending
 
@@ -98,11 +98,13 @@ is_leading s = s.root == s.identity && can_lead s.identity
 abbrev pub restarted : ℕ → SystemState → SystemState
 restarted now s = record s { sync = now + interval_of s.params.sync }
 
--- It takes over where it didn't yet, and tells its time: that of its clock, and its base.
+-- It takes over where it didn't yet, and tells its time, that of its clock with its base, which is from 0 on: it sends
+-- the time stamp of that.
 pub record LeadsTime (now : ℕ) (s s' : SystemState) (sends : List Sending) : Type 0 where
   pub stamp : Timestamp
   pub rest : ℕ
-  pub split : IsSplit (told_time (leading now s) now) stamp rest
+  pub from : pos 0 ≤ℤ told_time (leading now s) now
+  pub split : IsSplit (told_stamp (leading now s) now) stamp rest
   pub state : s' ≡ telling (restarted now (leading now s))
   pub sends_are : sends ≡ told_by (own_time stamp rest) s
 
@@ -132,7 +134,7 @@ abbrev pub is_followed : ℕ → Head → SystemState → Bool
 is_followed p head s = head.two_step && (is_slave_at s p && came_from head.source (held_at s p))
 
 abbrev pub keeping : Head → ℕ → SystemState → SystemState
-keeping head now s = record s { sync_in = Some (kept head.source head.sequence (local_time s now)) }
+keeping head now s = record s { sync_in = Some (kept head.source head.sequence (stamp_time s now)) }
 
 -- what is made of a Sync or a Follow_Up on a port that isn't asCapable
 pub record IsOff (s s' : SystemState) (sends : List Sending) (answer : Answer) : Type 0 where
@@ -280,7 +282,7 @@ held_reading s = option_and_then (λ known. option_map (λ offset. reading_by s 
 
 -- the hop of this bridge, by these
 abbrev pub hop_of : SyncInfo → ℕ → SystemState → Hop
-hop_of info now s = bridge info (slave_delay s) (slave_rate s) (local_time s now)
+hop_of info now s = bridge info (slave_delay s) (slave_rate s) (stamp_time s now)
 
 abbrev pub HopFits : SyncInfo → ℕ → SystemState → Type 0
 HopFits info now s = BridgeFits (hop_of info now s) (carried_on (carried info) (hop_of info now s))

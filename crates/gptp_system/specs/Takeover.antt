@@ -6,7 +6,8 @@ use Rattle.std.specs.Option.{option_map}
 use Rattle.gptp_system.specs.declared.reading.TimeRead.{TimeRead}
 use Rattle.gptp_system.specs.declared.reading.TimeRead.TheVariants as reads
 use Rattle.gptp_system.specs.Reading.{read_by}
-use Rattle.gptp_system.specs.State.{SystemState, is_mine, local_time}
+use Rattle.gptp_scaled.specs.TimeStamp.{time_stamp}
+use Rattle.gptp_system.specs.State.{SystemState, is_mine, local_time, stamping}
 
 -- ---- what is read, and what is told
 
@@ -17,6 +18,10 @@ reading s now = option_map (λ by. read_by by s.base (local_time s now)) s.reads
 -- what it tells at a time where it is grandmaster: what its clock shows, and its base
 abbrev pub told_time : SystemState → ℕ → ℤ
 told_time s now = local_time s now +ℤ s.base
+
+-- the time stamp of that, which it sends
+abbrev pub told_stamp : SystemState → ℕ → ℤ
+told_stamp s now = time_stamp (stamping s) now (told_time s now)
 
 -- ---- taking over
 

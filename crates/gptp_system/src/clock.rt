@@ -1,11 +1,11 @@
-//! The local clock.
+//! The local clock, and its time stamps.
 
 ghost use Rattle.std.specs.Prelude.{◌≡◌, ◌*◌, ◌≤◌, pos};
 ghost use Rattle.gptp_pdelay.specs.Clock.{IsDrift, IsTime, local_clock};
 ghost use Rattle.gptp_setup.specs.Intervals.{IsMoment};
 
 use crate::state::State;
-use gptp_scaled::{Rate, ScaledNs};
+use gptp_scaled::{Rate, ScaledNs, Stamping};
 
 /// This many ns.
 fn of_nanos(nanos: u64) -> ScaledNs
@@ -32,7 +32,7 @@ impl State {
     ghost use Rattle.gptp_pdelay.specs.Clock.{IsTime};
     ghost use Rattle.gptp_setup.specs.Intervals.{IsMoment};
     ghost use Rattle.gptp_system.specs.Ready.{IsReady, state_of};
-    ghost use Rattle.gptp_system.specs.State.{local_time};
+    ghost use Rattle.gptp_system.specs.State.{local_time, stamp_time, stamping};
 
     /// What the local clock shows now.
     pub(crate) fn local_time(&self, now: u64) -> ScaledNs
@@ -42,5 +42,29 @@ impl State {
         ensures shown { IsTime result }
     {
         local_clock(self.phase, self.drift, now)
+    }
+
+    /// How time is stamped.
+    pub(crate) fn stamping(&self) -> Stamping
+        ensures { result ≡ stamping (state_of self.now) }
+    {
+        Stamping {
+            granularity: self.params.granularity,
+            most_noise: self.params.noise,
+            seed: self.seed,
+            clock: u64::from(self.identity.clock()),
+        }
+    }
+
+    /// The time stamp of what the local clock shows now.
+    pub(crate) fn stamp_time(&self, now: u64) -> ScaledNs
+        requires ready { IsReady (state_of self.now) }
+        requires moment { IsMoment now }
+        ensures time { result ≡ stamp_time (state_of self.now) now }
+        ensures shown { IsTime result }
+    {
+        self.stamping()
+            .time_stamp(now, self.local_time(now))
+            .unwrap()
     }
 }

@@ -53,7 +53,7 @@ fn follow_up(port: &mut Port, message: &PdelayRespFollowUp) -> (bool, Answer)
     }
 }
 
-/// A response comes at this local time: what became of it.
+/// A response comes with this time stamp: what became of it.
 fn response(port: &mut Port, message: &PdelayResp, t4: ScaledNs) -> Answer
     requires { IsTime t4 }
     ensures answer { result ≡ measuring_answer (response_step message.now t4 port.old.peer) }
@@ -227,7 +227,7 @@ impl State {
         ensures sends { outbox.new.items ≡ with_send (request_of port (state_of self.old)) outbox.old.items }
         ensures ready { IsReady (state_of self.new) }
     {
-        let t1 = self.local_time(now);
+        let t1 = self.stamp_time(now);
         let due = now + interval_of(self.params.pdelay);
         let sequence = ask(&mut self.ports[usize::from(port) - 1], t1, due);
         insert(
@@ -295,7 +295,7 @@ impl State {
     {
         let came = split(owed.t2);
         push(outbox, response_to(self.own(port), owed, came));
-        let went = split(self.local_time(now));
+        let went = split(self.stamp_time(now));
         push(outbox, follow_up_to(self.own(port), owed, went));
     }
 
@@ -328,7 +328,7 @@ impl State {
         let owed = Owed {
             requester: head.source,
             sequence: head.sequence,
-            t2: self.local_time(now),
+            t2: self.stamp_time(now),
         };
         owe(
             &mut self.ports[usize::from(port) - 1],
@@ -347,7 +347,7 @@ impl State {
         ensures step { HearsResponse port message.now now (state_of self.old) (state_of self.new) [] result }
         ensures ready { IsReady (state_of self.new) }
     {
-        let t4 = self.local_time(now);
+        let t4 = self.stamp_time(now);
         response(&mut self.ports[usize::from(port) - 1], message, t4)
     }
 

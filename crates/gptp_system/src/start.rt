@@ -84,6 +84,7 @@ impl State {
             phase: setup.phase,
             drift: setup.drift,
             continues: setup.continues,
+            seed: setup.seed,
             identity: setup.identity,
             root: setup.identity,
             steps: 0,

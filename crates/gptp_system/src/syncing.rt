@@ -341,7 +341,7 @@ impl State {
         if !self.is_followed(port, head) {
             return Answer::Ignored;
         }
-        let ingress = self.local_time(now);
+        let ingress = self.stamp_time(now);
         self.sync_in.on_sync(head.source, head.sequence, ingress);
         Answer::Used
     }
@@ -467,7 +467,7 @@ impl State {
         ensures ready { IsReady (state_of self.new) }
     {
         self.relay = None;
-        let egress = self.local_time(now);
+        let egress = self.stamp_time(now);
         if let Ok(told) = relay(info, self.slave_delay(), self.slave_rate(), egress) {
             self.tell(&told, outbox);
         }
@@ -481,7 +481,7 @@ impl State {
         ensures { IsToldAtLimits info.now now (state_of self.now) result }
     {
         let rate = self.slave_rate();
-        let egress = self.local_time(now);
+        let egress = self.stamp_time(now);
         match relay(&info.held_sum(rate), self.slave_delay(), rate, egress) {
             Ok(told) => told,
             Err(_) => as_received(info),

@@ -68,7 +68,7 @@ impl State {
     ghost use Rattle.gptp_setup.specs.Intervals.{IsMoment};
     ghost use Rattle.gptp_system.specs.Ready.{IsReady, state_of};
     ghost use Rattle.gptp_system.specs.Syncing.{restarted};
-    ghost use Rattle.gptp_system.specs.Takeover.{base_after, leading, reading, reads_after, takes_over, told_time};
+    ghost use Rattle.gptp_system.specs.Takeover.{base_after, leading, reading, reads_after, takes_over, told_stamp, told_time};
 
     /// What is read at a time, in units of 2^-16 ns.
     pub(crate) fn reading(&self, now: u64) -> Option<i128>
@@ -114,15 +114,16 @@ impl State {
         }
     }
 
-    /// What is told at a time.
-    fn told_time(&self, now: u64) -> ScaledNs
+    /// The time stamp of what is told at a time.
+    fn told_stamp(&self, now: u64) -> ScaledNs
         requires ready { IsReady (state_of self.now) }
         requires moment { IsMoment now }
         requires low { pos 0 ≤ℤ told_time (state_of self.now) now }
-        ensures is { result ≡ told_time (state_of self.now) now }
+        ensures is { result ≡ told_stamp (state_of self.now) now }
         ensures fits { FitsStamp result }
     {
-        self.local_time(now).checked_add(self.base).unwrap()
+        let told = self.local_time(now).checked_add(self.base).unwrap();
+        self.stamping().time_stamp(now, told).unwrap()
     }
 
     /// The Sync timer begins anew.
@@ -136,13 +137,15 @@ impl State {
         self.sync = now + interval_of(self.params.sync);
     }
 
-    /// A system that leads takes over where it didn't yet, as its Sync timer expires: what it tells then.
+    /// A system that leads takes over where it didn't yet, as its Sync timer expires: the time stamp of what it tells
+    /// then.
     pub(crate) fn lead(&mut self, now: u64) -> ScaledNs
         requires ready { IsReady (state_of self.old) }
         requires moment { IsMoment now }
         requires due { (state_of self.old).sync ≤ now }
         ensures state { state_of self.new ≡ restarted now (leading now (state_of self.old)) }
-        ensures told { result ≡ told_time (leading now (state_of self.old)) now }
+        ensures from { pos 0 ≤ℤ told_time (leading now (state_of self.old)) now }
+        ensures told { result ≡ told_stamp (leading now (state_of self.old)) now }
         ensures fits { FitsStamp result }
         ensures ready { IsReady (state_of self.new) }
     {
@@ -150,6 +153,6 @@ impl State {
         self.reads = self.reads_after();
         self.base = base;
         self.sync = now + interval_of(self.params.sync);
-        self.told_time(now)
+        self.told_stamp(now)
     }
 }

@@ -97,6 +97,7 @@ pub fn started(clock: u64, ports: u8, phase: u64, lost: u8) -> Result<System, Fa
         continues: false,
         intervals: alike(ports),
         largest: DEFAULTS.announce,
+        seed: 1,
         params: Params { lost, ..DEFAULTS },
     };
     Ok(System::new(setup, 0))

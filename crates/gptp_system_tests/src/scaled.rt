@@ -1,7 +1,7 @@
 //! Exact times, intervals, stamps and rates at the ends of their ranges, and where roundings differ.
 
 use crate::same::{same, same_at};
-use gptp_scaled::{Interval, OutOfRange, Rate, ScaledNs, Stamp, StampError, laws};
+use gptp_scaled::{Interval, OutOfRange, Rate, ScaledNs, Stamp, StampError, Stamping, laws};
 use std::test::*;
 
 /// The first number past a time's range, 2^95.
@@ -239,6 +239,34 @@ fn rates_add(rt: HostRuntime) {
     }
 }
 
+/// Of the clock 1, which shows the time itself, by the seed 1: the noise is -2, 1 and 0 ns at these times.
+#[test]
+fn time_stamps_are_rounded_down_with_their_noise(rt: HostRuntime) -> Result<(), Fail> {
+    let cases: [(u16, u16, u64, i128); 9] = [
+        (0, 0, 500, 500),
+        (8, 0, 500, 496),
+        (8, 0, 1_000_000_007, 1_000_000_000),
+        (0, 4, 0, 0),
+        (0, 4, 500, 501),
+        (0, 4, 1_000_000_007, 1_000_000_007),
+        (8, 4, 0, 0),
+        (8, 4, 500, 496),
+        (8, 4, 1_000_000_007, 1_000_000_000),
+    ];
+    for (granularity, most_noise, t, nanos) in cases {
+        let stamping = Stamping {
+            granularity,
+            most_noise,
+            seed: 1,
+            clock: 1,
+        };
+        let stamp = stamping.time_stamp(t, time(65_536 * i128::from(t))?);
+        let want = Some(65_536 * nanos);
+        same_at(&rt, &(granularity, most_noise, t), number(stamp), want);
+    }
+    Ok(())
+}
+
 #[test]
 fn laws_can_be_called(_rt: HostRuntime) {
     laws::floor_is_exact();
@@ -248,4 +276,8 @@ fn laws_can_be_called(_rt: HostRuntime) {
     laws::rate_is_monotone();
     laws::neighbor_rate_is_near();
     laws::split_is_exact();
+    laws::noise_is_within();
+    laws::time_stamp_is_near();
+    laws::time_stamp_is_centred();
+    laws::time_stamp_is_shown();
 }

@@ -10,7 +10,7 @@ use Rattle.gptp_model.specs.declared.station.Station.{Station}
 use Rattle.gptp_model.specs.Changing.{Starts, StartsAll, fresh}
 use Rattle.gptp_model.specs.Course.{Begun}
 use Rattle.gptp_model.specs.Initial.{channel_from, initial, station_of, stations_of}
-use Rattle.gptp_scenario.specs.Network.{NetworkState, pace_of}
+use Rattle.gptp_scenario.specs.Network.{NetworkState}
 use Rattle.gptp_model.specs.World.{WorldState}
 use Rattle.gptp_lists.proofs.MappedLemmas.{mapped_there, same_there}
 use Rattle.gptp_lists.proofs.PlaceLemmas.{map-set}
@@ -117,12 +117,12 @@ pub begun_stands : {F : Type 0} (answers : Bounds → ℕ → F → Option ℕ �
 begun_stands answers n fate fate_after w begun =
     let slept = map shape (stations_of n) in
     let many : length slept ≡ length n.systems =
-    length_map shape (stations_of n) ∙ length_map (station_of (pace_of n)) n.systems in
+    length_map shape (stations_of n) ∙ length_map (station_of n) n.systems in
     let k = starts_all [] slept (initial n) begun.draws w refl
     (subst (λ count. StartsAll (range_with_len 0 count) (initial n) begun.draws w) (sym many) begun.starts) in
     record {
       systems = k.systems ∙ map_map shape awake (stations_of n)
-          ∙ map_map (station_of (pace_of n)) (λ (s : Station). awake (shape s)) n.systems;
+          ∙ map_map (station_of n) (λ (s : Station). awake (shape s)) n.systems;
       links = k.links ∙ map_map channel_from channel_wire n.links;
       last = k.last;
     }

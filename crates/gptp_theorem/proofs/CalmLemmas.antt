@@ -5,8 +5,6 @@ use Rattle.std.specs.List.{All, cons_option, filter_map}
 use Rattle.std.proofs.lemmas.List.Recursion.{is_count_by}
 use Rattle.std.proofs.lemmas.Option.{get_or_from_slice_get, slice_get_within}
 use Rattle.gptp_roles.specs.Selection.{clock_of}
-use Rattle.gptp_setup.specs.Stamping.{blur_of}
-use Rattle.gptp_pdelay.proofs.GoodLinkLemmas.{good_without}
 use Rattle.gptp_scenario.specs.declared.change.Timed.{Timed}
 use Rattle.gptp_scenario.specs.declared.network.SystemSpec.{SystemSpec}
 use Rattle.gptp_scenario.specs.declared.network.LinkSpec.{LinkSpec}
@@ -69,12 +67,12 @@ count_stands n events w so sound = ap length (systems_stand n events w so sound)
 record IsMemberAt (n : NetworkState) (events : List Timed) (place : ℕ) (station : Station) : Type 0 where
   pub member : SystemSpec
   pub there : slice_get n.systems place ≡ Some member
-  pub is : shape_after (pace_of n) events member ≡ shape station
+  pub is : shape_after n events member ≡ shape station
 
 member_at : (n : NetworkState) (events : List Timed) (w : WorldState) → StandsAsPlanned n events w → (place : ℕ)
     (station : Station) → slice_get w.stations place ≡ Some station → IsMemberAt n events place station
 member_at n events w so place station here =
-    let (m, there, is) = alike (shape_after (pace_of n) events) shape n.systems w.stations (sym so.systems) place
+    let (m, there, is) = alike (shape_after n events) shape n.systems w.stations (sym so.systems) place
     station here in
     record { member = m; there = there; is = is }
 
@@ -119,7 +117,7 @@ quiet_link n events w so calm link channel here used =
     let same = subst (IsQuiet n.params) is quiet in
     record {
       lossless = same.lossless;
-      good = good_without (blur_of n.params) channel.bounds.max n.params.turnaround n.params.threshold same.good;
+      good = same.good;
     }
 
 pub quiet_stands : (n : NetworkState) (events : List Timed) (w : WorldState) → IsNetwork n → StandsAsPlanned n events w

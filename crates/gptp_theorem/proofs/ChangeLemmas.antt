@@ -21,7 +21,7 @@ use Rattle.gptp_model.specs.Acts.{Acts, Changes, at, set_to}
 use Rattle.gptp_scenario.specs.Change.{is_at, link_acted, link_after, link_changed, system_acted, system_after, system_changed, standing, member_with_bounds, with_up}
 use Rattle.gptp_model.specs.Changing.{ComesUpIf, GoesDownIf, IsChannel, IsStation, brought_up, lost, taken_down, with_setup}
 use Rattle.gptp_model.specs.Initial.{setup_of}
-use Rattle.gptp_scenario.specs.Network.{NetworkState, pace_of, same_port}
+use Rattle.gptp_scenario.specs.Network.{NetworkState, same_port}
 use Rattle.gptp_model.specs.Sound.{IsSound}
 use Rattle.gptp_model.specs.World.{Channel, WorldState, port_id, sender}
 use Rattle.gptp_lists.proofs.MappedLemmas.{alike}
@@ -128,16 +128,16 @@ module _ (n : NetworkState) (events : List Timed) (timed : Timed) (change : Chan
   wire_more : (v : LinkSpec) → link_after more v ≡ link_changed change (link_after events v)
   wire_more v = link_behind events timed v ∙ ap (λ a. link_acted a (link_after events v)) act
 
-  shape_more : (m : SystemSpec) → shape_after (pace_of n) more m
+  shape_more : (m : SystemSpec) → shape_after n more m
       ≡ (let s = system_changed change (clock_of m.identity) (system_after events m) in
       record {
-        setup = record (setup_of (pace_of n) m) { identity = s.identity };
+        setup = record (setup_of n m) { identity = s.identity };
         live = s.live;
         identity = s.identity;
       })
   shape_more m =
       ap (λ s. record {
-        setup = record (setup_of (pace_of n) m) { identity = s.identity };
+        setup = record (setup_of n m) { identity = s.identity };
         live = s.live;
         identity = s.identity;
       })
@@ -145,11 +145,11 @@ module _ (n : NetworkState) (events : List Timed) (timed : Timed) (change : Chan
       ∙ ap (λ a. system_acted a (clock_of m.identity) (system_after events m)) act)
 
   -- no system and no link becomes another
-  stands_still : ((m : SystemSpec) → shape_after (pace_of n) more m ≡ shape_after (pace_of n) events m)
+  stands_still : ((m : SystemSpec) → shape_after n more m ≡ shape_after n events m)
       → ((v : LinkSpec) → link_changed change v ≡ v) → Keeps (marked timed w) w' → StandsAsPlanned n more w'
   stands_still still same k = record {
     systems = k.systems ∙ so.systems
-        ∙ sym (map_each (shape_after (pace_of n) events) (shape_after (pace_of n) more) n.systems
+        ∙ sym (map_each (shape_after n events) (shape_after n more) n.systems
         (λ i m there. still m));
     links = k.links ∙ so.links
         ∙ sym (map_each (link_after events) (link_after more) n.links
@@ -161,11 +161,11 @@ module _ (n : NetworkState) (events : List Timed) (timed : Timed) (change : Chan
   link_stands : (number port place : ℕ) (channel : Channel) (step : LinkSpec → LinkSpec)
       → IsChannel (port_id number port) place w.net channel
       → ((v : LinkSpec) → link_changed change v ≡ (if is_at number port v then step v else v))
-      → ((m : SystemSpec) → shape_after (pace_of n) more m ≡ shape_after (pace_of n) events m)
+      → ((m : SystemSpec) → shape_after n more m ≡ shape_after n events m)
       → LinkBecomes place (step (channel_wire channel)) (marked timed w) w' → StandsAsPlanned n more w'
   link_stands number port place channel step is does still k = record {
     systems = k.systems ∙ so.systems
-        ∙ sym (map_each (shape_after (pace_of n) events) (shape_after (pace_of n) more) n.systems
+        ∙ sym (map_each (shape_after n events) (shape_after n more) n.systems
         (λ i m there. still m));
     links = links;
     last = k.last ∙ sym (last_behind events timed);
@@ -207,12 +207,12 @@ module _ (n : NetworkState) (events : List Timed) (timed : Timed) (change : Chan
   record Found (place : ℕ) (station : Station) : Type 0 where
     member : SystemSpec
     there : slice_get n.systems place ≡ Some member
-    same : shape station ≡ shape_after (pace_of n) events member
+    same : shape station ≡ shape_after n events member
     named : clock_of member.identity ≡ clock station.system
 
   found : (place : ℕ) (station : Station) → slice_get w.stations place ≡ Some station → Found place station
   found place station here =
-      let (m, there, same) = alike (shape_after (pace_of n) events) shape n.systems w.stations (sym so.systems) place
+      let (m, there, same) = alike (shape_after n events) shape n.systems w.stations (sym so.systems) place
       station here in
       record {
         member = m;
@@ -225,15 +225,15 @@ module _ (n : NetworkState) (events : List Timed) (timed : Timed) (change : Chan
   -- a change of one system
   system_stands_so : (number place : ℕ) (station : Station) (new : Shape) → IsStation number place w station
       → ((m : SystemSpec) → (number == clock_of m.identity) ≡ false
-      → shape_after (pace_of n) more m ≡ shape_after (pace_of n) events m)
-      → ((m : SystemSpec) → (number == clock_of m.identity) ≡ true → shape station ≡ shape_after (pace_of n) events m
-      → new ≡ shape_after (pace_of n) more m)
+      → shape_after n more m ≡ shape_after n events m)
+      → ((m : SystemSpec) → (number == clock_of m.identity) ≡ true → shape station ≡ shape_after n events m
+      → new ≡ shape_after n more m)
       → ((v : LinkSpec) → link_changed change v ≡ v)
       → SystemBecomes place new (marked timed w) w' → StandsAsPlanned n more w'
   system_stands_so number place station new is others becomes still k = record {
     systems = k.systems ∙ ap (λ ss. slice_set ss place new) so.systems
-        ∙ ap (slice_set (map (shape_after (pace_of n) events) n.systems) place) hit
-        ∙ set_one (shape_after (pace_of n) events) (shape_after (pace_of n) more) n.systems place own.member own.there
+        ∙ ap (slice_set (map (shape_after n events) n.systems) place) hit
+        ∙ set_one (shape_after n events) (shape_after n more) n.systems place own.member own.there
         miss;
     links = k.links ∙ so.links
         ∙ sym (map_each (link_after events) (link_after more) n.links
@@ -244,14 +244,14 @@ module _ (n : NetworkState) (events : List Timed) (timed : Timed) (change : Chan
       own : Found place station
       own = found place station is.here
 
-      hit : new ≡ shape_after (pace_of n) more own.member
+      hit : new ≡ shape_after n more own.member
       hit = becomes own.member (eq-eqb number (clock_of own.member.identity) (sym is.named ∙ sym own.named)) own.same
 
       missed : (i : ℕ) (m : SystemSpec) → i ≢ place → slice_get n.systems i ≡ Some m → (b : Bool)
-          → (number == clock_of m.identity) ≡ b → shape_after (pace_of n) more m ≡ shape_after (pace_of n) events m
+          → (number == clock_of m.identity) ≡ b → shape_after n more m ≡ shape_after n events m
       missed i m apart there false off = others m off
       missed i m apart there true on =
-          let (at, here, same) = alike shape (shape_after (pace_of n) events) w.stations n.systems so.systems i m there
+          let (at, here, same) = alike shape (shape_after n events) w.stations n.systems so.systems i m there
           in
           let named : clock at.system ≡ clock_of m.identity =
           sym (sound.wired.setups i at here).named ∙ ap (λ (s : Shape). clock_of s.setup.identity) same
@@ -260,7 +260,7 @@ module _ (n : NetworkState) (events : List Timed) (timed : Timed) (change : Chan
           absurd (apart (sound.wired.clocks i place at station here is.here (named ∙ sym one ∙ sym is.named)))
 
       miss : (i : ℕ) (m : SystemSpec) → i ≢ place → slice_get n.systems i ≡ Some m
-          → shape_after (pace_of n) more m ≡ shape_after (pace_of n) events m
+          → shape_after n more m ≡ shape_after n events m
       miss i m apart there = missed i m apart there (number == clock_of m.identity) refl
 
 changed_stands : (change : Change) (n : NetworkState) (events : List Timed) (timed : Timed) (w : WorldState)

@@ -5,8 +5,10 @@ use Rattle.gptp_scenario.specs.declared.change.Act.TheVariants.{Deliver, Expire,
 use Rattle.gptp_scenario.specs.declared.change.Change.TheVariants.{LinkDown, LinkUp, LinkSet, Fail, Recover, Priority1, Inject}
 use Rattle.gptp_scenario.specs.declared.change.Timed.{Timed}
 use Rattle.gptp_scenario.specs.Network.{IsNetwork}
-use Rattle.gptp_network.specs.Document.{DocumentState, Means}
+use Rattle.gptp_scenario.proofs.NetworkLemmas.{seeded_network}
+use Rattle.gptp_network.specs.Document.{DocumentState, Means, seeded_document}
 use Rattle.gptp_network.specs.Events.{AreEvents}
+use Rattle.gptp_network.proofs.EventLemmas.{events_seeded}
 use Rattle.gptp_network.proofs.MeantLemmas.{SetsOctets, meant_octets}
 use Rattle.gptp_invariants.specs.WorldEncodableLaws.{SetsAnOctet}
 use Rattle.gptp_theorem.specs.PlayedLaws.{IsPlayable}
@@ -31,4 +33,12 @@ documents_playable octets d means network events = record {
   octets = λ place t there.
       sets_octet t.act
       (each_there (λ (u : Timed). SetsOctets u.act) d.events (meant_octets octets d means) place t there);
+}
+
+-- and so it is whatever seed noise is drawn from
+pub seeded_playable : (d : DocumentState) (seed : ℕ) → IsPlayable d → IsPlayable (seeded_document seed d)
+seeded_playable d seed is = record {
+  network = seeded_network d.network seed is.network;
+  events = events_seeded d.network seed d.events is.events;
+  octets = is.octets;
 }

@@ -7,7 +7,6 @@ use Rattle.std.proofs.lemmas.List.Sorted.{list_any-IsPermutation}
 use Rattle.gptp_graph.specs.Snapshot.{Link, Snapshot, System}
 use Rattle.gptp_vector.specs.declared.port.PortId.{PortId}
 use Rattle.gptp_roles.specs.Selection.{clock_of}
-use Rattle.gptp_setup.specs.SettlingParams.{SettlingParams}
 use Rattle.gptp_scenario.specs.declared.change.Act.{Act}
 use Rattle.gptp_scenario.specs.declared.change.Act.TheVariants.{Deliver, Expire, Change as Changing}
 use Rattle.gptp_scenario.specs.declared.change.Change.{Change}
@@ -17,7 +16,7 @@ use Rattle.gptp_scenario.specs.declared.network.SystemSpec.{SystemSpec}
 use Rattle.gptp_scenario.specs.declared.network.LinkSpec.{LinkSpec}
 use Rattle.gptp_model.specs.declared.station.Station.{Station}
 use Rattle.gptp_scenario.specs.Change.{is_at, joined_after, link_acted, link_after, link_changed, live_after, system_after, member_with_bounds, with_up}
-use Rattle.gptp_scenario.specs.Network.{NetworkState, pace_of}
+use Rattle.gptp_scenario.specs.Network.{NetworkState}
 use Rattle.gptp_model.specs.Sound.{IsSound}
 use Rattle.gptp_model.specs.World.{Channel, WorldState}
 use Rattle.gptp_network.specs.Snapshot as network
@@ -70,26 +69,26 @@ world_living (first ∷ stations) have =
         } ∷ ss) rest
     by false ports rest = rest
 
-network_living : (p : SettlingParams) (events : List Timed) (members : List SystemSpec)
-    → network.live_systems members events ≡ living (map (shape_after p events) members)
-network_living p events [] = refl
-network_living p events (m ∷ members) = by (system_after events m).live (network_living p events members)
+network_living : (n : NetworkState) (events : List Timed) (members : List SystemSpec)
+    → network.live_systems members events ≡ living (map (shape_after n events) members)
+network_living n events [] = refl
+network_living n events (m ∷ members) = by (system_after events m).live (network_living n events members)
   where
-    by : (live : Bool) → network.live_systems members events ≡ living (map (shape_after p events) members)
+    by : (live : Bool) → network.live_systems members events ≡ living (map (shape_after n events) members)
         → map network.system_of
         (cons_option (if live then Some ((system_after events m).identity, m.ports) else None)
         (filter_map (live_after events) members))
         ≡ (if live
-        then system_of (shape_after p events m) ∷ living (map (shape_after p events) members)
-        else living (map (shape_after p events) members))
-    by true rest = ap (λ ss. system_of (shape_after p events m) ∷ ss) rest
+        then system_of (shape_after n events m) ∷ living (map (shape_after n events) members)
+        else living (map (shape_after n events) members))
+    by true rest = ap (λ ss. system_of (shape_after n events m) ∷ ss) rest
     by false rest = rest
 
 pub systems_stand : (n : NetworkState) (events : List Timed) (w : WorldState) → StandsAsPlanned n events w → IsSound w
     → live_stations w.stations ≡ network.live_systems n.systems events
 systems_stand n events w so sound =
     world_living w.stations (λ place station here. (sound.wired.setups place station here).ports)
-    ∙ ap living so.systems ∙ sym (network_living (pace_of n) events n.systems)
+    ∙ ap living so.systems ∙ sym (network_living n events n.systems)
 
 -- ---- links
 

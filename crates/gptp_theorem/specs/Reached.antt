@@ -1,6 +1,5 @@
 -- How a world stands that a network and its events lead to.
 use Rattle.std.specs.Prelude.{◌≡◌, ℕ, Bool, if◌then◌else◌, List, map}
-use Rattle.gptp_setup.specs.SettlingParams.{SettlingParams}
 use Rattle.gptp_setup.specs.declared.setup.Setup.{Setup}
 use Rattle.gptp_scenario.specs.declared.change.Timed.{Timed}
 use Rattle.gptp_scenario.specs.declared.network.SystemSpec.{SystemSpec}
@@ -9,7 +8,7 @@ use Rattle.gptp_model.specs.declared.station.Station.{Station}
 use Rattle.gptp_scenario.specs.Calm.{last_change}
 use Rattle.gptp_scenario.specs.Change.{link_after, system_after}
 use Rattle.gptp_model.specs.Initial.{setup_of}
-use Rattle.gptp_scenario.specs.Network.{NetworkState, pace_of}
+use Rattle.gptp_scenario.specs.Network.{NetworkState}
 use Rattle.gptp_model.specs.World.{Channel, WorldState}
 
 -- ---- systems
@@ -29,9 +28,9 @@ shape station = record {
 }
 
 -- of a system of a network after events
-abbrev pub shape_after : SettlingParams → List Timed → SystemSpec → Shape
-shape_after p events m = record {
-  setup = record (setup_of p m) { identity = (system_after events m).identity };
+abbrev pub shape_after : NetworkState → List Timed → SystemSpec → Shape
+shape_after n events m = record {
+  setup = record (setup_of n m) { identity = (system_after events m).identity };
   live = (system_after events m).live;
   identity = (system_after events m).identity;
 }
@@ -46,6 +45,6 @@ channel_wire channel = record { a = channel.a; b = channel.b; bounds = channel.b
 
 -- The world has the systems and links of the network after these events, and the last of them was the last change.
 pub record StandsAsPlanned (n : NetworkState) (events : List Timed) (w : WorldState) : Type 0 where
-  pub systems : map shape w.stations ≡ map (shape_after (pace_of n) events) n.systems
+  pub systems : map shape w.stations ≡ map (shape_after n events) n.systems
   pub links : map channel_wire w.net.channels ≡ map (link_after events) n.links
   pub last : w.last_change ≡ last_change events

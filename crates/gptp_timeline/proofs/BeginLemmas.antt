@@ -14,7 +14,7 @@ use Rattle.gptp_links.specs.Fate.{Draw}
 use Rattle.gptp_lists.proofs.MappedLemmas.{mapped}
 use Rattle.gptp_lists.proofs.PlaceLemmas.{get-set_all}
 use Rattle.gptp_pdelay.specs.Peer.{reset_peer}
-use Rattle.gptp_scenario.specs.Network.{NetworkState, pace_of}
+use Rattle.gptp_scenario.specs.Network.{NetworkState}
 use Rattle.gptp_setup.specs.Intervals.{interval_of}
 use Rattle.gptp_setup.specs.declared.setup.Setup.{Setup}
 use Rattle.gptp_system.specs.declared.port.Port.{Port}
@@ -22,7 +22,7 @@ use Rattle.gptp_system.specs.declared.sending.Sending.{Sending}
 use Rattle.gptp_system.specs.Input.{PortUp}
 use Rattle.gptp_system.specs.Measuring.{asking, is_turned, ComesUp, TurnsIf}
 use Rattle.gptp_system.specs.Start.{started}
-use Rattle.gptp_system.specs.State.{change, clock, local_time, number, SystemState, with_peer}
+use Rattle.gptp_system.specs.State.{change, clock, number, SystemState, stamp_time, with_peer}
 use Rattle.gptp_system.proofs.ChangedLemmas.{change-get, Changed}
 use Rattle.gptp_system.proofs.SystemLemmas.{is_new}
 use Rattle.gptp_timeline.specs.Shown.{is_expecting, live_among, shown, shown_of}
@@ -77,7 +77,7 @@ comes_up p now s s' sends k nothing =
     let same : HasMeasuredNothing k.between = subst HasMeasuredNothing (sym becomes.state) between in
     subst HasMeasuredNothing (sym k.state) (record {
       slave = same.slave;
-      ports = changed_ports p (asking (local_time k.between now) (now + interval_of k.between.params.pdelay))
+      ports = changed_ports p (asking (stamp_time k.between now) (now + interval_of k.between.params.pdelay))
           k.between.ports (λ q none. none) same.ports;
     })
 
@@ -104,8 +104,8 @@ starts_all =
 
 initially : (n : NetworkState) → NoneMeasured (initial n).stations
 initially n place station there =
-    let (member, here, is) = mapped (station_of (pace_of n)) n.systems place station there in
-    subst (λ (x : Station). HasMeasuredNothing x.system) is (starts_so (setup_of (pace_of n) member) 0)
+    let (member, here, is) = mapped (station_of n) n.systems place station there in
+    subst (λ (x : Station). HasMeasuredNothing x.system) is (starts_so (setup_of n member) 0)
 
 -- ---- none expects time
 

@@ -30,7 +30,7 @@ use Rattle.gptp_system.specs.Input.{Input, Frame as FrameHeard, Expires as Timer
 use Rattle.gptp_system.specs.Measuring.{answering_done, owes, responded, HearsRequest, HearsResponse}
 use Rattle.gptp_system.specs.Selection.{announced_again}
 use Rattle.gptp_system.specs.Start.{role_at}
-use Rattle.gptp_system.specs.State.{SystemState, change, change_at, clock, is_capable_at, local_time, number, on_port, with_peer}
+use Rattle.gptp_system.specs.State.{SystemState, change, change_at, clock, is_capable_at, number, on_port, stamp_time, with_peer}
 use Rattle.gptp_system.specs.Steps.{HearsFrame, HearsMessage}
 use Rattle.gptp_system.specs.Syncing.{is_followed, is_leading, restarted, telling, timer_stopped, HearsSync, HearsSyncIf, KeepsIf, RelaysBy, RelaysIf, SyncsIf}
 use Rattle.gptp_system.specs.Takeover.{leading}
@@ -201,7 +201,7 @@ module _ (p now : ℕ) (s s' : SystemState) (sends : List Sending) (answer : Ans
 
   hears_response : (m : PdelayResp) → HearsResponse p m now s s' sends answer → shown_of s' ≡ shown_of s
   hears_response m k =
-      let t4 = local_time s now in
+      let t4 = stamp_time s now in
       became s (with_peer p (after_response m t4) s) s' k.becomes.state
       (port_leaves p (λ q. record q { peer = after_response m t4 q.peer }) s
       (λ q. recorded (answered_by m t4 q.peer.own q.peer.progress) q.peer))

@@ -22,7 +22,7 @@ use Rattle.gptp_lists.proofs.MappedLemmas.{alike}
 use Rattle.gptp_lists.proofs.SystemSpecLemmas.{slice_get-In}
 use Rattle.gptp_network.proofs.SnapshotLemmas.{clock_after}
 use Rattle.gptp_scenario.specs.Change.{link_after}
-use Rattle.gptp_scenario.specs.Network.{IsEnd, IsNetwork, NetworkState, pace_of}
+use Rattle.gptp_scenario.specs.Network.{IsEnd, IsNetwork, NetworkState}
 use Rattle.gptp_scenario.specs.declared.change.Timed.{Timed}
 use Rattle.gptp_scenario.specs.declared.network.LinkSpec.{LinkSpec}
 use Rattle.gptp_scenario.proofs.AfterLemmas.{after_keeps}
@@ -30,7 +30,7 @@ use Rattle.gptp_theorem.specs.AlikeLaws.{AreAlike}
 use Rattle.gptp_theorem.specs.Reached.{Shape, shape, shape_after, StandsAsPlanned, channel_wire}
 use Rattle.gptp_theorem.proofs.AlikeLemmas.{distance, parent, turned}
 use Rattle.gptp_setup.specs.Intervals.{interval_of}
-use Rattle.gptp_setup.specs.Stamping.{rate_interval}
+use Rattle.gptp_setup.specs.Stamping.{behind_of, blur_of, rate_interval}
 use Rattle.gptp_roles.specs.Selection.{clock_of}
 use Rattle.gptp_accuracy.specs.Ways.{HasDrift, IsLinkTo, IsWay, root_way}
 use Rattle.gptp_sync_machine.specs.Tree.{IsWayTo, last_link, Parts, tree_root_way}
@@ -50,7 +50,7 @@ module _ (n : NetworkState) (network : IsNetwork n) (events : List Timed) (w : W
   drift_there clock drift has =
       let m = has.system in
       let (place, at) = slice_get-In m n.systems has.there in
-      let (station, here, same) = alike shape (shape_after (pace_of n) events) w.stations n.systems so.systems place m
+      let (station, here, same) = alike shape (shape_after n events) w.stations n.systems so.systems place m
       at in
       let named : clock_of station.setup.identity ≡ clock =
       ap (λ (s : Shape). clock_of s.setup.identity) same ∙ clock_after events m ∙ has.is in
@@ -103,7 +103,7 @@ module _ (n : NetworkState) (network : IsNetwork n) (events : List Timed) (w : W
 
   -- ---- ways
 
-  -- time stamps are exact, and a rate is measured over one exchange
+  -- a rate is measured over one exchange
   exact_way : (clock : ℕ) → tree_root_way x clock ≡ root_way n.params (x.drift clock)
   exact_way clock =
       let ranges = network.params.ranges in
@@ -112,7 +112,8 @@ module _ (n : NetworkState) (network : IsNetwork n) (events : List Timed) (w : W
       λ i. record {
         drift = x.drift clock;
         links = [];
-        blur = sym ranges.exact i;
+        blur = blur_of n.params;
+        behind = behind_of n.params;
         interval = sym window i;
         turnaround = n.params.turnaround;
         residence = n.params.residence;

@@ -31,7 +31,7 @@ use Rattle.gptp_world.specs.Directory.{Join, directory_clocks, joins_of, directi
 use Rattle.gptp_model.specs.Initial.{channel_from, channels_of, initial, setup_of, station_of, stations_of}
 use Rattle.gptp_world.specs.Net.{IsNet}
 use Rattle.gptp_model.specs.World.{port_id}
-use Rattle.gptp_scenario.specs.Network.{largest_of, member, pace_of, NetworkState, IsEnd, IsNetwork, IsPort, IsWire}
+use Rattle.gptp_scenario.specs.Network.{largest_of, member, NetworkState, IsEnd, IsNetwork, IsPort, IsWire}
 use Rattle.gptp_scenario.proofs.LogLemmas.{largest_log, logs_up_to}
 use Rattle.gptp_model.specs.Sound.{AllFlow, AreApart, AreLinked, Flows, HaveOwnClocks, HaveTheirSetups, IsItsSetup, IsSound, JoinPorts}
 use Rattle.gptp_world.specs.WorldParts.{clock_at_place, IsWorldParts}
@@ -44,10 +44,10 @@ use Rattle.gptp_model.proofs.SteadyLemmas.{started_none_late, started_steady}
 
 -- what is true of each system of the network as it is before it starts is true of each of the world
 each_station : (n : NetworkState) (P : Station → Type 0)
-    → ((place : ℕ) (m : SystemSpec) → slice_get n.systems place ≡ Some m → P (station_of (pace_of n) m))
+    → ((place : ℕ) (m : SystemSpec) → slice_get n.systems place ≡ Some m → P (station_of n m))
     → (place : ℕ) (station : Station) → slice_get (stations_of n) place ≡ Some station → P station
 each_station n P so place station there =
-    let x = mapped (station_of (pace_of n)) n.systems place station there in subst P x.2 (so place x.0 x.1)
+    let x = mapped (station_of n) n.systems place station there in subst P x.2 (so place x.0 x.1)
 
 -- and so it is with links
 each_channel : (n : NetworkState) (P : Channel → Type 0)
@@ -89,8 +89,8 @@ log_back : (log : ℤ) → IsLog log → to_z w8 (of_z w8 log) ≡ log
 log_back log is = let low = is.low in let high = is.high in to_z-of_z w8 log (omega (arith, ints))
 
 -- what is made of a member told of, of the largest interval and the parameters is what it starts with
-pub set_up : (n : NetworkState) (m : SystemSpec) (made : Setup) (largest : ℤ) (params : Params) → IsDrift m.drift
-    → IsLog largest → largest ≡ largest_of n → params ≡ n.params
+pub set_up : (n : NetworkState) (m : SystemSpec) (made : Setup) (largest : ℤ) (seed : ℕ) (params : Params)
+    → IsDrift m.drift → IsLog largest → largest ≡ largest_of n → seed ≡ n.seed → params ≡ n.params
     → made ≡ record {
       identity = m.identity;
       ports = m.ports;
@@ -99,11 +99,12 @@ pub set_up : (n : NetworkState) (m : SystemSpec) (made : Setup) (largest : ℤ) 
       continues = m.continues;
       intervals = m.intervals;
       largest = to_z w8 (of_z w8 largest);
+      seed = seed;
       params = params;
     }
-    → made ≡ setup_of (pace_of n) m
-set_up n m made largest params drift log is same so =
-    rw (drift_back m.drift drift, log_back largest log, is, same) at so
+    → made ≡ setup_of n m
+set_up n m made largest seed params drift log is drawn same so =
+    rw (drift_back m.drift drift, log_back largest log, is, drawn, same) at so
 
 -- a link with these ends and bounds
 abbrev pub joining : PortId → PortId → Bounds → Bool → LinkSpec
@@ -122,13 +123,13 @@ wire_told n place found told is some =
 -- ---- the world is sound
 
 ports_counted : (n : NetworkState) → IsNetwork n → (place : ℕ) (m : SystemSpec) → slice_get n.systems place ≡ Some m
-    → length (station_of (pace_of n) m).system.ports ≡ m.ports
+    → length (station_of n m).system.ports ≡ m.ports
 ports_counted n is place m there =
     length-new_ports (clock_of m.identity) n.params 1 m.intervals.items ∙ (is.systems place m there).many
 
 -- a system's ports announce at its intervals, none of which is above the largest of the network
 pub intervals_within : (n : NetworkState) → IsNetwork n → (place : ℕ) (m : SystemSpec)
-    → slice_get n.systems place ≡ Some m → AreIntervals (setup_of (pace_of n) m)
+    → slice_get n.systems place ≡ Some m → AreIntervals (setup_of n m)
 intervals_within n is place m there = record {
   many = (is.systems place m there).many;
   each = logs_up_to n (λ i k at. (is.systems i k at).logs) place m there;
@@ -180,8 +181,8 @@ initial_on_time-station : (n : NetworkState) → IsNetwork n → (place : ℕ) (
     → slice_get (stations_of n) place ≡ Some station → IsOnTime 0 station
 initial_on_time-station n is = each_station n (IsOnTime 0) (λ place m there. record {
   setup = is.params.ranges.params;
-  steady = started_steady (setup_of (pace_of n) m) 0 is.params.ranges.params (intervals_within n is place m there);
-  timers = λ live. started_none_late (setup_of (pace_of n) m) 0;
+  steady = started_steady (setup_of n m) 0 is.params.ranges.params (intervals_within n is place m there);
+  timers = λ live. started_none_late (setup_of n m) 0;
 })
 
 pub initial_on_time : (n : NetworkState) → IsNetwork n → IsWorldOnTime (initial n)
@@ -203,9 +204,9 @@ initial_agrees n = silent_agrees (initial n) (initial_silent n)
 -- no two systems have one clock
 pub initial_clocks : (n : NetworkState) → IsNetwork n → HaveOwnClocks (initial n)
 initial_clocks n is place other station at here there same =
-    let x = mapped (station_of (pace_of n)) n.systems place station here in
-    let y = mapped (station_of (pace_of n)) n.systems other at there in
-    let one : clock (station_of (pace_of n) x.0).system ≡ clock (station_of (pace_of n) y.0).system =
+    let x = mapped (station_of n) n.systems place station here in
+    let y = mapped (station_of n) n.systems other at there in
+    let one : clock (station_of n x.0).system ≡ clock (station_of n y.0).system =
     ap (λ (s : Station). clock s.system) x.2 ∙ same ∙ sym (ap (λ (s : Station). clock s.system) y.2) in
     is.clocks place other x.0 y.0 x.1 y.1 one
 
@@ -218,7 +219,7 @@ end_port n FromB w i is = is.b
 pub initial_ports : (n : NetworkState) → IsNetwork n → JoinPorts (initial n)
 initial_ports n is link place direction channel station here there named =
     let x = mapped channel_from n.links link channel here in
-    let y = mapped (station_of (pace_of n)) n.systems place station there in
+    let y = mapped (station_of n) n.systems place station there in
     let port = subst (λ c. IsPort n.systems (sender direction c)) x.2
     (end_port n direction x.0 link (is.links link x.0 x.1)) in
     let one : clock_of y.0.identity ≡ clock_of port.system.identity =
@@ -275,7 +276,7 @@ idle_net n net cables joins links = record {
 }
 
 clocks_kept : (n : NetworkState) (systems : List SystemSpec)
-    → map clock_at_place (map (station_of (pace_of n)) systems) ≡ directory_clocks systems
+    → map clock_at_place (map (station_of n) systems) ≡ directory_clocks systems
 clocks_kept n [] = refl
 clocks_kept n (m ∷ systems) = ap (λ rest. clock_of m.identity ∷ rest) (clocks_kept n systems)
 
@@ -327,7 +328,7 @@ initial_stage n parts is net stations clocks joins systems empty now =
       net = net;
       clocks = ap (map clock_at_place) stations ∙ clocks_kept n n.systems ∙ sym clocks;
       systems =
-          let count = ap length stations ∙ length-map n.systems (station_of (pace_of n)) in
+          let count = ap length stations ∙ length-map n.systems (station_of n) in
           omega (arith, count, systems);
       few = λ place station e. have_few n is place station (there place station e);
       ports = λ place station p lane e begins. have_lanes n is place station (there place station e) p lane

@@ -13,7 +13,7 @@ use Rattle.gptp_scenario.specs.Allowed.{IsFitAct}
 use Rattle.gptp_model.specs.Advancing.{Advances, Stopped, Told}
 use Rattle.gptp_model.specs.Course.{Begun}
 use Rattle.gptp_model.specs.Initial.{initial, station_of}
-use Rattle.gptp_scenario.specs.Network.{pace_of, IsNetwork, NetworkState}
+use Rattle.gptp_scenario.specs.Network.{IsNetwork, NetworkState}
 use Rattle.gptp_model.specs.Prompt.{DelaysFitIntervals}
 use Rattle.gptp_model.specs.Sound.{IsSound}
 use Rattle.gptp_model.specs.Views.{IsActOf}
@@ -36,7 +36,7 @@ pub begun_from : {F : Type 0} (answers : Bounds → ℕ → F → Option ℕ →
     → Begun answers n fate fate_after (world_of after)
 begun_from answers n fate fate_after parts after same started =
     let count : length parts.stations.items ≡ length n.systems =
-    ap (λ (w : WorldState). length w.stations) same ∙ length-map n.systems (station_of (pace_of n)) in
+    ap (λ (w : WorldState). length w.stations) same ∙ length-map n.systems (station_of n) in
     record {
       draws = started.draws;
       drawn = started.drawn;

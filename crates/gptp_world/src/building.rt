@@ -4,6 +4,7 @@ ghost use Rattle.std.specs.Prelude.{◌≡◌, ◌≤◌, ◌<◌, [], length, m
 ghost use Rattle.gptp_links.specs.Bounds.{Fit};
 ghost use Rattle.gptp_world.specs.JoinedLink.{channel_of};
 ghost use Rattle.gptp_model.specs.Initial.{channels_of, stations_of};
+ghost use Rattle.gptp_scenario.specs.Network.{seeded};
 
 use crate::buffers::Buffers;
 use crate::directory::Directory;
@@ -21,13 +22,14 @@ impl WorldParts {
     ghost use Rattle.gptp_model.specs.Initial.{initial};
     ghost use Rattle.gptp_world.specs.WorldParts.{world_of, IsWorldParts};
 
-    /// The world of a network at time 0, before its systems start. Refused for want of memory alone.
-    pub(crate) fn found(alloc: Global, network: &Network) -> Result<Self, AllocError>
+    /// The world of a network at time 0, before its systems start, which draw noise from this seed. Refused for want of
+    /// memory alone.
+    pub(crate) fn found(alloc: Global, network: &Network, seed: u64) -> Result<Self, AllocError>
         ensures parts { IfOk result IsWorldParts }
-        ensures world { IfOk result (λ parts. world_of parts ≡ initial network.now) }
+        ensures world { IfOk result (λ parts. world_of parts ≡ initial (seeded seed network.now)) }
     {
         network.well_formed();
-        let stations = list_stations(alloc, network)?;
+        let stations = list_stations(alloc, network, seed)?;
         let net = Net::found(alloc, network)?;
         Ok(WorldParts {
             now: 0,
@@ -66,21 +68,21 @@ impl Net {
     }
 }
 
-/// The systems of a network, before they start.
-fn list_stations(alloc: Global, network: &Network) -> Result<Vec<Station>, AllocError>
-    ensures { IfOk result (λ v. v.items ≡ stations_of network.now) }
+/// The systems of a network, before they start, which draw noise from this seed.
+fn list_stations(alloc: Global, network: &Network, seed: u64) -> Result<Vec<Station>, AllocError>
+    ensures { IfOk result (λ v. v.items ≡ stations_of (seeded seed network.now)) }
 {
     let mut stations = Vec::with_capacity(alloc, network.systems())?;
     for place in 0..network.systems() {
-        stations.push(station_in(network, place))?;
+        stations.push(station_in(network, place, seed))?;
     }
     Ok(stations)
 }
 
-/// The system at a place of a network, before it starts.
-fn station_in(network: &Network, place: usize) -> Station
+/// The system at a place of a network, before it starts, which draws noise from this seed.
+fn station_in(network: &Network, place: usize, seed: u64) -> Station
     requires { place < length network.now.systems }
-    ensures { slice_get (stations_of network.now) place ≡ Some result }
+    ensures { slice_get (stations_of (seeded seed network.now)) place ≡ Some result }
 {
     network.well_formed();
     let (identity, ports, phase, drift, intervals) = network.system_at(place).unwrap();
@@ -94,6 +96,7 @@ fn station_in(network: &Network, place: usize) -> Station
         continues,
         intervals,
         largest,
+        seed,
         params: network.params(),
     };
     let system = System::new(setup.copy(), 0);

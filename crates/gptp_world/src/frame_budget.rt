@@ -81,6 +81,8 @@ impl Net {
 
     /// Makes room ahead at the ports of the system at a place, and draws two off its credit then. Refused where there
     /// is no memory for it. Nothing changes but the room that there is.
+    #[cold]
+    #[inline(never)]
     fn make_room_ahead(
         &mut self,
         frame_budget: &mut FrameBudget,
@@ -159,6 +161,7 @@ impl WorldParts {
     /// Makes room for whatever a call of the system at a place can leave that reaches so far, beyond the credit that is
     /// left then: each of its timers, and two frames at each port that it reaches. Refused where there is no memory for
     /// it. The state of the world doesn't change.
+    #[inline(always)]
     pub(crate) fn make_room_beyond(
         &mut self,
         frame_budget: &mut FrameBudget,

@@ -33,6 +33,7 @@ fn write_announce(
 }
 
 /// Writes a message into an empty buffer that has room for it.
+#[inline(always)]
 fn write_message(message: &Message<'_>, out: &mut Vec<u8>)
     requires path { PathHasRoom message.now }
     requires empty { out.old.items ≡ [] }

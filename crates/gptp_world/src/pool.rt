@@ -98,6 +98,7 @@ impl Pool {
 }
 
 /// Puts a buffer after the others, emptied; it has their room, and the list a place for it.
+#[inline(always)]
 fn push_empty(least: usize, list: &mut Vec<Vec<u8>>, buffer: Vec<u8>)
     requires place { vec_len list.old < vec_capacity list.old }
     requires room { least ≤ vec_capacity buffer }
@@ -125,6 +126,8 @@ fn add(alloc: Global, least: usize, list: &mut Vec<Vec<u8>>) -> Result<(), Alloc
 }
 
 /// Makes buffers until there are so many, of which there are fewer, and places for so many more.
+#[cold]
+#[inline(never)]
 fn fill(
     alloc: Global,
     least: usize,

@@ -29,6 +29,7 @@ impl<F: Fate + Drop> World<F> {
     ghost use Rattle.gptp_model.specs.Prompt.{AllDelaysFitIntervals, DelaysFitIntervals};
     ghost use Rattle.gptp_model.specs.Advancing.{Advanced, StopsShort, Told};
     ghost use Rattle.gptp_model.specs.Course.{Begun, WasDone};
+    ghost use Rattle.gptp_scenario.specs.Network.{seeded};
     ghost use Rattle.gptp_model.specs.Sound.{IsSound};
     ghost use Rattle.gptp_invariants.specs.WorldSettlingInvariant.{SettlingInvariant};
     ghost use Rattle.gptp_invariants.specs.WorldStanding.{snapshot_of};
@@ -43,12 +44,20 @@ impl<F: Fate + Drop> World<F> {
     ghost use Rattle.gptp_world.specs.Used.{snapshot_link};
 
     /// The world of a network at time 0: all its systems have started, in their order, and their first frames are in
-    /// flight. Refused for want of memory alone; then the fate is dropped.
+    /// flight. They draw the noise of their time stamps from the seed of the network. Refused for want of memory alone;
+    /// then the fate is dropped.
     pub fn new(alloc: Global, network: &Network, fate: F) -> Result<Self, AllocError>
         ensures { IfOk result (λ world. Begun F.answers network.now fate world.fate world.world_core) }
     {
+        World::seeded(alloc, network, network.seed(), fate)
+    }
+
+    /// The world of a network as by [`World::new`], whose systems draw the noise of their time stamps from this seed.
+    pub fn seeded(alloc: Global, network: &Network, seed: u64, fate: F) -> Result<Self, AllocError>
+        ensures { IfOk result (λ world. Begun F.answers (seeded seed network.now) fate world.fate world.world_core) }
+    {
         let mut fate = fate;
-        let world_core = WorldCore::new(alloc, network, &mut fate)?;
+        let world_core = WorldCore::new(alloc, network, seed, &mut fate)?;
         Ok(World { world_core, fate })
     }
 

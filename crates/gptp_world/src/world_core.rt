@@ -71,18 +71,20 @@ impl WorldCore {
     ghost use Rattle.gptp_world.specs.ActTarget.{IsTargetOf};
     ghost use Rattle.gptp_world.specs.Memory.{AsksForNoMemory};
     ghost use Rattle.gptp_model.specs.Course.{Begun, WasDone};
+    ghost use Rattle.gptp_scenario.specs.Network.{seeded};
 
-    /// The world of a network at time 0, whose systems have all started, in their order. Refused for want of memory
-    /// alone.
+    /// The world of a network at time 0, whose systems have all started, in their order, and draw noise from this seed.
+    /// Refused for want of memory alone.
     pub(crate) fn new<F: Fate>(
         alloc: Global,
         network: &Network,
+        seed: u64,
         fate: &mut F,
     ) -> Result<Self, AllocError>
-        ensures { IfOk result (Begun F.answers network.now fate.old fate.new) }
+        ensures { IfOk result (Begun F.answers (seeded seed network.now) fate.old fate.new) }
     {
         network.well_formed();
-        let mut parts = WorldParts::found(alloc, network)?;
+        let mut parts = WorldParts::found(alloc, network, seed)?;
         start_all(&mut parts, fate)?;
         let frame_budget = FrameBudget::new(alloc, parts.stations.len())?;
         Ok(WorldCore {

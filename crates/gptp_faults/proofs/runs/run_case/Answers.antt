@@ -4,7 +4,8 @@ use Rattle.std.proofs.lemmas.Bool.Decides.{nat_tests}
 use Rattle.rand_pcg.specs.Lcg.{Lcg}
 use Rattle.gptp_setup.specs.Intervals.{IsMoment}
 use Rattle.gptp_network.specs.Adding.{with_first}
-use Rattle.gptp_network.specs.Document.{DocumentState}
+use Rattle.gptp_network.specs.Document.{DocumentState, seeded_document}
+use Rattle.gptp_scenario.specs.Network.{NetworkState}
 use Rattle.gptp_sink.specs.declared.cut.Cut.{Cut}
 use Rattle.gptp_scenario.specs.declared.change.Timed.{Timed}
 use Rattle.gptp_timeline.specs.Aside.{AsideState}
@@ -78,18 +79,21 @@ returns-clause-run c =
       back = at + delay i + hold i;
       begun = 0;
     }) in
-    let fate = c.new-fate.ensures ∙ ap generator c.seed_of.ensures in
-    let ends : EndsOf draws (tracks c.args.options.now) (set_aside d asked e names at) (document_of d asked e at)
-    (end_at d asked e at) (generator (seed_of t run)) last =
-    subst (λ (f : Lcg). EndsOf draws (tracks c.args.options.now) (set_aside d asked e names at) (document_of d asked e at)
+    let drawn = c.seed_of-drawn.ensures in
+    let fate = c.new-fate.ensures ∙ ap generator drawn in
+    let whole : DocumentState = seeded_document (seed_of t run) (document_of d asked e at) in
+    let seeded : c.set_seed.new.self ≡ whole = c.set_seed.ensures ∙ (λ i. seeded_document (drawn i) (document i)) in
+    let ends : EndsOf draws (tracks c.args.options.now) (set_aside d asked e names at) whole (end_at d asked e at)
+    (generator (seed_of t run)) last =
+    subst (λ (f : Lcg). EndsOf draws (tracks c.args.options.now) (set_aside d asked e names at) whole
     (end_at d asked e at) f last) fate
-    (subst (λ (u : ℕ). EndsOf draws (tracks c.args.options.now) (set_aside d asked e names at) (document_of d asked e at) u
+    (subst (λ (u : ℕ). EndsOf draws (tracks c.args.options.now) (set_aside d asked e names at) whole u
     c.new-fate.result last) until
     (subst (λ (x : DocumentState). EndsOf draws (tracks c.args.options.now) (set_aside d asked e names at) x
-    (at + c.delay.result + c.in_ok-hold.hold + c.in_ok-behind.behind) c.new-fate.result last) document
-    (subst (λ (a : AsideState). EndsOf draws (tracks c.args.options.now) a c.return_after.new.document
+    (at + c.delay.result + c.in_ok-hold.hold + c.in_ok-behind.behind) c.new-fate.result last) seeded
+    (subst (λ (a : AsideState). EndsOf draws (tracks c.args.options.now) a c.set_seed.new.self
     (at + c.delay.result + c.in_ok-hold.hold + c.in_ok-behind.behind) c.new-fate.result last) aside
-    (subst (λ (b : Bool). EndsOf draws b c.new-aside.result c.return_after.new.document
+    (subst (λ (b : Bool). EndsOf draws b c.new-aside.result c.set_seed.new.self
     (at + c.delay.result + c.in_ok-hold.hold + c.in_ok-behind.behind) c.new-fate.result last) c.tracks.ensures
     c.in_ok-ends.ensures.ends)))) in
     let seen : not c.is_empty.result ≡ is_seen e =
@@ -99,7 +103,8 @@ returns-clause-run c =
     (λ r are. record {
       last = last;
       ends = subst (λ (time : ℕ). EndsOf draws (tracks c.args.options.now) (set_aside d asked e names time)
-          (document_of d asked e time) (end_at d asked e time) (generator (seed_of t run)) last)
+          (seeded_document (seed_of t run) (document_of d asked e time)) (end_at d asked e time)
+          (generator (seed_of t run)) last)
           c.moment_of-down.ensures.is ends;
       are = are;
     }) c.ends_of.ensures.ends
@@ -113,8 +118,13 @@ returns-clause-same c =
     c.in_ok-return_after.ensures.added
     ∙ ap (with_changes (back_at at e hold) e.back) (c.in_ok-fail_at.ensures.added
     ∙ ap (failed_document at e) before) in
+    let own = c.seed-before.ensures ∙ ap (λ (n : NetworkState). n.seed) c.network-before.ensures in
+    let back : c.set_seed-2.new.self ≡ c.return_after.new.document =
+    c.set_seed-2.ensures ∙ ap (seeded_document c.seed-before.result) c.set_seed.ensures
+    ∙ ap (λ seed. seeded_document seed c.return_after.new.document) own in
     let same : c.truncate.new.self ≡ d =
     c.truncate.ensures
+    ∙ ap (with_first (length c.events-count.result.now)) back
     ∙ ap (λ (es : List Timed). with_first (length es) c.return_after.new.document)
     (c.events-count.ensures ∙ ap (λ (x : DocumentState). x.events) before)
     ∙ ap (with_first (length d.events)) document

@@ -1,9 +1,10 @@
 -- What is told of the system at a place is what it starts with.
-use Rattle.std.proofs.Common.{false, Some, ap, sym, ◌∙◌}
+use Rattle.std.proofs.Common.{false, Some, ap, refl, sym, ◌∙◌}
 use Rattle.gptp_setup.specs.declared.setup.Setup.{Setup}
 use Rattle.gptp_system.specs.Start.{started}
 use Rattle.gptp_system.specs.State.{SystemState}
-use Rattle.gptp_scenario.specs.Network.{member, pace_of}
+use Rattle.gptp_scenario.specs.Network.{member, seeded}
+use Rattle.gptp_scenario.proofs.NetworkLemmas.{seeded_largest, seeded_network}
 use Rattle.gptp_scenario.specs.declared.network.SystemSpec.{SystemSpec}
 use Rattle.gptp_model.specs.declared.station.Station.{Station}
 use Rattle.gptp_model.specs.Initial.{setup_of, station_of}
@@ -13,56 +14,66 @@ use Rattle.gptp_world.proofs.building.station_in.Goals as goal
 
 pub new-system-requires-clause-ports : goal.new-system-requires-clause-ports
 new-system-requires-clause-ports c =
-    let n = c.args.network.now in
-    let here = member_told n c.args.place _ _ _ _ c.system_at.ensures c.unwrap-identity.ensures
+    let plain = c.args.network.now in
+    let n = seeded c.args.seed plain in
+    let here = member_told plain c.args.place _ _ _ _ c.system_at.ensures c.unwrap-identity.ensures
     c.continues_at.ensures c.unwrap-continues.ensures in
     let limits = c.well_formed-2.ensures.systems c.args.place _ here in
     let most = c.largest-largest.ensures in
-    let made = set_up n _ c.copy.result _ _ limits.drift most.range most.is c.params.ensures c.copy.ensures in
+    let made = set_up n _ c.copy.result _ _ _ limits.drift most.range
+    (most.is ∙ sym (seeded_largest plain c.args.seed)) refl c.params.ensures c.copy.ensures in
     rw made limits.ports
 
 pub new-system-requires-clause-phase : goal.new-system-requires-clause-phase
 new-system-requires-clause-phase c =
-    let n = c.args.network.now in
-    let here = member_told n c.args.place _ _ _ _ c.system_at.ensures c.unwrap-identity.ensures
+    let plain = c.args.network.now in
+    let n = seeded c.args.seed plain in
+    let here = member_told plain c.args.place _ _ _ _ c.system_at.ensures c.unwrap-identity.ensures
     c.continues_at.ensures c.unwrap-continues.ensures in
     let limits = c.well_formed-2.ensures.systems c.args.place _ here in
     let most = c.largest-largest.ensures in
-    let made = set_up n _ c.copy.result _ _ limits.drift most.range most.is c.params.ensures c.copy.ensures in
+    let made = set_up n _ c.copy.result _ _ _ limits.drift most.range
+    (most.is ∙ sym (seeded_largest plain c.args.seed)) refl c.params.ensures c.copy.ensures in
     rw made limits.phase
 
 pub new-system-requires-clause-drift : goal.new-system-requires-clause-drift
 new-system-requires-clause-drift c =
-    let n = c.args.network.now in
-    let here = member_told n c.args.place _ _ _ _ c.system_at.ensures c.unwrap-identity.ensures
+    let plain = c.args.network.now in
+    let n = seeded c.args.seed plain in
+    let here = member_told plain c.args.place _ _ _ _ c.system_at.ensures c.unwrap-identity.ensures
     c.continues_at.ensures c.unwrap-continues.ensures in
     let limits = c.well_formed-2.ensures.systems c.args.place _ here in
     let most = c.largest-largest.ensures in
-    let made = set_up n _ c.copy.result _ _ limits.drift most.range most.is c.params.ensures c.copy.ensures in
+    let made = set_up n _ c.copy.result _ _ _ limits.drift most.range
+    (most.is ∙ sym (seeded_largest plain c.args.seed)) refl c.params.ensures c.copy.ensures in
     rw made limits.drift
 
 pub new-system-requires-clause-intervals : goal.new-system-requires-clause-intervals
 new-system-requires-clause-intervals c =
-    let n = c.args.network.now in
-    let here = member_told n c.args.place _ _ _ _ c.system_at.ensures c.unwrap-identity.ensures
+    let plain = c.args.network.now in
+    let n = seeded c.args.seed plain in
+    let here = member_told plain c.args.place _ _ _ _ c.system_at.ensures c.unwrap-identity.ensures
     c.continues_at.ensures c.unwrap-continues.ensures in
     let limits = c.well_formed-2.ensures.systems c.args.place _ here in
     let most = c.largest-largest.ensures in
-    let made = set_up n _ c.copy.result _ _ limits.drift most.range most.is c.params.ensures c.copy.ensures in
-    rw made (intervals_within n c.well_formed-2.ensures c.args.place _ here)
+    let made = set_up n _ c.copy.result _ _ _ limits.drift most.range
+    (most.is ∙ sym (seeded_largest plain c.args.seed)) refl c.params.ensures c.copy.ensures in
+    rw made (intervals_within n (seeded_network plain c.args.seed c.well_formed-2.ensures) c.args.place _ here)
 
 pub returns : goal.returns
 returns c =
-    let n = c.args.network.now in
-    let here = member_told n c.args.place _ _ _ _ c.system_at.ensures c.unwrap-identity.ensures
+    let plain = c.args.network.now in
+    let n = seeded c.args.seed plain in
+    let here = member_told plain c.args.place _ _ _ _ c.system_at.ensures c.unwrap-identity.ensures
     c.continues_at.ensures c.unwrap-continues.ensures in
     let limits = c.well_formed-2.ensures.systems c.args.place _ here in
     let most = c.largest-largest.ensures in
     let told = c.unwrap-identity.result in
     let member : SystemSpec = member told.0 told.1 told.2 told.3 c.unwrap-continues.result told.4 in
-    let made = set_up n member c.copy.result _ _ limits.drift most.range most.is c.params.ensures c.copy.ensures in
+    let made = set_up n member c.copy.result _ _ _ limits.drift most.range
+    (most.is ∙ sym (seeded_largest plain c.args.seed)) refl c.params.ensures c.copy.ensures in
     let station : Setup → SystemState → Station =
     λ setup system. record { setup = setup; system = system; live = false } in
-    mapped_there (station_of (pace_of n)) n.systems c.args.place _ here
+    mapped_there (station_of n) n.systems c.args.place _ here
     ∙ sym (ap (λ s. Some (station s c.new-system.result)) (sym c.copy.ensures ∙ made)
-    ∙ ap (λ s. Some (station (setup_of (pace_of n) member) s)) (c.new-system.ensures ∙ ap (λ s. started s 0) made))
+    ∙ ap (λ s. Some (station (setup_of n member) s)) (c.new-system.ensures ∙ ap (λ s. started s 0) made))

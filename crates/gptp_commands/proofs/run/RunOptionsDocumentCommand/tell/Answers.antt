@@ -10,7 +10,7 @@ returns-in_err-play_document-clause-some g c =
     c.well_formed-2.ensures.events in
     after_error c.from_residual.result
     (runs_some c.args.document.now c.args.self.now playable (g.K.Sink.written c.args.sink.now)
-    (g.K.Sink.written c.play_document.new.sink) c.in_err-play_document.ensures.some)
+    (g.K.Sink.written c.play_document.new.sink) (rw c.set_seed.ensures at c.in_err-play_document.ensures.some))
 
 pub returns-clause-whole : goal.returns-clause-whole
 returns-clause-whole g c =
@@ -18,4 +18,4 @@ returns-clause-whole g c =
     let playable = documents_playable c.requires.read.0 c.args.document.now c.requires.read.1 network
     c.well_formed-2.ensures.events in
     runs_all c.args.document.now c.args.self.now playable (g.K.Sink.written c.args.sink.now)
-    (g.K.Sink.written c.play_document.new.sink) c.in_ok-play_document.ensures.whole
+    (g.K.Sink.written c.play_document.new.sink) (rw c.set_seed.ensures at c.in_ok-play_document.ensures.whole)

@@ -15,5 +15,5 @@ returns-clause-step c =
     let time = ap
     (λ (t : ℤ). on_port c.args.port
     (owing (record { requester = c.args.head.now.source; sequence = c.args.head.now.sequence; t2 = t }) due)
-    (state_of s)) c.local_time.ensures.time in
+    (state_of s)) c.stamp_time.ensures.time in
     record { becomes = record { state = written ∙ time; silent = refl }; answer_is = refl }

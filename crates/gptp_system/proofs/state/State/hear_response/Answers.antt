@@ -15,24 +15,24 @@ returns-clause-step c =
     let place = ap (λ (n : ℕ). n - 1) c.from.ensures in
     let written = port_written s _ c.args.port _ _ _ _ c.requires.least c.requires.most c.deref_mut.ensures.value place
     c.response.ensures.port in
-    let time = ap (λ (t : ℤ). with_peer c.args.port (after_response m t) (state_of s)) c.local_time-t4.ensures.time in
+    let time = ap (λ (t : ℤ). with_peer c.args.port (after_response m t) (state_of s)) c.stamp_time-t4.ensures.time in
     let at = number_at s.ports.items c.args.port _ _ _ c.requires.least c.requires.most c.deref_mut.ensures.value
     place in
     record {
       becomes = record { state = written ∙ time; silent = refl };
       answer_is = c.response.ensures.answer
-          ∙ sym (ap (λ (o : Option Port). measuring_answer (step_at (response_step m c.local_time-t4.result) o)) at)
+          ∙ sym (ap (λ (o : Option Port). measuring_answer (step_at (response_step m c.stamp_time-t4.result) o)) at)
           ∙ ap (λ (t : ℤ). measuring_answer (step_at (response_step m t) (number s.ports.items c.args.port)))
-          c.local_time-t4.ensures.time;
+          c.stamp_time-t4.ensures.time;
     }
 
 pub returns-clause-ready : goal.returns-clause-ready
 returns-clause-ready c =
     let s = c.args.self.now in
-    let step = after_response c.args.message.now c.local_time-t4.result in
+    let step = after_response c.args.message.now c.stamp_time-t4.result in
     let written =
     port_written s _ c.args.port _ _ _ _ c.requires.least c.requires.most c.deref_mut.ensures.value
     (ap (λ (n : ℕ). n - 1) c.from.ensures) c.response.ensures.port in
     subst IsReady (sym written)
-    (step_ready step (response_keeps c.args.message.now c.local_time-t4.result) c.args.port (state_of s)
+    (step_ready step (response_keeps c.args.message.now c.stamp_time-t4.result) c.args.port (state_of s)
     c.requires.ready)

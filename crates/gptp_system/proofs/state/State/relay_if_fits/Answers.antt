@@ -5,6 +5,6 @@ pub returns-in_default-clause-step : goal.returns-in_default-clause-step
 returns-in_default-clause-step c =
     inr (record {
       unfit =
-          rw (c.slave_delay.ensures, c.slave_rate.ensures, c.local_time-egress.ensures.time) at c.in_default.ensures;
+          rw (c.slave_delay.ensures, c.slave_rate.ensures, c.stamp_time-egress.ensures.time) at c.in_default.ensures;
       becomes = record { state = refl; silent = c.requires.empty };
     })

@@ -8,7 +8,7 @@ returns-in-Err c =
         c.held_sum.ensures.held,
         c.slave_rate-rate.ensures,
         c.slave_delay.ensures,
-        c.local_time-egress.ensures.time,
+        c.stamp_time-egress.ensures.time,
       ) at c.in-Err.ensures,
       c.as_received.ensures,
     )
