@@ -14,7 +14,7 @@ use Rattle.gptp_messages.specs.Frame.{field}
 use Rattle.gptp_messages.specs.Grammar.{PassesHeader, Reads, RefusesFrame, StampIsRead, TlvsAreRead, first_failed, header_fault, header_tests, message_of}
 use Rattle.gptp_messages.specs.Head.{message_length, message_type}
 use Rattle.gptp_messages.specs.MessageType.{least_length, type_of}
-use Rattle.gptp_messages.specs.Path.{clocks}
+use Rattle.gptp_vector.specs.Trace.{clocks}
 use Rattle.gptp_messages.specs.Timestamp.{HasStamp}
 use Rattle.gptp_messages.specs.Tlv.{FirstTlv, HasFront, HasTlvs, IsFront, either, is_of_kind, spelled}
 use Rattle.gptp_messages.proofs.GrammarLemmas.{no_rate, odd_path, odd_rate}

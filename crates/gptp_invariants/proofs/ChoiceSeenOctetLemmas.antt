@@ -15,7 +15,7 @@ use Rattle.gptp_messages.specs.Frame.{field}
 use Rattle.gptp_messages.specs.Grammar.{Reads, ReadsTlvs, message_of}
 use Rattle.gptp_messages.specs.Head.{head_of}
 use Rattle.gptp_messages.specs.MessageType.{type_of}
-use Rattle.gptp_messages.specs.Path.{clocks}
+use Rattle.gptp_vector.specs.Trace.{clocks}
 use Rattle.gptp_messages.specs.Tlv.{FirstTlv, Tlv, first_value, is_of_kind, spelled}
 use Rattle.gptp_system.proofs.TypeLemmas.{type_is}
 use Rattle.gptp_invariants.specs.WorldEncodable.{AreClocks, AreOctets, SayWhatFits}
@@ -40,7 +40,7 @@ field_fits n i octets all =
     big_from-lt 0 n (drop i octets) (octet_at (drop i octets) (λ x member. all x (In-drop x i octets member)))
 
 clocks_fit : (octets : List ℕ) → AreOctets octets → AreClocks (clocks octets)
-unfolding clocks
+unfolding clocks field
 clocks_fit octets all c member =
     let (k, among, is) = from_map (λ j. field 8 (8 * j) octets) c (range_with_len 0 (length octets / 8)) member in
     subst (λ x. x < 2 ^ 64) is (field_fits 8 (8 * k) octets all)

@@ -12,17 +12,18 @@ use Rattle.std.proofs.lemmas.Option.{slice_get-get_or}
 use Rattle.byteorder.specs.Endian.{big_bytes, big_number}
 use Rattle.byteorder.specs.Numbers.{big_number-reads_back, big_from-append}
 use Rattle.gptp_messages.specs.Frame.{field}
-use Rattle.gptp_messages.specs.Path.{clocks, path_octets}
+use Rattle.gptp_messages.specs.Path.{path_octets}
+use Rattle.gptp_vector.specs.Trace.{clocks}
 
 -- each clock has eight octets
 pub length-clocks : (octets : List ℕ) → length (clocks octets) ≡ length octets / 8
-unfolding clocks
+unfolding clocks field
 length-clocks octets = length-map-range_with_len (λ k. field 8 (8 * k) octets) 0 (length octets / 8)
 
 -- the clock at a place comes after eight octets for each place before it
 pub get_or-clocks : (octets : List ℕ) (i d : ℕ) → i < length octets / 8
     → get_or (clocks octets) i d ≡ field 8 (8 * i) octets
-unfolding clocks
+unfolding clocks field
 get_or-clocks octets i d within =
     get_or-map-range_with_len (λ k. field 8 (8 * k) octets) 0 (length octets / 8) i i d within (omega arith)
 
@@ -31,12 +32,6 @@ pub slice_get-clocks : (octets : List ℕ) (i : ℕ) → i < length octets / 8
 slice_get-clocks octets i within =
     let inside : i < length (clocks octets) = omega (arith, length-clocks octets) in
     slice_get-get_or (clocks octets) i 0 inside ∙ ap Some (get_or-clocks octets i 0 within)
-
--- the number that eight octets spell is read at their place
-pub clocks-read : (octets : List ℕ)
-    → map (λ k. big_number 8 (drop (8 * k) octets)) (range_with_len 0 (length octets / 8)) ≡ clocks octets
-unfolding clocks field
-clocks-read octets = refl
 
 -- a number stands in front of its own octets
 pub field-big_bytes : (n x : ℕ) (rest : List ℕ) → x < 256 ^ n → field n 0 (big_bytes n x ++ rest) ≡ x
@@ -63,7 +58,7 @@ field-path_octets (c ∷ path) (suc k) fit within =
 
 -- the octets of a path spell it
 pub clocks-path_octets : (path : List ℕ) → AllByRecursion (λ c. c < 2 ^ 64) path → clocks (path_octets path) ≡ path
-unfolding clocks
+unfolding clocks field
 clocks-path_octets path fit =
     let octets = length-path_octets path in
     let count : length path ≡ length (path_octets path) / 8 = omega arith in
@@ -119,7 +114,7 @@ path_octets-map (suc n) f whole octets =
 
 pub path_octets-clocks : (octets : List ℕ) → length octets % 8 ≡ 0 → ((i : ℕ) → get_or octets i 0 < 256)
     → path_octets (clocks octets) ≡ octets
-unfolding clocks
+unfolding clocks field
 path_octets-clocks octets whole fit = path_octets-map (length octets / 8) octets (omega arith) fit
 
 -- where no clock stands at a place, the path ends before it

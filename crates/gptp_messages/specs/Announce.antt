@@ -10,7 +10,8 @@ use Rattle.gptp_messages.specs.declared.message_type.MessageType.TheVariants.{An
 use Rattle.gptp_messages.specs.declared.tlv.TlvKind.TheVariants.{PathTrace}
 use Rattle.gptp_messages.specs.Frame.{octet, field}
 use Rattle.gptp_messages.specs.Head.{message_length, written_head, HeadFits}
-use Rattle.gptp_messages.specs.Path.{clocks, path_octets}
+use Rattle.gptp_messages.specs.Path.{path_octets}
+use Rattle.gptp_vector.specs.Trace.{clocks}
 use Rattle.gptp_messages.specs.Tlv.{FirstTlv, Tlv, spelled, tlv_type_of}
 
 -- the fields between the header and the TLVs

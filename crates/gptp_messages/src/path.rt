@@ -1,7 +1,8 @@
 //! The path trace of an Announce, as it stands in the frame.
 
 ghost use Rattle.std.specs.Prelude.{◌≡◌, ◌/◌, ◌%◌, ◌≤◌, ◌↔◌, IsTrue, Contains, length, slice_get};
-ghost use Rattle.gptp_messages.specs.Path.{clocks, path_octets};
+ghost use Rattle.gptp_messages.specs.Path.{path_octets};
+ghost use Rattle.gptp_vector.specs.Trace.{clocks};
 
 use crate::frame::clock_at;
 use gptp_vector::{ClockId, Full, TRACE_CAPACITY, Trace};
@@ -16,7 +17,7 @@ pub struct PathView<'a> {
 
 impl<'a> Model for PathView<'a> {
     ghost use Rattle.std.specs.Prelude.{◌≡◌, ◌%◌, ℕ, List, length};
-    ghost use Rattle.gptp_messages.specs.Path.{clocks};
+    ghost use Rattle.gptp_vector.specs.Trace.{clocks};
 
     ghost Value = { List ℕ };
 
@@ -29,7 +30,8 @@ impl<'a> PathView<'a> {
     ghost use Rattle.std.specs.Prelude.{◌≡◌, ◌%◌, ◌↔◌, IsTrue, Contains, [], length, slice_get};
     ghost use Rattle.std.specs.Prelude.{◌≤◌, IsOk, IfErr, OnOk, OnErr};
     ghost use Rattle.gptp_vector.specs.Trace.{clock_left_out as clock_inside};
-    ghost use Rattle.gptp_messages.specs.Path.{clocks, path_octets};
+    ghost use Rattle.gptp_messages.specs.Path.{path_octets};
+    ghost use Rattle.gptp_vector.specs.Trace.{clocks};
 
     /// The path with no clock.
     #[tactic(auto, unfolding(crate::specs::Path::clocks))]

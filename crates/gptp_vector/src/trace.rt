@@ -1,8 +1,7 @@
 //! The clocks that an announcement passed.
 
-ghost use Rattle.std.specs.Prelude.{◌≡◌, ◌*◌, ◌/◌, drop, length, map};
-ghost use Rattle.std.specs.List.{range_with_len};
-ghost use Rattle.byteorder.specs.Endian.{big_number};
+ghost use Rattle.std.specs.Prelude.{◌≡◌, ◌/◌, length};
+ghost use Rattle.gptp_vector.specs.Trace.{clocks};
 
 use crate::port::ClockId;
 use byteorder::{BigEndian, ByteOrder};
@@ -140,7 +139,7 @@ impl Trace {
     /// Puts the clocks that octets spell in place of its own: eight octets for each, the most significant first.
     pub fn read_octets(&mut self, octets: &[u8])
         requires { length octets.now / 8 ≤ 256 }
-        ensures { self.new ≡ map (λ k. big_number 8 (drop (8 * k) octets.now)) (range_with_len 0 (length octets.now / 8)) }
+        ensures { self.new ≡ clocks octets.now }
     {
         self.count = octets.len() / 8;
         read_clocks(octets, &mut self.clocks[..self.count]);
@@ -167,11 +166,11 @@ impl Trace {
 }
 
 /// Writes the clocks that octets spell over these, of which there are as many.
-fn read_clocks(octets: &[u8], clocks: &mut [ClockId])
-    requires { length clocks.old ≡ length octets.now / 8 }
-    ensures { clocks.new ≡ map (λ k. big_number 8 (drop (8 * k) octets.now)) (range_with_len 0 (length octets.now / 8)) }
+fn read_clocks(octets: &[u8], trace: &mut [ClockId])
+    requires { length trace.old ≡ length octets.now / 8 }
+    ensures { trace.new ≡ clocks octets.now }
 {
-    for place in 0..clocks.len() {
-        clocks[place] = ClockId::from(BigEndian::read_u64(&octets[8 * place..]));
+    for place in 0..trace.len() {
+        trace[place] = ClockId::from(BigEndian::read_u64(&octets[8 * place..]));
     }
 }

@@ -1,6 +1,6 @@
 use Rattle.std.proofs.Common.{sym, ap, ◌∙◌, Some, arith}
 use Rattle.std.proofs.lemmas.Option.{slice_get_past}
-use Rattle.gptp_messages.specs.Path.{clocks}
+use Rattle.gptp_vector.specs.Trace.{clocks}
 use Rattle.gptp_messages.proofs.PathLemmas.{length-clocks, slice_get-clocks}
 use Rattle.gptp_messages.proofs.path.clock_of.Goals as goal
 

@@ -1,6 +1,4 @@
-use Rattle.std.proofs.Common.{◌∙◌}
-use Rattle.gptp_messages.proofs.PathLemmas.{clocks-read}
 use Rattle.gptp_messages.proofs.path.read_clocks.Goals as goal
 
 pub returns : goal.returns
-returns c = c.read_octets.ensures ∙ clocks-read c.args.octets.now
+returns c = c.read_octets.ensures

@@ -5,6 +5,6 @@ use Rattle.gptp_vector.proofs.trace.read_clocks.Given as goal
 -- the clocks before the place are read
 abbrev pub invariant-loop-place : goal.invariant-loop-place
 invariant-loop-place l = record {
-  long : length l.clocks ≡ length l.initial.clocks;
-  front : (k : ℕ) → k < l.place → get_or l.clocks k 0 ≡ big_number 8 (drop (8 * k) l.octets);
+  long : length l.trace ≡ length l.initial.trace;
+  front : (k : ℕ) → k < l.place → get_or l.trace k 0 ≡ big_number 8 (drop (8 * k) l.octets);
 }

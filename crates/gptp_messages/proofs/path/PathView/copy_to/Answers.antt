@@ -1,5 +1,5 @@
 use Rattle.std.proofs.Common.{◌≤◌, length, ◌∙◌, sym, refl, arith}
-use Rattle.gptp_messages.specs.Path.{clocks}
+use Rattle.gptp_vector.specs.Trace.{clocks}
 use Rattle.gptp_messages.proofs.PathLemmas.{length-clocks, ends_before}
 use Rattle.gptp_messages.proofs.path.PathView.copy_to.Goals as goal
 
