@@ -118,7 +118,7 @@ returns-clause-same c =
     c.in_ok-return_after.ensures.added
     ∙ ap (with_changes (back_at at e hold) e.back) (c.in_ok-fail_at.ensures.added
     ∙ ap (failed_document at e) before) in
-    let own = c.seed-before.ensures ∙ ap (λ (n : NetworkState). n.seed) c.network-before.ensures in
+    let own = c.seed-before.ensures ∙ ap (λ (n : NetworkState). n.seed) c.network.ensures in
     let back : c.set_seed-2.new.self ≡ c.return_after.new.document =
     c.set_seed-2.ensures ∙ ap (seeded_document c.seed-before.result) c.set_seed.ensures
     ∙ ap (λ seed. seeded_document seed c.return_after.new.document) own in
