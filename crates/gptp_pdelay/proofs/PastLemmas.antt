@@ -1,4 +1,4 @@
-use Rattle.std.proofs.Common.{◌≡◌, ◌+◌, ◌-◌, ◌≤◌, ◌<◌, ℕ, zero, suc, ⊤, tt, Bool, true, false, ◌&&◌, if◌then◌else◌, Option, Some, None, List, [], ◌∷◌, length, take, slice_get, refl, sym, ap, ◌∙◌, arith}
+use Rattle.std.proofs.Common.{◌≡◌, ◌+◌, ◌-◌, ◌≤◌, ◌<◌, ℕ, zero, suc, Bool, true, false, ◌&&◌, if◌then◌else◌, Option, Some, None, option_map, List, [], ◌∷◌, length, take, slice_get, refl, sym, ap, ◌∙◌, arith}
 use Rattle.std.proofs.lemmas.List.{length-take}
 use Rattle.std.specs.List.{AllByRecursion}
 use Rattle.std.specs.Option.{ForSome, option_map_or}
@@ -7,23 +7,16 @@ use Rattle.gptp_pdelay.specs.declared.exchange.Times.{Times}
 use Rattle.gptp_pdelay.specs.declared.progress.Progress.{Progress}
 use Rattle.gptp_pdelay.specs.declared.progress.Progress.TheVariants.{Closed}
 use Rattle.gptp_pdelay.specs.Capability.{Event, Resets, Asks, IsAsked, Answers, HearsResponse, HearsFollowUp, IntervalEnds, after, after_all}
+use Rattle.gptp_pdelay.specs.Earlier.{past_of}
 use Rattle.gptp_pdelay.specs.Exchange.{AreTimes, oldest, times_of}
 use Rattle.gptp_pdelay.specs.Past.{PastIsNewest, WindowStays, since_reset, since_reset_all}
 use Rattle.gptp_pdelay.specs.Peer.{PeerState, answered_by, completed, is_open, loses_too_many, measured_by, new_peer, reset_peer}
-use Rattle.gptp_pdelay.specs.PeerFields.{past_of}
 
 -- ---- lists of times
 
--- one more in front, of which so many are left
-take_front : (n : ℕ) (t : Times) (ts : List Times) → 0 < n → take n (t ∷ ts) ≡ t ∷ take (n - 1) ts
-take_front zero t ts h = absurd (omega (arith, h))
-take_front (suc n) t ts h = let e : suc n - 1 ≡ n = omega arith in rw e refl
-
--- to leave so many twice is to do it once
-take_twice : (n : ℕ) (ts : List Times) → take n (take n ts) ≡ take n ts
-take_twice zero ts = refl
-take_twice (suc n) [] = refl
-take_twice (suc n) (t ∷ ts) = ap (λ us. t ∷ us) (take_twice n ts)
+-- one more in front
+pub take_more : (n : ℕ) (t : Times) (ts : List Times) → take (n + 1) (t ∷ ts) ≡ t ∷ take n ts
+take_more n t ts = let e : n + 1 ≡ suc n = omega arith in rw e refl
 
 -- to leave so many first doesn't matter to what is left with one more in front
 take_again : (n : ℕ) (t : Times) (ts : List Times) → take n (t ∷ take n ts) ≡ take n (t ∷ ts)
@@ -35,7 +28,10 @@ take_again (suc n) t (u ∷ us) = ap (λ vs. t ∷ vs) (take_again n u us)
 pub oldest_at : (ts : List Times) → oldest ts ≡ slice_get ts (length ts - 1)
 oldest_at [] = refl
 oldest_at (t ∷ []) = refl
-oldest_at (t ∷ (u ∷ ts)) = oldest_at (u ∷ ts)
+oldest_at (t ∷ (u ∷ ts)) =
+    let here : suc (suc (length ts)) - 1 ≡ suc (length ts) = omega arith in
+    let behind : suc (length ts) - 1 ≡ length ts = omega arith in
+    oldest_at (u ∷ ts) ∙ ap (slice_get (u ∷ ts)) behind ∙ ap (slice_get (t ∷ (u ∷ ts))) (sym here)
 
 -- it is as all are
 pub oldest_are : (ts : List Times) → AllByRecursion AreTimes ts → ForSome (oldest ts) AreTimes
@@ -115,7 +111,7 @@ response_past : (o : Option Progress) (p : PeerState) (ts : List Times) → p.pa
 response_past None p ts h = h
 response_past (Some progress) p ts h = h
 
-none_left : (n : ℕ) → take n [] ≡ []
+none_left : (n : ℕ) → take {A = Times} n [] ≡ []
 none_left zero = refl
 none_left (suc n) = refl
 

@@ -94,7 +94,7 @@ abbrev pub measured_by : PdelayRespFollowUp → PortId → Option Measurement �
 measured_by f own last past (Answered request response) =
     if is_follow_up_to own request response f
     then
-      Some (measurement_of (oldest past) (is_some last) request response (carried_time f.stamp f.head.correction))
+    Some (measurement_of (oldest past) (is_some last) request response (carried_time f.stamp f.head.correction))
     else None
 measured_by f own last past _ = None
 

@@ -1,10 +1,10 @@
 //! The exchanges before the last one that a rate may be measured since.
 
 ghost use Rattle.std.specs.Prelude.{◌≡◌, ◌<◌, ◌≤◌, ◌-◌, [], ◌∷◌, length, take, IsOk, IfOk};
-ghost use Rattle.std.specs.List.{AllByRecursion};
-ghost use Rattle.gptp_pdelay.specs.Exchange.{AreTimes, oldest};
+ghost use Rattle.gptp_pdelay.specs.Earlier.{past_of};
+ghost use Rattle.gptp_pdelay.specs.Exchange.{oldest};
 
-use crate::exchange::Times;
+use crate::exchange::{Measurement, Times};
 use arrayvec::ArrayVec;
 use std::alloc::{AllocError, Global};
 use std::marker::Model;
@@ -87,7 +87,7 @@ impl Earlier {
     }
 
     /// A newer one comes: the oldest goes, where there would be too many.
-    pub fn put(&mut self, times: Times)
+    fn put(&mut self, times: Times)
         ensures { self.new ≡ record self.old { times = take self.old.most (times ∷ self.old.times) } }
     {
         if self.most == 0 {
@@ -98,7 +98,19 @@ impl Earlier {
         }
     }
 
+    /// Another exchange follows the last one, if there was one: that comes to these.
+    pub fn follow(&mut self, last: Option<Measurement>)
+        ensures { self.new ≡ record self.old { times = take self.old.most (past_of last self.old.times) } }
+    {
+        let _ = &self.most;
+        match last {
+            Some(last) => self.put(last.times()),
+            None => {}
+        }
+    }
+
     /// The oldest that is kept.
+    #[tactic(auto, using(crate::proofs::PastLemmas::oldest_at))]
     pub fn oldest(&self) -> Option<Times>
         ensures { result ≡ oldest self.now.times }
     {

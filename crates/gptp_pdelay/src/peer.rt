@@ -207,9 +207,7 @@ impl Peer {
         requires { IsMeasured measurement }
         ensures { self.new ≡ completed measurement self.old }
     {
-        if let Some(last) = self.last {
-            self.earlier.put(last.times());
-        }
+        self.earlier.follow(self.last);
         self.progress = Progress::Closed;
         self.last = Some(measurement);
         self.lost = 0;
