@@ -193,12 +193,16 @@ impl Peer {
     }
 
     /// The exchange that the next rate is measured since: the oldest of the window.
+    #[tactic(auto, using(crate::proofs::PastLemmas::oldest_of))]
     fn since(&self) -> Option<Times>
         ensures { result ≡ oldest self.now.past }
     {
-        match self.earlier.oldest() {
-            Some(oldest) => Some(oldest),
-            None => self.last.map(|last| last.times()),
+        if let Some(oldest) = self.earlier.oldest() {
+            return Some(oldest);
+        }
+        match self.last {
+            Some(last) => Some(last.times()),
+            None => None,
         }
     }
 
