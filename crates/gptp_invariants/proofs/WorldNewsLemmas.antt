@@ -208,11 +208,7 @@ ready_due : (p : SettlingParams) (start : ℕ) (at : LinkPlace) (w : WorldState)
 ready_due p start at w (inl (first, (l, by))) f member =
     let latest = (l.facts.out f member).latest in
     let asked = l.facts.asked in
-    let since : first ≤ (pair at w l.link).asker.asked = elim l.inv.since [
-      | inl one ↦ omega (arith, one)
-      | inr (inl two) ↦ omega (arith, two)
-      | inr (inr more) ↦ omega (arith, more)
-    ] in
+    let since : first ≤ (pair at w l.link).asker.asked = let (n, is) = l.inv.since in omega (arith, is) in
     inl (omega (arith, latest, asked, since))
 ready_due p start at w (inr (gone, since, l, past, by)) f member =
     let latest = (l.facts.out f member).latest in
