@@ -252,6 +252,13 @@ impl Peer {
         was_capable
     }
 
+    /// Whether the port stops being capable where its interval ends now.
+    pub fn stops(&self) -> bool
+        ensures { result ≡ changes_capability self.now (after_interval self.now) }
+    {
+        self.progress != Progress::Closed && self.allowed <= self.lost && self.capable()
+    }
+
     /// Whether the port is asCapable: at least two full exchanges have come since the last reset, and the delay of
     /// the last one is at most the threshold.
     pub fn capable(&self) -> bool

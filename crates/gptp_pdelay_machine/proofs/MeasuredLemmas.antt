@@ -199,7 +199,9 @@ module _ (k : Setting) (least : ℕ) (calm : ℕ) where
           let e : k.window * k.period ≡ suc v * k.period = ap (λ n. n * k.period) some in
           let all = since.open' k.window (omega arith) late goes in
           let length_is = since.few (inl (omega (arith, late, e))) in
-          let o = chain_oldest k least v a.asked kept.past (omega (arith, length_is, some)) (rw some at all) in
+          let o =
+          chain_oldest k least v a.asked kept.past (omega (arith, length_is, some))
+          (subst (λ n. Chain k least n a.asked kept.past) some all) in
           let old = o.carried in
           let apart = far o in
           let x = o.asked in
