@@ -188,7 +188,12 @@ impl State {
     {
         let mut ports = mem::replace(&mut self.ports, ArrayVec::new());
         let intervals = setup.intervals.as_slice();
-        renew_ports(ports.as_mut_slice(), setup.identity.clock(), &setup.params, intervals);
+        renew_ports(
+            ports.as_mut_slice(),
+            setup.identity.clock(),
+            &setup.params,
+            intervals,
+        );
         *self = State::with_ports(setup, now, ports);
     }
 }

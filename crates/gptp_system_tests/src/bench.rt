@@ -85,13 +85,7 @@ fn alike(ports: u8) -> ArrayVec<i8, MOST_PORTS>
 }
 
 /// A system that starts at 0, of a clock with all defaults but these.
-pub fn started(
-    alloc: Global,
-    clock: u64,
-    ports: u8,
-    phase: u64,
-    lost: u8,
-) -> Result<System, Fail> {
+pub fn started(alloc: Global, clock: u64, ports: u8, phase: u64, lost: u8) -> Result<System, Fail> {
     if usize::from(ports) > MOST_PORTS || phase > 1_000_000_000 || lost == 0 {
         return Err(Fail::from("no such system"));
     }

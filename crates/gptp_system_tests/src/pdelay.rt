@@ -431,7 +431,13 @@ fn a_newer_request_replaces_one_that_is_open(rt: HostRuntime) -> Result<(), Fail
         Event::Interval(false),
         Event::Says(Some(NS), 0, true),
     ];
-    play(&rt, rt.alloc(), "the third asks before it is answered", 1, &events)
+    play(
+        &rt,
+        rt.alloc(),
+        "the third asks before it is answered",
+        1,
+        &events,
+    )
 }
 
 #[test]

@@ -40,5 +40,5 @@ loop-log_interval-preserved c =
         number,
         to_z-of_z fits,
       )
-      (renewed-more c.args.clock c.args.params.now 1 i logs ports c.loop-log_interval-test.true c.requires.places);
+          (renewed-more c.args.clock c.args.params.now 1 i logs ports c.loop-log_interval-test.true c.requires.places);
     }
