@@ -73,7 +73,8 @@ response_same m t4 p = go (answered_by m t4 p.own p.progress)
     go : (o : Option Progress)
         → IsSamePeer p (option_map_or (λ (progress : Progress). record p { progress = progress }) o p)
     go None = itself p
-    go (Some progress) = record { own = refl; allowed = refl; threshold = refl; window = refl; next = refl; waiting = refl }
+    go (Some progress) =
+        record { own = refl; allowed = refl; threshold = refl; window = refl; next = refl; waiting = refl }
 
 follow_up_same : (m : PdelayRespFollowUp) (p : PeerState) → IsSamePeer p (after_follow_up m p)
 follow_up_same m p = go (measured_by m p.own p.last p.past p.progress)

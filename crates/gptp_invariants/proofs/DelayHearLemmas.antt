@@ -233,8 +233,8 @@ module _ (k : Setting) (s : SystemState) (now period : ℕ) (octets : List ℕ) 
         (
           int_le one.delay (pos (65536 * x.peer.threshold)),
           λ exchange. is_at_most x.peer.threshold one.delay
-              (exchanges_are_good blur k x.peer.threshold (neighbor_rate (oldest x.peer.past) third response.t4) request.t1
-              response.t2 third response.t4 good clocks
+              (exchanges_are_good blur k x.peer.threshold (neighbor_rate (oldest x.peer.past) third response.t4)
+              request.t1 response.t2 third response.t4 good clocks
               (neighbor_rate_is_within (oldest x.peer.past) third response.t4)
               (subst (λ t. IsExchange k request.t1 response.t2 t response.t4) (sym time)
               (subst (λ t. IsExchange k request.t1 response.t2 t3 t) (sym fourth)

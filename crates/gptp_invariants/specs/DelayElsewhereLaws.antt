@@ -34,8 +34,8 @@ WatchGoesThrough = (at : LinkPlace) (gone calm : ℕ) (act : Act) (w w' : WorldS
     → IsSound w → LinkIsMeasured w → LeavesAlone at act w → Acts act w draws done w' → IsWatched gone calm at w
     → IsWatched gone calm at w'
 
--- From three intervals between requests after its own calm on, the port that asks on a watched link is capable, whatever
--- was changed elsewhere since.
+-- From three intervals between requests after its own calm on, the port that asks on a watched link is capable,
+-- whatever was changed elsewhere since.
 abbrev pub WatchedPortsStayCapable : Type 0
 WatchedPortsStayCapable = (at : LinkPlace) (gone calm : ℕ) (w : WorldState) (l : IsWatched gone calm at w)
     → calm + 3 * (link_setting at w l.link).period ≤ w.time

@@ -11,8 +11,8 @@ pub fn first_goes_on()
     ensures later { FirstGoesOn }
 {}
 
-/// One interval between requests and one exchange after that request the port is capable. As many intervals as the window
-/// has exchanges, and one exchange, after it the port has measured the link over a whole window.
+/// One interval between requests and one exchange after that request the port is capable. As many intervals as the
+/// window has exchanges, and one exchange, after it the port has measured the link over a whole window.
 pub fn first_is_full()
     ensures capable { FirstIsFull }
     ensures measured { FirstIsMeasured }

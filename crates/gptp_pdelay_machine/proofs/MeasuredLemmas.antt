@@ -263,8 +263,8 @@ module _ (k : Setting) (least : ℕ) (asks : List ℕ → Request → Type 0) (r
           (let measures = takes.follow_up sequence (k.asking_clock a.asked) (k.answering_clock came)
           (k.answering_clock (came + k.turnaround)) (k.asking_clock heard) progress said in
           let some = measures.some in
-          measured_completed k least calm a m.kept m'.kept (k.window - 1) sequence came heard (omega (arith, some)) short
-          there home progress measures since)
+          measured_completed k least calm a m.kept m'.kept (k.window - 1) sequence came heard (omega (arith, some))
+          short there home progress measures since)
       by_phase (FollowUpComes sequence came heard there home progress asks_none none (inr (mute, later))) =
           unmoved mute
 

@@ -236,7 +236,8 @@ module _ (k : Setting) (least : ℕ) (asks : List ℕ → Request → Type 0) (r
       → first + k.period + k.most + k.turnaround < from
       → from ≤ m.pair.time → Facts k gone m.pair → InvFirst k least asks replies first m
       → AreUntold tells m.pair.back → Ordered m.pair.asker (m.pair.back ++ news)
-  answer_is_ahead gone from m news past late facts inv untold = elim (how_far k least asks replies first m.pair.asker.asked inv.since) [
+  answer_is_ahead gone from m news past late facts inv untold =
+      elim (how_far k least asks replies first m.pair.asker.asked inv.since) [
     | inl one ↦ (let timer = facts.request_timer in absurd (omega (arith, one, timer, past, late)))
     | inr (inl two) ↦ by_phase two inv.clean.phase
     | inr (inr more) ↦ IsCapable (omega (arith, more)) (inv.clean.counts.two (inl more))

@@ -24,8 +24,8 @@ module _ (k : Setting) (least : ℕ) where
   Chain (suc n) before [] = ⊥
   Chain (suc n) before (t ∷ ts) = (moments : Moments) × IsTaken before t moments × Chain n moments.asked ts
 
-  -- The last measurement is that of an exchange over the link and of the one a window before it: neighbour rate and mean
-  -- link delay are what those measure.
+  -- The last measurement is that of an exchange over the link and of the one a window before it: neighbour rate and
+  -- mean link delay are what those measure.
   pub record HasMeasured (last : Option Measurement) : Type 0 where
     pub measured : Measurement
     pub is : last ≡ Some measured
@@ -33,8 +33,8 @@ module _ (k : Setting) (least : ℕ) where
         measured.rate measured.delay
 
   -- The first request from `calm` on begins an exchange that finds nothing old. With each period one more of the
-  -- exchanges that are kept is such a one; that of the last request is once it is closed. With a whole window of them the
-  -- next measures over it. From the first of them on no more are kept than the window has.
+  -- exchanges that are kept is such a one; that of the last request is once it is closed. With a whole window of them
+  -- the next measures over it. From the first of them on no more are kept than the window has.
   pub record MeasuredSince (calm : ℕ) (a : Asker) (kept : Kept) : Type 0 where
     pub few : (calm + k.period ≤ a.asked) ⊎ (a.progress ≡ Closed) → length kept.past ≤ k.window
     pub open' : (n : ℕ) → n ≤ k.window → calm + n * k.period ≤ a.asked → (a.progress ≡ Closed → ⊥)

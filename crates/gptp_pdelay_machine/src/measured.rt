@@ -26,8 +26,8 @@ pub fn meter_is_invariant<C: Coding>()
     ensures { MeterInvIsInv C.asks C.replies }
 {}
 
-/// Neighbour rate and mean link delay are those of two exchanges, a window apart, from a window and two intervals between
-/// requests on, counted from when the old frames are gone and answered.
+/// Neighbour rate and mean link delay are those of two exchanges, a window apart, from a window and two intervals
+/// between requests on, counted from when the old frames are gone and answered.
 pub fn measured_from_calm<C: Coding>()
     ensures { MeasuredFromCalm C.asks C.replies }
 {}

@@ -2,10 +2,10 @@
 --
 -- A network whose ports at links are all capable from a *start* on has settled by a time (`SettlesBy`): after one
 -- announce interval, and the greatest delay of a link for each system of a path but one; or where something may lapse
--- for want of Sync, after a step of distance for each but one. What a root sends is carried right once rates are measured
--- over whole windows, an interval between requests later for each exchange of the window but one. So once a Sync has had
--- the time to come down a way from then, each Follow_Up that the system at its end uses leaves an offset that is exact
--- (`AreExactFrom`), however long the settling span is.
+-- for want of Sync, after a step of distance for each but one. What a root sends is carried right once rates are
+-- measured over whole windows, an interval between requests later for each exchange of the window but one. So once a
+-- Sync has had the time to come down a way from then, each Follow_Up that the system at its end uses leaves an offset
+-- that is exact (`AreExactFrom`), however long the settling span is.
 use Rattle.std.specs.Prelude.{◌<◌, ◌≤◌, ◌⊎◌, ◌+◌, ◌*◌, ◌^◌, ℕ, ℤ, pred, suc, List, Option}
 use Rattle.gptp_graph.specs.Distance.{IsNear}
 use Rattle.gptp_graph.specs.PathBound.{BoundsPaths}

@@ -210,8 +210,8 @@ module _ {F : Type 0} (answers : Bounds → ℕ → F → Option ℕ → F → T
 
   pub told_short : come_from short time choice ≤ exact
   told_short =
-      subst (λ es. max (time + choice) (last_set es + largest_interval (pace_of d.network)) + window_span d.network.params
-      + (sync_paths d.network es).systems * (d.network.params.threshold + d.network.params.residence)
+      subst (λ es. max (time + choice) (last_set es + largest_interval (pace_of d.network))
+      + window_span d.network.params + (sync_paths d.network es).systems * (d.network.params.threshold + d.network.params.residence)
       ≤ exact) (sym (by_sooner time p.from d.events le)) told
 
   pub behind : time < at_of a

@@ -85,8 +85,8 @@ module _ {F : Type 0} (answers : Bounds → ℕ → F → Option ℕ → F → T
               s,
               back shows,
               carried_have_readings answers t.told.timed is.fate is.drawn before after t.told.done is.was
-                  (pace_of d.network) (start + window_span d.network.params) has.steps name right.is right.right right.carries
-                  late close s has.way phase
+                  (pace_of d.network) (start + window_span d.network.params) has.steps name right.is right.right
+                  right.carries late close s has.way phase
                   uses shows leads,
             );
         exact = λ later read shown leaves best.
