@@ -1,8 +1,8 @@
-use Rattle.std.proofs.Common.{◌≡◌, ◌+◌, ◌<◌, ◌≤◌, pos, suc, length, take, rules, ◌∙◌, sym, arith, w8, SFits, to_z-of_z}
+use Rattle.std.proofs.Common.{◌≡◌, ◌+◌, ◌<◌, ◌≤◌, pos, suc, length, take, rules, ap, ◌∙◌, sym, arith, w8, SFits, to_z-of_z}
 use Rattle.std.specs.Prelude.{get_or, slice_index_or}
-use Rattle.std.proofs.lemmas.List.{length-take}
+use Rattle.std.proofs.lemmas.List.{length-take, take_all}
 use Rattle.gptp_system.proofs.PlaceLemmas.{get_at}
-use Rattle.gptp_system.proofs.StartLemmas.{renewed-behind, renewed-more}
+use Rattle.gptp_system.proofs.StartLemmas.{renewed, renewed-all, renewed-behind, renewed-more}
 use Rattle.gptp_system.proofs.start.renew_ports.Goals as goal
 
 pub renew_port-requires : goal.renew_port-requires
@@ -42,3 +42,12 @@ loop-log_interval-preserved c =
       )
           (renewed-more c.args.clock c.args.params.now 1 i logs ports c.loop-log_interval-test.true c.requires.places);
     }
+
+pub returns : goal.returns
+returns c =
+    let i = c.loop-log_interval.log_interval-index in
+    let logs = c.args.intervals.now in
+    let ports = c.args.ports.now in
+    let all = take_all i logs (omega (arith, c.loop-log_interval-test.false)) in
+    c.loop-log_interval.invariant.ports ∙ ap (λ some. renewed c.args.clock c.args.params.now 1 some ports) all
+    ∙ renewed-all c.args.clock c.args.params.now 1 logs ports c.requires.places
