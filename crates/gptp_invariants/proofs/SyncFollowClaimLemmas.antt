@@ -28,7 +28,7 @@ use Rattle.gptp_invariants.specs.SyncTimed.{AllMeasureRight, CarriesTime, IsSett
 use Rattle.gptp_invariants.specs.SyncTimedClaim.{CarriesWhereCalm, IsCalmBy}
 use Rattle.gptp_invariants.specs.SyncTimedClaimLaws.{CalmOffsetsAreExact, CarriesLater}
 use Rattle.gptp_invariants.proofs.ChoiceCalmKeptLemmas.{KeepsNetwork, acts_keep, earlier_quiet, same_paths, same_snapshot, stays_quiet}
-use Rattle.gptp_invariants.proofs.WorldSettlingInvariantLemmas.{over_capable, settled_by_paths}
+use Rattle.gptp_invariants.proofs.WorldSettlingInvariantLemmas.{over_measured, settled_by_paths}
 use Rattle.gptp_invariants.proofs.WorldClaimLemmas.{claim_begins, claim_kept, claim_later}
 use Rattle.gptp_invariants.proofs.SyncFollowLaterLemmas.{time_begins, time_carries}
 use Rattle.gptp_invariants.proofs.SyncFollowMeasureLemmas.{measured_right}
@@ -64,7 +64,8 @@ right_from : (p : SettlingParams) (m settled : ℕ) (w : WorldState) → KeepsAl
 right_from p m settled w claimed calm late shown =
     measured_right p settled p.params.threshold w (settled_from p m settled w claimed calm late shown)
     (claimed_measured w (record { pace = p; is = claimed })
-    (over_capable m w (calm_for p m settled w claimed calm late)))
+    (over_measured m w (calm_for p m settled w claimed calm late)
+    (let passed = calm.passed in omega (arith, passed, late))))
 
 -- ---- as a change happens
 

@@ -1,5 +1,6 @@
 -- What the ways of a world are made of: the numbers of its setups and of its links in use.
 use Rattle.std.proofs.Common.{◌≡◌, ◌≤◌, ℕ, zero, suc, ℤ, pos, negsuc, Bool, true, false, List, [], ◌∷◌, map, Option, Some, None, slice_get, refl, sym, ap, subst, ◌∙◌, ◌⊎◌, inl, inr, arith}
+use Rattle.std.proofs.lemmas.Nat.{mul-le}
 use Rattle.std.specs.Prelude.{if◌then◌else◌, ◌&&◌, ◌||◌, max}
 use Rattle.std.specs.Option.{option_map_or}
 use Rattle.std.proofs.lemmas.Bool.{and_from, and_parts, or_cases, or_left, or_right}
@@ -204,7 +205,10 @@ pub parts_fit : (p : Params) (w : WorldState) (longest : ℕ) → AreParams p �
     → ArePartsOf (follower_parts p w) longest
 parts_fit p w longest params setups short = record {
   little = let granularity = params.granularity in let noise = params.noise in omega (arith, granularity, noise);
-  long = interval_long p.pdelay params.pdelay;
+  long =
+      let least : 1 * 62500000 ≤ p.window * interval_of p.pdelay =
+      mul-le 1 62500000 p.window (interval_of p.pdelay) params.window-least (interval_long p.pdelay params.pdelay) in
+      omega (arith, least);
   waits = params.turnaround-least;
   drifts = drifts_fit w.stations (λ place station here. (setups place station here).drift);
   short = λ port.

@@ -12,6 +12,7 @@
 #![tactic(auto)]
 
 mod answer;
+mod earlier;
 mod exchange;
 pub mod laws;
 mod peer;

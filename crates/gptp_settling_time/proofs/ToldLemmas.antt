@@ -44,11 +44,11 @@ module _ (k : Setting) (least : ℕ) (asks : List ℕ → Request → Type 0) (r
   -- only its second exchange can have made it so
   second : InvFirst k least asks replies first m → IsNotBefore k least first m.pair → a.capable ≡ true
       → first + k.period ≤ a.asked
-  second inv before capable = elim inv.since [
-    | inl one ↦ (let never = before.fresh one in absurd cc)
-    | inr (inl two) ↦ omega (arith, two)
-    | inr (inr more) ↦ omega (arith, more)
-  ]
+  second inv before capable = by inv.since.0 inv.since.1
+    where
+      by : (n : ℕ) → a.asked ≡ first + n * k.period → first + k.period ≤ a.asked
+      by zero is = let never = before.fresh (omega (arith, is)) in absurd cc
+      by (suc n) is = omega (arith, is)
 
   hears : (act : AskerHears k asks replies m.pair m'.pair) → InvFirst k least asks replies first m
       → first + k.period ≤ a.asked → a.capable ≡ true

@@ -45,7 +45,7 @@ use Rattle.gptp_invariants.specs.ChoiceCalm.{HaveQuietLinks, greatest_channel_de
 use Rattle.gptp_invariants.specs.ChoiceSettlesAsMachine.{IsWorld}
 use Rattle.gptp_invariants.specs.ChoiceView.{lane_view, lanes_view, says_announce, station_view, view}
 use Rattle.gptp_invariants.specs.DelayFirstAt.{IsFirstBy}
-use Rattle.gptp_invariants.specs.DelayLinkView.{IsLinkOf, LinkPlace, least_delay, link_setting, meter, pair, pair_view, reads_as_reply, reads_as_request, setting_view}
+use Rattle.gptp_invariants.specs.DelayLinkView.{IsLinkOf, LinkPlace, least_delay, link_setting, meter, pair, pair_view, reads_as_reply, reads_as_request, setting_view, kept_view}
 use Rattle.gptp_invariants.specs.DelayMeasured.{LinkIsMeasured, LinkStandsAt}
 use Rattle.gptp_invariants.specs.FailedUnanswered.{IsFailedAmong, IsNeverAnswered, IsSilent, StandsUnanswered}
 use Rattle.gptp_invariants.specs.WorldNews.{AreReadyBy, AreSilentBy, IsNews, IsReadyBy, news_network}
@@ -309,7 +309,7 @@ module _ (p : SettlingParams) (start next by place : ℕ) (w : WorldState) (is :
     seen = λ i. record {
       pair = pair_set w.time (interval_of l.asking.station.setup.params.pdelay) at.direction l.channel b
           (measure_at l.asking.state) (measure_at l.answering.state) i;
-      last = l.asking.state.peer.last;
+      kept = kept_view l.asking.state.peer;
     }
 
     longer : set.most ≤ b.max

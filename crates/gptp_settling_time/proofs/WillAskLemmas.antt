@@ -52,11 +52,7 @@ abbrev pub first_since : (gone calm : ℕ) (at : LinkPlace) (w : WorldState) (x 
     → HasAsked (link_setting at w x.link) calm (pair at w x.link).asker.asked → IsFirstAt calm at w
 first_since gone calm at w x asked =
     let late = x.good.late in
-    let since : calm ≤ (pair at w x.link).asker.asked = elim asked [
-      | inl one ↦ omega (arith, one)
-      | inr (inl two) ↦ omega (arith, two)
-      | inr (inr more) ↦ omega (arith, more)
-    ] in
+    let since : calm ≤ (pair at w x.link).asker.asked = let (n, is) = asked in omega (arith, is) in
     record {
       link = x.link;
       short = x.good.short;
@@ -84,10 +80,8 @@ asked_on k calm m m' (meter_asks act kept) since =
     let asked : m'.pair.asker.asked ≡ m.pair.time = ap (λ (b : Asker). b.asked) act.asker in
     let now = act.now in
     elim since [
-      | inl before ↦ inr (inl (omega (arith, before, asked, now)))
-      | inr (inl one) ↦ inr (inr (inl (omega (arith, one, asked, now))))
-      | inr (inr (inl two)) ↦ inr (inr (inr (omega (arith, two, asked, now))))
-      | inr (inr (inr more)) ↦ inr (inr (inr (omega (arith, more, asked, now))))
+      | inl before ↦ inr (0, omega (arith, before, asked, now))
+      | inr (n, later) ↦ inr (n + 1, omega (arith, later, asked, now))
     ]
 asked_on k calm m m' (meter_hears act takes) since = subst (IsBeforeOrAsked k calm) (sym act.asker.asked) since
 asked_on k calm m m' (meter_heard act kept) since =

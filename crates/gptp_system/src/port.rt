@@ -1,10 +1,9 @@
 //! One port of a system, apart from what it holds.
 
 use gptp_pdelay::Peer;
-use gptp_vector::PortId;
 
 /// What a port keeps beside what it holds. Times are in ns.
-#[derive(Clone, Copy, Debug)]
+#[derive(Debug, Drop)]
 pub struct Port {
     /// The logarithm to base 2 of its announce interval in seconds (currentLogAnnounceInterval).
     pub log_interval: i8,
@@ -31,7 +30,7 @@ impl Default for Port {
     fn default() -> Self {
         Port {
             log_interval: 0,
-            peer: Peer::new(PortId::default(), 1, 1),
+            peer: Peer::default(),
             pdelay: None,
             respond: None,
             announce: 0,

@@ -75,5 +75,5 @@ returns c =
     let station : Setup → SystemState → Station =
     λ setup system. record { setup = setup; system = system; live = false } in
     mapped_there (station_of n) n.systems c.args.place _ here
-    ∙ sym (ap (λ s. Some (station s c.new-system.result)) (sym c.copy.ensures ∙ made)
-    ∙ ap (λ s. Some (station (setup_of n member) s)) (c.new-system.ensures ∙ ap (λ s. started s 0) made))
+    ∙ sym (ap (λ s. Some (station s c.in_ok-system.system)) (sym c.copy.ensures ∙ made)
+    ∙ ap (λ s. Some (station (setup_of n member) s)) (c.in_ok-system.ensures.started ∙ ap (λ s. started s 0) made))
