@@ -1,5 +1,5 @@
 -- The runs of a case (profile).
-use Rattle.std.specs.Prelude.{◌≡◌, ℕ, ◌+◌, ◌*◌, ◌/◌, ◌%◌, Bool, true, false, List, [], ◌∷◌, Option, Some, None, is_some}
+use Rattle.std.specs.Prelude.{◌≡◌, ℕ, ◌+◌, ◌*◌, ◌/◌, ◌%◌, Bool, true, false, List, [], ◌∷◌, Option, Some, None, is_some, slice_get}
 use Rattle.rand_core.specs.Pcg32Seed.{pcg32_seed}
 use Rattle.rand_pcg.specs.Lcg.{Lcg}
 use Rattle.rand_pcg.specs.Pcg.{pcg64_of_seed}
@@ -8,7 +8,9 @@ use Rattle.gptp_links.specs.declared.bounds.Bounds.{Bounds}
 use Rattle.gptp_network.specs.Document.{DocumentState, seeded_document}
 use Rattle.gptp_timeline.specs.Aside.{AsideState}
 use Rattle.gptp_timeline.specs.LastStretches.{EndsOf}
+use Rattle.gptp_timeline.specs.RunSoFar.{IsRunSoFar}
 use Rattle.gptp_timeline.specs.declared.ends.LastStretches.{LastStretches}
+use Rattle.gptp_timeline.specs.declared.run_so_far.RunSoFar.{RunSoFar}
 use Rattle.gptp_faults.specs.CaseEvents.{EventsState}
 use Rattle.gptp_faults.specs.Options.{tracks}
 use Rattle.gptp_faults.specs.Stays.{document_of, end_at, return_at}
@@ -42,6 +44,11 @@ document_run d asked e t run = seeded_document (seed_of t run) (document_of d as
 -- who is set aside in a run in which a case fails at a moment and comes back
 abbrev pub set_aside : DocumentState → Option ℕ → EventsState → List ℕ → ℕ → AsideState
 set_aside d asked e names at = record { clocks = names; from = at; back = return_at d asked e at; begun = 0 }
+
+-- runs of a document up to the first moment, the first by seed 1
+abbrev pub AreRunsSoFar : DocumentState → FaultsOptions → Times → List (RunSoFar Lcg) → Type 0
+AreRunsSoFar d options t runs = (place : ℕ) (run : RunSoFar Lcg) → slice_get runs place ≡ Some run
+    → IsRunSoFar draws (tracks options) d t.from (generator (place + 1)) run
 
 -- the stretches in which a case is down and is back are the last two of a run; the last three, where it is seen later
 -- than at once that it failed

@@ -2,8 +2,15 @@
 
 ghost use Rattle.std.specs.Prelude.{◌≡◌, ◌≤◌, ◌*◌, ◌<◌, IfErr, IfOk, OnOk, false};
 ghost use Rattle.gptp_setup.specs.declared.limits.TheConstants.{LAST_MOMENT};
+ghost use Rattle.gptp_scenario.specs.Calm.{last_change};
 ghost use Rattle.gptp_faults.specs.Refusals.{is_late};
-ghost use Rattle.gptp_faults.specs.Runs.{AreRunEnds, CaseRunEnds, run_moment, runs_of, seed_of};
+ghost use Rattle.gptp_faults.specs.Runs.{AreRunEnds, AreRunsSoFar, CaseRunEnds, draws, generator, run_moment, runs_of, seed_of};
+ghost use Rattle.gptp_faults.specs.Options.{tracks};
+ghost use Rattle.gptp_network.specs.Document.{DocumentState};
+ghost use Rattle.gptp_setup.specs.Intervals.{IsMoment};
+ghost use Rattle.gptp_timeline.specs.LastStretches.{EndsOf};
+ghost use Rattle.gptp_timeline.specs.RunSoFar.{GoesOn};
+ghost use Rattle.gptp_faults.specs.declared.times.Times.{Times};
 ghost use Rattle.gptp_faults.specs.Times.{AreOptions, TimesAreBounded, last_moment};
 
 use crate::case_events::CaseEvents;
@@ -13,7 +20,7 @@ use crate::times::{Times, moment};
 use gptp_links::PcgFate;
 use gptp_network::Document;
 use gptp_report::Cut;
-use gptp_timeline::{LastStretches, SetAside, StretchEnd, last_stretches};
+use gptp_timeline::{LastStretches, RunSoFar, SetAside, StretchEnd, last_stretches};
 use gptp_vector::ClockId;
 use std::alloc::Global;
 
@@ -77,6 +84,87 @@ fn ends_of(seen: bool, ends: LastStretches) -> Result<RunEnds, Cut>
     }
 }
 
+/// How many systems the runs that are kept may have, all of them together.
+const MOST_SYSTEMS: u64 = 512;
+
+/// Puts the run of a document up to the first moment behind those of lower seeds.
+fn push_run(
+    alloc: Global,
+    document: &Document,
+    options: &FaultsOptions,
+    times: &Times,
+    runs: &mut Vec<RunSoFar<PcgFate>>,
+) -> Result<(), Cut>
+    requires bounded { TimesAreBounded times.now }
+    requires early { last_change document.now.events < times.now.from }
+    requires runs { AreRunsSoFar document.now options.now times.now runs.old.items }
+    ensures runs { OnOk result (AreRunsSoFar document.now options.now times.now runs.new.items) }
+    ensures memory { IfErr result (λ e. e ≡ Cut.Memory) }
+{
+    document.well_formed();
+    let fate = PcgFate::new(runs.len() as u64 + 1);
+    let run = RunSoFar::new(alloc, document, fate, times.from, options.tracks())?;
+    match runs.push(run) {
+        Ok(()) => Ok(()),
+        Err(_) => Err(Cut::Memory),
+    }
+}
+
+/// The runs of a document up to the first moment, from which each case goes on: those of the first seeds, so many that
+/// their worlds have at most 512 systems together. There are none where an event is at that moment.
+pub(crate) fn runs_so_far(
+    alloc: Global,
+    document: &Document,
+    options: &FaultsOptions,
+    times: &Times,
+) -> Result<Vec<RunSoFar<PcgFate>>, Cut>
+    requires { TimesAreBounded times.now }
+    ensures runs { IfOk result (λ runs. AreRunsSoFar document.now options.now times.now runs.items) }
+    ensures memory { IfErr result (λ e. e ≡ Cut.Memory) }
+{
+    let mut runs = Vec::new(alloc);
+    if document.last_change() < times.from {
+        let systems = document.network().systems() as u64;
+        for _seed in 0..times.seeds.min(MOST_SYSTEMS / systems.max(1)) {
+            push_run(alloc, document, options, times, &mut runs)?;
+        }
+    }
+    Ok(runs)
+}
+
+/// How the last stretches of a run with a seed end in which a case is down from a time until another, up to an end, of
+/// which some systems are set aside: it goes on from the run so far, if that is kept.
+fn run_ends(
+    alloc: Global,
+    document: &Document,
+    options: &FaultsOptions,
+    so_far: &[RunSoFar<PcgFate>],
+    seed: u64,
+    down: u64,
+    back: u64,
+    end: u64,
+    aside: SetAside,
+) -> Result<LastStretches, Cut>
+    requires seed { 1 ≤ seed }
+    requires moment { IsMoment end }
+    requires goes { (d : DocumentState) × (t : Times) × AreRunsSoFar d options.now t so_far.now
+        × (down < back → GoesOn d t.from end document.now) × (t.from ≤ aside.from) }
+    ensures ends { IfOk result (EndsOf draws (tracks options.now) aside document.now end (generator seed)) }
+    ensures memory { IfErr result (λ e. e ≡ Cut.Memory) }
+{
+    match so_far.get((seed - 1) as usize) {
+        Some(run) if down < back => run.last_stretches(alloc, document, end, aside),
+        _ => last_stretches(
+            alloc,
+            document,
+            PcgFate::new(seed),
+            end,
+            options.tracks(),
+            aside,
+        ),
+    }
+}
+
 /// Lets a case fail and come back in a run, whose systems draw noise from its seed too, and answers how the stretches
 /// ended in which it was down and was back: also what systems read in them, where that is asked, but those that are set
 /// aside.
@@ -87,11 +175,13 @@ pub(crate) fn run_case(
     times: &Times,
     events: &CaseEvents,
     aside: &[ClockId],
+    so_far: &[RunSoFar<PcgFate>],
     run: u64,
 ) -> Result<RunEnds, Cut>
     requires bounded { TimesAreBounded times.now }
     requires run { run < runs_of times.now }
     requires options { AreOptions options.now }
+    requires so_far { AreRunsSoFar document.old options.now times.now so_far.now }
     requires in_time { is_late document.old options.now.hold times.now events.now ≡ false }
     ensures run { IfOk result (CaseRunEnds options.now document.old times.now events.now aside.now run) }
     ensures same { OnOk result (document.new ≡ document.old) }
@@ -105,16 +195,17 @@ pub(crate) fn run_case(
     fail_at(document, down, events)?;
     return_after(document, down, events, hold)?;
     let before = document.network().seed();
-    let drawn = seed_of(times, run);
-    document.set_seed(drawn);
-    let fate = PcgFate::new(drawn);
+    document.set_seed(seed_of(times, run));
     let aside = SetAside::new(Vec::from_slice(alloc, aside)?, down, back);
-    let ends = last_stretches(
+    let ends = run_ends(
         alloc,
         document,
-        fate,
+        options,
+        so_far,
+        seed_of(times, run),
+        down,
+        back,
         back + behind,
-        options.tracks(),
         aside,
     )?;
     document.set_seed(before);

@@ -14,7 +14,7 @@ use Rattle.gptp_network.specs.Snapshot.{events_by}
 use Rattle.gptp_network.proofs.SnapshotLemmas.{from_filter}
 use Rattle.gptp_scenario.specs.Allowed.{AreAllowed, IsAllowed}
 use Rattle.gptp_scenario.specs.declared.change.Timed.{Timed}
-use Rattle.gptp_timeline.specs.Passing.{first_time}
+use Rattle.gptp_timeline.specs.Passing.{first_time, MayPass}
 use Rattle.gptp_timeline.specs.Timeline.{end_before, later_than, now_of}
 
 abbrev by_then : ℕ → Timed → Bool
@@ -182,14 +182,6 @@ fewer_later (x ∷ xs) time is =
     rw not (omega arith)
 
 -- ---- what lets stretches pass
-
--- The events that are left are in order, none after the end, and the world can be asked for each.
-pub record MayPass (until from : ℕ) (left : List Timed) (w : WorldState) : Type 0 where
-  pub order : AreInOrder left
-  pub due : Each (λ (e : Timed). nat_le e.at until ≡ true) left
-  pub within : from ≤ until
-  pub allowed : AreAllowed left
-  pub prompt : AllDelaysFitIntervals w left
 
 pub may_begin : (until : ℕ) (events : List Timed) (w : WorldState) → AreInOrder events → AreAllowed events
     → AllDelaysFitIntervals w events → MayPass until 0 (events_by until events) w

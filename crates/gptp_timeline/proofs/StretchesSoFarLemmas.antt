@@ -12,10 +12,6 @@ use Rattle.gptp_timeline.specs.declared.limits.Limits.{Limits}
 use Rattle.gptp_timeline.specs.declared.readings.SystemReading.{SystemReading}
 use Rattle.gptp_timeline.proofs.AsideLemmas.{nobody_acts, nobody_begins, nobody_over}
 
--- nothing is asked of stretches
-abbrev pub no_limits : Limits
-no_limits = record { most = replicate 13 None }
-
 -- ---- where nobody is set aside
 
 nobody_reads : (a : AsideState) → a.clocks ≡ [] → (readings : Option (List SystemReading))

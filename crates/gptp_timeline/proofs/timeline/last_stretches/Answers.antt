@@ -61,5 +61,5 @@ returns-clause-ends g c =
           (ap aside_kept (c.in_ok-write_start.ensures.sees ∙ ap (see_all (event_look 0) start) c.in_ok-watch.ensures)
           ∙ kept_at_start options c.args.aside start)
           ∙ ap (λ asked. last_behind names (first_aside asked (aside_if asked c.args.aside) names) passed.0 none_last)
-          c.summary_with-options.ensures;
+          c.summary_with-options.ensures.tracks;
     }
