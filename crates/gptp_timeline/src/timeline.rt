@@ -15,8 +15,7 @@ ghost use Rattle.gptp_words.specs.Lines.{text_of};
 ghost use Rattle.gptp_accuracy.specs.Settlings.{AreTimesOf};
 ghost use Rattle.gptp_timeline.specs.LastStretches.{EndsOf, all_kept, end_of, first_aside, kept_after, none_kept};
 ghost use Rattle.gptp_timeline.specs.Limits.{is_exceeded, verdict_lines};
-ghost use Rattle.gptp_model.specs.Sound.{IsSound};
-ghost use Rattle.gptp_timeline.specs.Passing.{EarlierAreSeen, MayPass, StopsBetween, StretchBreaksOff, StretchIsSeen, StopsSeen, aside_kept, first_time, standing, times_before, watch_at_start, watch_before};
+ghost use Rattle.gptp_timeline.specs.Passing.{AllAreSeen, EarlierAreSeen, MayPass, StopsBetween, StretchBreaksOff, StretchIsSeen, StopsSeen, aside_kept, first_time, standing, times_before, watch_at_start, watch_before};
 ghost use Rattle.gptp_timeline.specs.RunSoFar.{summary_of};
 ghost use Rattle.gptp_timeline.specs.Timeline.{AllPass, AreErrorsBy, AreErrorsIf, BeginsTimeline, IsTimelinePlan, StretchTrace, SomePass, TimelineOf, all_lines, asks_lines, end_lines, exact_time, is_begun, kept_accuracy, later_than, line_of_times, none_carried, now_of, reads_kept, times_ended, tracks};
 ghost use Rattle.gptp_timeline.specs.Watch.{event_look, lines_all, see_all};
@@ -398,7 +397,6 @@ pub(crate) fn earlier_stretches<'a, F: Fate + Drop, K: Sink>(
 ) -> Result<StretchBegins<'a>, Cut>
     requires moment { IsMoment until }
     requires may { MayPass until begins.from begins.left.now world.old.world_core }
-    requires sound { IsSound world.old.world_core }
     requires times { AreTimesOf document.now times.now }
     ensures passed { IfOk result (λ last. (count : ℕ) × (lines : List (List ℕ))
         × EarlierAreSeen F.answers exact document.now limits.now count
@@ -408,7 +406,7 @@ pub(crate) fn earlier_stretches<'a, F: Fate + Drop, K: Sink>(
     ensures may { IfOk result (λ last. MayPass until last.from last.left.now world.new.world_core) }
     ensures last { IfOk result (λ last. later_than last.from last.left.now ≡ []) }
     ensures broken { OnErr result ((lines : List (List ℕ))
-        × StopsBetween F.answers exact document.now limits.now
+        × StopsBetween F.answers exact document.now limits.now until
         (standing begins.from begins.left.now world.old.fate world.old.world_core watch.old begins.kept) lines
         × AppendsSome (K.written sink.old) (K.written sink.new) (text_of lines)) }
     ensures works { result ≢ Err Cut.Write → K.failures sink.new ≡ K.failures sink.old }
@@ -420,6 +418,7 @@ pub(crate) fn earlier_stretches<'a, F: Fate + Drop, K: Sink>(
         mut kept,
     } = begins;
     while let Some(to) = next_time(left, from) {
+        world.well_formed();
         let now = events_by(left, from);
         kept = next_stretch(
             alloc, document, times, exact, world, from, to, now, limits, kept, watch, sink,
@@ -428,6 +427,43 @@ pub(crate) fn earlier_stretches<'a, F: Fate + Drop, K: Sink>(
         from = to;
     }
     Ok(StretchBegins { from, left, kept })
+}
+
+/// Lets all stretches pass up to a time, and answers what is kept of them.
+pub(crate) fn stretches_from<'a, F: Fate + Drop, K: Sink>(
+    alloc: Global,
+    document: &Document,
+    times: &[SettlingTime],
+    exact: bool,
+    world: &mut World<F>,
+    until: u64,
+    begins: StretchBegins<'a>,
+    limits: &Limits,
+    watch: &mut Watch,
+    sink: &mut K,
+) -> Result<StretchesSoFar, Cut>
+    requires moment { IsMoment until }
+    requires may { MayPass until begins.from begins.left.now world.old.world_core }
+    requires times { AreTimesOf document.now times.now }
+    ensures passed { IfOk result (λ kept. (lines : List (List ℕ))
+        × AllAreSeen F.answers exact document.now limits.now
+        (standing begins.from begins.left.now world.old.fate world.old.world_core watch.old begins.kept)
+        (standing until [] world.new.fate world.new.world_core watch.new kept) lines
+        × Appends (K.written sink.old) (K.written sink.new) (text_of lines)) }
+    ensures broken { OnErr result ((lines : List (List ℕ))
+        × StopsBetween F.answers exact document.now limits.now until
+        (standing begins.from begins.left.now world.old.fate world.old.world_core watch.old begins.kept) lines
+        × AppendsSome (K.written sink.old) (K.written sink.new) (text_of lines)) }
+    ensures works { result ≢ Err Cut.Write → K.failures sink.new ≡ K.failures sink.old }
+    ensures fails { result ≡ Err Cut.Write → K.failures sink.new ≢ K.failures sink.old }
+{
+    let last = earlier_stretches(
+        alloc, document, times, exact, world, until, begins, limits, watch, sink,
+    )?;
+    next_stretch(
+        alloc, document, times, exact, world, last.from, until, last.left, limits, last.kept,
+        watch, sink,
+    )
 }
 
 /// Lets all stretches pass of a world as it begins, and answers what is kept of them, where these are the times of the
@@ -472,7 +508,7 @@ fn all_stretches<F: Fate + Drop, K: Sink>(
         left: events_by(document.events(), until),
         kept: none_kept(),
     };
-    let last = earlier_stretches(
+    stretches_from(
         alloc,
         document,
         times,
@@ -481,20 +517,6 @@ fn all_stretches<F: Fate + Drop, K: Sink>(
         until,
         begins,
         &options.limits,
-        watch,
-        sink,
-    )?;
-    next_stretch(
-        alloc,
-        document,
-        times,
-        exact,
-        world,
-        last.from,
-        until,
-        last.left,
-        &options.limits,
-        last.kept,
         watch,
         sink,
     )

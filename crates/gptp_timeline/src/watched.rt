@@ -62,10 +62,7 @@ fn push_watched(systems: &mut Vec<Watched>, system: &Watched) -> Result<(), Allo
 }
 
 /// The same is kept of all systems. Refused for want of memory alone.
-pub(crate) fn copy_systems(
-    alloc: Global,
-    systems: &[Watched],
-) -> Result<Vec<Watched>, AllocError>
+pub(crate) fn copy_systems(alloc: Global, systems: &[Watched]) -> Result<Vec<Watched>, AllocError>
     ensures { IfOk result (λ copies. copies.items ≡ systems.now) }
 {
     let mut copies = Vec::with_capacity(alloc, systems.len())?;
