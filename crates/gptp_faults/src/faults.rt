@@ -6,7 +6,7 @@ ghost use Rattle.gptp_words.specs.Lines.{text_of};
 ghost use Rattle.gptp_faults.specs.Faults.{AnswersFaultsOf, IsTable};
 ghost use Rattle.gptp_faults.specs.Outcomes.{AreOutcomes, is_of_part, IsOutcome, OutcomeState};
 ghost use Rattle.gptp_faults.specs.Progress.{TellsCases, begun, begun_line, part_begun, part_count};
-ghost use Rattle.gptp_faults.specs.Runs.{AreRunsSoFar};
+ghost use Rattle.gptp_faults.specs.Runs.{IsKept};
 ghost use Rattle.gptp_faults.specs.Refusals.{any_late, case_events, is_late};
 ghost use Rattle.gptp_faults.specs.Whole.{IsWhole};
 ghost use Rattle.gptp_faults.specs.Times.{TimesAreBounded, AreOptions};
@@ -16,7 +16,7 @@ use crate::options::FaultsOptions;
 use crate::outcome::{Outcome, push_outcome, try_case};
 use crate::ranking::rank;
 use crate::refusals::{any_late, fault_before};
-use crate::runs::runs_so_far;
+use crate::runs::run_so_far;
 use crate::text::write_table;
 use crate::times::{Times, times_of};
 use crate::whole::{Whole, whole_of};
@@ -100,7 +100,7 @@ fn try_next<P: Sink>(
     options: &FaultsOptions,
     whole: &Whole,
     times: &Times,
-    so_far: &[RunSoFar<PcgFate>],
+    kept: &Option<RunSoFar<PcgFate>>,
     number: usize,
     failing: &Case,
     count: usize,
@@ -110,7 +110,7 @@ fn try_next<P: Sink>(
     requires bounded { TimesAreBounded times.now }
     requires options { AreOptions options.now }
     requires whole { IsWhole document.old whole.now }
-    requires so_far { AreRunsSoFar document.old options.now times.now so_far.now }
+    requires kept { IsKept document.old options.now times.now kept.now }
     requires in_time { is_late document.old options.now.hold times.now (case_events document.old options.now failing.now) ≡ false }
     ensures tried { OnOk result ((o : OutcomeState) × IsOutcome options.now document.old times.now number failing.now o
         × (outcomes.new.items ≡ outcomes.old.items ++ (o ∷ []))) }
@@ -122,7 +122,7 @@ fn try_next<P: Sink>(
 {
     tell(alloc, options.progress, count, outcomes.len() + 1, progress)?;
     let outcome = try_case(
-        alloc, document, whole, options, times, so_far, number, failing,
+        alloc, document, whole, options, times, kept, number, failing,
     )?;
     push_outcome(outcomes, outcome)?;
     Ok(())
@@ -149,7 +149,7 @@ fn try_cases<P: Sink>(
     ensures fails { result ≡ Err Cut.Write → P.failures progress.new ≢ P.failures progress.old }
 {
     let count = count_of(options, cases.len());
-    let so_far = runs_so_far(alloc, document, options, times)?;
+    let kept = run_so_far(alloc, document, options, times)?;
     let mut outcomes = Vec::new(alloc);
     for number in 0..cases.len() {
         if belongs(options, number) {
@@ -159,7 +159,7 @@ fn try_cases<P: Sink>(
                 options,
                 whole,
                 times,
-                &so_far,
+                &kept,
                 number,
                 &cases[number],
                 count,

@@ -4,7 +4,7 @@ ghost use Rattle.std.specs.Prelude.{◌≡◌, ◌≤◌, ◌++◌, ◌∷◌, [
 ghost use Rattle.gptp_setup.specs.declared.limits.TheConstants.{LAST_MOMENT};
 ghost use Rattle.gptp_faults.specs.Outcomes.{IsCasePlan, IsOutcome, aside_of, back_in, down_in};
 ghost use Rattle.gptp_faults.specs.Parts.{AreFew};
-ghost use Rattle.gptp_faults.specs.Runs.{AreRunsSoFar};
+ghost use Rattle.gptp_faults.specs.Runs.{IsKept};
 ghost use Rattle.gptp_faults.specs.Refusals.{case_events, is_late};
 ghost use Rattle.gptp_faults.specs.Whole.{IsWhole};
 ghost use Rattle.gptp_faults.specs.Times.{AreOptions, TimesAreBounded};
@@ -204,14 +204,14 @@ pub(crate) fn try_case(
     whole: &Whole,
     options: &FaultsOptions,
     times: &Times,
-    so_far: &[RunSoFar<PcgFate>],
+    kept: &Option<RunSoFar<PcgFate>>,
     number: usize,
     failing: &Case,
 ) -> Result<Outcome, Cut>
     requires bounded { TimesAreBounded times.now }
     requires options { AreOptions options.now }
     requires whole { IsWhole document.old whole.now }
-    requires so_far { AreRunsSoFar document.old options.now times.now so_far.now }
+    requires kept { IsKept document.old options.now times.now kept.now }
     requires in_time { is_late document.old options.now.hold times.now (case_events document.old options.now failing.now) ≡ false }
     ensures outcome { IfOk result (IsOutcome options.now document.old times.now number failing.now) }
     ensures same { OnOk result (document.new ≡ document.old) }
@@ -225,7 +225,7 @@ pub(crate) fn try_case(
         times,
         &plan.events,
         &plan.aside,
-        so_far,
+        kept,
         0,
     )?;
     let follow = follows_of(alloc, first.down.roots())?;
@@ -239,7 +239,7 @@ pub(crate) fn try_case(
             times,
             &plan.events,
             &plan.aside,
-            so_far,
+            kept,
             run,
         )?;
         let next_down = down_in(alloc, &plan.parts, &next)?;

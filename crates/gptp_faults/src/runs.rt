@@ -1,16 +1,15 @@
 //! The runs of a case.
 
-ghost use Rattle.std.specs.Prelude.{◌≡◌, ◌≤◌, ◌*◌, ◌<◌, IfErr, IfOk, OnOk, false};
+ghost use Rattle.std.specs.Prelude.{◌≡◌, ◌≤◌, ◌*◌, ◌<◌, IfErr, IfOk, OnOk, false, true};
 ghost use Rattle.gptp_setup.specs.declared.limits.TheConstants.{LAST_MOMENT};
-ghost use Rattle.gptp_scenario.specs.Calm.{last_change};
+ghost use Rattle.gptp_network.specs.Adding.{with_first};
+ghost use Rattle.gptp_network.specs.Events.{AreInOrder};
 ghost use Rattle.gptp_faults.specs.Refusals.{is_late};
-ghost use Rattle.gptp_faults.specs.Runs.{AreRunEnds, AreRunsSoFar, CaseRunEnds, draws, generator, run_moment, runs_of, seed_of};
+ghost use Rattle.gptp_faults.specs.Runs.{AreRunEnds, CaseRunEnds, draws, generator, GoOnBehind, IsKept, run_moment, runs_of, seed_of};
 ghost use Rattle.gptp_faults.specs.Options.{tracks};
-ghost use Rattle.gptp_network.specs.Document.{DocumentState};
+ghost use Rattle.gptp_network.specs.Document.{DocumentState, seeded_document};
 ghost use Rattle.gptp_setup.specs.Intervals.{IsMoment};
 ghost use Rattle.gptp_timeline.specs.LastStretches.{EndsOf};
-ghost use Rattle.gptp_timeline.specs.RunSoFar.{GoesOn};
-ghost use Rattle.gptp_faults.specs.declared.times.Times.{Times};
 ghost use Rattle.gptp_faults.specs.Times.{AreOptions, TimesAreBounded, last_moment};
 
 use crate::case_events::CaseEvents;
@@ -20,6 +19,7 @@ use crate::times::{Times, moment};
 use gptp_links::PcgFate;
 use gptp_network::Document;
 use gptp_report::Cut;
+use gptp_scenario::Timed;
 use gptp_timeline::{LastStretches, RunSoFar, SetAside, StretchEnd, last_stretches};
 use gptp_vector::ClockId;
 use std::alloc::Global;
@@ -84,76 +84,67 @@ fn ends_of(seen: bool, ends: LastStretches) -> Result<RunEnds, Cut>
     }
 }
 
-/// How many systems the runs that are kept may have, all of them together.
-const MOST_SYSTEMS: u64 = 512;
-
-/// Puts the run of a document up to the first moment behind those of lower seeds.
-fn push_run(
+/// The run of a document with the first seed up to the first moment, from which its runs with that seed go on; none
+/// where an event isn't before that moment.
+pub(crate) fn run_so_far(
     alloc: Global,
-    document: &Document,
+    document: &mut Document,
     options: &FaultsOptions,
     times: &Times,
-    runs: &mut Vec<RunSoFar<PcgFate>>,
-) -> Result<(), Cut>
-    requires bounded { TimesAreBounded times.now }
-    requires early { last_change document.now.events < times.now.from }
-    requires runs { AreRunsSoFar document.now options.now times.now runs.old.items }
-    ensures runs { OnOk result (AreRunsSoFar document.now options.now times.now runs.new.items) }
-    ensures memory { IfErr result (λ e. e ≡ Cut.Memory) }
-{
-    document.well_formed();
-    let fate = PcgFate::new(runs.len() as u64 + 1);
-    let run = RunSoFar::new(alloc, document, fate, times.from, options.tracks())?;
-    match runs.push(run) {
-        Ok(()) => Ok(()),
-        Err(_) => Err(Cut::Memory),
-    }
-}
-
-/// The runs of a document up to the first moment, from which each case goes on: those of the first seeds, so many that
-/// their worlds have at most 512 systems together. There are none where an event is at that moment.
-pub(crate) fn runs_so_far(
-    alloc: Global,
-    document: &Document,
-    options: &FaultsOptions,
-    times: &Times,
-) -> Result<Vec<RunSoFar<PcgFate>>, Cut>
+) -> Result<Option<RunSoFar<PcgFate>>, Cut>
     requires { TimesAreBounded times.now }
-    ensures runs { IfOk result (λ runs. AreRunsSoFar document.now options.now times.now runs.items) }
+    ensures run { IfOk result (IsKept document.old options.now times.now) }
+    ensures same { OnOk result (document.new ≡ document.old) }
     ensures memory { IfErr result (λ e. e ≡ Cut.Memory) }
 {
-    let mut runs = Vec::new(alloc);
-    if document.last_change() < times.from {
-        let systems = document.network().systems() as u64;
-        for _seed in 0..times.seeds.min(MOST_SYSTEMS / systems.max(1)) {
-            push_run(alloc, document, options, times, &mut runs)?;
-        }
+    if document.last_change() >= times.from {
+        return Ok(None);
     }
-    Ok(runs)
+    let before = document.network().seed();
+    document.set_seed(1);
+    let fate = PcgFate::new(1);
+    let run = RunSoFar::new(alloc, document, fate, times.from, options.tracks())?;
+    document.set_seed(before);
+    Ok(Some(run))
 }
 
-/// How the last stretches of a run with a seed end in which a case is down from a time until another, up to an end, of
-/// which some systems are set aside: it goes on from the run so far, if that is kept.
+/// Whether the events behind the first so many come from a time on up to an end, not all of them at one time.
+fn go_on(events: &[Timed], count: usize, from: u64, until: u64) -> bool
+    requires { AreInOrder events.now }
+    ensures { result ≡ true → GoOnBehind from until count events.now }
+{
+    match (events.get(count), events.last()) {
+        (Some(first), Some(last)) => {
+            from <= first.at && first.at < last.at && last.at <= until
+        }
+        _ => false,
+    }
+}
+
+/// How the last stretches of a run with a seed end, up to an end, of which some systems are set aside: of a document
+/// with so many events and those of a case. It goes on from the run that is kept, where that can be.
 fn run_ends(
     alloc: Global,
     document: &Document,
     options: &FaultsOptions,
-    so_far: &[RunSoFar<PcgFate>],
+    times: &Times,
+    kept: &Option<RunSoFar<PcgFate>>,
+    count: usize,
     seed: u64,
-    down: u64,
-    back: u64,
     end: u64,
     aside: SetAside,
 ) -> Result<LastStretches, Cut>
-    requires seed { 1 ≤ seed }
     requires moment { IsMoment end }
-    requires goes { (d : DocumentState) × (t : Times) × AreRunsSoFar d options.now t so_far.now
-        × (down < back → GoesOn d t.from end document.now) × (t.from ≤ aside.from) }
+    requires kept { (d : DocumentState) × IsKept d options.now times.now kept.now
+        × (with_first count document.now ≡ seeded_document seed d) × (times.now.from ≤ aside.from) }
     ensures ends { IfOk result (EndsOf draws (tracks options.now) aside document.now end (generator seed)) }
     ensures memory { IfErr result (λ e. e ≡ Cut.Memory) }
 {
-    match so_far.get((seed - 1) as usize) {
-        Some(run) if down < back => run.last_stretches(alloc, document, end, aside),
+    document.well_formed();
+    match kept {
+        Some(run) if seed == 1 && go_on(document.events(), count, times.from, end) => {
+            run.last_stretches(alloc, document, end, aside)
+        }
         _ => last_stretches(
             alloc,
             document,
@@ -175,13 +166,13 @@ pub(crate) fn run_case(
     times: &Times,
     events: &CaseEvents,
     aside: &[ClockId],
-    so_far: &[RunSoFar<PcgFate>],
+    kept: &Option<RunSoFar<PcgFate>>,
     run: u64,
 ) -> Result<RunEnds, Cut>
     requires bounded { TimesAreBounded times.now }
     requires run { run < runs_of times.now }
     requires options { AreOptions options.now }
-    requires so_far { AreRunsSoFar document.old options.now times.now so_far.now }
+    requires kept { IsKept document.old options.now times.now kept.now }
     requires in_time { is_late document.old options.now.hold times.now events.now ≡ false }
     ensures run { IfOk result (CaseRunEnds options.now document.old times.now events.now aside.now run) }
     ensures same { OnOk result (document.new ≡ document.old) }
@@ -195,16 +186,17 @@ pub(crate) fn run_case(
     fail_at(document, down, events)?;
     return_after(document, down, events, hold)?;
     let before = document.network().seed();
-    document.set_seed(seed_of(times, run));
+    let drawn = seed_of(times, run);
+    document.set_seed(drawn);
     let aside = SetAside::new(Vec::from_slice(alloc, aside)?, down, back);
     let ends = run_ends(
         alloc,
         document,
         options,
-        so_far,
-        seed_of(times, run),
-        down,
-        back,
+        times,
+        kept,
+        count,
+        drawn,
         back + behind,
         aside,
     )?;
