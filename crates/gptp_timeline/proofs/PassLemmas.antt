@@ -25,6 +25,7 @@ use Rattle.gptp_timeline.specs.StretchText.{after_line, ended_stretch}
 use Rattle.gptp_timeline.specs.Timeline.{acts_lines, all_lines, AllPass, AreErrorsIf, asks_lines, carry, end_before, end_lines, ended_of, exact_time, is_begun, kept_accuracy, IsPassage, IsTimelinePlan, later_than, line_of_times, now_of, passage_lines, reads_kept, SomePass, StretchTrace, times_ended}
 use Rattle.gptp_timeline.specs.Watch.{watch_begun, tells_changes, WatchState}
 use Rattle.gptp_timeline.specs.declared.keepers.Keeper.{Keeper}
+use Rattle.gptp_timeline.specs.declared.limits.Limits.{Limits}
 use Rattle.gptp_timeline.specs.declared.ends.StretchesSoFar.{StretchesSoFar}
 use Rattle.gptp_timeline.specs.declared.looks.TimeMeasures.{TimeMeasures}
 use Rattle.gptp_timeline.specs.declared.measures.Measures.{Measures}
@@ -400,6 +401,33 @@ module _ {F : Type 0} (answers : Bounds → ℕ → F → Option ℕ → F → T
       broken_told options names begun answers from plan.to now some.acts fate w mid some.o_after told begins some.tells
       nobody some.courses
       ∙ ap (λ carried. acts_lines options names carried.readings some.acts) (nobody_begun plan.from c nobody)
+
+-- ---- so many stretches
+
+module _ {F : Type 0} (answers : Bounds → ℕ → F → Option ℕ → F → Type 0) (exact : Bool) (d : DocumentState)
+    (limits : Limits) where
+  -- with one more
+  pub earlier_more : (count : ℕ) (s t u : Standing F) (lines more : List (List ℕ))
+      → EarlierAreSeen answers exact d limits count s t lines → OneIsSeen answers exact d limits t u more
+      → first_time u.left ≡ Some u.from → EarlierAreSeen answers exact d limits (suc count) s u (lines ++ more)
+  earlier_more zero s t u lines more (same, none) one comes = (
+    u,
+    more,
+    [],
+    subst (λ x. OneIsSeen answers exact d limits x u more) same one,
+    comes,
+    (refl, refl),
+    ap (λ ls. ls ++ more) none ∙ sym (append-nil more),
+  )
+  earlier_more (suc count) s t u lines more (v, first, rest, passed, came, others, are) one comes = (
+    v,
+    first,
+    rest ++ more,
+    passed,
+    came,
+    earlier_more count v t u rest more others one comes,
+    ap (λ ls. ls ++ more) are ∙ append_assoc first rest more,
+  )
 
 -- ---- all stretches before an observer
 
