@@ -34,7 +34,7 @@ impl<'a> PathView<'a> {
     ghost use Rattle.gptp_vector.specs.Trace.{clocks};
 
     /// The path with no clock.
-    #[tactic(auto, unfolding(crate::specs::Path::clocks))]
+    #[tactic(auto, unfolding(gptp_vector::specs::Trace::clocks))]
     pub(crate) fn empty() -> PathView<'a>
         ensures { result ≡ [] }
     {
