@@ -173,11 +173,11 @@ pub leader_right : (p : SettlingParams) (settled longest : ℕ) (w : WorldState)
     → LeadsTime w.time (state_above at w f) s' sends
     → TellsRight (record (follower_setting p.params settled longest at w f steps h) { base = base }) w.time
     (state_above at w f) sends
-leader_right p settled longest w is at f (suc steps) h base s' sends told leading master k =
+leader_right p settled longest w is at f (suc steps) h base s' sends told leads master k =
     let (l, above, follows, to, way_is, phase_is) = (way_above p settled longest w is at f (suc steps) h).leads_there in
-    absurd (leads_alone p settled longest w is at f leading l
+    absurd (leads_alone p settled longest w is at f leads l
     (subst (λ v. IsParent (snapshot_of w) v l) (sym f.above.named) follows))
-leader_right p settled longest w is at f zero h base s' sends told leading master k = record {
+leader_right p settled longest w is at f zero h base s' sends told leads master k = record {
   told = own_time k.stamp k.rest;
   small = k.split.stamp.nanos;
   are = k.sends_are;
