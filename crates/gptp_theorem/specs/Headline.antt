@@ -35,16 +35,17 @@ use Rattle.gptp_certificate.specs.Stated.{States}
 
 -- ---- what is asked
 
--- Each link of the snapshot loses nothing and is good: its largest delay leaves room below the threshold of
--- neighborPropDelay for the drift of two clocks (law of good links). All systems start with the parameters of one
--- network and with the largest announce interval of any of its ports, as those of every world do. And what a Slave port
--- holds doesn't lapse for want of Sync: syncReceiptTimeout is 0, or the paths of the snapshot are so short, and its
--- links so prompt, that a settled system always hears the next Sync sooner.
+-- Each link of the snapshot loses nothing and is good: its largest delay, and what two time stamps are off together,
+-- leave room below the threshold of neighborPropDelay for the drift of two clocks (law of good links). All systems
+-- start with the parameters of one network and with the largest announce interval of any of its ports, as those of
+-- every world do. And what a Slave port holds doesn't lapse for want of Sync: syncReceiptTimeout is 0, or the paths of
+-- the snapshot are so short, and its links so prompt, that a settled system always hears the next Sync sooner.
 pub record WorldIsCalm (p : SettlingParams) (w : WorldState) : Type 0 where
   pub of : HavePace p w
   pub links : (link : Channel) → In link w.net.channels → channel_is_used (live_stations w.stations) link ≡ true
       → (link.bounds.loss ≡ 0)
-      × (link.bounds.max + ceil_div link.bounds.max 1000 + ceil_div p.params.turnaround 2000 + 2 ≤ p.params.threshold)
+      × (let most = link.bounds.max + (p.params.granularity + 2 * p.params.noise) in
+      most + ceil_div most 1000 + ceil_div p.params.turnaround 2000 + 2 ≤ p.params.threshold)
   pub lapses : SyncsComeInTime p.params (sync_paths_of w)
 
 -- ((k + 3)m + L + 5) intervals have passed since the last change: k is the announce receipt timeout, L how many peer
@@ -135,10 +136,10 @@ pub record LeavesOffset (number : ℕ) (offset : ℤ) (w' : WorldState) (done : 
 
 -- The theorem on time: where an act is done in a calm world once so long has passed, and a near system other than its
 -- component's best uses a Follow_Up by it, the offset that is left is within the time error of the system's way of its
--- clock less what the best tells, which is its clock and its base. A way leads over the system's parent and the parents
--- of that. Its time error (gptp_error_laws) is what each link costs, its jitter, and what each bridge costs: its
--- residence times the error of the rate so far, to which each link above adds its jitter over the interval of peer
--- delay requests.
+-- clock less what the best tells, which is its clock and its base. Systems read their clocks by their time stamps. A
+-- way leads over the system's parent and the parents of that. Its time error (gptp_error_laws) is what each link costs,
+-- its jitter and twice what two time stamps are off together, and what each bridge costs: its residence times the error
+-- of the rate so far, to which each link above adds the same over the interval of peer delay requests.
 abbrev pub HeadlineOnTime : WorldState → ℕ → WorldState → Done → Type 0
 HeadlineOnTime w time w' done = (p : SettlingParams) (m steps number error : ℕ) (offset ahead : ℤ)
     → WorldIsCalm p w → BoundsPaths (snapshot_of w) m → HasComeDown p m (suc steps) time w
