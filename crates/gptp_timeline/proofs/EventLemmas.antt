@@ -297,3 +297,25 @@ pub first_so : (P : ℕ → Type 0) (xs : List Timed) (time : ℕ) → AllByRecu
     → first_time xs ≡ Some time → P time
 first_so P [] time all is = absurd cc
 first_so P (x ∷ xs) time all is = subst P (same_Some x.at time is) all.0
+
+-- what is due at each place is so of all
+pub due_all : (until : ℕ) (xs : List Timed) → Each (λ (x : Timed). nat_le x.at until ≡ true) xs
+    → events_by until xs ≡ xs
+due_all until xs due =
+    all_due until xs (all_in (λ (x : Timed). x.at ≤ until) xs (λ x member.
+    let (place, there) = slice_get-In x xs member in
+    let soon : nat_le x.at until ≡ true = due place x there in grind (arith, nat_tests)))
+
+-- all events of a document can be made before a time that isn't before the last
+pub may_before : (until : ℕ) (events : List Timed) (w : WorldState) → AreInOrder events → AreAllowed events
+    → AllDelaysFitIntervals w events → last_change events ≤ until → MayPass until 0 events w
+may_before until events w order allowed prompt last =
+    let late : (x : Timed) → x.at ≤ last_change events → nat_le x.at until ≡ true =
+    λ x soon. grind (arith, nat_tests) in
+    let all = last_latest events order in record {
+      order = order;
+      due = λ place x there. late x (each_in (λ (y : Timed). y.at ≤ last_change events) events all place x there);
+      within = omega arith;
+      allowed = allowed;
+      prompt = prompt;
+    }

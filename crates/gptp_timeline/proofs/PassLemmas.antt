@@ -1,7 +1,7 @@
 -- Stretches that pass one after another, and the observer between them.
 use Rattle.std.proofs.Common.{◌≡◌, ◌==◌, ◌≤◌, ℕ, zero, suc, Bool, true, false, not, length, None, arith, List, [], ◌∷◌, ◌++◌, Option, Some, Result, Ok, Err, inl, inr, refl, sym, ap, subst, ◌∙◌, append_assoc, append-nil}
 use Rattle.std.specs.List.{AllByRecursion}
-use Rattle.std.specs.Prelude.{IfOk, OnOk}
+use Rattle.std.specs.Prelude.{IfErr, IfOk, OnOk}
 use Rattle.std.proofs.lemmas.Bool.Decides.{nat_tests}
 use Rattle.gptp_model.specs.Sound.{HaveTheirSetups}
 use Rattle.gptp_model.specs.World.{WorldState}
@@ -15,6 +15,8 @@ use Rattle.gptp_world.specs.Transitions.{ActTrace}
 use Rattle.gptp_report.specs.Transitions.{Courses, CoursesSoFar}
 use Rattle.gptp_world.proofs.FollowLemmas.{text_append}
 use Rattle.gptp_report.proofs.RunLemmas.{made_if_stays, passed_stays}
+use Rattle.gptp_sink.specs.declared.cut.Cut.{Cut}
+use Rattle.gptp_sink.specs.declared.cut.Cut.TheVariants.{Memory, Write}
 use Rattle.gptp_words.specs.Lines.{text_of}
 use Rattle.gptp_timeline.specs.Ends.{EndState}
 use Rattle.gptp_timeline.specs.Keepers.{keepers_among}
@@ -45,6 +47,15 @@ pub if_ok_both : {X E : Type 0} (result : Result X E) (P : X → Type 0) (Q : Ty
     → ((x : X) → P x → Q → R x) → IfOk result P → OnOk result Q → IfOk result R
 if_ok_both (Ok x) P Q R follows p q = follows x p q
 if_ok_both (Err e) P Q R follows p q = tt
+
+-- a call that breaks off otherwise than by a write had no memory
+pub memory_alone : (e : Cut) → (e ≡ Write → ⊥) → e ≡ Memory
+memory_alone Memory no_write = refl
+memory_alone Write no_write = absurd (no_write refl)
+
+pub memory_else : {X : Type 0} (result : Result X Cut) → (result ≡ Err Write → ⊥) → IfErr result (λ e. e ≡ Memory)
+memory_else (Ok x) no_write = tt
+memory_else (Err e) no_write = memory_alone e (λ is. no_write (ap Err is))
 
 -- a stretch begins with an event where there is one
 pub begun_is : (events : List Timed) (empty : Bool) → empty ≡ (length events == 0) → not empty ≡ is_begun events
