@@ -1,6 +1,5 @@
 -- A run that goes on from one so far is a run from the start.
 use Rattle.std.proofs.Common.{◌≡◌, ◌≢◌, ◌<◌, ◌≤◌, ◌||◌, ℕ, zero, suc, Bool, true, false, length, List, [], ◌∷◌, ◌++◌, drop, Option, Some, None, refl, sym, ap, ap₂, subst, ◌∙◌, append-nil, length-append, arith}
-use Rattle.std.proofs.Math.Nat.{le_trans}
 use Rattle.std.proofs.lemmas.Bool.Decides.{nat_tests}
 use Rattle.std.proofs.lemmas.List.{drop-append-le, drop_all}
 use Rattle.std.proofs.lemmas.List.Elements.{filter-append}
@@ -34,9 +33,9 @@ use Rattle.gptp_world.proofs.InitialLemmas.{initial_sound}
 use Rattle.gptp_timeline.specs.Aside.{aside_begun, AsideState, nobody_aside}
 use Rattle.gptp_timeline.specs.LastStretches.{all_kept, carry_begun, carry_over, CarriedAside, end_begun, end_of, EndsOf, first_aside, kept_after, last_behind, none_kept, none_last, with_end}
 use Rattle.gptp_timeline.specs.Limits.{no_limits}
-use Rattle.gptp_timeline.specs.Passing.{AllAreSeen, EarlierAreSeen, first_time, MayPass, OneIsSeen, Standing, standing, watch_at_start, watch_before}
+use Rattle.gptp_timeline.specs.Passing.{AllAreSeen, EarlierAreSeen, first_time, MayPass, OneIsSeen, Standing, standing, StretchIsSeen, watch_at_start, watch_before}
 use Rattle.gptp_timeline.specs.RunSoFar.{GoesOnFrom, GoesOn, IsRunSoFar, RunUpTo, summary_of}
-use Rattle.gptp_timeline.specs.Timeline.{AllPass, end_before, end_lines, is_begun, IsPassage, IsTimelinePlan, later_than, none_carried, now_of, StretchTrace, tracks, exact_time}
+use Rattle.gptp_timeline.specs.Timeline.{AllPass, Carried, end_before, end_lines, is_begun, IsPassage, IsTimelinePlan, later_than, none_carried, now_of, StretchTrace, tracks, exact_time}
 use Rattle.gptp_timeline.specs.Watch.{tells_changes, watch_begun, WatchState, with_aside}
 use Rattle.gptp_timeline.specs.declared.ends.LastStretches.{LastStretches}
 use Rattle.gptp_timeline.specs.declared.ends.StretchesSoFar.{StretchesSoFar}
@@ -83,9 +82,9 @@ module _ {F : Type 0} (answers : Bounds → ℕ → F → Option ℕ → F → T
 
   -- it passes in the other document too
   record OneMore (s t : Standing F) (kept : StretchesSoFar) : Type 0 where
-    kept_after : StretchesSoFar
+    kept_then : StretchesSoFar
     lines : List (List ℕ)
-    seen : OneIsSeen answers false e no_limits (with_more kept s) (with_more kept_after t) lines
+    seen : OneIsSeen answers false e no_limits (with_more kept s) (with_more kept_then t) lines
     comes : first_time (t.left ++ more) ≡ Some t.from
     early : IsEarly t
 
@@ -98,7 +97,7 @@ module _ {F : Type 0} (answers : Bounds → ℕ → F → Option ℕ → F → T
       subst (AllByRecursion (λ (x : Timed). x.at < time)) (sym k.left_is)
       (filter_all (λ (x : Timed). x.at < time) _ s.left early.left) in
       record {
-        kept_after = kept_after no_limits (end_of plan t.world t.watch) kept;
+        kept_then = kept_after no_limits (end_of plan t.world t.watch) kept;
         lines = k.told ++ end_lines plan t.world t.watch;
         seen = record {
           left_is = ap (λ xs. xs ++ more) k.left_is ∙ sym (later_more s.from s.left early.from);
@@ -111,7 +110,8 @@ module _ {F : Type 0} (answers : Bounds → ℕ → F → Option ℕ → F → T
             errors_are = k.known.errors_are;
           };
           told = k.told;
-          seen = rw now (record { acts = k.seen.acts; courses = k.seen.courses; tells = k.seen.tells });
+          seen = subst (λ es. StretchIsSeen answers plan es s.fate t.fate s.world t.world s.watch t.watch k.told)
+              (sym now) (record { acts = k.seen.acts; courses = k.seen.courses; tells = k.seen.tells });
           kept_is = refl;
           are = refl;
         };
@@ -121,26 +121,26 @@ module _ {F : Type 0} (answers : Bounds → ℕ → F → Option ℕ → F → T
 
   -- so do several
   pub record SeveralMore (count : ℕ) (s t : Standing F) (kept : StretchesSoFar) : Type 0 where
-    pub kept_after : StretchesSoFar
+    pub kept_then : StretchesSoFar
     pub lines : List (List ℕ)
-    pub seen : EarlierAreSeen answers false e no_limits count (with_more kept s) (with_more kept_after t) lines
+    pub seen : EarlierAreSeen answers false e no_limits count (with_more kept s) (with_more kept_then t) lines
     pub early : IsEarly t
 
   pub several_more : (count : ℕ) (s t : Standing F) (lines : List (List ℕ)) (kept : StretchesSoFar) → IsEarly s
       → EarlierAreSeen answers false d no_limits count s t lines → SeveralMore count s t kept
   several_more zero s t lines kept early (same, none) = record {
-    kept_after = kept;
+    kept_then = kept;
     lines = [];
     seen = (ap (with_more kept) same, refl);
     early = subst IsEarly (sym same) early;
   }
   several_more (suc count) s t lines kept early (u, first, rest, k, comes, others, are) =
       let one = one_more s u first kept early k comes in
-      let more = several_more count u t rest one.kept_after one.early others in record {
-        kept_after = more.kept_after;
-        lines = one.lines ++ more.lines;
-        seen = (with_more one.kept_after u, one.lines, more.lines, one.seen, one.comes, more.seen, refl);
-        early = more.early;
+      let behind = several_more count u t rest one.kept_then one.early others in record {
+        kept_then = behind.kept_then;
+        lines = one.lines ++ behind.lines;
+        seen = (with_more one.kept_then u, one.lines, behind.lines, one.seen, one.comes, behind.seen, refl);
+        early = behind.early;
       }
 
 -- ---- what stays
@@ -163,6 +163,10 @@ pub begun_sound : {F : Type 0} (answers : Bounds → ℕ → F → Option ℕ �
 begun_sound answers d fate fate_after w network k =
     starts_sound (range_with_len 0 (length d.network.systems)) (initial d.network) k.draws w
     (initial_sound d.network network) k.starts
+
+-- what is carried over, and who is set aside
+abbrev both : Carried → AsideState → CarriedAside
+both k b = record { carried = k; aside = b }
 
 -- ---- a run goes on
 
@@ -203,7 +207,8 @@ module _ {F : Type 0} (answers : Bounds → ℕ → F → Option ℕ → F → T
   early =
       let before = g.run.early in record {
         from = omega (arith, before);
-        left = all_less _ _ d.events (λ x soon. omega (arith, soon, before))
+        left = all_less (λ (x : Timed). x.at ≤ last_change d.events) (λ (x : Timed). x.at < p.at) d.events
+            (λ x soon. omega (arith, soon, before))
             (last_latest d.events (order_front d.events more all_order));
       }
 
@@ -233,7 +238,8 @@ module _ {F : Type 0} (answers : Bounds → ℕ → F → Option ℕ → F → T
       let from = first_late in let to = first_due in
       ap (events_by until) g.goes.events ∙ filter-append _ d.events more
       ∙ ap₂ (λ xs ys. xs ++ ys)
-      (all_due until d.events (all_less _ _ d.events (λ x soon. omega (arith, soon, from, to)) early.left))
+      (all_due until d.events (all_less (λ (x : Timed). x.at < p.at) (λ (x : Timed). x.at ≤ until) d.events
+      (λ x soon. omega (arith, soon, from, to)) early.left))
       (all_due until more g.goes.due)
 
   -- ---- the world before its later events
@@ -308,10 +314,10 @@ module _ {F : Type 0} (answers : Bounds → ℕ → F → Option ℕ → F → T
         whole = with_more answers d e p.at more g.goes.late none_kept begins
 
         gone : GoneSeen answers false e until options names whole plain
-            (with_more answers d e p.at more g.goes.late lifted.kept_after last) lifted.lines
+            (with_more answers d e p.at more g.goes.late lifted.kept_then last) lifted.lines
         gone =
             earlier_from answers false e until options names whole plain g.run.count
-            (with_more answers d e p.at more g.goes.late lifted.kept_after last) lifted.lines rests lifted.seen
+            (with_more answers d e p.at more g.goes.late lifted.kept_then last) lifted.lines rests lifted.seen
 
         abbrev passages : List StretchTrace
         passages = gone.gone.passages
@@ -341,10 +347,10 @@ module _ {F : Type 0} (answers : Bounds → ℕ → F → Option ℕ → F → T
         abbrev aside_now : AsideState
         aside_now = aside_begun last.from a
 
-        begun_is : record { carried = (carry_begun last.from gone.carried).carried; aside = aside_now } ≡ begun
+        begun_is : both (carry_begun last.from gone.carried).carried aside_now ≡ begun
         begun_is =
             let from : carried.aside.from ≡ a.from = ap (λ (b : AsideState). b.from) (alike.aside 0) in
-            ap₂ (λ k b. record { carried = k; aside = b })
+            ap₂ both
             (nobody_begun last.from gone.carried alike.nobody ∙ sym alike.carried
             ∙ sym (later_begun last.from carried (subst (λ time. last.from < time) (sym from) later)))
             (sym (alike.aside last.from))

@@ -1,6 +1,6 @@
 //! Runs that were let go on up to a time, from which others go on.
 
-ghost use Rattle.std.specs.Prelude.{◌≡◌};
+ghost use Rattle.std.specs.Prelude.{◌≡◌, ◌≤◌, drop, length};
 ghost use Rattle.gptp_timeline.specs.Timeline.{end_before};
 
 use crate::aside::SetAside;
@@ -26,6 +26,14 @@ fn end_before(events: &[Timed], until: u64) -> u64
         Some(event) => event.at,
         None => until,
     }
+}
+
+/// The events behind the first so many.
+fn events_behind(events: &[Timed], count: usize) -> &[Timed]
+    requires { count ≤ length events.now }
+    ensures { result.now ≡ drop count events.now }
+{
+    &events[count..]
 }
 
 /// The run of a document up to a time, from which runs go on of documents with the same events and later ones.
@@ -168,7 +176,7 @@ impl<F: Fate + Clone + Drop> RunSoFar<F> {
         let mut aside = aside;
         aside.begin(self.from);
         let mut watch = self.watch.copy(alloc, aside)?;
-        let left = &document.events()[self.events..];
+        let left = events_behind(document.events(), self.events);
         let to = end_before(left, until);
         let end = self.end_first(alloc, document, &settling, &mut world, &mut watch, to)?;
         let begins = StretchBegins {
