@@ -248,7 +248,8 @@ pub later_kept : (options : TimelineOptions) (from : Option ℕ) (names : List �
     ≡ account_if options from names events b ts readings
 later_kept options from names events a b ts nobody later None = refl
 later_kept options from names events a b ts nobody later (Some rs) =
-    ap (λ us. Some (account_of options from names events b us rs)) (nobody_acts ts a nobody ∙ sym (later_acts ts b later))
+    ap (λ us. Some (account_of options from names events b us rs))
+    (nobody_acts ts a nobody ∙ sym (later_acts ts b later))
     ∙ ap (λ c. Some (account_of options from names events c (looked_acts b ts) rs)) (sym (later_over ts b later))
 
 -- ---- between stretches

@@ -175,8 +175,8 @@ tracks_is true = refl
 tracks_is false = refl
 
 module _ {F : Type 0} (answers : Bounds → ℕ → F → Option ℕ → F → Type 0) (p : RunUpTo F) (r : RunSoFar F)
-    (e : DocumentState) (until : ℕ) (a : AsideState) (g : GoesOnFrom answers p r e until a) (network : IsNetwork e.network)
-    (order : AreInOrder e.events) where
+    (e : DocumentState) (until : ℕ) (a : AsideState) (g : GoesOnFrom answers p r e until a)
+    (network : IsNetwork e.network) (order : AreInOrder e.events) where
   abbrev d : DocumentState
   d = p.document
 
@@ -444,8 +444,8 @@ module _ {F : Type 0} (answers : Bounds → ℕ → F → Option ℕ → F → T
 
         -- ---- all stretches
 
-        module _ (kept : StretchesSoFar) (lines : List (List ℕ)) (fate_end : F) (after : WorldState) (o_end : WatchState)
-            (seen : AllAreSeen answers false e no_limits
+        module _ (kept : StretchesSoFar) (lines : List (List ℕ)) (fate_end : F) (after : WorldState)
+            (o_end : WatchState) (seen : AllAreSeen answers false e no_limits
             (standing to more fate_after w o (kept_after no_limits (end_of plan w o) none_kept))
             (standing until [] fate_end after o_end kept) lines) where
           abbrev second : Standing F

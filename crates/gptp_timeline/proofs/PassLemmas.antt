@@ -519,7 +519,8 @@ module _ {F : Type 0} (answers : Bounds → ℕ → F → Option ℕ → F → T
       subst (GoneSeen t) (append_assoc before one rest ∙ ap (λ ls. before ++ ls) (sym are))
       (earlier_seen count u t (before ++ one) rest (seen_more s u before one so_far passed comes) others)
 
-  pub earlier_from : (count : ℕ) (t : Standing F) (lines : List (List ℕ)) → Rests options names first start.world start.watch
+  pub earlier_from : (count : ℕ) (t : Standing F) (lines : List (List ℕ))
+      → Rests options names first start.world start.watch
       → EarlierAreSeen answers exact d options.limits count start t lines → GoneSeen t lines
   earlier_from count t lines rests k = earlier_seen count start t [] lines (seen_none rests) k
 
