@@ -175,8 +175,7 @@ tracks_is true = refl
 tracks_is false = refl
 
 module _ {F : Type 0} (answers : Bounds → ℕ → F → Option ℕ → F → Type 0) (p : RunUpTo F) (r : RunSoFar F)
-    (e : DocumentState) (until : ℕ) (a : AsideState) (g : GoesOnFrom answers p r e until a)
-    (network : IsNetwork e.network) (order : AreInOrder e.events) where
+    (e : DocumentState) (until : ℕ) (a : AsideState) (g : GoesOnFrom answers p r e until a) where
   abbrev d : DocumentState
   d = p.document
 
@@ -197,20 +196,6 @@ module _ {F : Type 0} (answers : Bounds → ℕ → F → Option ℕ → F → T
 
   abbrev begins : Standing F
   begins = standing 0 d.events g.run.started start (watch_at_start options nobody_aside start) none_kept
-
-  -- ---- what is known of the document
-
-  all_order : AreInOrder (d.events ++ more)
-  all_order = subst AreInOrder g.goes.events order
-
-  early : IsEarly answers d e p.at more g.goes.late begins
-  early =
-      let before = g.run.early in record {
-        from = omega (arith, before);
-        left = all_less (λ (x : Timed). x.at ≤ last_change d.events) (λ (x : Timed). x.at < p.at) d.events
-            (λ x soon. omega (arith, soon, before))
-            (last_latest d.events (order_front d.events more all_order));
-      }
 
   -- its later events are those behind the first ones
   pub left_is : drop r.events e.events ≡ more
@@ -233,275 +218,293 @@ module _ {F : Type 0} (answers : Bounds → ℕ → F → Option ℕ → F → T
   first_due : g.goes.first ≤ until
   first_due = first_so (λ time. time ≤ until) more g.goes.first g.goes.due g.goes.comes
 
-  all_by : events_by until e.events ≡ d.events ++ more
-  all_by =
-      let from = first_late in let to = first_due in
-      ap (events_by until) g.goes.events ∙ filter-append _ d.events more
-      ∙ ap₂ (λ xs ys. xs ++ ys)
-      (all_due until d.events (all_less (λ (x : Timed). x.at < p.at) (λ (x : Timed). x.at ≤ until) d.events
-      (λ x soon. omega (arith, soon, from, to)) early.left))
-      (all_due until more g.goes.due)
+  pub due_first : end_before until more ≤ until
+  due_first = let is = to_first in let soon = first_due in omega (arith, is, soon)
 
-  -- ---- the world before its later events
+  module _ (network : IsNetwork e.network) (order : AreInOrder e.events) where
+    -- ---- what is known of the document
 
-  sound : IsSound start
-  sound =
-      begun_sound answers d p.fate g.run.started start (subst IsNetwork g.goes.network network) g.run.begun
+    all_order : AreInOrder (d.events ++ more)
+    all_order = subst AreInOrder g.goes.events order
 
-  stays : Stays start r.world.world_core
-  stays =
-      let earlier = earlier_stay answers d g.run.count begins last g.run.lines sound.wired.setups g.run.earlier in
-      stays_on start last.world r.world.world_core earlier
-      (courses_stay answers p.at last.left g.run.acts last.fate r.world.fate last.world r.world.world_core
-      (stays_setups start last.world earlier) g.run.courses)
+    early : IsEarly answers d e p.at more g.goes.late begins
+    early =
+        let before = g.run.early in record {
+          from = omega (arith, before);
+          left = all_less (λ (x : Timed). x.at ≤ last_change d.events) (λ (x : Timed). x.at < p.at) d.events
+              (λ x soon. omega (arith, soon, before))
+              (last_latest d.events (order_front d.events more all_order));
+        }
 
-  module _ (to : ℕ) (to_is : to ≡ end_before until more) where
-    module _ (acts : List ActTrace) (fate_after : F) (w : WorldState)
-        (passes : PassesTo answers to acts r.world.fate fate_after r.world.world_core w) where
-      -- the stretches behind the one that was cut can pass
-      pub may_go_on : AreAllowed e.events → ArePromptActs (interval_of (smallest_of e.network)) e.events
-          → MayPass until to more w
-      may_go_on allowed prompt =
-          let least = interval_of (smallest_of d.network) in
-          let on = stays_on start r.world.world_core w stays
-          (passed_stays answers to acts r.world.fate fate_after r.world.world_core w
-          (stays_setups start r.world.world_core stays) passes) in
-          let none : NoneFaster least w =
-          stays_none_faster least start w on
-          (begun_none_faster answers d.network p.fate g.run.started start
-          (initial_sound d.network (subst IsNetwork g.goes.network network)).wired.setups g.run.begun) in
-          let soon = first_due in let is = to_is ∙ to_first in record {
-            order = order_behind d.events more all_order;
-            due = λ place x there.
-                let is_due = each_in (λ (y : Timed). y.at ≤ until) more g.goes.due place x there in
-                grind (arith, nat_tests);
-            within = omega (arith, soon, is);
-            allowed = each_behind IsAllowed d.events more (subst AreAllowed g.goes.events allowed);
-            prompt = all_prompt least more w none
-                (each_behind (λ (x : Timed). DelayFitsInterval least x.act) d.events more
-                (subst (λ n. ArePromptActs (interval_of (smallest_of n)) (d.events ++ more)) g.goes.network
-                (subst (ArePromptActs (interval_of (smallest_of e.network))) g.goes.events prompt)));
+    all_by : events_by until e.events ≡ d.events ++ more
+    all_by =
+        let from = first_late in let to = first_due in
+        ap (events_by until) g.goes.events ∙ filter-append _ d.events more
+        ∙ ap₂ (λ xs ys. xs ++ ys)
+        (all_due until d.events (all_less (λ (x : Timed). x.at < p.at) (λ (x : Timed). x.at ≤ until) d.events
+        (λ x soon. omega (arith, soon, from, to)) early.left))
+        (all_due until more g.goes.due)
+
+    -- ---- the world before its later events
+
+    sound : IsSound start
+    sound =
+        begun_sound answers d p.fate g.run.started start (subst IsNetwork g.goes.network network) g.run.begun
+
+    stays : Stays start r.world.world_core
+    stays =
+        let earlier = earlier_stay answers d g.run.count begins last g.run.lines sound.wired.setups g.run.earlier in
+        stays_on start last.world r.world.world_core earlier
+        (courses_stay answers p.at last.left g.run.acts last.fate r.world.fate last.world r.world.world_core
+        (stays_setups start last.world earlier) g.run.courses)
+
+    module _ (to : ℕ) (to_is : to ≡ end_before until more) where
+      module _ (acts : List ActTrace) (fate_after : F) (w : WorldState)
+          (passes : PassesTo answers to acts r.world.fate fate_after r.world.world_core w) where
+        -- the stretches behind the one that was cut can pass
+        pub may_go_on : AreAllowed e.events → ArePromptActs (interval_of (smallest_of e.network)) e.events
+            → MayPass until to more w
+        may_go_on allowed prompt =
+            let least = interval_of (smallest_of d.network) in
+            let on = stays_on start r.world.world_core w stays
+            (passed_stays answers to acts r.world.fate fate_after r.world.world_core w
+            (stays_setups start r.world.world_core stays) passes) in
+            let none : NoneFaster least w =
+            stays_none_faster least start w on
+            (begun_none_faster answers d.network p.fate g.run.started start
+            (initial_sound d.network (subst IsNetwork g.goes.network network)).wired.setups g.run.begun) in
+            let soon = first_due in let is = to_is ∙ to_first in record {
+              order = order_behind d.events more all_order;
+              due = λ place x there.
+                  let is_due = each_in (λ (y : Timed). y.at ≤ until) more g.goes.due place x there in
+                  grind (arith, nat_tests);
+              within = omega (arith, soon, is);
+              allowed = each_behind IsAllowed d.events more (subst AreAllowed g.goes.events allowed);
+              prompt = all_prompt least more w none
+                  (each_behind (λ (x : Timed). DelayFitsInterval least x.act) d.events more
+                  (subst (λ n. ArePromptActs (interval_of (smallest_of n)) (d.events ++ more)) g.goes.network
+                  (subst (ArePromptActs (interval_of (smallest_of e.network))) g.goes.events prompt)));
+            }
+
+        -- ---- the stretch that was cut
+
+        module _ (plan : Plan) (o : WatchState) (told : List (List ℕ))
+            (known : IsTimelinePlan false e r.from to r.begins_with_event plan)
+            (tells : Tells tells_changes acts (with_aside (aside_begun r.from a) r.watch) o told) where
+          lifted : SeveralMore answers d e p.at more g.goes.late g.run.count begins last none_kept
+          lifted =
+              several_more answers d e p.at more g.goes.late g.run.count begins last g.run.lines none_kept early
+              g.run.earlier
+
+          from_early : last.from < p.at
+          from_early = lifted.early.from
+
+          -- where nobody is set aside, and where these are
+          abbrev plain : CarriedAside
+          plain = first_aside p.asked nobody_aside names
+
+          abbrev chosen : CarriedAside
+          chosen = first_aside p.asked a names
+
+          rests : Rests options names plain start begins.watch
+          rests =
+              subst (λ asked. Rests options names (record { carried = none_carried asked names; aside = nobody_aside })
+              start begins.watch) (tracks_is p.asked)
+              (start_rests answers d.network p.fate g.run.started options nobody_aside start
+              (watch_before options nobody_aside start) g.run.begun sound refl)
+
+          abbrev whole : Standing F
+          whole = with_more answers d e p.at more g.goes.late none_kept begins
+
+          gone : GoneSeen answers false e until options names whole plain
+              (with_more answers d e p.at more g.goes.late lifted.kept_then last) lifted.lines
+          gone =
+              earlier_from answers false e until options names whole plain g.run.count
+              (with_more answers d e p.at more g.goes.late lifted.kept_then last) lifted.lines rests lifted.seen
+
+          abbrev passages : List StretchTrace
+          passages = gone.gone.passages
+
+          abbrev carried : CarriedAside
+          carried = over_all passages chosen
+
+          later : last.from < a.from
+          later = let first = from_early in let second = g.later in omega (arith, first, second)
+
+          begun_early : (ps : List StretchTrace) → AllByRecursion (λ (q : StretchTrace). q.from ≤ last.from) ps
+              → AllByRecursion (λ (q : StretchTrace). q.from < a.from) ps
+          begun_early [] all = tt
+          begun_early (q ∷ qs) all =
+              let first = all.0 in let soon = later in (omega (arith, first, soon), begun_early qs all.1)
+
+          alike : AreAlike a gone.carried carried
+          alike =
+              subst (λ c. AreAlike a c carried) (sym gone.gone.over)
+              (later_all a passages plain chosen (begun_early passages gone.gone.begin)
+              (record { carried = refl; nobody = refl; aside = λ time. refl }))
+
+          -- as the stretch that was cut begins
+          abbrev begun : CarriedAside
+          begun = carry_begun last.from carried
+
+          abbrev aside_now : AsideState
+          aside_now = aside_begun last.from a
+
+          begun_is : both (carry_begun last.from gone.carried).carried aside_now ≡ begun
+          begun_is =
+              let from : carried.aside.from ≡ a.from = ap (λ (b : AsideState). b.from) (alike.aside 0) in
+              ap₂ both
+              (nobody_begun last.from gone.carried alike.nobody ∙ sym alike.carried
+              ∙ sym (later_begun last.from carried (subst (λ time. last.from < time) (sym from) later)))
+              (sym (alike.aside last.from))
+
+          halts : Halts answers p.at to last.left g.run.acts acts last.fate r.world.fate fate_after last.world
+              r.world.world_core w
+          halts =
+              courses_on_to answers p.at to last.left g.run.acts acts last.fate r.world.fate fate_after last.world
+              r.world.world_core w g.run.courses passes
+
+          abbrev rest : List ActTrace
+          rest = begun_in halts.between acts
+
+          -- what the observer keeps where it was cut
+          observed : Observes options names begun None (length last.left) g.run.acts r.world.world_core
+              (with_aside (aside_begun r.from a) r.watch)
+          observed =
+              let began = carry_begun last.from gone.carried in
+              let o = watch_begun last.from None (length last.left) last.watch in
+              subst (λ from. Observes options names begun None (length last.left) g.run.acts r.world.world_core
+              (with_aside (aside_begun from a) r.watch)) (sym g.run.from_is)
+              (subst (λ c. Observes options names c None (length last.left) g.run.acts r.world.world_core
+              (with_aside aside_now r.watch)) begun_is
+              (later_aside options names began None (length last.left) g.run.acts r.world.world_core r.watch aside_now
+              alike.nobody later
+              (stretch_passes options names began answers None p.at last.left g.run.acts last.fate last.world o r.watch
+              g.run.told (stretch_begins options names gone.carried last.from None (length last.left) last.world
+              last.watch gone.rests) g.run.tells r.world.fate r.world.world_core g.run.courses)))
+
+          observes : Observes options names begun None (length last.left) (g.run.acts ++ rest) w o
+          observes =
+              (chained options names begun None (length last.left) rest g.run.acts r.world.world_core w
+              halts.between.stations w.stations (with_aside (aside_begun r.from a) r.watch) o told
+              (sym (ap (λ (v : WorldState). v.stations) halts.is))
+              (passes_to_chain answers to rest r.world.fate fate_after halts.between w halts.goes_on) refl
+              (begun_told tells_changes halts.between acts (with_aside (aside_begun r.from a) r.watch) o told tells)
+              observed).0
+
+          abbrev cut : StretchTrace
+          cut = record {
+            from = last.from;
+            to = to;
+            events = last.left;
+            acts = g.run.acts ++ rest;
+            after = w;
+            settling = plan.settling;
+            errors = plan.errors;
           }
 
-      -- ---- the stretch that was cut
+          of_plan : IsOfPlan plan cut
+          of_plan = record {
+            from_is = known.from_is ∙ g.run.from_is;
+            to_is = known.to_is;
+            begins_is = known.begins_is ∙ g.run.begins_is;
+            settling_is = refl;
+            errors_are = refl;
+          }
 
-      module _ (plan : Plan) (o : WatchState) (told : List (List ℕ))
-          (known : IsTimelinePlan false e r.from to r.begins_with_event plan)
-          (tells : Tells tells_changes acts (with_aside (aside_begun r.from a) r.watch) o told) where
-        lifted : SeveralMore answers d e p.at more g.goes.late g.run.count begins last none_kept
-        lifted =
-            several_more answers d e p.at more g.goes.late g.run.count begins last g.run.lines none_kept early
-            g.run.earlier
+          observes_cut : Observes options names begun (exact_time cut.errors) (length cut.events) cut.acts cut.after o
+          observes_cut =
+              subst (λ from. Observes options names begun from (length last.left) (g.run.acts ++ rest) w o)
+              (sym (ap exact_time known.errors_are)) observes
 
-        from_early : last.from < p.at
-        from_early = lifted.early.from
+          end_cut : end_of plan w o ≡ end_begun names begun cut
+          end_cut = end_is options names begun plan cut of_plan o observes_cut
 
-        -- where nobody is set aside, and where these are
-        abbrev plain : CarriedAside
-        plain = first_aside p.asked nobody_aside names
+          rests_cut : Rests options names (carry_over cut carried) w o
+          rests_cut =
+              stretch_rests options names begun (exact_time cut.errors) (length cut.events) cut.acts cut.after o
+              observes_cut
 
-        abbrev chosen : CarriedAside
-        chosen = first_aside p.asked a names
+          none_now : now_of last.from (last.left ++ more) ≡ last.left
+          none_now =
+              now_same answers d e p.at more g.goes.late last.from last.left from_early
+              ∙ all_now last.from last.left g.run.none_later
 
-        rests : Rests options names plain start begins.watch
-        rests =
-            subst (λ asked. Rests options names (record { carried = none_carried asked names; aside = nobody_aside })
-            start begins.watch) (tracks_is p.asked)
-            (start_rests answers d.network p.fate g.run.started options nobody_aside start
-            (watch_before options nobody_aside start) g.run.begun sound refl)
+          only_more : later_than last.from (last.left ++ more) ≡ more
+          only_more =
+              later_more answers d e p.at more g.goes.late last.from last.left from_early
+              ∙ ap (λ xs. xs ++ more) g.run.none_later
 
-        abbrev whole : Standing F
-        whole = with_more answers d e p.at more g.goes.late none_kept begins
+          passage : IsPassage answers false e until last.from (last.left ++ more) last.fate fate_after last.world cut
+          passage = record {
+            from_is = refl;
+            to_is = to_is ∙ ap (end_before until) (sym only_more);
+            events_are = sym none_now;
+            courses = halts.courses;
+            settling_is = known.settling_is ∙ ap (settling_of e) g.run.from_is;
+            errors_are = known.errors_are;
+          }
 
-        gone : GoneSeen answers false e until options names whole plain
-            (with_more answers d e p.at more g.goes.late lifted.kept_then last) lifted.lines
-        gone =
-            earlier_from answers false e until options names whole plain g.run.count
-            (with_more answers d e p.at more g.goes.late lifted.kept_then last) lifted.lines rests lifted.seen
+          -- ---- all stretches
 
-        abbrev passages : List StretchTrace
-        passages = gone.gone.passages
+          module _ (kept : StretchesSoFar) (lines : List (List ℕ)) (fate_end : F) (after : WorldState)
+              (o_end : WatchState) (seen : AllAreSeen answers false e no_limits
+              (standing to more fate_after w o (kept_after no_limits (end_of plan w o) none_kept))
+              (standing until [] fate_end after o_end kept) lines) where
+            abbrev second : Standing F
+            second = standing to more fate_after w o (kept_after no_limits (end_of plan w o) none_kept)
 
-        abbrev carried : CarriedAside
-        carried = over_all passages chosen
+            ended : AllGone answers false e until options names second (carry_over cut carried) fate_end after kept lines
+            ended =
+                all_seen answers false e until options names second (carry_over cut carried)
+                (standing until [] fate_end after o_end kept) lines rests_cut seen refl
 
-        later : last.from < a.from
-        later = let first = from_early in let second = g.later in omega (arith, first, second)
+            some_more : more ≢ []
+            some_more = some_left more g.goes.first g.goes.comes
 
-        begun_early : (ps : List StretchTrace) → AllByRecursion (λ (q : StretchTrace). q.from ≤ last.from) ps
-            → AllByRecursion (λ (q : StretchTrace). q.from < a.from) ps
-        begun_early [] all = tt
-        begun_early (q ∷ qs) all =
-            let first = all.0 in let soon = later in (omega (arith, first, soon), begun_early qs all.1)
+            -- they pass from the start on
+            all_pass : (q : StretchTrace) (qs : List StretchTrace) → ended.passages ≡ q ∷ qs
+                → AllPass answers false e until 0 (events_by until e.events) g.run.started fate_end start after
+                (passages ++ cut ∷ (q ∷ qs))
+            all_pass q qs are =
+                subst (λ xs. AllPass answers false e until 0 xs g.run.started fate_end start after
+                (passages ++ cut ∷ (q ∷ qs))) (sym all_by)
+                (gone.gone.more cut (q ∷ qs) fate_end after (
+                  fate_after,
+                  passage,
+                  subst (λ xs. xs ≢ []) (sym only_more) some_more,
+                  subst (λ xs. AllPass answers false e until to xs fate_after fate_end w after (q ∷ qs)) (sym only_more)
+                      (subst (AllPass answers false e until to more fate_after fate_end w after) are ended.pass),
+                ))
 
-        alike : AreAlike a gone.carried carried
-        alike =
-            subst (λ c. AreAlike a c carried) (sym gone.gone.over)
-            (later_all a passages plain chosen (begun_early passages gone.gone.begin)
-            (record { carried = refl; nobody = refl; aside = λ time. refl }))
+            -- the last three are the same
+            all_last : (q s : StretchTrace) (qs : List StretchTrace) → ended.passages ≡ q ∷ (s ∷ qs)
+                → kept.last ≡ last_behind names chosen (passages ++ cut ∷ (q ∷ (s ∷ qs))) none_last
+            all_last q s qs are =
+                let (before, over) = last_over names passages (cut ∷ (q ∷ (s ∷ qs))) chosen none_last in
+                ap (λ (k : StretchesSoFar). k.last) ended.verdict_is
+                ∙ last_from no_limits names ended.passages (carry_over cut carried) second.kept
+                ∙ ap (λ ps. last_behind names (carry_over cut carried) ps second.kept.last) are
+                ∙ ap (λ end. last_behind names (carry_over cut carried) (q ∷ (s ∷ qs)) (with_end none_last end)) end_cut
+                ∙ last_alone names cut q s qs carried none_last before ∙ sym over
 
-        -- as the stretch that was cut begins
-        abbrev begun : CarriedAside
-        begun = carry_begun last.from carried
-
-        abbrev aside_now : AsideState
-        aside_now = aside_begun last.from a
-
-        begun_is : both (carry_begun last.from gone.carried).carried aside_now ≡ begun
-        begun_is =
-            let from : carried.aside.from ≡ a.from = ap (λ (b : AsideState). b.from) (alike.aside 0) in
-            ap₂ both
-            (nobody_begun last.from gone.carried alike.nobody ∙ sym alike.carried
-            ∙ sym (later_begun last.from carried (subst (λ time. last.from < time) (sym from) later)))
-            (sym (alike.aside last.from))
-
-        halts : Halts answers p.at to last.left g.run.acts acts last.fate r.world.fate fate_after last.world
-            r.world.world_core w
-        halts =
-            courses_on_to answers p.at to last.left g.run.acts acts last.fate r.world.fate fate_after last.world
-            r.world.world_core w g.run.courses passes
-
-        abbrev rest : List ActTrace
-        rest = begun_in halts.between acts
-
-        -- what the observer keeps where it was cut
-        observed : Observes options names begun None (length last.left) g.run.acts r.world.world_core
-            (with_aside (aside_begun r.from a) r.watch)
-        observed =
-            let began = carry_begun last.from gone.carried in
-            let o = watch_begun last.from None (length last.left) last.watch in
-            subst (λ from. Observes options names begun None (length last.left) g.run.acts r.world.world_core
-            (with_aside (aside_begun from a) r.watch)) (sym g.run.from_is)
-            (subst (λ c. Observes options names c None (length last.left) g.run.acts r.world.world_core
-            (with_aside aside_now r.watch)) begun_is
-            (later_aside options names began None (length last.left) g.run.acts r.world.world_core r.watch aside_now
-            alike.nobody later
-            (stretch_passes options names began answers None p.at last.left g.run.acts last.fate last.world o r.watch
-            g.run.told (stretch_begins options names gone.carried last.from None (length last.left) last.world
-            last.watch gone.rests) g.run.tells r.world.fate r.world.world_core g.run.courses)))
-
-        observes : Observes options names begun None (length last.left) (g.run.acts ++ rest) w o
-        observes =
-            (chained options names begun None (length last.left) rest g.run.acts r.world.world_core w
-            halts.between.stations w.stations (with_aside (aside_begun r.from a) r.watch) o told
-            (sym (ap (λ (v : WorldState). v.stations) halts.is))
-            (passes_to_chain answers to rest r.world.fate fate_after halts.between w halts.goes_on) refl
-            (begun_told tells_changes halts.between acts (with_aside (aside_begun r.from a) r.watch) o told tells)
-            observed).0
-
-        abbrev cut : StretchTrace
-        cut = record {
-          from = last.from;
-          to = to;
-          events = last.left;
-          acts = g.run.acts ++ rest;
-          after = w;
-          settling = plan.settling;
-          errors = plan.errors;
-        }
-
-        of_plan : IsOfPlan plan cut
-        of_plan = record {
-          from_is = known.from_is ∙ g.run.from_is;
-          to_is = known.to_is;
-          begins_is = known.begins_is ∙ g.run.begins_is;
-          settling_is = refl;
-          errors_are = refl;
-        }
-
-        observes_cut : Observes options names begun (exact_time cut.errors) (length cut.events) cut.acts cut.after o
-        observes_cut =
-            subst (λ from. Observes options names begun from (length last.left) (g.run.acts ++ rest) w o)
-            (sym (ap exact_time known.errors_are)) observes
-
-        end_cut : end_of plan w o ≡ end_begun names begun cut
-        end_cut = end_is options names begun plan cut of_plan o observes_cut
-
-        rests_cut : Rests options names (carry_over cut carried) w o
-        rests_cut =
-            stretch_rests options names begun (exact_time cut.errors) (length cut.events) cut.acts cut.after o
-            observes_cut
-
-        none_now : now_of last.from (last.left ++ more) ≡ last.left
-        none_now =
-            now_same answers d e p.at more g.goes.late last.from last.left from_early
-            ∙ all_now last.from last.left g.run.none_later
-
-        only_more : later_than last.from (last.left ++ more) ≡ more
-        only_more =
-            later_more answers d e p.at more g.goes.late last.from last.left from_early
-            ∙ ap (λ xs. xs ++ more) g.run.none_later
-
-        passage : IsPassage answers false e until last.from (last.left ++ more) last.fate fate_after last.world cut
-        passage = record {
-          from_is = refl;
-          to_is = to_is ∙ ap (end_before until) (sym only_more);
-          events_are = sym none_now;
-          courses = halts.courses;
-          settling_is = known.settling_is ∙ ap (settling_of e) g.run.from_is;
-          errors_are = known.errors_are;
-        }
-
-        -- ---- all stretches
-
-        module _ (kept : StretchesSoFar) (lines : List (List ℕ)) (fate_end : F) (after : WorldState)
-            (o_end : WatchState) (seen : AllAreSeen answers false e no_limits
-            (standing to more fate_after w o (kept_after no_limits (end_of plan w o) none_kept))
-            (standing until [] fate_end after o_end kept) lines) where
-          abbrev second : Standing F
-          second = standing to more fate_after w o (kept_after no_limits (end_of plan w o) none_kept)
-
-          ended : AllGone answers false e until options names second (carry_over cut carried) fate_end after kept lines
-          ended =
-              all_seen answers false e until options names second (carry_over cut carried)
-              (standing until [] fate_end after o_end kept) lines rests_cut seen refl
-
-          some_more : more ≢ []
-          some_more = some_left more g.goes.first g.goes.comes
-
-          -- they pass from the start on
-          all_pass : (q : StretchTrace) (qs : List StretchTrace) → ended.passages ≡ q ∷ qs
-              → AllPass answers false e until 0 (events_by until e.events) g.run.started fate_end start after
-              (passages ++ cut ∷ (q ∷ qs))
-          all_pass q qs are =
-              subst (λ xs. AllPass answers false e until 0 xs g.run.started fate_end start after
-              (passages ++ cut ∷ (q ∷ qs))) (sym all_by)
-              (gone.gone.more cut (q ∷ qs) fate_end after (
-                fate_after,
-                passage,
-                subst (λ xs. xs ≢ []) (sym only_more) some_more,
-                subst (λ xs. AllPass answers false e until to xs fate_after fate_end w after (q ∷ qs)) (sym only_more)
-                    (subst (AllPass answers false e until to more fate_after fate_end w after) are ended.pass),
-              ))
-
-          -- the last three are the same
-          all_last : (q s : StretchTrace) (qs : List StretchTrace) → ended.passages ≡ q ∷ (s ∷ qs)
-              → kept.last ≡ last_behind names chosen (passages ++ cut ∷ (q ∷ (s ∷ qs))) none_last
-          all_last q s qs are =
-              let (before, over) = last_over names passages (cut ∷ (q ∷ (s ∷ qs))) chosen none_last in
-              ap (λ (k : StretchesSoFar). k.last) ended.verdict_is
-              ∙ last_from no_limits names ended.passages (carry_over cut carried) second.kept
-              ∙ ap (λ ps. last_behind names (carry_over cut carried) ps second.kept.last) are
-              ∙ ap (λ end. last_behind names (carry_over cut carried) (q ∷ (s ∷ qs)) (with_end none_last end)) end_cut
-              ∙ last_alone names cut q s qs carried none_last before ∙ sym over
-
-          pub ends : EndsOf answers p.asked a e until p.fate kept.last
-          ends = by ended.passages refl ended.pass
-            where
-              by : (ps : List StretchTrace) → ended.passages ≡ ps
-                  → AllPass answers false e until to more fate_after fate_end w after ps
-                  → EndsOf answers p.asked a e until p.fate kept.last
-              by [] are pass = absurd pass
-              by (q ∷ []) are (passed, none, is) =
-                  absurd (some_left (later_than g.goes.first more) g.goes.second g.goes.comes_then
-                  (subst (λ time. later_than time more ≡ []) (to_is ∙ to_first) none))
-              by (q ∷ (s ∷ qs)) are pass = record {
-                started = g.run.started;
-                start = start;
-                begun = subst (λ n. Begun answers n p.fate g.run.started start) (sym g.goes.network) g.run.begun;
-                passages = passages ++ cut ∷ (q ∷ (s ∷ qs));
-                fate_after = fate_end;
-                after = after;
-                pass = all_pass q (s ∷ qs) are;
-                are = all_last q s qs are ∙ last_asked names p.asked (passages ++ cut ∷ (q ∷ (s ∷ qs))) a none_last;
-              }
+            pub ends : EndsOf answers p.asked a e until p.fate kept.last
+            ends = by ended.passages refl ended.pass
+              where
+                by : (ps : List StretchTrace) → ended.passages ≡ ps
+                    → AllPass answers false e until to more fate_after fate_end w after ps
+                    → EndsOf answers p.asked a e until p.fate kept.last
+                by [] are pass = absurd pass
+                by (q ∷ []) are (passed, none, is) =
+                    absurd (some_left (later_than g.goes.first more) g.goes.second g.goes.comes_then
+                    (subst (λ time. later_than time more ≡ []) (to_is ∙ to_first) none))
+                by (q ∷ (s ∷ qs)) are pass = record {
+                  started = g.run.started;
+                  start = start;
+                  begun = subst (λ n. Begun answers n p.fate g.run.started start) (sym g.goes.network) g.run.begun;
+                  passages = passages ++ cut ∷ (q ∷ (s ∷ qs));
+                  fate_after = fate_end;
+                  after = after;
+                  pass = all_pass q (s ∷ qs) are;
+                  are = all_last q s qs are ∙ last_asked names p.asked (passages ++ cut ∷ (q ∷ (s ∷ qs))) a none_last;
+                }
