@@ -138,7 +138,7 @@ returns-clause-same c =
     let before = c.in_ok-behind.ensures.same ∙ c.in_ok-hold.ensures.same in
     let document = with_them d e at hold _ _ c.return_after.new.document before c.in_ok-fail_at.ensures.added
     c.in_ok-return_after.ensures.added in
-    let own = c.seed-before.ensures ∙ ap (λ (n : NetworkState). n.seed) c.network-before.ensures in
+    let own = c.seed-before.ensures ∙ ap (λ (n : NetworkState). n.seed) c.network.ensures in
     let back : c.set_seed-2.new.self ≡ c.return_after.new.document =
     c.set_seed-2.ensures ∙ ap (seeded_document c.seed-before.result) c.set_seed.ensures
     ∙ ap (λ seed. seeded_document seed c.return_after.new.document) own in
