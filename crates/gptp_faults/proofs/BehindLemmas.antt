@@ -1,15 +1,19 @@
 -- Events behind those of a document, from which its run goes on.
 use Rattle.std.proofs.Common.{◌≡◌, ◌<◌, ◌≤◌, ℕ, zero, suc, true, false, nat_le, drop, length, List, [], ◌∷◌, ◌++◌, Option, Some, slice_get, refl, ap, sym, subst, ◌∙◌, arith}
 use Rattle.std.proofs.lemmas.Bool.Decides.{nat_tests}
+use Rattle.std.proofs.lemmas.List.{take-append-drop}
 use Rattle.std.proofs.lemmas.Option.{same_Some}
 use Rattle.std.specs.List.{AllByRecursion}
 use Rattle.gptp_lists.specs.Members.{In}
+use Rattle.gptp_network.specs.Adding.{with_first}
+use Rattle.gptp_network.specs.Document.{DocumentState}
 use Rattle.gptp_network.specs.Events.{AreInOrder}
 use Rattle.gptp_network.proofs.SnapshotLemmas.{from_filter}
 use Rattle.gptp_network.proofs.TakingLemmas.{all_in}
 use Rattle.gptp_scenario.specs.Calm.{last_change}
 use Rattle.gptp_scenario.specs.declared.change.Timed.{Timed}
 use Rattle.gptp_timeline.specs.Passing.{first_time}
+use Rattle.gptp_timeline.specs.RunSoFar.{GoesOn}
 use Rattle.gptp_timeline.specs.Timeline.{later_than, now_of}
 use Rattle.gptp_timeline.proofs.EventLemmas.{all_now, last_latest, not_before_first, rest_in_order}
 use Rattle.gptp_faults.specs.Runs.{GoOnBehind}
@@ -98,3 +102,19 @@ go_on_behind from until count events first order there late apart due =
       second = more.second;
       comes_then = more.comes;
     }
+
+-- so a document with them goes on from one that has the others
+pub goes_on : (d e : DocumentState) (from until count : ℕ) → with_first count e ≡ d
+    → GoOnBehind from until count e.events → GoesOn d from until e
+goes_on d e from until count first behind = record {
+  network = ap (λ (x : DocumentState). x.network) first;
+  more = drop count e.events;
+  events = sym (take-append-drop count e.events)
+      ∙ ap (λ (x : DocumentState). x.events ++ drop count e.events) first;
+  late = behind.late;
+  due = behind.due;
+  first = behind.first;
+  comes = behind.comes;
+  second = behind.second;
+  comes_then = behind.comes_then;
+}

@@ -3,7 +3,6 @@
 ghost use Rattle.std.specs.Prelude.{◌≡◌, ◌≤◌, ◌*◌, ◌<◌, IfErr, IfOk, OnOk, false, true};
 ghost use Rattle.gptp_setup.specs.declared.limits.TheConstants.{LAST_MOMENT};
 ghost use Rattle.gptp_network.specs.Adding.{with_first};
-ghost use Rattle.gptp_network.specs.Events.{AreInOrder};
 ghost use Rattle.gptp_faults.specs.Refusals.{is_late};
 ghost use Rattle.gptp_faults.specs.Runs.{AreRunEnds, CaseRunEnds, draws, generator, GoOnBehind, IsKept, run_moment, runs_of, seed_of};
 ghost use Rattle.gptp_faults.specs.Options.{tracks};
@@ -19,7 +18,6 @@ use crate::times::{Times, moment};
 use gptp_links::PcgFate;
 use gptp_network::Document;
 use gptp_report::Cut;
-use gptp_scenario::Timed;
 use gptp_timeline::{LastStretches, RunSoFar, SetAside, StretchEnd, last_stretches};
 use gptp_vector::ClockId;
 use std::alloc::Global;
@@ -108,16 +106,16 @@ pub(crate) fn run_so_far(
     Ok(Some(run))
 }
 
-/// Whether the events behind the first so many come from a time on up to an end, not all of them at one time.
-fn go_on(events: &[Timed], count: usize, from: u64, until: u64) -> bool
-    requires { AreInOrder events.now }
-    ensures { result ≡ true → GoOnBehind from until count events.now }
+/// Whether the events of a document behind the first so many come from a time on up to an end, not all of them at one
+/// time.
+fn go_on(document: &Document, count: usize, from: u64, until: u64) -> bool
+    ensures { result ≡ true → GoOnBehind from until count document.now.events }
 {
-    match (events.get(count), events.last()) {
-        (Some(first), Some(last)) => {
-            from <= first.at && first.at < last.at && last.at <= until
-        }
-        _ => false,
+    document.well_formed();
+    let last = document.last_change();
+    match document.events().get(count) {
+        Some(first) => from <= first.at && first.at < last && last <= until,
+        None => false,
     }
 }
 
@@ -140,9 +138,8 @@ fn run_ends(
     ensures ends { IfOk result (EndsOf draws (tracks options.now) aside document.now end (generator seed)) }
     ensures memory { IfErr result (λ e. e ≡ Cut.Memory) }
 {
-    document.well_formed();
     match kept {
-        Some(run) if seed == 1 && go_on(document.events(), count, times.from, end) => {
+        Some(run) if seed == 1 && go_on(document, count, times.from, end) => {
             run.last_stretches(alloc, document, end, aside)
         }
         _ => last_stretches(
