@@ -400,14 +400,14 @@ pub(crate) fn earlier_stretches<'a, F: Fate + Drop, K: Sink>(
     requires times { AreTimesOf document.now times.now }
     ensures passed { IfOk result (λ last. (count : ℕ) × (lines : List (List ℕ))
         × EarlierAreSeen F.answers exact document.now limits.now count
-        (standing begins.from begins.left.now world.old.fate world.old.world_core watch.old begins.kept)
+        (standing begins.entry.from begins.entry.left.now world.old.fate world.old.world_core watch.old begins.entry.kept)
         (standing last.from last.left.now world.new.fate world.new.world_core watch.new last.kept) lines
         × Appends (K.written sink.old) (K.written sink.new) (text_of lines)) }
     ensures may { IfOk result (λ last. MayPass until last.from last.left.now world.new.world_core) }
     ensures last { IfOk result (λ last. later_than last.from last.left.now ≡ []) }
     ensures broken { OnErr result ((lines : List (List ℕ))
         × StopsBetween F.answers exact document.now limits.now until
-        (standing begins.from begins.left.now world.old.fate world.old.world_core watch.old begins.kept) lines
+        (standing begins.entry.from begins.entry.left.now world.old.fate world.old.world_core watch.old begins.entry.kept) lines
         × AppendsSome (K.written sink.old) (K.written sink.new) (text_of lines)) }
     ensures works { result ≢ Err Cut.Write → K.failures sink.new ≡ K.failures sink.old }
     ensures fails { result ≡ Err Cut.Write → K.failures sink.new ≢ K.failures sink.old }
@@ -447,12 +447,12 @@ pub(crate) fn stretches_from<'a, F: Fate + Drop, K: Sink>(
     requires times { AreTimesOf document.now times.now }
     ensures passed { IfOk result (λ kept. (lines : List (List ℕ))
         × AllAreSeen F.answers exact document.now limits.now
-        (standing begins.from begins.left.now world.old.fate world.old.world_core watch.old begins.kept)
+        (standing begins.entry.from begins.entry.left.now world.old.fate world.old.world_core watch.old begins.entry.kept)
         (standing until [] world.new.fate world.new.world_core watch.new kept) lines
         × Appends (K.written sink.old) (K.written sink.new) (text_of lines)) }
     ensures broken { OnErr result ((lines : List (List ℕ))
         × StopsBetween F.answers exact document.now limits.now until
-        (standing begins.from begins.left.now world.old.fate world.old.world_core watch.old begins.kept) lines
+        (standing begins.entry.from begins.entry.left.now world.old.fate world.old.world_core watch.old begins.entry.kept) lines
         × AppendsSome (K.written sink.old) (K.written sink.new) (text_of lines)) }
     ensures works { result ≢ Err Cut.Write → K.failures sink.new ≡ K.failures sink.old }
     ensures fails { result ≡ Err Cut.Write → K.failures sink.new ≢ K.failures sink.old }
