@@ -79,5 +79,5 @@ module _ {F : Type 0} (answers : Bounds → ℕ → F → Option ℕ → F → T
 
   pub ends_settled : EndsSettled answers
   ends_settled d time s next until fate first w ts playable k told is none late early =
-      bound_ends_settled d time.at s.choice next until fate first w ts playable k
+      bound_ends_settled d time.at s.roles next until fate first w ts playable k
       (settlings_are_choice_bounds d time s playable told is).0 none late early
