@@ -1,18 +1,18 @@
 //! Whether a system is the far end of each of its links.
 
-ghost use Rattle.std.specs.Prelude.{◌≡◌};
-ghost use Rattle.gptp_how_soon.specs.Far.{are_far, has_lower_clock, is_far_end, is_far_named, is_far_over, is_nearer, is_nearer_at};
+ghost use Rattle.std.specs.Prelude.{◌≡◌, slice_get};
+ghost use Rattle.gptp_how_soon.specs.Far.{are_far, has_lower_clock, is_far_end, is_far_named, is_far_over, is_nearer_at};
 
 use crate::chosen::{Chosen, Ends, place_of};
 use crate::kinds::Told;
 use gptp_topology::System;
 
-/// Whether the one system has the lower clock, where both are there.
-fn has_lower_clock(near: Option<&System>, far: Option<&System>) -> bool
-    ensures { result ≡ has_lower_clock near far }
+/// Whether the system at the one place has the lower clock.
+fn has_lower_clock(systems: &[System], near: usize, far: usize) -> bool
+    ensures { result ≡ has_lower_clock (slice_get systems.now near) (slice_get systems.now far) }
 {
-    match near {
-        Some(near) => match far {
+    match systems.get(near) {
+        Some(near) => match systems.get(far) {
             Some(far) => near.clock < far.clock,
             None => false,
         },
@@ -20,25 +20,18 @@ fn has_lower_clock(near: Option<&System>, far: Option<&System>) -> bool
     }
 }
 
-/// Whether the one has chosen fewer steps, or as many and has the lower clock.
-fn is_nearer(near: Option<&Chosen>, far: Option<&Chosen>, lower: bool) -> bool
-    ensures { result ≡ is_nearer near far lower }
+/// Whether the system at the one place has chosen fewer steps, or as many and has the lower clock.
+fn is_nearer_at(systems: &[System], chosen: &[Chosen], near: usize, far: usize) -> bool
+    ensures { result ≡ is_nearer_at systems.now chosen.now near far }
 {
-    match near {
-        Some(near) => match far {
+    let lower = has_lower_clock(systems, near, far);
+    match chosen.get(near) {
+        Some(near) => match chosen.get(far) {
             Some(far) => near.steps < far.steps || (near.steps == far.steps && lower),
             None => false,
         },
         None => false,
     }
-}
-
-/// Whether it is so of the systems at two places.
-fn is_nearer_at(systems: &[System], chosen: &[Chosen], near: usize, far: usize) -> bool
-    ensures { result ≡ is_nearer_at systems.now chosen.now near far }
-{
-    let lower = has_lower_clock(systems.get(near), systems.get(far));
-    is_nearer(chosen.get(near), chosen.get(far), lower)
 }
 
 /// Whether the system at a place is the far end of a link, if it is at one of its ends.
