@@ -121,7 +121,7 @@ module _ (n : NetworkState) (network : IsNetwork n) (made : List Timed) (g : Sna
       let o_v = mapped_there (system_then made) n.systems i at_v.system at_v.there in
       let o_u = mapped_there (system_then made) n.systems j at_u.system at_u.there in
       let told : is_nearer (Some e) (Some c)
-          (has_lower_clock (Some (system_then made at_u.system)) (Some (system_then made at_v.system))) ≡ true =
+      (has_lower_clock (Some (system_then made at_u.system)) (Some (system_then made at_v.system))) ≡ true =
       (λ k. is_nearer (sym e_there k) (sym c_there k) (has_lower_clock (sym o_u k) (sym o_v k))) ∙ nearer in
       let clock_v = at_v.clock in
       let clock_u = at_u.clock in

@@ -593,63 +593,63 @@ settles_chooses n events (Left silent) settled (off, late) = off
 
 -- The times of a document up to this one lead to a loss, after which roles stand so much later.
 module _ (d : DocumentState) (network : IsNetwork d.network) (order : AreInOrder d.events) (time choice roles : ℕ)
-    where
-  record IsLost : Type 0 where
-    first : Past
-    begins : BeginsBy d.network first
-    silent : ℕ
-    lead : LeadOn d.network [] first (events_by time d.events) (Left silent)
-    over : silent ≤ time + roles
-    calm : IsCalm d.network (events_by time d.events)
-    off : NothingLapses d.network.params
+  where
+    record IsLost : Type 0 where
+      first : Past
+      begins : BeginsBy d.network first
+      silent : ℕ
+      lead : LeadOn d.network [] first (events_by time d.events) (Left silent)
+      over : silent ≤ time + roles
+      calm : IsCalm d.network (events_by time d.events)
+      off : NothingLapses d.network.params
 
-  -- the one event of this time, by which network is left
-  abbrev LosesOne : List Timed → List Timed → Type 0
-  LosesOne made now = (LowersOneLink d.network made now × (roles ≡ 0))
-      ⊎ (FailsOneEnd d.network made now × (roles ≡ capability_span (pace_of d.network)))
+    -- the one event of this time, by which network is left
+    abbrev LosesOne : List Timed → List Timed → Type 0
+    LosesOne made now = (LowersOneLink d.network made now × (roles ≡ 0))
+        ⊎ (FailsOneEnd d.network made now × (roles ≡ capability_span (pace_of d.network)))
 
-  lost_by : (last choice_then : ℕ) (now : List Timed) → NothingLapses d.network.params
-      → events_at time d.events ≡ now → events_by time d.events ≡ events_by last d.events ++ now
-      → IsCalm d.network (events_by last d.events) → IsCalm d.network (events_by time d.events)
-      → IsFollowedTo d.network (events_by last d.events) last choice_then → last + choice_then < time
-      → LosesOne (events_by last d.events) now → IsLost
-  lost_by last choice_then [] off is parts calm_then calm before soon loses =
-      elim loses [ inl none ↦ absurd none.0 | inr none ↦ absurd none.0 ]
-  lost_by last choice_then (event ∷ other ∷ now) off is parts calm_then calm before soon loses =
-      elim loses [ inl none ↦ absurd none.0 | inr none ↦ absurd none.0 ]
-  lost_by last choice_then (event ∷ []) off is parts calm_then calm before soon loses =
-      let n = d.network in
-      let earlier = events_by last d.events in
-      let here : event.at ≡ time =
-      (subst (AllByRecursion (λ (t : Timed). t.at ≡ time)) is (all_at time d.events)).0 in
-      let then = settled_later n earlier before.last (suc (last + choice_then)) event.at (omega (arith, soon, here))
-      before.settles in
-      let x = loss_leads n earlier event roles before.last then (elim loses [
-        | inl (lowers, none) ↦ inl (record { lowers = lowers; calm = calm_then; off = off }, none)
-        | inr (fails, span) ↦ inr (record { fails = fails; calm = calm_then; off = off }, span)
-      ]) in
-      let over = x.over in
-      record {
-        first = before.first;
-        begins = before.begins;
-        silent = x.silent;
-        lead = subst (λ es. LeadOn n [] before.first es (Left x.silent)) (sym parts)
-            (leads_on n [] before.first before.last (Left x.silent) earlier (event ∷ []) before.lead
-            (Left x.silent, x.leads, refl));
-        over = omega (arith, over, here);
-        calm = calm;
-        off = off;
-      }
+    lost_by : (last choice_then : ℕ) (now : List Timed) → NothingLapses d.network.params
+        → events_at time d.events ≡ now → events_by time d.events ≡ events_by last d.events ++ now
+        → IsCalm d.network (events_by last d.events) → IsCalm d.network (events_by time d.events)
+        → IsFollowedTo d.network (events_by last d.events) last choice_then → last + choice_then < time
+        → LosesOne (events_by last d.events) now → IsLost
+    lost_by last choice_then [] off is parts calm_then calm before soon loses =
+        elim loses [ inl none ↦ absurd none.0 | inr none ↦ absurd none.0 ]
+    lost_by last choice_then (event ∷ other ∷ now) off is parts calm_then calm before soon loses =
+        elim loses [ inl none ↦ absurd none.0 | inr none ↦ absurd none.0 ]
+    lost_by last choice_then (event ∷ []) off is parts calm_then calm before soon loses =
+        let n = d.network in
+        let earlier = events_by last d.events in
+        let here : event.at ≡ time =
+        (subst (AllByRecursion (λ (t : Timed). t.at ≡ time)) is (all_at time d.events)).0 in
+        let then = settled_later n earlier before.last (suc (last + choice_then)) event.at (omega (arith, soon, here))
+        before.settles in
+        let x = loss_leads n earlier event roles before.last then (elim loses [
+          | inl (lowers, none) ↦ inl (record { lowers = lowers; calm = calm_then; off = off }, none)
+          | inr (fails, span) ↦ inr (record { fails = fails; calm = calm_then; off = off }, span)
+        ]) in
+        let over = x.over in
+        record {
+          first = before.first;
+          begins = before.begins;
+          silent = x.silent;
+          lead = subst (λ es. LeadOn n [] before.first es (Left x.silent)) (sym parts)
+              (leads_on n [] before.first before.last (Left x.silent) earlier (event ∷ []) before.lead
+              (Left x.silent, x.leads, refl));
+          over = omega (arith, over, here);
+          calm = calm;
+          off = off;
+        }
 
-  lost_after : (earlier : List ℕ) → IsLossBoundAfter d.network d.events earlier time choice roles
-      → IsLost × (choice ≡ 0)
-  lost_after [] none = absurd none
-  lost_after (last ∷ earlier) (less, between, calm, off, (choice_then, bound, soon), none, loses) = (
-    lost_by last choice_then (events_at time d.events) off refl (parted d.events last time order less between)
-        (bound_calm d.network network off d.events order earlier last choice_then bound) calm
-        (followed d.network network off d.events order earlier last choice_then bound) soon loses,
-    none,
-  )
+    lost_after : (earlier : List ℕ) → IsLossBoundAfter d.network d.events earlier time choice roles
+        → IsLost × (choice ≡ 0)
+    lost_after [] none = absurd none
+    lost_after (last ∷ earlier) (less, between, calm, off, (choice_then, bound, soon), none, loses) = (
+      lost_by last choice_then (events_at time d.events) off refl (parted d.events last time order less between)
+          (bound_calm d.network network off d.events order earlier last choice_then bound) calm
+          (followed d.network network off d.events order earlier last choice_then bound) soon loses,
+      none,
+    )
 
 -- A choice bound of a document at a time: by then it settles after all events up to any time before the next.
 module _ (d : DocumentState) (network : IsNetwork d.network) (order : AreInOrder d.events)

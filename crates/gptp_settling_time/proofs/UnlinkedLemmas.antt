@@ -94,35 +94,35 @@ module _ (says : Spelling) (g : Snapshot) (n : Network) (well : IsWellFormed g) 
               let least = above best (best_before g n.graph well net.graph left s.clock best is_best) in
               omega (arith, least, root, less)
           by (best, is_best, root) (far, from_far) steps (inr (same_root, rest)) = go rest
-              where
-                was : IsBest g s.clock best
-                was = best_before g n.graph well net.graph left s.clock best is_best
+            where
+              was : IsBest g s.clock best
+              was = best_before g n.graph well net.graph left s.clock best is_best
 
-                reaches : far ≤ a.steps
-                reaches = sender best far was (same_root ∙ root) from_far
+              reaches : far ≤ a.steps
+              reaches = sender best far was (same_root ∙ root) from_far
 
-                beyond : (s.steps < far) ⊎ ((s.steps ≡ far) × (s.clock < from.clock))
-                beyond =
-                    farther from (port_of s.clock (suc place)) far s.steps joins known gone from_far
-                    (distance_before g n.graph well net.graph left s.clock s.steps steps)
+              beyond : (s.steps < far) ⊎ ((s.steps ≡ far) × (s.clock < from.clock))
+              beyond =
+                  farther from (port_of s.clock (suc place)) far s.steps joins known gone from_far
+                  (distance_before g n.graph well net.graph left s.clock s.steps steps)
 
-                clock_is : a.source.clock ≡ from.clock
-                clock_is = ap (λ (p : PortIdentity). p.clock) source
+              clock_is : a.source.clock ≡ from.clock
+              clock_is = ap (λ (p : PortIdentity). p.clock) source
 
-                go : (a.steps < s.steps) ⊎ ((a.steps ≡ s.steps)
-                    × ((a.source.clock < s.clock) ⊎ ((a.source.clock ≡ s.clock)
-                    × IsLower (a.source.port ∷ suc place ∷ []) (suc place ∷ suc place ∷ [])))) → ⊥
-                go (inl fewer) = elim beyond [
-                  | inl less ↦ omega (arith, reaches, fewer, less)
-                  | inr (same, lower) ↦ omega (arith, reaches, fewer, same)
+              go : (a.steps < s.steps) ⊎ ((a.steps ≡ s.steps)
+                  × ((a.source.clock < s.clock) ⊎ ((a.source.clock ≡ s.clock)
+                  × IsLower (a.source.port ∷ suc place ∷ []) (suc place ∷ suc place ∷ [])))) → ⊥
+              go (inl fewer) = elim beyond [
+                | inl less ↦ omega (arith, reaches, fewer, less)
+                | inr (same, lower) ↦ omega (arith, reaches, fewer, same)
+              ]
+              go (inr (same_steps, rest)) = elim beyond [
+                | inl less ↦ omega (arith, reaches, same_steps, less)
+                | inr (same, lower) ↦ elim rest [
+                  | inl below ↦ omega (arith, below, lower, clock_is)
+                  | inr (equal, ports) ↦ omega (arith, equal, lower, clock_is)
                 ]
-                go (inr (same_steps, rest)) = elim beyond [
-                  | inl less ↦ omega (arith, reaches, same_steps, less)
-                  | inr (same, lower) ↦ elim rest [
-                    | inl below ↦ omega (arith, below, lower, clock_is)
-                    | inr (equal, ports) ↦ omega (arith, equal, lower, clock_is)
-                  ]
-                ]
+              ]
 
       -- so nothing that it may hold is replaced
       not_replaced : Replaces s.clock (suc place) a q.held → ⊥
