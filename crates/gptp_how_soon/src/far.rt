@@ -46,7 +46,9 @@ fn is_far_over(systems: &[System], chosen: &[Chosen], place: usize, ends: &Ends)
 fn is_far_end(systems: &[System], chosen: &[Chosen], links: &[Ends], place: usize) -> bool
     ensures { result ≡ is_far_end systems.now chosen.now links.now place }
 {
-    links.iter().all(|ends| is_far_over(systems, chosen, place, ends))
+    links
+        .iter()
+        .all(|ends| is_far_over(systems, chosen, place, ends))
 }
 
 /// Whether the system that an event names is.
@@ -58,13 +60,9 @@ fn is_far_named(systems: &[System], chosen: &[Chosen], links: &[Ends], told: &To
 
 /// Whether each system that these events name is the far end of each of its links, where the systems have chosen so over
 /// these links.
-pub(crate) fn are_far(
-    systems: &[System],
-    chosen: &[Chosen],
-    links: &[Ends],
-    told: &[Told],
-) -> bool
+pub(crate) fn are_far(systems: &[System], chosen: &[Chosen], links: &[Ends], told: &[Told]) -> bool
     ensures { result ≡ are_far systems.now chosen.now links.now told.now }
 {
-    told.iter().all(|one| is_far_named(systems, chosen, links, one))
+    told.iter()
+        .all(|one| is_far_named(systems, chosen, links, one))
 }
