@@ -48,7 +48,6 @@ use Rattle.gptp_invariants.specs.DelayMeasured.{LinkIsMeasured, LinkStandsAt, St
 use Rattle.gptp_invariants.specs.WorldNews.{AreReadyBy, AreSilentBy}
 use Rattle.gptp_invariants.specs.WorldSound.{IsSoundWorld}
 use Rattle.gptp_invariants.specs.WorldStanding.{channel_is_used, live_stations, snapshot_of, standing_system, stations_have_clock}
-use Rattle.gptp_invariants.proofs.ChoiceCalmKeptLemmas.{places_kept}
 use Rattle.gptp_invariants.proofs.ChoicePlaceLemmas.{station_from, station_there}
 use Rattle.gptp_invariants.proofs.WorldNewsLemmas.{ready_goes_through}
 use Rattle.gptp_invariants.proofs.WorldSoundCallLemmas.{links_more}
@@ -59,6 +58,7 @@ use Rattle.gptp_settling_time.specs.Losses.{IsFarEnd, IsUnmoved}
 use Rattle.gptp_settling_time.proofs.AlwaysClaimedLemmas.{IsStanding, start_network}
 use Rattle.gptp_settling_time.proofs.FitsLemmas.{IsLeftUnmoved, everything_fits, lived, received_still}
 use Rattle.gptp_settling_time.proofs.LeftClaimedLemmas.{HaveAskedLong, IsLeftAlways, left_calm, left_net, left_network}
+use Rattle.gptp_settling_time.proofs.ReactsLemmas.{places_set}
 use Rattle.gptp_settling_time.proofs.ReducedLemmas.{IsReduced, fits_reduced, levels_reduced, reduced_itself}
 use Rattle.gptp_settling_time.proofs.SettledSeenLemmas.{IsSettledSeen, wired_as}
 use Rattle.gptp_settling_time.proofs.UnlinkedLemmas.{LostAreFarther, UnlinkedHoldNothing, far_holds_none}
@@ -199,6 +199,7 @@ module _ (p : SettlingParams) (number : ℕ) (w : WorldState) (draws : List Draw
     }
 
     stood_link : (at : LinkPlace) → LinkStandsAt at w' → LinkStandsAt at w
+    unfolding stood_at
     stood_link at s = record {
       channel = s.channel;
       here = ap (λ cs. slice_get cs at.link) (sym channels_now) ∙ s.here;
@@ -305,7 +306,7 @@ module _ (p : SettlingParams) (number : ℕ) (w : WorldState) (draws : List Draw
           place_kept : (v : ℕ) → clock_place w'.stations v ≡ clock_place w.stations v
           place_kept v =
               ap (λ xs. clock_place xs v) stations_now
-              ∙ places_kept w.stations k.place k.station dead k.is.here refl v
+              ∙ places_set w.stations k.place k.station dead k.is.here refl v
 
       wires : (n : Network) → delay_in w' ≡ delay_in w → n ≡ wired_as n (start_network p 0 0 w') → SameWiring seen.n n
       wires n delay wired =
@@ -314,7 +315,7 @@ module _ (p : SettlingParams) (number : ℕ) (w : WorldState) (draws : List Draw
           record {
             place = λ v.
                 ap (λ (x : Network). x.place v) wired ∙ ap (λ xs. clock_place xs v) stations_now
-                ∙ places_kept w.stations k.place k.station dead k.is.here refl v ∙ seen.same.place v;
+                ∙ places_set w.stations k.place k.station dead k.is.here refl v ∙ seen.same.place v;
             lane = λ q.
                 ap (λ (x : Network). x.lane q) wired ∙ ap (λ cs. lane_of cs q) channels_now ∙ seen.same.lane q;
             log = λ q. ap (λ (x : Network). x.log_of q) wired ∙ log_kept q ∙ seen.same.log q;

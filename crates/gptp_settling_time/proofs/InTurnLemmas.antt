@@ -34,6 +34,7 @@ use Rattle.gptp_network.proofs.ExistenceLemmas.{stands_after}
 use Rattle.gptp_report.specs.Transitions.{Courses, Unfolds}
 use Rattle.gptp_invariants.specs.ChoiceCalm.{delay_in, sync_paths_of}
 use Rattle.gptp_invariants.specs.ChoiceSettled.{Settled}
+use Rattle.gptp_invariants.specs.ChoiceSettlesAsMachine.{IsWorld}
 use Rattle.gptp_invariants.specs.WorldBounded.{IsBoundedWorld}
 use Rattle.gptp_invariants.specs.WorldCalmFor.{IsCalmFor, at_once_span, span_over}
 use Rattle.gptp_invariants.specs.WorldNews.{AreReadyBy, AreSilentBy, IsNews}
