@@ -1,6 +1,7 @@
 pub mod Clock
 pub mod Earlier
 pub mod EarlierFields
+pub mod PackedFields
 pub mod Exchange
 pub mod GoodLink
 pub mod Progress

@@ -2,9 +2,11 @@
 
 ghost use Rattle.std.specs.Prelude.{◌≡◌, ◌<◌, ◌≤◌, ◌-◌, [], ◌∷◌, length, take, IsOk, IfOk};
 ghost use Rattle.gptp_pdelay.specs.Earlier.{past_of};
-ghost use Rattle.gptp_pdelay.specs.Exchange.{oldest};
+ghost use Rattle.gptp_pdelay.specs.Exchange.{AreTimes, IsMeasured, oldest};
+ghost use Rattle.std.specs.Option.{ForSome};
 
 use crate::exchange::{Measurement, Times};
+use crate::packed::Packed;
 use arrayvec::ArrayVec;
 use std::alloc::{AllocError, Global};
 use std::marker::Model;
@@ -15,7 +17,7 @@ const MOST_EARLIER: usize = 15;
 /// Room for them, which is kept apart from the port.
 #[derive(Debug, Drop)]
 struct Room {
-    times: ArrayVec<Times, MOST_EARLIER>,
+    times: ArrayVec<Packed, MOST_EARLIER>,
 }
 
 /// The times of the exchanges before the last one, the newest first, at most as many as are asked for.
@@ -40,12 +42,13 @@ impl Model for Earlier {
 
 /// A newer one comes: the oldest goes, where there would be more than `most`.
 fn put_first(room: &mut Room, times: Times, most: usize)
+    requires times { AreTimes times }
     requires some { 0 < most }
     requires room { most ≤ MOST_EARLIER }
     ensures { room.new.times.items ≡ take most (times ∷ room.old.times.items) }
 {
     room.times.truncate(most - 1);
-    room.times.insert(0, times);
+    room.times.insert(0, Packed::of(times));
 }
 
 impl Earlier {
@@ -88,6 +91,7 @@ impl Earlier {
 
     /// A newer one comes: the oldest goes, where there would be too many.
     fn put(&mut self, times: Times)
+        requires { AreTimes times }
         ensures { self.new ≡ record self.old { times = take self.old.most (times ∷ self.old.times) } }
     {
         if self.most == 0 {
@@ -100,6 +104,7 @@ impl Earlier {
 
     /// Another exchange follows the last one, if there was one: that comes to these.
     pub fn follow(&mut self, last: Option<Measurement>)
+        requires { ForSome last IsMeasured }
         ensures { self.new ≡ record self.old { times = take self.old.most (past_of last self.old.times) } }
     {
         let _ = &self.most;
@@ -115,7 +120,10 @@ impl Earlier {
         ensures { result ≡ oldest self.now.times }
     {
         match &self.room {
-            Some(room) => room.times.as_slice().last().copied(),
+            Some(room) => match room.times.as_slice().last() {
+                Some(oldest) => Some(oldest.times()),
+                None => None,
+            },
             None => None,
         }
     }

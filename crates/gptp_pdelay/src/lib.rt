@@ -15,6 +15,7 @@ mod answer;
 mod earlier;
 mod exchange;
 pub mod laws;
+mod packed;
 mod peer;
 mod progress;
 mod step;
