@@ -1,3 +1,0 @@
-pub mod SumLemmas
-pub mod MachineLemmas
-pub mod ReadingLemmas

@@ -1,4 +1,0 @@
-pub mod Stubs
-pub mod SumLemmas
-pub mod MachineLemmas
-pub mod ReadingLemmas

@@ -1,9 +1,0 @@
-pub mod Clock
-pub mod GoodLink
-pub mod Measured
-pub mod Sum
-pub mod TimeError
-pub mod WayLaws
-pub mod Ways
-pub mod Readings
-pub mod Sums

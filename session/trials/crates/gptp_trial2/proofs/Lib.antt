@@ -1,3 +1,0 @@
-pub mod HopLemmas
-pub mod WayLemmas
-pub mod TellingLemmas
