@@ -42,7 +42,7 @@ use Rattle.gptp_network_tests.proofs.RingLemmas.{pace_is, paths_are, ring_begun}
 
 -- ---- the document
 
-abbrev event : Timed
+abbrev pub event : Timed
 event = record { at = 30000000000; act = Changing (Fail 0x80e1fffe00000c) }
 
 pub far_playable : IsNetwork ring_network → IsPlayable far_document
@@ -294,7 +294,7 @@ is_far u far near adjacent far_is near_is =
 
 -- ---- the bounds
 
-fails : FailsFarEnd ring_network [] event
+pub fails : FailsFarEnd ring_network [] event
 fails = record {
   clock = third.clock;
   act = refl;
@@ -321,7 +321,7 @@ lost = (
   refl,
   (1000003050, (refl, ring_begun), omega arith),
   refl,
-  inr (fails, span),
+  inr ((fails, tt), inr span),
 )
   where
     span : 14000000000 ≡ capability_span (pace_of ring_network)

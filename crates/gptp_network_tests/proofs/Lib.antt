@@ -8,4 +8,5 @@ mod BackLemmas
 mod EarlyLemmas
 mod RingLemmas
 mod FarLemmas
+mod PowerLemmas
 mod AgeLemmas

@@ -1,4 +1,5 @@
--- The four bridges of examples/ring.toml: at 30 s a link between two of them goes down, or one fails.
+-- The four bridges of examples/ring.toml: at 30 s a link between two of them goes down, one fails, or it loses its
+-- power.
 use Rattle.std.specs.Prelude.{ℕ, ℤ, pos, true, false, [], ◌∷◌}
 use Rattle.arrayvec.specs.ArrayVec.{ArrayVec}
 use Rattle.gptp_scenario.specs.Network.{NetworkState, member, wire}
@@ -51,6 +52,17 @@ abbrev pub far_document : DocumentState
 far_document = record {
   network = ring_network;
   events = record { at = 30000000000; act = Changing (Fail 0x80e1fffe00000c) } ∷ [];
+}
+
+-- it loses its power: as it fails both its links go down
+abbrev pub dark_document : DocumentState
+dark_document = record {
+  network = ring_network;
+  events =
+      record { at = 30000000000; act = Changing (Fail 0x80e1fffe00000c) }
+      ∷ record { at = 30000000000; act = Changing (LinkDown 0x80e1fffe00000c 1) }
+      ∷ record { at = 30000000000; act = Changing (LinkDown 0x80e1fffe00000c 2) }
+      ∷ [];
 }
 
 abbrev pub ring_paths : SyncPaths

@@ -3,7 +3,7 @@
 
 ghost use Rattle.std.specs.Prelude.{◌≡◌, IfOk, OnOk, Some};
 ghost use Rattle.gptp_network_tests.specs.Pair.{HasBegun, first_member, pair_document};
-ghost use Rattle.gptp_network_tests.specs.Ring.{far_document, ring_document};
+ghost use Rattle.gptp_network_tests.specs.Ring.{dark_document, far_document, ring_document};
 ghost use Rattle.gptp_network_tests.specs.Soon.{BetterClocksSettleSoon, ChoosesWithin, IsPairSoon, SettlesWithin, back_document, early_document};
 
 use crate::drawn::begun;
@@ -81,6 +81,15 @@ pub fn rings_settle_soon<F: Fate>()
 pub fn far_ends_settle_soon<F: Fate>()
     ensures choice { ChoosesWithin F.answers far_document 30000000000 0 }
     ensures roles { SettlesWithin F.answers far_document 30000000000 14000000000 }
+{
+    choice_alone_bounds_hold::<F>();
+    choice_bounds_hold::<F>();
+}
+
+/// Where it loses its power, and both its links go down as it fails, the choice and the roles stand at once.
+pub fn lost_power_settles_soon<F: Fate>()
+    ensures choice { ChoosesWithin F.answers dark_document 30000000000 0 }
+    ensures roles { SettlesWithin F.answers dark_document 30000000000 0 }
 {
     choice_alone_bounds_hold::<F>();
     choice_bounds_hold::<F>();
