@@ -27,7 +27,7 @@ RANGES: dict[str, dict[str, tuple[int, int]]] = {
         "sync_timeout": (0, 10),
         "granularity": (0, 1000),
         "noise": (0, 1000),
-        "window": (1, 1),
+        "window": (1, 16),
     },
     "system": {
         "priority1": (0, 255),

@@ -1,11 +1,12 @@
 -- The chains of all queues, as one of them changes.
-use Rattle.std.proofs.Common.{◌≡◌, ◌≢◌, ℕ, zero, suc, ◌+◌, ◌-◌, ◌<◌, ◌≤◌, List, [], ◌∷◌, map, length, replicate, Option, Some, slice_get, slice_set, slice_index_or, refl, sym, ap, ap₂, ◌∙◌, subst, inl, inr, arith}
+use Rattle.std.proofs.Common.{◌≡◌, ◌≢◌, ℕ, zero, suc, ◌+◌, ◌-◌, ◌<◌, ◌≤◌, List, [], ◌∷◌, map, length, replicate, Option, Some, None, is_some, slice_get, slice_set, slice_index_or, refl, sym, ap, ap₂, ◌∙◌, subst, inl, inr, arith}
 use Rattle.std.proofs.lemmas.Bool.{cases_lt}
 use Rattle.std.proofs.lemmas.List.{length-map, get_or_past, nil_from_length}
 use Rattle.std.proofs.lemmas.List.Folds.{sum_by-replicate}
 use Rattle.std.proofs.lemmas.List.Sums.{sum_by-set, sum_by-le, get_or-le-sum_by}
 use Rattle.std.proofs.lemmas.Option.{none-some, same_Some, slice_get-get_or, slice_get_within}
-use Rattle.slab.specs.Slab.{Slab, get, slab_len}
+use Rattle.std.specs.List.{AllZip, count_by}
+use Rattle.slab.specs.Slab.{Slab, get, slab_len, IsSlabClone, IsSlotClone}
 use Rattle.gptp_lists.specs.Members.{In}
 use Rattle.gptp_lists.proofs.MappedLemmas.{mapped_there}
 use Rattle.gptp_lists.proofs.PlaceLemmas.{member_there, read, set_each}
@@ -130,6 +131,46 @@ module _ {T : Type 0} where
         fits = omega (arith, are.fits, larger);
       } in
       subst (λ (u : Slab (Node T)). AreChained u chains) (sym kept) same
+
+  -- ---- a copy
+
+  -- the nodes of a slab of which each is a clone, where a clone is the same
+  slots-copied : (xs ys : List (Option (Node T))) → AllZip (IsSlotClone (λ (node copy : Node T). copy ≡ node)) xs ys
+      → ys ≡ xs
+  slots-copied [] [] same = refl
+  slots-copied [] (y ∷ ys) same = absurd same
+  slots-copied (x ∷ xs) [] same = absurd same
+  slots-copied (x ∷ xs) (y ∷ ys) same = ap₂ (λ z zs. z ∷ zs) (by x y same.0) (slots-copied xs ys same.1) where
+    by : (a b : Option (Node T)) → IsSlotClone (λ (node copy : Node T). copy ≡ node) a b → b ≡ a
+    by None b same = same
+    by (Some node) None same = absurd same
+    by (Some node) (Some copy) same = ap Some same
+
+  module _ (s copy t : Slab (Node T)) (clones : IsSlabClone (λ (node copy : Node T). copy ≡ node) s copy)
+      (kept : t ≡ record copy { capacity = t.capacity }) where
+    slots-kept : t.slots ≡ s.slots
+    slots-kept = ap (λ (u : Slab (Node T)). u.slots) kept ∙ slots-copied s.slots copy.slots clones.slots
+
+    abbrev node_in : List (Option (Node T)) → ℕ → Option (Node T)
+    node_in slots key = slice_index_or slots key None
+
+    get-kept : get t ≡ get s
+    get-kept = ap node_in slots-kept
+
+    len-kept : slab_len t ≡ slab_len s
+    len-kept = ap (count_by is_some) slots-kept
+
+    pub chained-copied : (chains : List Chain) → AreChained s chains → slab_len t ≤ t.capacity → AreChained t chains
+    chained-copied chains are fits = record {
+      each = rw get-kept are.each;
+      apart = rw get-kept are.apart;
+      alone = len-kept ∙ are.alone;
+      fits = fits;
+    }
+
+    pub queues-copied : (chains : List Chain)
+        → map (chain_values (get t)) chains ≡ map (chain_values (get s)) chains
+    queues-copied chains = ap (λ (nodes : ℕ → Option (Node T)). map (chain_values nodes) chains) get-kept
 
   -- ---- one queue
 

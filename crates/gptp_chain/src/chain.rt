@@ -6,6 +6,7 @@ ghost use Rattle.slab.specs.Slab.{get, slab_len, HasRoomFor, Updates};
 ghost use Rattle.gptp_chain.specs.Chain.{no_chain, chain_values, with_last, with_next, ChangesOne, IsChained, JoinsValue, SameNodeRoom};
 
 use slab::Slab;
+use std::alloc::AllocError;
 
 /// A value, and the key of the one that was put next in its chain.
 #[derive(Drop)]
@@ -13,6 +14,19 @@ pub(crate) struct Node<T> {
     value: T,
     // It leads anywhere where nothing was put after this.
     next: usize,
+}
+
+impl<T: Copy> Clone for Node<T> {
+    ghost use Rattle.std.specs.Prelude.{◌≡◌};
+
+    ghost is_clone = { λ node copy. copy ≡ node };
+
+    fn clone(&self) -> Result<Self, AllocError> {
+        Ok(Node {
+            value: self.value,
+            next: self.next,
+        })
+    }
 }
 
 /// Makes a value lead to another.

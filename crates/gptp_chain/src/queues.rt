@@ -112,3 +112,18 @@ impl<T> Queues<T> {
         self.chains[place].first(&self.nodes)
     }
 }
+
+impl<T: Copy> Queues<T> {
+    ghost use Rattle.std.specs.Prelude.{◌≡◌, ◌≤◌, IfOk};
+
+    /// Queues with the same values, and with no less room. Refused for want of memory alone.
+    pub fn copy(&self, alloc: Global) -> Result<Self, AllocError>
+        ensures queues { IfOk result (λ queues. queues.queues ≡ self.now.queues) }
+        ensures room { IfOk result (λ queues. self.now.room ≤ queues.room) }
+    {
+        let chains = Vec::from_slice(alloc, &self.chains)?;
+        let mut nodes = self.nodes.clone()?;
+        nodes.reserve(self.room())?;
+        Ok(Queues { nodes, chains })
+    }
+}

@@ -11,6 +11,7 @@ use Rattle.gptp_roles.specs.Selection.{clock_of}
 use Rattle.gptp_system.specs.State.{clock}
 use Rattle.gptp_setup.specs.Intervals.{AreIntervals, IsLog}
 use Rattle.gptp_system.proofs.StartLemmas.{length-new_ports}
+use Rattle.gptp_system.proofs.WindowLemmas.{starts_measuring_over}
 use Rattle.gptp_scenario.specs.Network.{IsEnd, IsMember, IsNetwork, NetworkState}
 use Rattle.gptp_scenario.proofs.LogLemmas.{largest_so, logs_so, logs_up_to}
 use Rattle.gptp_scenario.specs.declared.network.SystemSpec.{SystemSpec}
@@ -119,6 +120,7 @@ names_one-initial n is = record {
         drift = limits.drift;
         intervals = intervals_named n is place found.0 found.1;
         named = refl;
+        windows = starts_measuring_over (setup_of n found.0) 0;
       });
   clocks = λ place other station at here there same.
       let one = mapped (station_of n) n.systems place station here in

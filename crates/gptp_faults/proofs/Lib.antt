@@ -29,3 +29,4 @@ mod EveryRankingLemmas
 mod EveryPlanLemmas
 mod EveryOutcomeLemmas
 pub mod EveryLemmas
+pub mod BehindLemmas

@@ -1,14 +1,18 @@
 -- The runs of a case (profile).
-use Rattle.std.specs.Prelude.{◌≡◌, ℕ, ◌+◌, ◌*◌, ◌/◌, ◌%◌, Bool, true, false, List, [], ◌∷◌, Option, Some, None, is_some}
+use Rattle.std.specs.Prelude.{◌≡◌, ℕ, ◌+◌, ◌*◌, ◌/◌, ◌%◌, ◌&&◌, nat_le, nat_lt, Bool, true, false, List, [], ◌∷◌, slice_get, Option, Some, None, is_some, IfSome}
 use Rattle.rand_core.specs.Pcg32Seed.{pcg32_seed}
 use Rattle.rand_pcg.specs.Lcg.{Lcg}
 use Rattle.rand_pcg.specs.Pcg.{pcg64_of_seed}
 use Rattle.gptp_links.specs.Draws.{drawn}
 use Rattle.gptp_links.specs.declared.bounds.Bounds.{Bounds}
 use Rattle.gptp_network.specs.Document.{DocumentState, seeded_document}
+use Rattle.gptp_scenario.specs.Calm.{last_change}
+use Rattle.gptp_scenario.specs.declared.change.Timed.{Timed}
 use Rattle.gptp_timeline.specs.Aside.{AsideState}
 use Rattle.gptp_timeline.specs.LastStretches.{EndsOf}
+use Rattle.gptp_timeline.specs.RunSoFar.{IsRunSoFar, RunUpTo}
 use Rattle.gptp_timeline.specs.declared.ends.LastStretches.{LastStretches}
+use Rattle.gptp_timeline.specs.declared.run_so_far.RunSoFar.{RunSoFar}
 use Rattle.gptp_faults.specs.CaseEvents.{EventsState}
 use Rattle.gptp_faults.specs.Options.{tracks}
 use Rattle.gptp_faults.specs.Stays.{document_of, end_at, return_at}
@@ -42,6 +46,30 @@ document_run d asked e t run = seeded_document (seed_of t run) (document_of d as
 -- who is set aside in a run in which a case fails at a moment and comes back
 abbrev pub set_aside : DocumentState → Option ℕ → EventsState → List ℕ → ℕ → AsideState
 set_aside d asked e names at = record { clocks = names; from = at; back = return_at d asked e at; begun = 0 }
+
+-- the run of a document with the first seed up to the first moment
+abbrev pub first_run : DocumentState → FaultsOptions → Times → RunUpTo Lcg
+first_run d options t = record {
+  document = seeded_document 1 d;
+  fate = generator 1;
+  at = t.from;
+  asked = tracks options;
+}
+
+-- it is kept, or none is
+abbrev pub IsKept : DocumentState → FaultsOptions → Times → Option (RunSoFar Lcg) → Type 0
+IsKept d options t kept = IfSome kept (IsRunSoFar draws (first_run d options t))
+
+-- whether events come from a time on up to an end, at two times at least, where this is the first of them, if there is
+-- one, and that the time of the last
+abbrev pub are_between : ℕ → ℕ → Option Timed → ℕ → Bool
+are_between from until None last = false
+are_between from until (Some first) last =
+    nat_le from first.at && nat_lt first.at last && nat_le last until
+
+-- those behind the first so many do
+abbrev pub go_on : ℕ → ℕ → ℕ → List Timed → Bool
+go_on from until count events = are_between from until (slice_get events count) (last_change events)
 
 -- the stretches in which a case is down and is back are the last two of a run; the last three, where it is seen later
 -- than at once that it failed

@@ -7,6 +7,7 @@ ghost use Rattle.gptp_faults.specs.Faults.{AnswersFaultsOf, IsTable};
 ghost use Rattle.gptp_faults.specs.Outcomes.{AreOutcomes, is_of_part, IsOutcome, OutcomeState};
 ghost use Rattle.gptp_faults.specs.Progress.{TellsCases, begun, begun_line, part_begun, part_count};
 ghost use Rattle.gptp_faults.specs.Refusals.{any_late, case_events, is_late};
+ghost use Rattle.gptp_faults.specs.Runs.{IsKept};
 ghost use Rattle.gptp_faults.specs.Whole.{IsWhole};
 ghost use Rattle.gptp_faults.specs.Times.{TimesAreBounded, AreOptions};
 
@@ -15,12 +16,15 @@ use crate::options::FaultsOptions;
 use crate::outcome::{Outcome, push_outcome, try_case};
 use crate::ranking::rank;
 use crate::refusals::{any_late, fault_before};
+use crate::runs::run_so_far;
 use crate::text::write_table;
 use crate::times::{Times, times_of};
 use crate::whole::{Whole, whole_of};
+use gptp_links::PcgFate;
 use gptp_network::{Document, DocumentFault};
 use gptp_report::sink::Sink;
 use gptp_report::{Cut, write_whole};
+use gptp_timeline::RunSoFar;
 use std::alloc::{AllocError, Global};
 
 /// What is answered of a document.
@@ -96,6 +100,7 @@ fn try_next<P: Sink>(
     options: &FaultsOptions,
     whole: &Whole,
     times: &Times,
+    kept: &Option<RunSoFar<PcgFate>>,
     number: usize,
     failing: &Case,
     count: usize,
@@ -105,6 +110,7 @@ fn try_next<P: Sink>(
     requires bounded { TimesAreBounded times.now }
     requires options { AreOptions options.now }
     requires whole { IsWhole document.old whole.now }
+    requires kept { IsKept document.old options.now times.now kept.now }
     requires in_time { is_late document.old options.now.hold times.now (case_events document.old options.now failing.now) ≡ false }
     ensures tried { OnOk result ((o : OutcomeState) × IsOutcome options.now document.old times.now number failing.now o
         × (outcomes.new.items ≡ outcomes.old.items ++ (o ∷ []))) }
@@ -115,9 +121,56 @@ fn try_next<P: Sink>(
     ensures fails { result ≡ Err Cut.Write → P.failures progress.new ≢ P.failures progress.old }
 {
     tell(alloc, options.progress, count, outcomes.len() + 1, progress)?;
-    let outcome = try_case(alloc, document, whole, options, times, number, failing)?;
+    let outcome = try_case(
+        alloc, document, whole, options, times, kept, number, failing,
+    )?;
     push_outcome(outcomes, outcome)?;
     Ok(())
+}
+
+/// Tries all cases that belong to the part, whose runs with the first seed go on from the one that is kept, and answers
+/// what becomes of them, by their numbers.
+fn try_each<P: Sink>(
+    alloc: Global,
+    document: &mut Document,
+    options: &FaultsOptions,
+    whole: &Whole,
+    times: &Times,
+    kept: &Option<RunSoFar<PcgFate>>,
+    cases: &[Case],
+    progress: &mut P,
+) -> Result<Vec<Outcome>, Cut>
+    requires options { AreOptions options.now }
+    requires bounded { TimesAreBounded times.now }
+    requires whole { IsWhole document.old whole.now }
+    requires kept { IsKept document.old options.now times.now kept.now }
+    requires in_time { any_late document.old options.now times.now cases.now ≡ false }
+    ensures outcomes { IfOk result (λ v. AreOutcomes document.old times.now options.now cases.now v.items) }
+    ensures told { OnOk result (Appends (P.written progress.old) (P.written progress.new)
+        (text_of (part_begun options.now (length cases.now)))) }
+    ensures works { result ≢ Err Cut.Write → P.failures progress.new ≡ P.failures progress.old }
+    ensures fails { result ≡ Err Cut.Write → P.failures progress.new ≢ P.failures progress.old }
+{
+    let count = count_of(options, cases.len());
+    let mut outcomes = Vec::new(alloc);
+    for number in 0..cases.len() {
+        if belongs(options, number) {
+            try_next(
+                alloc,
+                document,
+                options,
+                whole,
+                times,
+                kept,
+                number,
+                &cases[number],
+                count,
+                &mut outcomes,
+                progress,
+            )?;
+        }
+    }
+    Ok(outcomes)
 }
 
 /// Tries all cases that belong to the part, and answers what becomes of them, by their numbers.
@@ -140,25 +193,10 @@ fn try_cases<P: Sink>(
     ensures works { result ≢ Err Cut.Write → P.failures progress.new ≡ P.failures progress.old }
     ensures fails { result ≡ Err Cut.Write → P.failures progress.new ≢ P.failures progress.old }
 {
-    let count = count_of(options, cases.len());
-    let mut outcomes = Vec::new(alloc);
-    for number in 0..cases.len() {
-        if belongs(options, number) {
-            try_next(
-                alloc,
-                document,
-                options,
-                whole,
-                times,
-                number,
-                &cases[number],
-                count,
-                &mut outcomes,
-                progress,
-            )?;
-        }
-    }
-    Ok(outcomes)
+    let kept = run_so_far(alloc, document, options, times)?;
+    try_each(
+        alloc, document, options, whole, times, &kept, cases, progress,
+    )
 }
 
 /// The table of cases of which none is refused.

@@ -2,8 +2,8 @@
 //!
 //! [`fail_each`] lets each link in use go down and each live system hang or lose its power, at several moments, and
 //! come back once the network has settled, and tells of each the worst of its runs: `specs/Faults.antt` says what, by
-//! what the timelines of these runs say (`specs/LastStretches.antt` of gptp_timeline). One run after the other is made,
-//! in one world at a time.
+//! what the timelines of these runs say (`specs/LastStretches.antt` of gptp_timeline). One run after the other is made.
+//! Two worlds at most are there at once: that of the run, and one from which runs go on.
 #![tactic(auto)]
 
 mod astray;

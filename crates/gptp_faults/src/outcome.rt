@@ -5,6 +5,7 @@ ghost use Rattle.gptp_setup.specs.declared.limits.TheConstants.{LAST_MOMENT};
 ghost use Rattle.gptp_faults.specs.Outcomes.{IsCasePlan, IsOutcome, aside_of, back_in, down_in};
 ghost use Rattle.gptp_faults.specs.Parts.{AreFew};
 ghost use Rattle.gptp_faults.specs.Refusals.{case_events, is_late};
+ghost use Rattle.gptp_faults.specs.Runs.{IsKept};
 ghost use Rattle.gptp_faults.specs.Whole.{IsWhole};
 ghost use Rattle.gptp_faults.specs.Times.{AreOptions, TimesAreBounded};
 
@@ -18,8 +19,10 @@ use crate::parts::{CaseParts, Part, case_parts};
 use crate::runs::{RunEnds, run_case, runs_of};
 use crate::times::Times;
 use crate::whole::Whole;
+use gptp_links::PcgFate;
 use gptp_network::Document;
 use gptp_report::Cut;
+use gptp_timeline::RunSoFar;
 use gptp_vector::ClockId;
 use std::alloc::{AllocError, Global};
 use std::marker::Model;
@@ -201,12 +204,14 @@ pub(crate) fn try_case(
     whole: &Whole,
     options: &FaultsOptions,
     times: &Times,
+    kept: &Option<RunSoFar<PcgFate>>,
     number: usize,
     failing: &Case,
 ) -> Result<Outcome, Cut>
     requires bounded { TimesAreBounded times.now }
     requires options { AreOptions options.now }
     requires whole { IsWhole document.old whole.now }
+    requires kept { IsKept document.old options.now times.now kept.now }
     requires in_time { is_late document.old options.now.hold times.now (case_events document.old options.now failing.now) ≡ false }
     ensures outcome { IfOk result (IsOutcome options.now document.old times.now number failing.now) }
     ensures same { OnOk result (document.new ≡ document.old) }
@@ -220,6 +225,7 @@ pub(crate) fn try_case(
         times,
         &plan.events,
         &plan.aside,
+        kept,
         0,
     )?;
     let follow = follows_of(alloc, first.down.roots())?;
@@ -233,6 +239,7 @@ pub(crate) fn try_case(
             times,
             &plan.events,
             &plan.aside,
+            kept,
             run,
         )?;
         let next_down = down_in(alloc, &plan.parts, &next)?;

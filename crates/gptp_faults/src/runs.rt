@@ -2,8 +2,13 @@
 
 ghost use Rattle.std.specs.Prelude.{◌≡◌, ◌≤◌, ◌*◌, ◌<◌, IfErr, IfOk, OnOk, false};
 ghost use Rattle.gptp_setup.specs.declared.limits.TheConstants.{LAST_MOMENT};
+ghost use Rattle.gptp_setup.specs.Intervals.{IsMoment};
+ghost use Rattle.gptp_network.specs.Adding.{with_first};
+ghost use Rattle.gptp_network.specs.Document.{DocumentState, seeded_document};
+ghost use Rattle.gptp_timeline.specs.LastStretches.{EndsOf};
+ghost use Rattle.gptp_faults.specs.Options.{tracks};
 ghost use Rattle.gptp_faults.specs.Refusals.{is_late};
-ghost use Rattle.gptp_faults.specs.Runs.{AreRunEnds, CaseRunEnds, run_moment, runs_of, seed_of};
+ghost use Rattle.gptp_faults.specs.Runs.{AreRunEnds, CaseRunEnds, draws, generator, go_on, IsKept, run_moment, runs_of, seed_of};
 ghost use Rattle.gptp_faults.specs.Times.{AreOptions, TimesAreBounded, last_moment};
 
 use crate::case_events::CaseEvents;
@@ -13,7 +18,7 @@ use crate::times::{Times, moment};
 use gptp_links::PcgFate;
 use gptp_network::Document;
 use gptp_report::Cut;
-use gptp_timeline::{LastStretches, SetAside, StretchEnd, last_stretches};
+use gptp_timeline::{LastStretches, RunSoFar, SetAside, StretchEnd, last_stretches};
 use gptp_vector::ClockId;
 use std::alloc::Global;
 
@@ -77,6 +82,77 @@ fn ends_of(seen: bool, ends: LastStretches) -> Result<RunEnds, Cut>
     }
 }
 
+/// The run of a document with the first seed up to the first moment, from which its runs with that seed go on; none
+/// where an event isn't before that moment.
+pub(crate) fn run_so_far(
+    alloc: Global,
+    document: &mut Document,
+    options: &FaultsOptions,
+    times: &Times,
+) -> Result<Option<RunSoFar<PcgFate>>, Cut>
+    requires { TimesAreBounded times.now }
+    ensures run { IfOk result (IsKept document.old options.now times.now) }
+    ensures same { OnOk result (document.new ≡ document.old) }
+    ensures memory { IfErr result (λ e. e ≡ Cut.Memory) }
+{
+    if document.last_change() >= times.from {
+        return Ok(None);
+    }
+    let before = document.network().seed();
+    document.set_seed(1);
+    let fate = PcgFate::new(1);
+    let run = RunSoFar::new(alloc, document, fate, times.from, options.tracks())?;
+    document.set_seed(before);
+    Ok(Some(run))
+}
+
+/// Whether the events of a document behind the first so many come from a time on up to an end, not all of them at one
+/// time.
+fn go_on(document: &Document, count: usize, from: u64, until: u64) -> bool
+    ensures { result ≡ go_on from until count document.now.events }
+{
+    let last = document.last_change();
+    match document.events().get(count) {
+        Some(first) => from <= first.at && first.at < last && last <= until,
+        None => false,
+    }
+}
+
+/// How the last stretches of a run with a seed end, up to an end, of which some systems are set aside: of a document
+/// with so many events and those of a case. It goes on from the run that is kept, where that can be.
+fn run_ends(
+    alloc: Global,
+    document: &Document,
+    options: &FaultsOptions,
+    times: &Times,
+    kept: &Option<RunSoFar<PcgFate>>,
+    count: usize,
+    seed: u64,
+    end: u64,
+    aside: SetAside,
+) -> Result<LastStretches, Cut>
+    requires moment { IsMoment end }
+    requires kept { (d : DocumentState) × IsKept d options.now times.now kept.now
+        × (with_first count document.now ≡ seeded_document seed d) × (times.now.from ≤ aside.from) }
+    ensures ends { IfOk result (EndsOf draws (tracks options.now) aside document.now end (generator seed)) }
+    ensures memory { IfErr result (λ e. e ≡ Cut.Memory) }
+{
+    document.well_formed();
+    match kept {
+        Some(run) if seed == 1 && go_on(document, count, times.from, end) => {
+            run.last_stretches(alloc, document, end, aside)
+        }
+        _ => last_stretches(
+            alloc,
+            document,
+            PcgFate::new(seed),
+            end,
+            options.tracks(),
+            aside,
+        ),
+    }
+}
+
 /// Lets a case fail and come back in a run, whose systems draw noise from its seed too, and answers how the stretches
 /// ended in which it was down and was back: also what systems read in them, where that is asked, but those that are set
 /// aside.
@@ -87,11 +163,13 @@ pub(crate) fn run_case(
     times: &Times,
     events: &CaseEvents,
     aside: &[ClockId],
+    kept: &Option<RunSoFar<PcgFate>>,
     run: u64,
 ) -> Result<RunEnds, Cut>
     requires bounded { TimesAreBounded times.now }
     requires run { run < runs_of times.now }
     requires options { AreOptions options.now }
+    requires kept { IsKept document.old options.now times.now kept.now }
     requires in_time { is_late document.old options.now.hold times.now events.now ≡ false }
     ensures run { IfOk result (CaseRunEnds options.now document.old times.now events.now aside.now run) }
     ensures same { OnOk result (document.new ≡ document.old) }
@@ -107,14 +185,16 @@ pub(crate) fn run_case(
     let before = document.network().seed();
     let drawn = seed_of(times, run);
     document.set_seed(drawn);
-    let fate = PcgFate::new(drawn);
     let aside = SetAside::new(Vec::from_slice(alloc, aside)?, down, back);
-    let ends = last_stretches(
+    let ends = run_ends(
         alloc,
         document,
-        fate,
+        options,
+        times,
+        kept,
+        count,
+        drawn,
         back + behind,
-        options.tracks(),
         aside,
     )?;
     document.set_seed(before);

@@ -7,6 +7,7 @@ use Rattle.std.proofs.lemmas.Bool.Decides.{nat_tests}
 use Rattle.gptp_lists.specs.Members.{In}
 use Rattle.gptp_lists.proofs.SystemSpecLemmas.{In-left, In-parts}
 use Rattle.gptp_setup.specs.SettlingParams.{largest_interval}
+use Rattle.gptp_scenario.specs.SettlingTime.{window_span}
 use Rattle.gptp_scenario.specs.Network.{NetworkState, pace_of}
 use Rattle.gptp_scenario.specs.SyncWait.{sync_paths}
 use Rattle.gptp_scenario.specs.declared.change.Timed.{Timed}
@@ -58,7 +59,7 @@ module _ (d : DocumentState) (playable : IsPlayable d) where
     pub sound : IsChoiceBoundAfter n all earlier at s.sound
     pub roles : s.roles ≡ s.choice
     pub rest : s.sound ≤ s.rest
-    pub exact : max (at + s.choice) (last_set (events_by at all) + largest_interval (pace_of n))
+    pub exact : max (at + s.choice) (last_set (events_by at all) + largest_interval (pace_of n)) + window_span n.params
         + (sync_paths n (events_by at all)).systems * (n.params.threshold + n.params.residence)
         ≤ s.exact_from
 
@@ -85,7 +86,7 @@ module _ (d : DocumentState) (playable : IsPlayable d) where
         sound = sound;
         roles = it.roles;
         rest = it.rest;
-        exact = subst (λ es. max (0 + s.choice) (last_set es + largest_interval (pace_of n))
+        exact = subst (λ es. max (0 + s.choice) (last_set es + largest_interval (pace_of n)) + window_span n.params
             + (sync_paths n es).systems * (n.params.threshold + n.params.residence)
             ≤ s.exact_from) (sym (begin_at all)) it.exact;
       }
@@ -176,7 +177,7 @@ module _ (d : DocumentState) (playable : IsPlayable d) where
           sound = sound_so s is;
           roles = it.roles;
           rest = it.rest;
-          exact = subst (λ es. max (at + s.choice) (last_set es + largest_interval (pace_of n))
+          exact = subst (λ es. max (at + s.choice) (last_set es + largest_interval (pace_of n)) + window_span n.params
               + (sync_paths n es).systems * (n.params.threshold + n.params.residence)
               ≤ s.exact_from) (sym (parted all b.at at playable.events.in_order late between)) it.exact;
         }

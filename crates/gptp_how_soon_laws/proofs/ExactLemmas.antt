@@ -29,6 +29,7 @@ use Rattle.gptp_theorem.proofs.SyncPathLemmas.{paths_stand}
 use Rattle.gptp_how_soon.specs.Kinds.{sets_bounds}
 use Rattle.gptp_how_soon.specs.Times.{last_set as set_here}
 use Rattle.gptp_how_soon.specs.declared.bounds.Settling.{Settling}
+use Rattle.gptp_scenario.specs.SettlingTime.{window_span}
 use Rattle.gptp_settling_time.specs.HowSoon.{IsChoiceBound, NoneBetween}
 use Rattle.gptp_settling_time.specs.ExactInTurn.{last_set, sets_link}
 use Rattle.gptp_settling_time.proofs.ChoiceBoundLemmas.{choice_bounds_are_exact, choice_bounds_carry}
@@ -91,9 +92,10 @@ few_links d events t steps number error playable kept_then way =
     omega (arith, less, systems)
 
 -- so a Sync has had the time to come down it
-come_down : (steps systems hop most settled exact at : ℕ) → suc steps < systems → 1 ≤ hop → settled ≡ most + 1
-    → most + systems * hop ≤ exact → exact ≤ at → settled + suc steps * hop ≤ at
-come_down steps systems hop most settled exact at few some is told on =
+come_down : (steps systems hop most window settled exact at : ℕ) → suc steps < systems → 1 ≤ hop
+    → settled ≡ most + 1 → most + window + systems * hop ≤ exact → exact ≤ at
+    → settled + window + suc steps * hop ≤ at
+come_down steps systems hop most window settled exact at few some is told on =
     let times : suc (suc steps) * hop ≤ systems * hop = mul-le-mul few (omega arith) in
     let more : suc (suc steps) * hop ≡ suc steps * hop + hop = omega arith in
     omega (arith, times, more, some, is, told, on)
@@ -105,10 +107,10 @@ abbrev pub carried_from : DocumentState → ℕ → ℕ → ℕ
 carried_from d time choice =
     max (time + choice) (last_set (events_by time d.events) + largest_interval (pace_of d.network))
 
--- and then what each system uses has come down the tree
+-- and then rates are measured over whole windows, and what each system uses has come down the tree
 abbrev pub come_from : DocumentState → ℕ → ℕ → ℕ
 come_from d time choice =
-    carried_from d time choice
+    carried_from d time choice + window_span d.network.params
     + (sync_paths d.network (events_by time d.events)).systems
     * (d.network.params.threshold + d.network.params.residence)
 
@@ -116,7 +118,7 @@ come_from d time choice =
 pub told_later : (d : DocumentState) (playable : IsPlayable d) (earlier : List ℕ) (time : ℕ) (s : Settling)
     → IsSo d playable earlier time s → come_from d time s.choice ≤ s.exact_from
 told_later d playable earlier time s so =
-    subst (λ last. max (time + s.choice) (last + largest_interval (pace_of d.network))
+    subst (λ last. max (time + s.choice) (last + largest_interval (pace_of d.network)) + window_span d.network.params
     + (sync_paths d.network (events_by time d.events)).systems
     * (d.network.params.threshold + d.network.params.residence)
     ≤ s.exact_from) (same_set (events_by time d.events)) so.exact
@@ -139,13 +141,13 @@ module _ {F : Type 0} (answers : Bounds → ℕ → F → Option ℕ → F → T
     few : suc steps < (sync_paths d.network (events_by time d.events)).systems
     few = few_links d (events_by time d.events) t steps number error playable kept_then way
 
-    pub come : carried_from d time choice + 1
+    pub come : carried_from d time choice + 1 + window_span d.network.params
         + suc steps * (d.network.params.threshold + d.network.params.residence)
         ≤ t.told.timed.at
     come =
         come_down steps (sync_paths d.network (events_by time d.events)).systems
         (d.network.params.threshold + d.network.params.residence) (carried_from d time choice)
-        (carried_from d time choice + 1) exact t.told.timed.at few least refl told on
+        (window_span d.network.params) (carried_from d time choice + 1) exact t.told.timed.at few least refl told on
 
     -- the choice stands then
     pub stands_then : time + choice < t.told.timed.at

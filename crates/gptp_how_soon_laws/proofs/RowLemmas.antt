@@ -13,7 +13,7 @@ use Rattle.gptp_scenario.specs.Change.{link_after}
 use Rattle.gptp_scenario.specs.Network.{IsNetwork, NetworkState, pace_of}
 use Rattle.gptp_scenario.specs.Prompt.{DelayFitsInterval}
 use Rattle.gptp_scenario.specs.SettlingAtOnce.{settling_span_at_once}
-use Rattle.gptp_scenario.specs.SettlingTime.{settling_span_with}
+use Rattle.gptp_scenario.specs.SettlingTime.{settling_span_with, window_span}
 use Rattle.gptp_scenario.specs.SyncWait.{sync_paths}
 use Rattle.gptp_scenario.specs.declared.change.Act.{Act}
 use Rattle.gptp_scenario.specs.declared.change.Act.TheVariants as acts
@@ -108,7 +108,7 @@ pub record IsTelling (n : NetworkState) (v : View) (s : Settling) : Type 0 where
   pub sound : s.sound ≡ choice_by n v.paths (sound_row (row_at v)) (gained_at n v)
   pub roles : s.roles ≡ s.choice
   pub rest : s.sound ≤ s.rest
-  pub exact : max (v.at + s.choice) (v.last_set + largest_interval (pace_of n))
+  pub exact : max (v.at + s.choice) (v.last_set + largest_interval (pace_of n)) + window_span n.params
       + v.paths.systems * (n.params.threshold + n.params.residence)
       ≤ s.exact_from
 
@@ -130,7 +130,7 @@ tells n v s is = by v.calm refl is
           roles = subst (λ (x : Settling). x.roles ≡ x.choice) same refl;
           rest = subst (λ (x : Settling). x.sound ≤ x.rest) same (omega arith);
           exact = subst (λ (x : Settling). max (v.at + x.choice) (v.last_set + largest_interval (pace_of n))
-              + v.paths.systems * (n.params.threshold + n.params.residence)
+              + window_span n.params + v.paths.systems * (n.params.threshold + n.params.residence)
               ≤ x.exact_from) same (omega arith);
         }
     by false calm told = absurd cc

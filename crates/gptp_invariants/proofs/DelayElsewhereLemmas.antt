@@ -37,10 +37,10 @@ use Rattle.gptp_pdelay_machine.proofs.FactLemmas.{facts_kept}
 use Rattle.gptp_pdelay_machine.proofs.CapabilityLemmas.{capable_from_calm}
 use Rattle.gptp_pdelay_machine.proofs.MeasuredLemmas.{measured_from_calm, meter_is_inv, meter_kept}
 use Rattle.gptp_invariants.specs.DelayLinkActs.{IsOneAct}
-use Rattle.gptp_invariants.specs.DelayLinkView.{IsEndAmong, IsEndOf, IsLinkOf, LinkPlace, reads_as_request, link_identity, least_delay, meter, other_direction, pair, pair_view, reads_as_reply, link_setting, waits_view, setup_stamps}
+use Rattle.gptp_invariants.specs.DelayLinkView.{IsEndAmong, IsEndOf, IsLinkOf, LinkPlace, reads_as_request, link_identity, least_delay, meter, other_direction, pair, pair_view, reads_as_reply, link_setting, waits_view, setup_stamps, kept_view}
 use Rattle.gptp_invariants.specs.DelayMeasured.{LinkIsMeasured}
 use Rattle.gptp_invariants.specs.DelayWatched.{IsWatched}
-use Rattle.gptp_invariants.specs.DelayElsewhereLaws.{WatchGoesThrough, WatchSurvives, WatchedPortsStayCapable}
+use Rattle.gptp_invariants.specs.DelayElsewhereLaws.{WatchGoesThrough, WatchSurvives, WatchedPortsStayCapable, WatchedPortsStayMeasured}
 use Rattle.gptp_invariants.proofs.DelayWatchLemmas.{watch_kept}
 use Rattle.gptp_invariants.specs.DelayElsewhere.{IsElsewhere, IsOtherLink}
 use Rattle.gptp_invariants.proofs.DelayEndLemmas.{HearsWhatFits}
@@ -340,6 +340,7 @@ module _ (at : LinkPlace) (P : WorldState → Type 0) (link_in : (w : WorldState
         turnaround = (answering.params i).turnaround;
         period = interval_of (asking.params i).pdelay;
         allowed = (asking.params i).lost;
+        window = (asking.params i).window;
         asking_clock = asking.stamps i;
         answering_clock = answering.stamps i;
       }
@@ -349,7 +350,7 @@ module _ (at : LinkPlace) (P : WorldState → Type 0) (link_in : (w : WorldState
         pair = pair_view w.time (interval_of (asking.params i).pdelay) at.direction l.channel
             (measure_at (asking.state i))
             (measure_at (answering.state i));
-        last = (asking.state i).peer.last;
+        kept = kept_view (asking.state i).peer;
       }
 
   -- ---- calls one after another
@@ -699,9 +700,10 @@ watch_goes_through at gone calm (Changing change) w w' draws done sound measured
 pub watched_stay_capable : WatchedPortsStayCapable
 watched_stay_capable at gone calm w l late =
     let k = link_setting at w l.link in
-    let least = least_delay at w l.link in
-    let m = meter at w l.link in (
-      capable_from_calm k reads_as_request reads_as_reply gone calm (pair at w l.link) l.facts
-          (meter_is_inv k least reads_as_request reads_as_reply gone calm m l.inv) late,
-      measured_from_calm k least reads_as_request reads_as_reply gone calm m l.facts l.inv late,
-    )
+    capable_from_calm k reads_as_request reads_as_reply gone calm (pair at w l.link) l.facts
+    (meter_is_inv k (least_delay at w l.link) reads_as_request reads_as_reply gone calm (meter at w l.link) l.inv) late
+
+pub watched_stay_measured : WatchedPortsStayMeasured
+watched_stay_measured at gone calm w l late =
+    measured_from_calm (link_setting at w l.link) (least_delay at w l.link) reads_as_request reads_as_reply gone calm
+    (meter at w l.link) l.facts l.inv late

@@ -45,11 +45,12 @@ record IsSamePeer (p q : PeerState) : Type 0 where
   own : q.own ≡ p.own
   allowed : q.allowed ≡ p.allowed
   threshold : q.threshold ≡ p.threshold
+  window : q.window ≡ p.window
   next : q.next ≡ p.next
   waiting : q.waiting ≡ p.waiting
 
 itself : (p : PeerState) → IsSamePeer p p
-itself p = record { own = refl; allowed = refl; threshold = refl; next = refl; waiting = refl }
+itself p = record { own = refl; allowed = refl; threshold = refl; window = refl; next = refl; waiting = refl }
 
 interval_same : (p : PeerState) → IsSamePeer p (after_interval p)
 interval_same p = go (is_open p.progress) (loses_too_many p)
@@ -59,12 +60,12 @@ interval_same p = go (is_open p.progress) (loses_too_many p)
         (if open_one
         then (if too_many then reset_peer p else record p { progress = progresses.Closed; lost = p.lost + 1 })
         else p)
-    go true true = record { own = refl; allowed = refl; threshold = refl; next = refl; waiting = refl }
-    go true false = record { own = refl; allowed = refl; threshold = refl; next = refl; waiting = refl }
+    go true true = record { own = refl; allowed = refl; threshold = refl; window = refl; next = refl; waiting = refl }
+    go true false = record { own = refl; allowed = refl; threshold = refl; window = refl; next = refl; waiting = refl }
     go false too_many = itself p
 
 reset_same : (p : PeerState) → IsSamePeer p (reset_peer p)
-reset_same p = record { own = refl; allowed = refl; threshold = refl; next = refl; waiting = refl }
+reset_same p = record { own = refl; allowed = refl; threshold = refl; window = refl; next = refl; waiting = refl }
 
 response_same : (m : PdelayResp) (t4 : ℤ) (p : PeerState) → IsSamePeer p (after_response m t4 p)
 response_same m t4 p = go (answered_by m t4 p.own p.progress)
@@ -72,14 +73,15 @@ response_same m t4 p = go (answered_by m t4 p.own p.progress)
     go : (o : Option Progress)
         → IsSamePeer p (option_map_or (λ (progress : Progress). record p { progress = progress }) o p)
     go None = itself p
-    go (Some progress) = record { own = refl; allowed = refl; threshold = refl; next = refl; waiting = refl }
+    go (Some progress) =
+        record { own = refl; allowed = refl; threshold = refl; window = refl; next = refl; waiting = refl }
 
 follow_up_same : (m : PdelayRespFollowUp) (p : PeerState) → IsSamePeer p (after_follow_up m p)
-follow_up_same m p = go (measured_by m p.own p.last p.progress)
+follow_up_same m p = go (measured_by m p.own p.last p.past p.progress)
   where
     go : (o : Option Measurement) → IsSamePeer p (option_map_or (λ (one : Measurement). completed one p) o p)
     go None = itself p
-    go (Some one) = record { own = refl; allowed = refl; threshold = refl; next = refl; waiting = refl }
+    go (Some one) = record { own = refl; allowed = refl; threshold = refl; window = refl; next = refl; waiting = refl }
 
 -- ---- parts
 
@@ -90,6 +92,7 @@ stepped_measures params port x q same m = record {
   own = same.own ∙ m.own;
   allowed = same.allowed ∙ m.allowed;
   threshold = same.threshold ∙ m.threshold;
+  window = same.window ∙ m.window;
   next = subst (λ n. n < 2 ^ 16) (sym same.next) m.next;
   asks = m.asks;
   owes = λ due runs. let (owed, waits, fits) = m.owes due runs in (owed, same.waiting ∙ waits, fits);
@@ -102,6 +105,7 @@ asked_measures s now port x step same m = record {
   own = same.own ∙ m.own;
   allowed = same.allowed ∙ m.allowed;
   threshold = same.threshold ∙ m.threshold;
+  window = same.window ∙ m.window;
   next = mod_below ((step x.peer).next + 1) 65536 (omega arith);
   asks = λ due runs.
       let same_due : now + interval_of s.params.pdelay ≡ due = same_Some (now + interval_of s.params.pdelay) due runs in
@@ -115,6 +119,7 @@ down_measures params port x m = record {
   own = m.own;
   allowed = m.allowed;
   threshold = m.threshold;
+  window = m.window;
   next = m.next;
   asks = λ due runs. absurd (none-some due runs);
   owes = λ due runs. absurd (none-some due runs);
@@ -126,6 +131,7 @@ answered_measures params port x m = record {
   own = m.own;
   allowed = m.allowed;
   threshold = m.threshold;
+  window = m.window;
   next = m.next;
   asks = m.asks;
   owes = λ due runs. absurd (none-some due runs);
@@ -138,6 +144,7 @@ owing_measures s now head port x fits m = record {
   own = m.own;
   allowed = m.allowed;
   threshold = m.threshold;
+  window = m.window;
   next = m.next;
   asks = m.asks;
   owes = λ due runs. (

@@ -37,11 +37,11 @@ use Rattle.gptp_pdelay_machine.specs.Messages.{Request}
 use Rattle.gptp_pdelay_machine.specs.Meter.{Meter, act_of}
 use Rattle.gptp_pdelay_machine.specs.Setting.{Setting}
 use Rattle.gptp_pdelay_machine.proofs.FactLemmas.{facts_kept, facts_later}
-use Rattle.gptp_pdelay_machine.proofs.FirstLemmas.{asked_first, exchange_full, first_kept, first_later}
+use Rattle.gptp_pdelay_machine.proofs.FirstLemmas.{asked_first, exchange_full, first_kept, first_later, window_full}
 use Rattle.gptp_pdelay_machine.proofs.LaneLemmas.{mute_append}
 use Rattle.gptp_invariants.specs.DelayElsewhereLaws.{LeavesAlone}
 use Rattle.gptp_invariants.specs.DelayFirstAt.{IsFirstAt, IsFirstBy}
-use Rattle.gptp_invariants.specs.DelayFirstAtLaws.{FirstGoesOn, FirstGoesThrough, FirstIsFull}
+use Rattle.gptp_invariants.specs.DelayFirstAtLaws.{FirstGoesOn, FirstGoesThrough, FirstIsFull, FirstIsMeasured}
 use Rattle.gptp_invariants.specs.DelayLinkActs.{IsOneAct}
 use Rattle.gptp_invariants.specs.DelayLinkView.{IsLinkOf, LinkPlace, RequestFits, asker_view, reads_as_request, link_frame_view, least_delay, meter, other_direction, pair, reads_as_reply, request_from, link_setting, waits_view, setup_stamps}
 use Rattle.gptp_invariants.specs.DelayMeasured.{LinkIsMeasured}
@@ -163,6 +163,11 @@ first_full at first w l late =
     exchange_full (link_setting at w l.link) (least_delay at w l.link) reads_as_request reads_as_reply first first
     (meter at w l.link) l.facts
     l.inv late
+
+pub first_measured : FirstIsMeasured
+first_measured at first w l late =
+    window_full (link_setting at w l.link) (least_delay at w l.link) reads_as_request reads_as_reply first first
+    (meter at w l.link) l.facts l.inv late
 
 -- ---- a port comes up
 
@@ -362,7 +367,7 @@ module _ (at : LinkPlace) (place p : ℕ) (w : WorldState) (draws : List Draw) (
 
         inv : InvFirst set (least_delay at w l) reads_as_request reads_as_reply now m'
         inv =
-            asked_first set (least_delay at w l) reads_as_request reads_as_reply now (pair at w l) m'.pair m'.last
+            asked_first set (least_delay at w l) reads_as_request reads_as_reply now (pair at w l) m'.pair m'.kept
             l.asking.state.peer.next left (map link_frame_view (up_step.grows.news at.direction)) (omega (arith, short))
             (omega arith) up_step.time facts (out_late up_step) asks_first waits back (out_is up_step) request_goes
             (record {

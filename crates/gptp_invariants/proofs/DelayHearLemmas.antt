@@ -1,5 +1,5 @@
 -- What a port makes of octets that it hears, as one that asks and as one that answers.
-use Rattle.std.proofs.Common.{◌≡◌, ◌≢◌, ◌⊎◌, ◌*◌, ℕ, ℤ, ◌-ℤ◌, ◌+◌, pos, int_le, Bool, true, List, Some, None, refl, sym, ap, subst, ◌∙◌, inl, inr, eq-eqb, rules}
+use Rattle.std.proofs.Common.{◌≡◌, ◌≢◌, ◌⊎◌, ◌*◌, ◌<◌, ℕ, ℤ, ◌-ℤ◌, ◌+◌, pos, int_le, is_some, Bool, true, List, ◌∷◌, take, Some, None, refl, sym, ap, subst, ◌∙◌, inl, inr, eq-eqb, rules}
 use Rattle.std.specs.Prelude.{if◌then◌else◌, ◌==◌}
 use Rattle.std.specs.Option.{option_map_or}
 use Rattle.gptp_graph.specs.Snapshot.{PortIdentity}
@@ -16,9 +16,9 @@ use Rattle.gptp_pdelay.specs.declared.progress.Progress.{Progress}
 use Rattle.gptp_pdelay.specs.declared.progress.Progress.TheVariants as progresses
 use Rattle.gptp_pdelay.specs.declared.progress.Request.{Request}
 use Rattle.gptp_pdelay.specs.declared.progress.Response.{Response}
-use Rattle.gptp_pdelay.specs.Exchange.{carried_time, mean_delay, measurement_of, neighbor_rate}
+use Rattle.gptp_pdelay.specs.Exchange.{carried_time, mean_delay, measurement_of, neighbor_rate, oldest, times_of}
 use Rattle.gptp_pdelay.specs.GoodLink.{IsGoodLink, IsWithinThreshold}
-use Rattle.gptp_pdelay.specs.Peer.{after_follow_up, after_response, answered_by, completed, measured_by}
+use Rattle.gptp_pdelay.specs.Peer.{PeerState, after_follow_up, after_response, answered_by, completed, measured_by}
 use Rattle.gptp_pdelay.specs.Progress.{is_follow_up_to, is_response_to, response_of}
 use Rattle.gptp_pdelay.proofs.ExchangeLemmas.{neighbor_rate_is_within}
 use Rattle.gptp_system.specs.Measures.{Part, part_heard}
@@ -30,7 +30,7 @@ use Rattle.gptp_pdelay_machine.specs.Messages.{Request as SeenRequest, Reply, Re
 use Rattle.gptp_pdelay_machine.specs.Meter.{Measures, TakesMeasure}
 use Rattle.gptp_pdelay_machine.specs.Setting.{Setting, IsExchange}
 use Rattle.gptp_pdelay_machine.proofs.ExchangeLemmas.{exchanges_are_good}
-use Rattle.gptp_invariants.specs.DelayLinkView.{asked_at, asker_view, reads_as_request, follow_up_view, link_identity, reads_as_reply, request_from, response_view, waits_view}
+use Rattle.gptp_invariants.specs.DelayLinkView.{asked_at, asker_view, kept_view, reads_as_request, follow_up_view, link_identity, reads_as_reply, request_from, response_view, waits_view}
 use Rattle.gptp_invariants.proofs.DelayLinkLaneLemmas.{same_true}
 use Rattle.gptp_invariants.proofs.DelayLinkOctetLemmas.{one_request}
 use Rattle.gptp_invariants.proofs.DelayPartLemmas.{AsksAsBefore, answered_is, asks_still, heard_asked, heard_asks, heard_waits, response_passes, same_identity, sent_is}
@@ -129,7 +129,8 @@ follow_up_parts source request t m e =
 module _ (k : Setting) (s : SystemState) (now period : ℕ) (octets : List ℕ) (x x' : Part)
     (hears : Hears s now octets x x') (own answering : PortId) (asking_is : k.asking ≡ link_identity own)
     (answering_is : k.answering ≡ link_identity answering) (clock_is : k.asking_clock now ≡ stamp_time s now)
-    (named : x.peer.own ≡ own) (apart : own.clock ≢ answering.clock)
+    (named : x.peer.own ≡ own) (windowed : x.peer.window ≡ k.window) (some : 0 < k.window)
+    (apart : own.clock ≢ answering.clock)
     (blur : ℕ) (good : IsGoodLink (k.most + blur) k.turnaround x.peer.threshold) (clocks : ReadsClocks blur k) where
   -- octets that are no reply leave what the port asked and measured
   nothing : ((r : Reply) → reads_as_reply octets r → ⊥) → AsksAsBefore period x x'
@@ -157,7 +158,7 @@ module _ (k : Setting) (s : SystemState) (now period : ℕ) (octets : List ℕ) 
       → reads_as_reply octets (SaidResponse k.answering (own_request k sequence) t2)
       → (asker_view period x'
       ≡ record (asker_view period x) { progress = Answered sequence k.answering t1 t2 (k.asking_clock now) })
-      × (x'.peer.last ≡ x.peer.last)
+      × (kept_view x'.peer ≡ kept_view x.peer)
   response_heard sequence t1 t2 was (inr (m, reads, e)) = absurd cc
   response_heard sequence t1 t2 was (inl (m, reads, e)) =
       let (request, sent, number, first) = sent_is x.peer.progress sequence t1 was in
@@ -179,21 +180,27 @@ module _ (k : Setting) (s : SystemState) (now period : ℕ) (octets : List ℕ) 
             ∙ (λ i. record (asker_view period x) {
               progress = Answered (number i) (source i) (first i) (time i) (sym clock_is i);
             }),
-        ap (λ (y : Part). y.peer.last) part,
+        ap (λ (y : Part). kept_view y.peer) part,
       )
 
   -- what the four times of an exchange measure, by request and response as they are recorded
   measures : (request : Request) (response : Response) (third t1 t2 t3 t4 : ℤ) → request.t1 ≡ t1 → response.t2 ≡ t2
-      → third ≡ t3 → response.t4 ≡ t4 → x'.peer.last ≡ Some (measurement_of x.peer.last request response third)
-      → Measures x.peer.last x'.peer.last t1 t2 t3 t4
-  measures request response third t1 t2 t3 t4 first second time fourth is = record {
-    measured = measurement_of x.peer.last request response third;
-    is = is;
-    t3_is = time;
-    t4_is = fourth;
-    rate_is = λ i. neighbor_rate x.peer.last (time i) (fourth i);
-    delay_is = λ i. mean_delay (neighbor_rate x.peer.last third response.t4) (fourth i -ℤ first i) (time i -ℤ second i);
-  }
+      → third ≡ t3 → response.t4 ≡ t4
+      → x'.peer ≡ completed (measurement_of (oldest x.peer.past) (is_some x.peer.last) request response third) x.peer
+      → Measures k.window (kept_view x.peer) (kept_view x'.peer) t1 t2 t3 t4
+  measures request response third t1 t2 t3 t4 first second time fourth is =
+      let one : Measurement = measurement_of (oldest x.peer.past) (is_some x.peer.last) request response third in
+      record {
+        some = some;
+        measured = one;
+        last_is = ap (λ (q : PeerState). q.last) is;
+        past_is = ap (λ (q : PeerState). q.past) is ∙ ap (λ n. take n (times_of one ∷ x.peer.past)) windowed;
+        t3_is = time;
+        t4_is = fourth;
+        rate_is = λ i. neighbor_rate (oldest x.peer.past) (time i) (fourth i);
+        delay_is = λ i. mean_delay (neighbor_rate (oldest x.peer.past) third response.t4) (fourth i -ℤ first i)
+            (time i -ℤ second i);
+      }
 
   -- a follow-up to the recorded response completes the exchange, and measures
   follow_up_heard : (sequence : ℕ) (t1 t2 t3 t4 : ℤ)
@@ -201,7 +208,7 @@ module _ (k : Setting) (s : SystemState) (now period : ℕ) (octets : List ℕ) 
       → reads_as_reply octets (SaidFollowUp k.answering (own_request k sequence) t3)
       → ((fine : Bool) × (IsExchange k t1 t2 t3 t4 → fine ≡ true)
       × (asker_view period x' ≡ completes fine (asker_view period x)))
-      × Measures x.peer.last x'.peer.last t1 t2 t3 t4
+      × Measures k.window (kept_view x.peer) (kept_view x'.peer) t1 t2 t3 t4
   follow_up_heard sequence t1 t2 t3 t4 was (inl (m, reads, e)) = absurd cc
   follow_up_heard sequence t1 t2 t3 t4 was (inr (m, reads, e)) =
       let (request, response, recorded, number, answered, first, second, fourth) =
@@ -214,9 +221,10 @@ module _ (k : Setting) (s : SystemState) (now period : ℕ) (octets : List ℕ) 
       let passes : is_follow_up_to x.peer.own request response m ≡ true =
       follow_up_passes x.peer.own request response m here (numbered ∙ sym number) from in
       let third : ℤ = carried_time m.stamp m.head.correction in
-      let one : Measurement = measurement_of x.peer.last request response third in
-      let by : measured_by m x.peer.own x.peer.last x.peer.progress ≡ Some one =
-      ap (measured_by m x.peer.own x.peer.last) recorded ∙ ap (λ b. if b then Some one else None) passes in
+      let one : Measurement = measurement_of (oldest x.peer.past) (is_some x.peer.last) request response third in
+      let by : measured_by m x.peer.own x.peer.last x.peer.past x.peer.progress ≡ Some one =
+      ap (measured_by m x.peer.own x.peer.last x.peer.past) recorded
+      ∙ ap (λ b. if b then Some one else None) passes in
       let after : after_follow_up m x.peer ≡ completed one x.peer =
       ap (λ o. option_map_or (λ q. completed q x.peer) o x.peer) by in
       let part : x' ≡ record x { peer = completed one x.peer } =
@@ -225,16 +233,16 @@ module _ (k : Setting) (s : SystemState) (now period : ℕ) (octets : List ℕ) 
         (
           int_le one.delay (pos (65536 * x.peer.threshold)),
           λ exchange. is_at_most x.peer.threshold one.delay
-              (exchanges_are_good blur k x.peer.threshold (neighbor_rate x.peer.last third response.t4) request.t1
-              response.t2 third response.t4 good clocks
-              (neighbor_rate_is_within x.peer.last third response.t4)
+              (exchanges_are_good blur k x.peer.threshold (neighbor_rate (oldest x.peer.past) third response.t4)
+              request.t1 response.t2 third response.t4 good clocks
+              (neighbor_rate_is_within (oldest x.peer.past) third response.t4)
               (subst (λ t. IsExchange k request.t1 response.t2 t response.t4) (sym time)
               (subst (λ t. IsExchange k request.t1 response.t2 t3 t) (sym fourth)
               (subst (λ t. IsExchange k request.t1 t t3 t4) (sym second)
               (subst (λ t. IsExchange k t t2 t3 t4) (sym first) exchange))))),
           ap (asker_view period) part,
         ),
-        measures request response third t1 t2 t3 t4 first second time fourth (ap (λ (y : Part). y.peer.last) part),
+        measures request response third t1 t2 t3 t4 first second time fourth (ap (λ (y : Part). y.peer) part),
       )
 
   pub hears_takes : TakesReply k reads_as_reply now octets (asker_view period x) (asker_view period x')
@@ -245,7 +253,7 @@ module _ (k : Setting) (s : SystemState) (now period : ℕ) (octets : List ℕ) 
     follow_up = λ sequence t1 t2 t3 t4 was said. (follow_up_heard sequence t1 t2 t3 t4 was said).0;
   }
 
-  pub hears_measure : TakesMeasure k reads_as_reply octets (asker_view period x) x.peer.last x'.peer.last
+  pub hears_measure : TakesMeasure k reads_as_reply octets (asker_view period x) (kept_view x.peer) (kept_view x'.peer)
   hears_measure = record {
     nothing = λ none. (nothing none).1;
     response = λ sequence t1 t2 was said. (response_heard sequence t1 t2 was said).1;

@@ -1,5 +1,5 @@
 -- A delivery, seen at a link: the port that asks hears, the port that answers hears, or others send.
-use Rattle.std.proofs.Common.{◌≡◌, ◌≢◌, ◌+◌, ◌≤◌, ◌*◌, ℕ, ℤ, Bool, true, false, List, [], ◌∷◌, ◌++◌, map, Option, Some, None, slice_get, slice_set, refl, sym, ap, subst, ◌∙◌, inl, inr, eq-eqb, eqb-true}
+use Rattle.std.proofs.Common.{◌≡◌, ◌≢◌, ◌+◌, ◌<◌, ◌≤◌, ◌*◌, ℕ, ℤ, Bool, true, false, List, [], ◌∷◌, ◌++◌, map, Option, Some, None, slice_get, slice_set, refl, sym, ap, subst, ◌∙◌, inl, inr, eq-eqb, eqb-true, arith}
 use Rattle.std.specs.Prelude.{if◌then◌else◌, ◌==◌}
 use Rattle.std.proofs.lemmas.List.{append-nil, map-append}
 use Rattle.gptp_lists.specs.Members.{In}
@@ -32,7 +32,7 @@ use Rattle.gptp_pdelay.proofs.ClockLemmas.{stamps_make_clock}
 use Rattle.gptp_pdelay_machine.specs.Facts.{IsSentInTime, IsSentLate}
 use Rattle.gptp_pdelay_machine.specs.Lanes.{LaneFrame as SeenFrame}
 use Rattle.gptp_pdelay_machine.specs.Meter.{MeterActs, TakesMeasure, meter_heard, meter_hears, meter_rests}
-use Rattle.gptp_invariants.specs.DelayLinkView.{IsEndOf, IsLinkOf, LinkPlace, RequestSaysWhatFits, asker_view, reads_as_request, link_frame_view, link_lane_view, least_delay, meter, other_direction, pair, reads_as_reply, link_setting, waits_view, setup_stamping, setup_stamps}
+use Rattle.gptp_invariants.specs.DelayLinkView.{IsEndOf, IsLinkOf, LinkPlace, RequestSaysWhatFits, asker_view, reads_as_request, link_frame_view, link_lane_view, least_delay, meter, other_direction, pair, reads_as_reply, link_setting, waits_view, setup_stamping, setup_stamps, kept_view}
 use Rattle.gptp_invariants.specs.DelayLinkActs.{IsOneAct, IsSeenAtLink}
 use Rattle.gptp_invariants.proofs.DelayLinkCallLemmas.{asker_is, back_in_time, back_is, back_late, back_mute, back_stays, others_send as others_seen, out_in_time, out_is, out_late, out_mute, out_stays, seen_from, sent_in_time, sent_late}
 use Rattle.gptp_invariants.proofs.DelayPoppedLemmas.{carried, least_same, left_there, most_same, opposite_twice, popped_link, popped_receiver, popped_sender, popped_settled, queue_left, queue_set, receiver_opposite, which_way}
@@ -404,6 +404,16 @@ module _ (link : ℕ) (direction : Direction) (octets : List ℕ) (w : WorldStat
               subst (IsGoodLink (l.channel.bounds.max + blur) l.answering.station.setup.params.turnaround)
               (sym l.asking.measures.threshold) l.good.short
 
+          window_here : l.asking.state.peer.window ≡ (link_setting at w l).window
+          window_here = l.asking.measures.window
+
+          some_here : 0 < (link_setting at w l).window
+          some_here =
+              let params = orderly.params at.asking l.asking.station l.asking.here in
+              let least = params.window-least in
+              let same = ap (λ (p : Params). p.window) l.asking.set_up.params in
+              omega (arith, least, same)
+
           reply_taken : TakesReply (link_setting at w l) reads_as_reply w.time octets
               (asker_view period (measure_at l.asking.state))
               (asker_view period (measure_at step.after.asking.state))
@@ -412,18 +422,18 @@ module _ (link : ℕ) (direction : Direction) (octets : List ℕ) (w : WorldStat
               (measure_at step.after.asking.state) asker_hears (sender at.direction l.channel)
               (receiver at.direction l.channel) refl refl
               (clock_is at.asking (sender at.direction l.channel) w l.asking w.time) l.asking.measures.own
-              (clocks_apart at w l sound.wired.clocks) blur good_here clocks_read
+              window_here some_here (clocks_apart at w l sound.wired.clocks) blur good_here clocks_read
 
           reply_measured : TakesMeasure (link_setting at w l) reads_as_reply octets
               (asker_view period (measure_at l.asking.state))
-              l.asking.state.peer.last step.after.asking.state.peer.last
+              (kept_view l.asking.state.peer) (kept_view step.after.asking.state.peer)
           reply_measured =
               hears_measure (link_setting at w l) l.asking.station.system w.time period octets
               (measure_at l.asking.state)
               (measure_at step.after.asking.state) asker_hears (sender at.direction l.channel)
               (receiver at.direction l.channel) refl refl
               (clock_is at.asking (sender at.direction l.channel) w l.asking w.time) l.asking.measures.own
-              (clocks_apart at w l sound.wired.clocks) blur good_here clocks_read
+              window_here some_here (clocks_apart at w l sound.wired.clocks) blur good_here clocks_read
 
           other_way : at.direction ≡ other_direction direction
           other_way = sym (opposite_twice at.direction) ∙ ap other_direction (sym way)

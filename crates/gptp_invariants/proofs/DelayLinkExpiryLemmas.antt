@@ -30,7 +30,7 @@ use Rattle.gptp_pdelay_machine.specs.Asker.{Closed, asks_now, asker_after_interv
 use Rattle.gptp_pdelay_machine.specs.Meter.{MeterActs, meter_answered, meter_asks}
 use Rattle.gptp_pdelay_machine.specs.Lanes.{LaneFrame as SeenFrame, AreMute, FirstIs}
 use Rattle.gptp_pdelay_machine.specs.Messages.{Request, Response, FollowUp}
-use Rattle.gptp_invariants.specs.DelayLinkView.{IsEndOf, IsLinkOf, LinkPlace, RequestFits, asked_at, asker_view, reads_as_request, link_frame_view, link_identity, meter, other_direction, pair, progress_view, reads_as_reply, request_from, link_setting, waits_by, waits_view, setup_stamps}
+use Rattle.gptp_invariants.specs.DelayLinkView.{IsEndOf, IsLinkOf, LinkPlace, RequestFits, asked_at, asker_view, reads_as_request, link_frame_view, link_identity, meter, other_direction, pair, progress_view, reads_as_reply, request_from, link_setting, waits_by, waits_view, setup_stamps, kept_view}
 use Rattle.gptp_invariants.specs.DelayLinkActs.{IsOneAct, IsSeenAtLink}
 use Rattle.gptp_invariants.proofs.DelayLinkCallLemmas.{answerer_timer, asker_is, asker_timer, back_in_time, back_is, back_late, back_mute, back_stays, others_send as others_seen, out_in_time, out_is, out_late, out_mute, out_stays}
 use Rattle.gptp_invariants.specs.ChoiceSaid.{said_at}
@@ -188,11 +188,11 @@ module _ (at : LinkPlace) (place : ℕ) (timer : Timer) (w : WorldState) (draws 
       sent = request_goes;
     }
 
-    -- where no request was open the last measurement stays
+    -- where no request was open what was measured stays
     measured_still : progress_view l.asking.state.peer.progress ≡ Closed
-        → step.after.asking.state.peer.last ≡ l.asking.state.peer.last
+        → kept_view step.after.asking.state.peer ≡ kept_view l.asking.state.peer
     measured_still shut =
-        ap (λ (x : Part). x.peer.last) part
+        ap (λ (x : Part). kept_view x.peer) part
         ∙ asked_measured l.asking.station.system w.time (measure_at l.asking.state) shut
 
   -- ---- the Respond timer of the port that answers

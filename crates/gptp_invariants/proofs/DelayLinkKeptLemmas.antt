@@ -48,6 +48,7 @@ started_measured setup now live = record {
           own = refl;
           allowed = refl;
           threshold = refl;
+          window = refl;
           next = omega arith;
           asks = λ due runs. absurd (none-some due runs);
           owes = λ due runs. absurd (none-some due runs);

@@ -306,6 +306,7 @@ module _ (at : LinkPlace) (place : ℕ) (input : Input) (w : WorldState) (draws 
       turnaround = (answering_step.setup i).params.turnaround;
       period = interval_of (asking_step.setup i).params.pdelay;
       allowed = (asking_step.setup i).params.lost;
+      window = (asking_step.setup i).params.window;
       asking_clock = setup_stamps (asking_step.setup i);
       answering_clock = setup_stamps (answering_step.setup i);
     };

@@ -82,7 +82,7 @@ module _ (p : Params) (itself : PortId) where
 
   follow_up_heard : (m : PdelayRespFollowUp) (peer : PeerState) → IsPeerOf p itself peer
       → KeepsPeer peer (after_follow_up m peer)
-  follow_up_heard m peer is = by (measured_by m peer.own peer.last peer.progress)
+  follow_up_heard m peer is = by (measured_by m peer.own peer.last peer.past peer.progress)
     where
       by : (o : Option Measurement) → KeepsPeer peer (option_map_or (λ x. completed x peer) o peer)
       by None = record { peer = is; waits = refl }

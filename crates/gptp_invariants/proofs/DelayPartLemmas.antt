@@ -22,14 +22,14 @@ use Rattle.gptp_system.proofs.MeasuringLemmas.{follow_up_keeps, interval_keeps, 
 use Rattle.gptp_system.proofs.SentLemmas.{interval_next}
 use Rattle.gptp_pdelay_machine.specs.Asker.{Closed, Asked, Answered, asks_now, asker_after_interval as gives_up, asker_given_up as lost_one}
 use Rattle.gptp_invariants.proofs.DelayLinkLaneLemmas.{same_true}
-use Rattle.gptp_invariants.specs.DelayLinkView.{asked_at, asker_view, link_identity, progress_view, waits_by, waits_view}
+use Rattle.gptp_invariants.specs.DelayLinkView.{asked_at, asker_view, kept_view, link_identity, progress_view, waits_by, waits_view}
 
--- what the port asked and what it measured last is as it was
+-- what the port asked and what it measured is as it was
 abbrev pub AsksAsBefore : ℕ → Part → Part → Type 0
-AsksAsBefore period x x' = (asker_view period x' ≡ asker_view period x) × (x'.peer.last ≡ x.peer.last)
+AsksAsBefore period x x' = (asker_view period x' ≡ asker_view period x) × (kept_view x'.peer ≡ kept_view x.peer)
 
 pub asks_still : (period : ℕ) (x x' : Part) → x' ≡ x → AsksAsBefore period x x'
-asks_still period x x' is = (ap (asker_view period) is, ap (λ (y : Part). y.peer.last) is)
+asks_still period x x' is = (ap (asker_view period) is, ap (λ (y : Part). kept_view y.peer) is)
 
 -- ---- the Pdelay timer
 
@@ -106,14 +106,14 @@ asked_seen s now x =
     (interval_next x.peer)
     ∙ ap (asks_now now x.peer.next (stamp_time s now)) (gives_up_seen period x)
 
--- where no request was open the last measurement stays
+-- where no request was open what was measured stays
 pub asked_measured : (s : SystemState) (now : ℕ) (x : Part) → progress_view x.peer.progress ≡ Closed
-    → (part_asked s now after_interval x).peer.last ≡ x.peer.last
+    → kept_view (part_asked s now after_interval x).peer ≡ kept_view x.peer
 asked_measured s now x is = go x.peer.progress refl is
   where
     go : (g : Progress) → x.peer.progress ≡ g → progress_view g ≡ Closed
-        → (part_asked s now after_interval x).peer.last ≡ x.peer.last
-    go progresses.Closed e shut = ap (λ (q : PeerState). q.last) (closed x e)
+        → kept_view (part_asked s now after_interval x).peer ≡ kept_view x.peer
+    go progresses.Closed e shut = ap kept_view (closed x e)
     go (progresses.Sent request) e shut = absurd cc
     go (progresses.Answered request response) e shut = absurd cc
 

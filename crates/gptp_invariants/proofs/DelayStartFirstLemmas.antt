@@ -487,6 +487,7 @@ module _ {F : Type 0} (answers : Bounds → ℕ → F → Option ℕ → F → T
               drift = its.drift;
               intervals = its.intervals;
               named = its.named;
+              windows = its.windows;
             });
         clocks = λ place other one two here there same.
             let (a, at_a, made_a) = from_wake place one here in

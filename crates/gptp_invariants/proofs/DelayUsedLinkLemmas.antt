@@ -1,5 +1,5 @@
 -- Each link of the snapshot, from a port of a live system to another, is watched.
-use Rattle.std.proofs.Common.{◌≡◌, ◌≤◌, ◌+◌, ◌*◌, ℕ, suc, true, Some, slice_get, refl, sym, ap, subst, ◌∙◌}
+use Rattle.std.proofs.Common.{◌≡◌, ◌≤◌, ◌+◌, ◌-◌, ◌*◌, ℕ, suc, true, Some, slice_get, refl, sym, ap, subst, ◌∙◌}
 use Rattle.gptp_graph.specs.Snapshot.{Joins, PortIdentity, System}
 use Rattle.gptp_vector.specs.declared.port.PortId.{PortId}
 use Rattle.gptp_links.specs.declared.link.Direction.{Direction}
@@ -8,6 +8,7 @@ use Rattle.gptp_setup.specs.SettlingParams.{SettlingParams, largest_interval}
 use Rattle.gptp_system.specs.State.{clock, number, own}
 use Rattle.gptp_model.specs.declared.station.Station.{Station}
 use Rattle.gptp_scenario.specs.Params.{KeepPace}
+use Rattle.gptp_scenario.specs.SettlingTime.{window_span}
 use Rattle.gptp_model.specs.World.{Channel, WorldState, receiver, sender}
 use Rattle.gptp_lists.proofs.MappedLemmas.{same_there, some_same}
 use Rattle.gptp_invariants.specs.DelayMeasured.{StationIsLiveAt, LinkStandsAt}
@@ -61,6 +62,8 @@ pub record IsWatchedLink (p : SettlingParams) (w : WorldState) (from to : PortId
   pub state : watched.link.asking.state ≡ q
   pub period : (link_setting at w watched.link).period ≤ largest_interval p
   pub allowed : (link_setting at w watched.link).allowed ≡ p.params.lost
+  pub span : ((link_setting at w watched.link).window - 1) * (link_setting at w watched.link).period
+      ≡ window_span p.params
 
 module _ (p : SettlingParams) (w : WorldState) (pace : KeepPace p) (is : IsWorld p w)
     (quiet : HaveQuietLinks p.params w)
@@ -136,6 +139,7 @@ module _ (p : SettlingParams) (w : WorldState) (pace : KeepPace p) (is : IsWorld
         state = some_same asking.state q found;
         period = rw set pace.requests;
         allowed = rw set refl;
+        span = ap window_span set;
       }
 
   pub used_watched : (i : ℕ) (q : Port) (to : PortIdentity) → slice_get station.system.ports i ≡ Some q

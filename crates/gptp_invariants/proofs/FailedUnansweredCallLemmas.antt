@@ -62,6 +62,7 @@ module _ (at : LinkPlace) (w w' : WorldState) (l : IsUnansweredAt at w) (lane : 
     turnaround = (answerer i).params.turnaround;
     period = interval_of (asker i).params.pdelay;
     allowed = (asker i).params.lost;
+    window = (asker i).params.window;
     asking_clock = setup_stamps (asker i);
     answering_clock = setup_stamps (answerer i);
   }

@@ -47,7 +47,7 @@ response_lost m t4 p = go (answered_by m t4 p.own p.progress)
     go (Some progress) = omega arith
 
 follow_up_lost : (m : PdelayRespFollowUp) (p : PeerState) → (after_follow_up m p).lost ≤ p.lost
-follow_up_lost m p = go (measured_by m p.own p.last p.progress)
+follow_up_lost m p = go (measured_by m p.own p.last p.past p.progress)
   where
     go : (o : Option Measurement) → (option_map_or (λ (one : Measurement). completed one p) o p).lost ≤ p.lost
     go None = omega arith

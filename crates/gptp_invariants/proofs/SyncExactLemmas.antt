@@ -18,7 +18,7 @@ use Rattle.gptp_scenario.specs.declared.change.Act.{Act}
 use Rattle.gptp_scenario.specs.declared.change.Act.TheVariants.{Deliver, Expire, Change as Changing}
 use Rattle.gptp_scenario.specs.declared.change.Timed.{Timed}
 use Rattle.gptp_scenario.specs.Network.{IsNetwork, NetworkState, pace_of}
-use Rattle.gptp_scenario.specs.SettlingTime.{settling_span_with}
+use Rattle.gptp_scenario.specs.SettlingTime.{settling_span_with, window_span}
 use Rattle.gptp_system.specs.declared.answer.Answer.TheVariants as answers
 use Rattle.gptp_system.specs.State.{SystemState, clock, local_time}
 use Rattle.gptp_system.specs.Takeover.{told_time}
@@ -155,7 +155,7 @@ module _ (link : ℕ) (direction : Direction) (w w' : WorldState) (draws : List 
     (bounded : BoundsPaths (snapshot_of w) m) (near : IsNear (snapshot_of w) number)
     (way : IsWayError p.params w number (suc steps) error) (is_ahead : IsAhead w number w.time ahead) where
   abbrev settled : ℕ
-  settled = w.last_change + settling_span_with p (sync_paths_of w) m
+  settled = w.last_change + settling_span_with p (sync_paths_of w) m + window_span p.params
 
   calm_by : IsCalmBy p m settled w
   calm_by = record {

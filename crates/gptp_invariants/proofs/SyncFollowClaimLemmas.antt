@@ -1,5 +1,5 @@
 -- In every world of a network time is carried right wherever it is calm for long enough.
-use Rattle.std.proofs.Common.{◌≡◌, ◌⊎◌, inl, inr, ◌<◌, ◌≤◌, ◌*◌, ◌^◌, ℕ, Option, refl, sym, ap, subst, arith}
+use Rattle.std.proofs.Common.{◌≡◌, ◌⊎◌, inl, inr, ◌<◌, ◌≤◌, ◌+◌, ◌*◌, ◌^◌, ℕ, Option, refl, sym, ap, subst, arith}
 use Rattle.std.proofs.lemmas.Bool.{cases_lt}
 use Rattle.gptp_links.specs.declared.bounds.Bounds.{Bounds}
 use Rattle.gptp_setup.specs.SettlingParams.{SettlingParams}
@@ -9,6 +9,7 @@ use Rattle.gptp_scenario.specs.declared.change.Act.{Act}
 use Rattle.gptp_scenario.specs.declared.change.Act.TheVariants.{Deliver, Expire, Change as Changing}
 use Rattle.gptp_scenario.specs.declared.change.Timed.{Timed}
 use Rattle.gptp_scenario.specs.Network.{IsNetwork, NetworkState, pace_of}
+use Rattle.gptp_scenario.specs.SettlingTime.{settling_span_with, window_span}
 use Rattle.gptp_scenario.specs.SyncWait.{step_more}
 use Rattle.gptp_model.specs.Acts.{Acts, at}
 use Rattle.gptp_model.specs.Course.{Begun, WasDone}
@@ -28,7 +29,7 @@ use Rattle.gptp_invariants.specs.SyncTimed.{AllMeasureRight, CarriesTime, IsSett
 use Rattle.gptp_invariants.specs.SyncTimedClaim.{CarriesWhereCalm, IsCalmBy}
 use Rattle.gptp_invariants.specs.SyncTimedClaimLaws.{CalmOffsetsAreExact, CarriesLater}
 use Rattle.gptp_invariants.proofs.ChoiceCalmKeptLemmas.{KeepsNetwork, acts_keep, earlier_quiet, same_paths, same_snapshot, stays_quiet}
-use Rattle.gptp_invariants.proofs.WorldSettlingInvariantLemmas.{over_capable, settled_by_paths}
+use Rattle.gptp_invariants.proofs.WorldSettlingInvariantLemmas.{over_measured, settled_by_paths}
 use Rattle.gptp_invariants.proofs.WorldClaimLemmas.{claim_begins, claim_kept, claim_later}
 use Rattle.gptp_invariants.proofs.SyncFollowLaterLemmas.{time_begins, time_carries}
 use Rattle.gptp_invariants.proofs.SyncFollowMeasureLemmas.{measured_right}
@@ -61,10 +62,14 @@ settled_from p m settled w claimed calm late shown =
 right_from : (p : SettlingParams) (m settled : ℕ) (w : WorldState) → KeepsAll p w → IsCalmBy p m settled w
     → settled ≤ w.time
     → w.time ≤ 10 ^ 18 → AllMeasureRight p.params w
+unfolding calm_for
 right_from p m settled w claimed calm late shown =
+    let passed = calm.passed in
+    let whole : w.last_change + settling_span_with p (sync_paths_of w) m + window_span p.params ≤ w.time =
+    omega (arith, passed, late) in
     measured_right p settled p.params.threshold w (settled_from p m settled w claimed calm late shown)
     (claimed_measured w (record { pace = p; is = claimed })
-    (over_capable m w (calm_for p m settled w claimed calm late)))
+    (over_measured m w (calm_for p m settled w claimed calm late) whole))
 
 -- ---- as a change happens
 

@@ -1,6 +1,7 @@
 -- What ports have measured of their links is right of the links that are followed.
 use Rattle.std.proofs.Common.{◌≡◌, ◌≤◌, ◌+◌, ◌-◌, ◌*◌, ℕ, zero, suc, ℤ, pos, Some, slice_get, refl, sym, ap, subst, ◌∙◌, arith}
 use Rattle.std.specs.Option.{option_map, option_map_or}
+use Rattle.std.proofs.lemmas.Nat.{mul-le}
 use Rattle.gptp_graph.specs.Snapshot.{Joins, PortIdentity, Snapshot}
 use Rattle.gptp_vector.specs.declared.port.PortId.{PortId}
 use Rattle.gptp_lists.proofs.PlaceLemmas.{member_there}
@@ -10,7 +11,7 @@ use Rattle.gptp_pdelay.specs.Peer.{delay_of, rate_of_peer}
 use Rattle.gptp_pdelay.specs.declared.exchange.Measurement.{Measurement}
 use Rattle.gptp_setup.specs.declared.setup.Params.{Params}
 use Rattle.gptp_setup.specs.Intervals.{interval_of}
-use Rattle.gptp_setup.specs.Stamping.{blur_of}
+use Rattle.gptp_setup.specs.Stamping.{blur_of, rate_interval}
 use Rattle.gptp_setup.specs.SettlingParams.{SettlingParams}
 use Rattle.gptp_system.specs.declared.port.Port.{Port}
 use Rattle.gptp_system.specs.State.{SystemState, number, own}
@@ -106,9 +107,13 @@ module _ (p : SettlingParams) (settled longest : ℕ) (w : WorldState) (is : IsS
         subst (λ (q : Params). IsGoodLink (k.most + blur_of q) k.turnaround q.threshold)
         (set_to m.at.asking _ m.link.asking) m.link.good.short in
         let answered = is.pace.params.answered in
+        let ranges = is.pace.params.ranges.params in
+        let whole : 1 * interval_of p.params.pdelay ≤ p.params.window * interval_of p.params.pdelay =
+        mul-le 1 (interval_of p.params.pdelay) p.params.window (interval_of p.params.pdelay) ranges.window-least
+        (omega arith) in
         let fits = fit p settled longest w is at f steps h in
         let long = rest_is_long (blur_of p.params) k.most k.turnaround p.params.threshold x.interval good
-        (omega (arith, answered, turnaround)) fits.long fits.little in
+        (omega (arith, answered, turnaround, whole)) fits.long fits.little in
         omega (arith, long)
 
     measures : MeasuresParent x (follower_clock at w f) (parent_link at.direction f.channel) k
@@ -119,7 +124,7 @@ module _ (p : SettlingParams) (settled longest : ℕ) (w : WorldState) (is : IsS
           omega (arith, order, up, least);
       most = most;
       turnaround = turnaround;
-      period = ap (λ (y : Params). interval_of y.pdelay) (set_to m.at.asking _ m.link.asking);
+      interval = ap rate_interval (set_to m.at.asking _ m.link.asking);
       rested = rested;
       asking = subst (λ (y : PortIdentity). AreStampsOf x y.clock k.asking_clock) m.from_is
           (end_read m.at.asking _ m.link.asking);

@@ -1,5 +1,6 @@
 -- What the ways of a world are made of: the numbers of its setups and of its links in use.
-use Rattle.std.proofs.Common.{◌≡◌, ◌≤◌, ℕ, zero, suc, ℤ, pos, negsuc, Bool, true, false, List, [], ◌∷◌, map, Option, Some, None, slice_get, refl, sym, ap, subst, ◌∙◌, ◌⊎◌, inl, inr, arith}
+use Rattle.std.proofs.Common.{◌≡◌, ◌≤◌, ◌*◌, ℕ, zero, suc, ℤ, pos, negsuc, Bool, true, false, List, [], ◌∷◌, map, Option, Some, None, slice_get, refl, sym, ap, subst, ◌∙◌, ◌⊎◌, inl, inr, arith}
+use Rattle.std.proofs.lemmas.Nat.{mul-le}
 use Rattle.std.specs.Prelude.{if◌then◌else◌, ◌&&◌, ◌||◌, max}
 use Rattle.std.specs.Option.{option_map_or}
 use Rattle.std.proofs.lemmas.Bool.{and_from, and_parts, or_cases, or_left, or_right}
@@ -15,7 +16,7 @@ use Rattle.gptp_pdelay.proofs.ClockLemmas.{stamps_make_clock}
 use Rattle.gptp_setup.specs.declared.setup.Params.{Params}
 use Rattle.gptp_setup.specs.declared.setup.Setup.{Setup}
 use Rattle.gptp_setup.specs.Intervals.{AreParams, IsLog, interval_of}
-use Rattle.gptp_setup.specs.Stamping.{behind_of, blur_of}
+use Rattle.gptp_setup.specs.Stamping.{behind_of, blur_of, rate_interval}
 use Rattle.gptp_setup.proofs.IntervalLemmas.{interval_rises}
 use Rattle.gptp_system.specs.State.{clock, local_time, stamp_time}
 use Rattle.gptp_model.proofs.BareLemmas.{bare}
@@ -204,7 +205,10 @@ pub parts_fit : (p : Params) (w : WorldState) (longest : ℕ) → AreParams p �
     → ArePartsOf (follower_parts p w) longest
 parts_fit p w longest params setups short = record {
   little = let granularity = params.granularity in let noise = params.noise in omega (arith, granularity, noise);
-  long = interval_long p.pdelay params.pdelay;
+  long =
+      let least : 1 * 62500000 ≤ p.window * interval_of p.pdelay =
+      mul-le 1 62500000 p.window (interval_of p.pdelay) params.window-least (interval_long p.pdelay params.pdelay) in
+      omega (arith, least);
   waits = params.turnaround-least;
   drifts = drifts_fit w.stations (λ place station here. (setups place station here).drift);
   short = λ port.
@@ -239,7 +243,7 @@ same_parts p w w' k =
       most = λ port. bounds (λ b. b.max) port i;
       blur = blur_of p;
       behind = behind_of p;
-      interval = interval_of p.pdelay;
+      interval = rate_interval p;
       turnaround = p.turnaround;
       residence = p.residence;
     }

@@ -104,6 +104,7 @@ answering_kept = record {
           drift = its.drift;
           intervals = its.intervals;
           named = its.named;
+          windows = its.windows;
         };
       })
       (record { system = fits.system; setup = fits.setup }) is);
@@ -135,6 +136,7 @@ answering_kept = record {
           drift = its.drift;
           intervals = record { many = intervals.many; each = intervals.each; largest = intervals.largest };
           named = priority_clock value (started station.setup 0) ∙ its.named;
+          windows = its.windows;
         };
       })
       (record { system = fits.system; setup = let small = fits.setup in omega (arith, small, below) }) is;

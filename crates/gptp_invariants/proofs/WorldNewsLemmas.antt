@@ -168,12 +168,12 @@ link_in p start at w (inr (gone, since, l, past, by)) = l.link
 ready_capable : (p : SettlingParams) (start : ℕ) (at : LinkPlace) (w : WorldState) → IsKnown p w
     → (r : IsReadyBy p start at w)
     → start ≤ w.time → is_capable (link_in p start at w r).asking.state.peer ≡ true
-ready_capable p start at w known (inl (first, (l, by))) late = (first_full at first w l (omega (arith, by, late))).0
+ready_capable p start at w known (inl (first, (l, by))) late = first_full at first w l (omega (arith, by, late))
 ready_capable p start at w known (inr (gone, since, l, past, by)) late =
     let asks = (known.set at.asking l.link.asking.station l.link.asking.here).starts.params in
     let period : (link_setting at w l.link).period ≡ interval_of p.params.pdelay =
     ap (λ (x : Params). interval_of x.pdelay) asks in
-    (watched_stay_capable at gone since w l (omega (arith, by, late, period))).0
+    watched_stay_capable at gone since w l (omega (arith, by, late, period))
 
 -- an act that leaves the link alone leaves it ready
 pub ready_goes_through : (p : SettlingParams) (start : ℕ) (at : LinkPlace) (act : Act) (w w' : WorldState)
@@ -208,11 +208,7 @@ ready_due : (p : SettlingParams) (start : ℕ) (at : LinkPlace) (w : WorldState)
 ready_due p start at w (inl (first, (l, by))) f member =
     let latest = (l.facts.out f member).latest in
     let asked = l.facts.asked in
-    let since : first ≤ (pair at w l.link).asker.asked = elim l.inv.since [
-      | inl one ↦ omega (arith, one)
-      | inr (inl two) ↦ omega (arith, two)
-      | inr (inr more) ↦ omega (arith, more)
-    ] in
+    let since : first ≤ (pair at w l.link).asker.asked = let (n, is) = l.inv.since in omega (arith, is) in
     inl (omega (arith, latest, asked, since))
 ready_due p start at w (inr (gone, since, l, past, by)) f member =
     let latest = (l.facts.out f member).latest in

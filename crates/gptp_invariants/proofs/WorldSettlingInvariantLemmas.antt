@@ -17,7 +17,7 @@ use Rattle.gptp_model.specs.Course.{Begun, WasDone}
 use Rattle.gptp_model.specs.Initial.{initial}
 use Rattle.gptp_scenario.specs.Network.{IsNetwork, NetworkState, pace_of}
 use Rattle.gptp_model.specs.Pending.{NothingBefore}
-use Rattle.gptp_scenario.specs.SettlingTime.{capability_span, settling_span, settling_span_with}
+use Rattle.gptp_scenario.specs.SettlingTime.{capability_span, settling_span, settling_span_with, window_span}
 use Rattle.gptp_scenario.specs.SyncWait.{step_more}
 use Rattle.gptp_scenario.specs.Calm.{NothingLapses}
 use Rattle.gptp_scenario.proofs.SyncWaitLemmas.{never_longer}
@@ -40,7 +40,7 @@ use Rattle.gptp_invariants.specs.ChoiceView.{station_view}
 use Rattle.gptp_invariants.proofs.ChoiceSettledLemmas.{follows_by_distance, roles_by_distance, settles, settles_at_once, settles_by_paths}
 use Rattle.gptp_invariants.proofs.ChoiceSettlesAsMachineLemmas.{paths_bound, turns_less}
 use Rattle.gptp_invariants.proofs.SyncWaitLemmas.{in_time_less, more_less}
-use Rattle.gptp_invariants.specs.WorldCalmFor.{ArePortsSettled, IsCalmFor, at_once_span, capable_span, span_over}
+use Rattle.gptp_invariants.specs.WorldCalmFor.{ArePortsSettled, IsCalmFor, at_once_span, capable_span, span_over, measured_span}
 use Rattle.gptp_invariants.specs.WorldSettlingInvariant.{SettlingInvariant, KeepsAll}
 use Rattle.gptp_invariants.proofs.DelayClaimedCapableLemmas.{ports_settled}
 use Rattle.gptp_invariants.proofs.WorldClaimLemmas.{claim_begins, claim_capable, claim_kept, claim_later}
@@ -213,4 +213,13 @@ pub over_capable : (m : ℕ) (w : WorldState) → IsCalmFor (span_over m) w → 
 over_capable m w calm =
     let passed = calm.late in
     let sooner : w.last_change + capability_span calm.pace ≤ w.time = omega arith in
+    record { pace = calm.pace; set = calm.set; quiet = calm.quiet; late = sooner }
+
+-- with what a whole window takes more, the links are measured
+pub over_measured : (m : ℕ) (w : WorldState) (calm : IsCalmFor (span_over m) w)
+    → w.last_change + settling_span_with calm.pace (sync_paths_of w) m + window_span calm.pace.params ≤ w.time
+    → IsCalmFor measured_span w
+over_measured m w calm passed =
+    let sooner : w.last_change + (capability_span calm.pace + window_span calm.pace.params) ≤ w.time =
+    omega (arith, passed) in
     record { pace = calm.pace; set = calm.set; quiet = calm.quiet; late = sooner }

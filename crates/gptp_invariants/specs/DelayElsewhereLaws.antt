@@ -34,11 +34,16 @@ WatchGoesThrough = (at : LinkPlace) (gone calm : ℕ) (act : Act) (w w' : WorldS
     → IsSound w → LinkIsMeasured w → LeavesAlone at act w → Acts act w draws done w' → IsWatched gone calm at w
     → IsWatched gone calm at w'
 
--- From three intervals between requests after its own calm on, the port that asks on a watched link is capable. Its
--- neighbour rate and mean link delay are then those of two exchanges over the link, whatever was changed elsewhere
--- since.
+-- From three intervals between requests after its own calm on, the port that asks on a watched link is capable,
+-- whatever was changed elsewhere since.
 abbrev pub WatchedPortsStayCapable : Type 0
 WatchedPortsStayCapable = (at : LinkPlace) (gone calm : ℕ) (w : WorldState) (l : IsWatched gone calm at w)
     → calm + 3 * (link_setting at w l.link).period ≤ w.time
-    → (is_capable l.link.asking.state.peer ≡ true)
-    × HasMeasured (link_setting at w l.link) (least_delay at w l.link) l.link.asking.state.peer.last
+    → is_capable l.link.asking.state.peer ≡ true
+
+-- From a window and two intervals between requests after that calm on, its neighbour rate and mean link delay are those
+-- of two exchanges over the link, a window apart.
+abbrev pub WatchedPortsStayMeasured : Type 0
+WatchedPortsStayMeasured = (at : LinkPlace) (gone calm : ℕ) (w : WorldState) (l : IsWatched gone calm at w)
+    → calm + ((link_setting at w l.link).window + 2) * (link_setting at w l.link).period ≤ w.time
+    → HasMeasured (link_setting at w l.link) (least_delay at w l.link) l.link.asking.state.peer.last

@@ -1,5 +1,5 @@
 -- Laws on a link from its first request on.
-use Rattle.std.specs.Prelude.{Option, ◌≡◌, ◌<◌, ◌≤◌, ◌+◌, ℕ, true, List}
+use Rattle.std.specs.Prelude.{Option, ◌≡◌, ◌<◌, ◌≤◌, ◌+◌, ◌*◌, ℕ, true, List}
 use Rattle.gptp_links.specs.declared.bounds.Bounds.{Bounds}
 use Rattle.gptp_links.specs.Fate.{Draw}
 use Rattle.gptp_scenario.specs.Network.{IsNetwork, NetworkState, pace_of}
@@ -37,13 +37,19 @@ FirstGoesOn = (at : LinkPlace) (first time : ℕ) (w : WorldState)
     → IsSound w → w.time ≤ time → NothingBefore time w.net.pending → IsFirstAt first at w
     → IsFirstAt first at (at_time time w)
 
--- one interval between requests and one exchange after it the port is capable, and it has measured the link by two
--- exchanges
+-- one interval between requests and one exchange after it the port is capable
 abbrev pub FirstIsFull : Type 0
 FirstIsFull = (at : LinkPlace) (first : ℕ) (w : WorldState) (l : IsFirstAt first at w)
     → first + (link_setting at w l.link).period + exchange_span (link_setting at w l.link) < w.time
-    → (is_capable l.link.asking.state.peer ≡ true)
-    × HasMeasured (link_setting at w l.link) (least_delay at w l.link) l.link.asking.state.peer.last
+    → is_capable l.link.asking.state.peer ≡ true
+
+-- as many intervals as the window has exchanges, and one exchange, after it the port has measured the link by two
+-- exchanges, a window apart
+abbrev pub FirstIsMeasured : Type 0
+FirstIsMeasured = (at : LinkPlace) (first : ℕ) (w : WorldState) (l : IsFirstAt first at w)
+    → first + (link_setting at w l.link).window * (link_setting at w l.link).period
+    + exchange_span (link_setting at w l.link) < w.time
+    → HasMeasured (link_setting at w l.link) (least_delay at w l.link) l.link.asking.state.peer.last
 
 -- a link that comes up is such a one, in both directions, from then on
 abbrev pub LinkUpIsFirst : Type 0

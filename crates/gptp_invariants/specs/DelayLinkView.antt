@@ -21,7 +21,7 @@ use Rattle.gptp_pdelay.specs.declared.progress.Progress.TheVariants as progresse
 use Rattle.gptp_pdelay.specs.Clock.{clock_stamp}
 use Rattle.gptp_pdelay.specs.Exchange.{carried_time}
 use Rattle.gptp_pdelay.specs.GoodLink.{IsGoodLink}
-use Rattle.gptp_pdelay.specs.Peer.{is_capable}
+use Rattle.gptp_pdelay.specs.Peer.{PeerState, is_capable}
 use Rattle.gptp_system.specs.declared.port.Port.{Port}
 use Rattle.gptp_setup.specs.declared.setup.Params.{Params}
 use Rattle.gptp_setup.specs.declared.setup.Setup.{Setup}
@@ -35,7 +35,7 @@ use Rattle.gptp_pdelay_machine.specs.Answerer.{Waiting}
 use Rattle.gptp_pdelay_machine.specs.Asker.{Asker, Progress as SeenProgress, Closed, Asked, Answered}
 use Rattle.gptp_pdelay_machine.specs.Lanes.{LaneFrame as SeenFrame}
 use Rattle.gptp_pdelay_machine.specs.Messages.{Request, Reply, Response, FollowUp}
-use Rattle.gptp_pdelay_machine.specs.Meter.{Meter}
+use Rattle.gptp_pdelay_machine.specs.Meter.{Kept, Meter}
 use Rattle.gptp_pdelay_machine.specs.Pair.{Pair}
 use Rattle.gptp_pdelay_machine.specs.Setting.{Setting}
 
@@ -148,6 +148,7 @@ setting_view direction channel asking answering = record {
   turnaround = answering.params.turnaround;
   period = interval_of asking.params.pdelay;
   allowed = asking.params.lost;
+  window = asking.params.window;
   asking_clock = setup_stamps asking;
   answering_clock = setup_stamps answering;
 }
@@ -180,6 +181,7 @@ pub record IsMeasuring (params : Params) (port : PortId) (x : Part) : Type 0 whe
   pub own : x.peer.own ≡ port
   pub allowed : x.peer.allowed ≡ params.lost
   pub threshold : x.peer.threshold ≡ params.threshold
+  pub window : x.peer.window ≡ params.window
   pub next : x.peer.next < 2 ^ 16
   pub asks : (due : ℕ) → x.pdelay ≡ Some due → interval_of params.pdelay ≤ due
   pub owes : (due : ℕ) → x.respond ≡ Some due
@@ -240,9 +242,13 @@ pair at w l =
     pair_view w.time (interval_of l.asking.station.setup.params.pdelay) at.direction l.channel
     (measure_at l.asking.state) (measure_at l.answering.state)
 
--- with the last measurement of the port that asks
+-- what a port has measured since its reset
+abbrev pub kept_view : PeerState → Kept
+kept_view p = record { last = p.last; past = p.past }
+
+-- with what the port that asks has measured
 abbrev pub meter : (at : LinkPlace) (w : WorldState) → IsLinkOf at w → Meter
-meter at w l = record { pair = pair at w l; last = l.asking.state.peer.last }
+meter at w l = record { pair = pair at w l; kept = kept_view l.asking.state.peer }
 
 -- no frame takes less than this, in ns
 abbrev pub least_delay : (at : LinkPlace) (w : WorldState) → IsLinkOf at w → ℕ

@@ -10,7 +10,7 @@ use Rattle.gptp_invariants.specs.ChoiceView.{port_identity_number}
 use Rattle.gptp_invariants.specs.WorldStanding.{snapshot_of}
 
 -- The one port, in this state, has measured its link to the other: neighbour rate and mean link delay are those of two
--- exchanges over that link, one after the other (IEEE 802.1AS-2020, 11.2.19.3).
+-- exchanges over that link, a window apart (IEEE 802.1AS-2020, 11.2.19.3).
 pub record HasMeasuredLink (w : WorldState) (from to : PortIdentity) (q : Port) : Type 0 where
   pub at : LinkPlace
   pub link : IsLinkOf at w
@@ -19,8 +19,7 @@ pub record HasMeasuredLink (w : WorldState) (from to : PortIdentity) (q : Port) 
   pub state : link.asking.state ≡ q
   pub measured : HasMeasured (link_setting at w link) (least_delay at w link) q.peer.last
 
--- each port of a live system has measured each link of the snapshot that is at it, by two exchanges, one after the
--- other
+-- each port of a live system has measured each link of the snapshot that is at it, by two exchanges, a window apart
 abbrev pub HaveMeasuredLinks : WorldState → Type 0
 HaveMeasuredLinks w = OfEachPort (λ itself h q. (to : PortIdentity)
     → Joins (snapshot_of w) (port_identity_number itself) to

@@ -1,5 +1,5 @@
 -- Laws: from the last change on a link is watched; its port becomes capable, and measures the link.
-use Rattle.std.specs.Prelude.{◌≡◌, ◌≢◌, ◌+◌, ◌*◌, ◌<◌, ◌≤◌, ℕ, true, List}
+use Rattle.std.specs.Prelude.{◌≡◌, ◌≢◌, ◌+◌, ◌-◌, ◌*◌, ◌<◌, ◌≤◌, ℕ, true, List}
 use Rattle.gptp_links.specs.Fate.{Draw}
 use Rattle.gptp_pdelay.specs.Peer.{is_capable}
 use Rattle.gptp_scenario.specs.declared.change.Act.{Act}
@@ -45,11 +45,12 @@ WatchedPortsBecomeCapable = (at : LinkPlace) (change interval : ℕ) (w : WorldS
     → change + ((link_setting at w l.link).allowed + 5) * interval ≤ w.time
     → is_capable l.link.asking.state.peer ≡ true
 
--- from five announce intervals after the last change on, neighbour rate and mean link delay of the port that asks are
--- those of two exchanges over the link, one after the other
+-- From five announce intervals after the last change on, and an interval between requests more for each exchange of the
+-- window but one, neighbour rate and mean link delay of the port that asks are those of two exchanges over the link, a
+-- window apart.
 abbrev pub WatchedPortsMeasure : Type 0
 WatchedPortsMeasure = (at : LinkPlace) (change interval : ℕ) (w : WorldState)
     → (l : IsWatched (change + interval) (change + 2 * interval) at w)
     → (link_setting at w l.link).period ≤ interval
-    → change + 5 * interval ≤ w.time
+    → change + 5 * interval + ((link_setting at w l.link).window - 1) * (link_setting at w l.link).period ≤ w.time
     → HasMeasured (link_setting at w l.link) (least_delay at w l.link) l.link.asking.state.peer.last

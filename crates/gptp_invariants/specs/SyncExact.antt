@@ -10,7 +10,7 @@ use Rattle.gptp_messages.specs.declared.message.Message.TheVariants as messages
 use Rattle.gptp_messages.specs.Grammar.{Reads}
 use Rattle.gptp_setup.specs.declared.setup.Params.{Params}
 use Rattle.gptp_setup.specs.SettlingParams.{SettlingParams}
-use Rattle.gptp_scenario.specs.SettlingTime.{settling_span_with}
+use Rattle.gptp_scenario.specs.SettlingTime.{settling_span_with, window_span}
 use Rattle.gptp_scenario.specs.declared.sync_wait.SyncPaths.{SyncPaths}
 use Rattle.gptp_system.specs.declared.answer.Answer.TheVariants as answers
 use Rattle.gptp_system.specs.State.{SystemState, local_time}
@@ -26,11 +26,12 @@ use Rattle.gptp_invariants.specs.WorldCalmFor.{IsCalmFor}
 use Rattle.gptp_invariants.specs.SyncFollowers.{follower_parts}
 use Rattle.gptp_invariants.specs.WorldStanding.{snapshot_of}
 
--- The network has settled, where no path has more than m systems, and what a system so many steps from its root uses
--- left the root since then: it took the threshold at most on each link of its way, and stayed a residence at each
--- system.
+-- The network has settled, where no path has more than m systems, rates are measured over whole windows, and what a
+-- system so many steps from its root uses left the root since then: it took the threshold at most on each link of its
+-- way, and stayed a residence at each system.
 abbrev pub exact_span : ℕ → ℕ → SettlingParams → SyncPaths → ℕ → ℕ
-exact_span m steps p paths n = settling_span_with p paths m + steps * (p.params.threshold + p.params.residence)
+exact_span m steps p paths n =
+    settling_span_with p paths m + window_span p.params + steps * (p.params.threshold + p.params.residence)
 
 -- how far the clock of a live system is ahead, at a time, of what the best of its component tells
 pub record IsAhead (w : WorldState) (number time : ℕ) (amount : ℤ) : Type 0 where

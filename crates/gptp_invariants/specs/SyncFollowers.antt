@@ -9,8 +9,7 @@ use Rattle.gptp_links.specs.declared.bounds.Bounds.{Bounds}
 use Rattle.gptp_links.specs.declared.link.Direction.{Direction}
 use Rattle.gptp_setup.specs.declared.setup.Params.{Params}
 use Rattle.gptp_setup.specs.declared.setup.Setup.{Setup}
-use Rattle.gptp_setup.specs.Intervals.{interval_of}
-use Rattle.gptp_setup.specs.Stamping.{behind_of, blur_of}
+use Rattle.gptp_setup.specs.Stamping.{behind_of, blur_of, rate_interval}
 use Rattle.gptp_roles.specs.Selection.{clock_of}
 use Rattle.gptp_system.specs.State.{SystemState}
 use Rattle.gptp_system.specs.Takeover.{reads_own}
@@ -53,7 +52,7 @@ follower_parts p w = record {
   most = bound_at (λ b. b.max) (live_stations w.stations) w.net.channels;
   blur = blur_of p;
   behind = behind_of p;
-  interval = interval_of p.pdelay;
+  interval = rate_interval p;
   turnaround = p.turnaround;
   residence = p.residence;
 }

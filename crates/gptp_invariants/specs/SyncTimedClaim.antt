@@ -2,7 +2,7 @@
 use Rattle.std.specs.Prelude.{◌+◌, ◌≤◌, ◌^◌, ℕ}
 use Rattle.gptp_graph.specs.PathBound.{BoundsPaths}
 use Rattle.gptp_setup.specs.SettlingParams.{SettlingParams}
-use Rattle.gptp_scenario.specs.SettlingTime.{settling_span_with}
+use Rattle.gptp_scenario.specs.SettlingTime.{settling_span_with, window_span}
 use Rattle.gptp_model.specs.World.{WorldState}
 use Rattle.gptp_invariants.specs.ChoiceCalm.{IsQuietWorld, sync_paths_of}
 use Rattle.gptp_invariants.specs.WorldSettlingInvariant.{KeepsAll}
@@ -10,11 +10,12 @@ use Rattle.gptp_invariants.specs.WorldStanding.{snapshot_of}
 use Rattle.gptp_invariants.specs.SyncOwnClock.{TellAsSetUp}
 use Rattle.gptp_invariants.specs.SyncTimed.{CarriesTime}
 
--- the world is quiet, no path of it has more than m systems, and by this time it has settled since its last change
+-- the world is quiet, no path of it has more than m systems, and by this time it has settled since its last change, and
+-- rates are measured over whole windows
 pub record IsCalmBy (p : SettlingParams) (m settled : ℕ) (w : WorldState) : Type 0 where
   pub quiet : IsQuietWorld p.params w
   pub bounded : BoundsPaths (snapshot_of w) m
-  pub passed : w.last_change + settling_span_with p (sync_paths_of w) m ≤ settled
+  pub passed : w.last_change + settling_span_with p (sync_paths_of w) m + window_span p.params ≤ settled
 
 -- from each such time on time is carried right, as long as clocks can show it; no delay is above the threshold
 abbrev pub CarriesWhereCalm : SettlingParams → WorldState → Type 0

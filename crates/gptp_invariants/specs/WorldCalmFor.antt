@@ -8,7 +8,7 @@ use Rattle.gptp_receipt.specs.declared.held.Held.{Held}
 use Rattle.gptp_receipt.specs.declared.held.Held.TheVariants.{Disabled}
 use Rattle.gptp_system.specs.declared.port.Port.{Port}
 use Rattle.gptp_scenario.specs.SettlingAtOnce.{settling_span_at_once}
-use Rattle.gptp_scenario.specs.SettlingTime.{capability_span, settling_span_with}
+use Rattle.gptp_scenario.specs.SettlingTime.{capability_span, settling_span_with, window_span}
 use Rattle.gptp_scenario.specs.declared.sync_wait.SyncPaths.{SyncPaths}
 use Rattle.gptp_model.specs.Prompt.{HavePace}
 use Rattle.gptp_model.specs.World.{WorldState}
@@ -29,6 +29,10 @@ pub record IsCalmFor (span : SettlingParams → SyncPaths → ℕ → ℕ) (w : 
 -- by when every port is capable that will be, and no other is, whatever Sync has to cross and however many systems live
 abbrev pub capable_span : SettlingParams → SyncPaths → ℕ → ℕ
 capable_span p paths n = capability_span p
+
+-- by when every such port has measured its link over a whole window
+abbrev pub measured_span : SettlingParams → SyncPaths → ℕ → ℕ
+measured_span p paths n = capability_span p + window_span p.params
 
 -- the settling span of m systems, however many live
 abbrev pub span_over : ℕ → SettlingParams → SyncPaths → ℕ → ℕ

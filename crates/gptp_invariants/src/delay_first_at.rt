@@ -1,6 +1,6 @@
 //! Laws on a link from its first request on.
 
-ghost use Rattle.gptp_invariants.specs.DelayFirstAtLaws.{FirstGoesOn, FirstGoesThrough, FirstIsFull, LinkUpIsFirst, StartIsFirst};
+ghost use Rattle.gptp_invariants.specs.DelayFirstAtLaws.{FirstGoesOn, FirstGoesThrough, FirstIsFull, FirstIsMeasured, LinkUpIsFirst, StartIsFirst};
 
 use gptp_links::Fate;
 
@@ -11,9 +11,11 @@ pub fn first_goes_on()
     ensures later { FirstGoesOn }
 {}
 
-/// One interval between requests and one exchange after that request the port is capable, and has measured the link.
+/// One interval between requests and one exchange after that request the port is capable. As many intervals as the
+/// window has exchanges, and one exchange, after it the port has measured the link over a whole window.
 pub fn first_is_full()
-    ensures { FirstIsFull }
+    ensures capable { FirstIsFull }
+    ensures measured { FirstIsMeasured }
 {}
 
 /// What is known of a link since its first request holds of each link that comes up, in both directions, from then on,

@@ -20,9 +20,9 @@ pub fn ports_become_capable()
     ensures { WatchedPortsBecomeCapable }
 {}
 
-/// From five announce intervals after the last change on, what the port measured last is of two exchanges over the
-/// link, one after the other, whose messages took between the least and the greatest delay of the link (IEEE
-/// 802.1AS-2020, 11.2.19.3).
+/// From five announce intervals after the last change on, and an interval between requests more for each exchange of
+/// the window but one, what the port measured last is of two exchanges over the link, a window apart. Their messages
+/// took between the least and the greatest delay of the link (IEEE 802.1AS-2020, 11.2.19.3).
 pub fn ports_measure()
     ensures { WatchedPortsMeasure }
 {}

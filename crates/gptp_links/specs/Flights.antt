@@ -14,6 +14,12 @@ flight_key place = record { place = place }
 abbrev pub with_next_flight : Key → Flight → Flight
 with_next_flight next f = record f { next = next }
 
+-- the same frame, due at the same time, that leads to the same
+pub record IsSameFlight (f g : Flight) : Type 0 where
+  pub due : g.due ≡ f.due
+  pub octets : g.octets.items ≡ f.octets.items
+  pub next : g.next ≡ f.next
+
 -- no key stands twice
 abbrev pub Differ : List ℕ → Type 0
 Differ [] = ⊤

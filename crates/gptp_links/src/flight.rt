@@ -6,6 +6,7 @@ ghost use Rattle.slab.specs.Slab.{get, Updates};
 ghost use Rattle.gptp_links.specs.Flights.{due_at, with_next_flight, SameRoom};
 
 use slab::Slab;
+use std::alloc::AllocError;
 
 /// Where a frame in flight stands among the others.
 #[derive(Clone, Copy)]
@@ -20,6 +21,20 @@ pub(crate) struct Flight {
     pub(crate) octets: Vec<u8>,
     // It leads anywhere where nothing was sent after this.
     pub(crate) next: Key,
+}
+
+impl Clone for Flight {
+    ghost use Rattle.gptp_links.specs.Flights.{IsSameFlight};
+
+    ghost is_clone = { IsSameFlight };
+
+    fn clone(&self) -> Result<Self, AllocError> {
+        Ok(Flight {
+            due: self.due,
+            octets: self.octets.clone()?,
+            next: self.next,
+        })
+    }
 }
 
 /// When a frame is due.

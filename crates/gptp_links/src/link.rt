@@ -77,6 +77,21 @@ impl Link {
         }
     }
 
+    /// An equal link. Refused for want of memory alone.
+    pub fn copy(&self) -> Result<Self, AllocError>
+        ensures { IfOk result (λ link. link ≡ self.now) }
+    {
+        let mut flights = self.flights.clone()?;
+        flights.reserve(self.flights.capacity() - self.flights.len())?;
+        Ok(Link {
+            bounds: self.bounds,
+            up: self.up,
+            flights,
+            from_a: self.from_a,
+            from_b: self.from_b,
+        })
+    }
+
     /// Makes room for so many more frames in each direction: after `Ok` the next so many calls of
     /// [`send`](Self::send) in each aren't refused. Refused where there is no memory for them. No frame
     /// changes.

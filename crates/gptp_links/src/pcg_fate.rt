@@ -11,6 +11,7 @@ use crate::fate::Fate;
 use rand_core::SeedableRng;
 use rand_core::utils::NextWord;
 use rand_pcg::Pcg64;
+use std::alloc::AllocError;
 use std::marker::Model;
 
 /// Fates drawn from the generator PCG64 (XSL RR 128/64). It is seen as the state of the generator.
@@ -50,6 +51,18 @@ impl PcgFate {
             return bounds.min;
         }
         bounds.min + self.generator.next_word() % (bounds.max - bounds.min + 1)
+    }
+}
+
+impl Clone for PcgFate {
+    ghost use Rattle.std.specs.Prelude.{◌≡◌};
+
+    ghost is_clone = { λ fate copy. copy ≡ fate };
+
+    fn clone(&self) -> Result<Self, AllocError> {
+        Ok(PcgFate {
+            generator: self.generator.clone()?,
+        })
     }
 }
 

@@ -15,6 +15,7 @@ use Rattle.gptp_system.specs.Start.{started}
 use Rattle.gptp_system.specs.State.{SystemState, clock}
 use Rattle.gptp_system.proofs.StartLemmas.{length-new_ports}
 use Rattle.gptp_system.proofs.TimersChangedLemmas.{priority_clock}
+use Rattle.gptp_system.proofs.WindowLemmas.{starts_measuring_over, steps_measure_over}
 use Rattle.gptp_scenario.specs.declared.change.Act.{Act}
 use Rattle.gptp_scenario.specs.declared.change.Timed.{Timed}
 use Rattle.gptp_model.specs.declared.done.Done.{Done}
@@ -286,6 +287,8 @@ called_same input w place draws answer w' calls its =
         drift = its.drift;
         intervals = its.intervals;
         named = its.named ∙ sym named;
+        windows = steps_measure_over calls.station.setup.params.window input w.time calls.station.system calls.after
+            calls.sends answer calls.steps its.windows;
       };
     }
 
@@ -349,6 +352,7 @@ failed_stays place station w here setups =
         drift = its.drift;
         intervals = its.intervals;
         named = its.named;
+        windows = its.windows;
       };
     })
     setups (join_same w.net.channels)
@@ -375,6 +379,7 @@ with_setup_stays value place station w here setups =
           largest = its.intervals.largest;
         };
         named = priority_clock value (started station.setup 0) ∙ its.named;
+        windows = its.windows;
       };
     })
     setups (join_same w.net.channels)
@@ -398,6 +403,7 @@ fresh_same now station its =
         drift = its.drift;
         intervals = its.intervals;
         named = refl;
+        windows = starts_measuring_over setup now;
       };
     }
 

@@ -6,6 +6,7 @@ use Rattle.gptp_pdelay.specs.Clock.{IsDrift}
 use Rattle.gptp_roles.specs.Selection.{clock_of}
 use Rattle.gptp_setup.specs.declared.limits.TheConstants.{MOST_PORTS}
 use Rattle.gptp_setup.specs.Intervals.{AreIntervals}
+use Rattle.gptp_system.specs.Facts.{MeasuresOver}
 use Rattle.gptp_system.specs.State.{clock}
 use Rattle.gptp_system.specs.Steps.{HasPortNumber, IsUp}
 use Rattle.gptp_model.specs.declared.station.Station.{Station}
@@ -21,6 +22,7 @@ pub record IsItsSetup (station : Station) : Type 0 where
   pub drift : IsDrift station.setup.drift
   pub intervals : AreIntervals station.setup
   pub named : clock_of station.setup.identity ≡ clock station.system
+  pub windows : MeasuresOver station.setup.params.window station.system.ports
 
 abbrev pub HaveTheirSetups : WorldState → Type 0
 HaveTheirSetups w = (place : ℕ) (station : Station) → slice_get w.stations place ≡ Some station → IsItsSetup station

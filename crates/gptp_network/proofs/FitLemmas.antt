@@ -198,9 +198,6 @@ in_range p is =
     let counts : are_counts_in_range p ≡ true = intervals.1 in
     let times : are_times_in_range p ≡ true = counted.1 in
     let stamps : are_stamps_in_range p ≡ true = whole.1 in
-    let most : p.window ≤ 1 = grind (arith, nat_tests) in
-    let least : 1 ≤ p.window = grind (arith, nat_tests) in
-    let window : p.window ≡ 1 = omega (arith, most, least) in
     record {
       params = record {
         announce = is_log_so p.announce first.0;
@@ -219,14 +216,13 @@ in_range p is =
         sync-timeout = grind (arith, nat_tests);
         granularity = grind (arith, nat_tests);
         noise = grind (arith, nat_tests);
-        window-least = omega (arith, window);
-        window = omega (arith, window);
+        window-least = grind (arith, nat_tests);
+        window = grind (arith, nat_tests);
       };
       timeout = grind (arith, nat_tests);
       lost-least = grind (arith, nat_tests);
       threshold-least = grind (arith, nat_tests);
       threshold = grind (arith, nat_tests);
-      one_exchange = window;
     }
 
 go_together : (p : Params) → AreInRange p → is_timed p ≡ true → KeepParams p

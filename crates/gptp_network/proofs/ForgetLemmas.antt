@@ -216,7 +216,7 @@ params_is t =
     step (natural_at GRANULARITY t) (natural (codes "granularity") 0 1000 (Some 0) t) _ _ (natural_is GRANULARITY t)
     (λ granularity.
     step (natural_at NOISE t) (natural (codes "noise") 0 1000 (Some 0) t) _ _ (natural_is NOISE t) (λ noise.
-    step (natural_at WINDOW t) (natural (codes "window") 1 1 (Some 1) t) _ _ (natural_is WINDOW t) (λ window.
+    step (natural_at WINDOW t) (natural (codes "window") 1 16 (Some 1) t) _ _ (natural_is WINDOW t) (λ window.
     refl))))))))))))
 
 network_in_is : (t : Members) → forget (read_section t) ≡ network_of_section t

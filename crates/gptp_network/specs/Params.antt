@@ -22,7 +22,7 @@ params_of t = do
   sync_timeout ← natural (codes "sync_timeout") 0 10 (Some 0) t
   granularity ← natural (codes "granularity") 0 1000 (Some 0) t
   noise ← natural (codes "noise") 0 1000 (Some 0) t
-  window ← natural (codes "window") 1 1 (Some 1) t
+  window ← natural (codes "window") 1 16 (Some 1) t
   Ok (record {
     announce = announce;
     sync = sync;

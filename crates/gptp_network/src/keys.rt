@@ -136,8 +136,7 @@ pub(crate) const GRANULARITY: Natural = (Name::Granularity, 0, 1000, Some(0));
 
 pub(crate) const NOISE: Natural = (Name::Noise, 0, 1000, Some(0));
 
-// No system measures a rate over more than one exchange yet: the window has its default alone.
-pub(crate) const WINDOW: Natural = (Name::Window, 1, 1, Some(1));
+pub(crate) const WINDOW: Natural = (Name::Window, 1, 16, Some(1));
 
 // ---- `[[system]]`, whose `announce` is an array of the numbers that are the network's
 

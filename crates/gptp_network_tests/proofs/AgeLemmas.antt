@@ -1,8 +1,7 @@
 -- How old what the second of two systems knows is, where its network has a syncReceiptTimeout, by the law on ages.
-use Rattle.std.proofs.Common.{◌≡◌, ◌<◌, ◌≤◌, ◌+◌, ◌-◌, ◌*◌, ℕ, zero, suc, [], List, Option, Some, refl, sym, ap, ap₂, subst, ◌∙◌, inr, arith}
+use Rattle.std.proofs.Common.{◌≡◌, ◌<◌, ◌≤◌, ◌+◌, ◌-◌, ◌*◌, ℕ, zero, suc, [], List, Option, Some, refl, sym, ap, subst, ◌∙◌, inr, arith}
 use Rattle.gptp_graph.specs.Distance.{IsNear}
 use Rattle.gptp_graph.specs.PathBound.{path_bound}
-use Rattle.gptp_graph.specs.Snapshot.{Link, System}
 use Rattle.gptp_invariants.specs.ChoiceCalm.{IsQuietWorld, sync_paths_of}
 use Rattle.gptp_invariants.specs.WorldSettlingInvariant.{SettlingInvariant}
 use Rattle.gptp_invariants.specs.WorldStanding.{snapshot_of}
@@ -13,74 +12,48 @@ use Rattle.gptp_model.specs.Prompt.{HavePace}
 use Rattle.gptp_model.specs.Sound.{IsSound}
 use Rattle.gptp_model.specs.Views.{ShowsLive}
 use Rattle.gptp_model.specs.World.{WorldState}
-use Rattle.gptp_network.specs.Snapshot.{StandsAfter}
 use Rattle.gptp_reading.specs.Age.{WorldsAreRecent}
 use Rattle.gptp_scenario.specs.Calm.{AllRest, IsCalm}
-use Rattle.gptp_scenario.specs.InUse.{path_systems}
-use Rattle.gptp_scenario.specs.Network.{largest_of, pace_of}
+use Rattle.gptp_scenario.specs.Network.{pace_of}
 use Rattle.gptp_scenario.specs.SyncWait.{step_more, sync_paths, sync_wait}
 use Rattle.gptp_setup.specs.SettlingParams.{lapse_span}
 use Rattle.gptp_system.specs.State.{SystemState}
 use Rattle.gptp_theorem.specs.Headline.{HasPassed, WorldIsCalm}
-use Rattle.gptp_theorem.specs.PlayedLaws.{IsReached}
 use Rattle.gptp_theorem.proofs.CalmLemmas.{quiet_stands, set_stands}
-use Rattle.gptp_theorem.proofs.PlayedLemmas.{played_stands}
-use Rattle.gptp_theorem.proofs.SnapshotLemmas.{snapshots_stand, systems_stand}
 use Rattle.gptp_theorem.proofs.SyncPathLemmas.{paths_stand}
-use Rattle.gptp_network_tests.specs.Ages.{HasLapsingBegun, IsLapsingPair, lapsing_document, lapsing_network, lapsing_pace, lapsing_params}
-use Rattle.gptp_network_tests.specs.Pair.{pair_paths, pair_snapshot}
-use Rattle.gptp_network_tests.proofs.PairLemmas.{near, stands_after}
+use Rattle.gptp_network_tests.specs.Ages.{IsLapsingPair, lapsing_network, lapsing_pace, lapsing_params}
+use Rattle.gptp_network_tests.specs.Pair.{HasBegunWith, pair_paths, pair_snapshot}
+use Rattle.gptp_network_tests.proofs.PairLemmas.{goes_to, near, pace_is, paths_are, snapshot_is}
 
 -- ---- the network
-
-pace_is : pace_of lapsing_network ≡ lapsing_pace
-unfolding largest_of
-pace_is = refl
-
-paths_are : sync_paths lapsing_network [] ≡ pair_paths
-unfolding path_systems
-paths_are = refl
 
 links_rest : AllRest lapsing_params lapsing_network.systems lapsing_network.links []
 links_rest zero x early = λ used. record { lossless = refl; good = omega arith }
 links_rest (suc i) x early = absurd (omega (arith, early))
 
 short : sync_wait lapsing_params (sync_paths lapsing_network []) < lapse_span lapsing_params
-short = subst (λ paths. sync_wait lapsing_params paths < lapse_span lapsing_params) (sym paths_are) (omega arith)
+short = subst (λ paths. sync_wait lapsing_params paths < lapse_span lapsing_params) (sym (paths_are lapsing_params))
+    (omega arith)
 
 calm : IsCalm lapsing_network []
 calm = record { links = links_rest; lapses = inr short }
-
-also_after : StandsAfter lapsing_network [] pair_snapshot
-also_after =
-    record { systems = stands_after.systems; rising = stands_after.rising; links = stands_after.links }
 
 -- ---- its world
 
 -- what it comes to
 pub comes_to : {F : Type 0} (answers : Bounds → ℕ → F → Option ℕ → F → Type 0) (fate fate_after : F)
-    (told : List Told) (start w : WorldState) → HasLapsingBegun answers fate start
+    (told : List Told) (start w : WorldState) → HasBegunWith lapsing_params answers fate start
     → Advanced answers 27000000000 told fate fate_after start w → IsLapsingPair w
 comes_to answers fate fate_after told start w k advanced =
-    let reached : IsReached lapsing_document 27000000000 w =
-    played_stands answers lapsing_document 27000000000 k.before told w k.network tt (record {
-      started = fate;
-      start = start;
-      begun = k.begun;
-      drawn = fate_after;
-      goes = advanced;
-    }) in
+    let reached = goes_to lapsing_params answers fate fate_after told 27000000000 start w k advanced in
     record { network = k.network; stands = reached.stands; now = reached.now }
 
 module _ (w : WorldState) (k : IsLapsingPair w) (sound : IsSound w) (claimed : SettlingInvariant w) where
   same_paths : sync_paths_of w ≡ pair_paths
-  same_paths = sym (paths_stand lapsing_network [] w k.network k.stands sound) ∙ paths_are
+  same_paths = sym (paths_stand lapsing_network [] w k.network k.stands sound) ∙ paths_are lapsing_params
 
   snapshot : snapshot_of w ≡ pair_snapshot
-  snapshot =
-      ap₂ (λ (ss : List System) (ls : List Link). record { systems = ss; links = ls })
-      (systems_stand lapsing_network [] w k.stands sound)
-      (snapshots_stand lapsing_network [] w pair_snapshot k.stands sound also_after).1
+  snapshot = snapshot_is lapsing_params w k.stands sound
 
   quiet : IsQuietWorld lapsing_params w
   quiet = quiet_stands lapsing_network [] w k.network k.stands sound calm
@@ -90,7 +63,7 @@ module _ (w : WorldState) (k : IsLapsingPair w) (sound : IsSound w) (claimed : S
 
   world_calm : WorldIsCalm lapsing_pace w
   world_calm = record {
-    of = subst (λ p. HavePace p w) pace_is have_pace;
+    of = subst (λ p. HavePace p w) (pace_is lapsing_params) have_pace;
     links = λ link member used.
         let (place, there) = slice_get-In link w.net.channels member in
         let is = quiet.links place link there used in (is.lossless, is.good);

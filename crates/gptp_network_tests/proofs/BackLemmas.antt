@@ -19,7 +19,7 @@ use Rattle.gptp_theorem.specs.PlayedLaws.{IsPlayable}
 use Rattle.gptp_settling_time.specs.Gains.{IsDownAfter, JoinsLive, exchanged_from}
 use Rattle.gptp_settling_time.specs.HowSoon.{IsChoiceBound, IsChoiceBoundAfter, NoneBetween, way_span}
 use Rattle.gptp_settling_time.specs.InTurn.{BringsUp, VariesLittleAfter}
-use Rattle.gptp_network_tests.specs.Pair.{end_station, first_member, pair_network, pair_pace, pair_paths, second_member}
+use Rattle.gptp_network_tests.specs.Pair.{end_station, first_member, pair_network, pair_pace, pair_paths, params, second_member}
 use Rattle.gptp_network_tests.specs.Soon.{back_document}
 use Rattle.gptp_network_tests.proofs.PairLemmas.{pace_is}
 
@@ -105,7 +105,7 @@ comes_up = record {
   little = little;
   live = live;
   capable = subst (λ (p : SettlingParams). exchanged_from p (sync_paths pair_network events) 20000000000 ≤ 21000002001)
-      (sym pace_is)
+      (sym (pace_is params))
       (subst (λ (x : SyncPaths). exchanged_from pair_pace x 20000000000 ≤ 21000002001) (sym paths_up) (omega arith));
 }
 
@@ -123,7 +123,7 @@ before event (inr (inr none)) behind = absurd none
 span_down : 15000000000 ≡ settling_span_at_once (pace_of pair_network) (sync_paths pair_network (down ∷ []))
 span_down =
     subst (λ (p : SettlingParams). 15000000000 ≡ settling_span_at_once p (sync_paths pair_network (down ∷ [])))
-    (sym pace_is)
+    (sym (pace_is params))
     (subst (λ (x : SyncPaths). 15000000000 ≡ settling_span_at_once pair_pace x) (sym paths_down) refl)
 
 down_bound : IsChoiceBoundAfter pair_network events (0 ∷ []) 2000000000 15000000000

@@ -22,7 +22,7 @@ use Rattle.gptp_settling_time.specs.Gains.{IsNoWorse, exchanged_from}
 use Rattle.gptp_settling_time.specs.InTurn.{ActsFindSettledInTurn, BettersClock, Heard, LeadOn, SettlesAfter, SettlesByEvents}
 use Rattle.gptp_settling_time.specs.Starts.{LinksVaryLittle}
 use Rattle.gptp_settling_time.proofs.ClaimedToLemmas.{used_vary}
-use Rattle.gptp_network_tests.specs.Pair.{end_station, first_member, pair_network, pair_pace, pair_paths, second_member}
+use Rattle.gptp_network_tests.specs.Pair.{end_station, first_member, pair_network, pair_pace, pair_paths, params, second_member}
 use Rattle.gptp_network_tests.specs.Soon.{BetterClocksSettleSoon, better_document}
 use Rattle.gptp_network_tests.proofs.PairLemmas.{pace_is, paths_are}
 
@@ -79,7 +79,7 @@ better = record {
   value = 245;
   act = refl;
   better = no_worse;
-  few = subst (λ (x : SyncPaths). x.systems ≤ 255) (sym paths_are) (omega arith);
+  few = subst (λ (x : SyncPaths). x.systems ≤ 255) (sym (paths_are params)) (omega arith);
   later = omega arith;
 }
 
@@ -90,14 +90,16 @@ settles until same = record {
   first = Heard 1000002001;
   begins = (
     used_vary pair_network [] few,
-    inl (subst (λ (p : SettlingParams). exchanged_from p (sync_paths pair_network []) 0 ≤ 1000002001) (sym pace_is)
-        (subst (λ (x : SyncPaths). exchanged_from pair_pace x 0 ≤ 1000002001) (sym paths_are) (omega arith))),
+    inl (subst (λ (p : SettlingParams). exchanged_from p (sync_paths pair_network []) 0 ≤ 1000002001)
+        (sym (pace_is params))
+        (subst (λ (x : SyncPaths). exchanged_from pair_pace x 0 ≤ 1000002001) (sym (paths_are params)) (omega arith))),
   );
   last = Heard 2000000001;
   lead = subst (λ es. LeadOn pair_network [] (Heard 1000002001) es (Heard 2000000001)) (sym same) (
     Heard 2000000001,
     inr (inl (
-      subst (λ (x : SyncPaths). 1000002001 + pred x.systems * x.delay ≤ 2000000000) (sym paths_are) (omega arith),
+      subst (λ (x : SyncPaths). 1000002001 + pred x.systems * x.delay ≤ 2000000000) (sym (paths_are params))
+          (omega arith),
       inl better,
     )),
     refl,

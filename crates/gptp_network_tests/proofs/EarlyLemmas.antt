@@ -17,7 +17,7 @@ use Rattle.gptp_model.specs.World.{port_id}
 use Rattle.gptp_theorem.specs.PlayedLaws.{IsPlayable}
 use Rattle.gptp_settling_time.specs.HowSoon.{IsChoiceBound, two_exchanges, way_span}
 use Rattle.gptp_settling_time.specs.InTurn.{UsedVaryLittle}
-use Rattle.gptp_network_tests.specs.Pair.{pair_network, pair_pace, pair_paths}
+use Rattle.gptp_network_tests.specs.Pair.{pair_network, pair_pace, pair_paths, params}
 use Rattle.gptp_network_tests.specs.Soon.{early_document}
 use Rattle.gptp_network_tests.proofs.PairLemmas.{pace_is}
 
@@ -74,7 +74,8 @@ early_bound = (
   where
     ready : 1000002000 ≡ two_exchanges (pace_of pair_network) (sync_paths pair_network events)
     ready =
-        subst (λ (p : SettlingParams). 1000002000 ≡ two_exchanges p (sync_paths pair_network events)) (sym pace_is)
+        subst (λ (p : SettlingParams). 1000002000 ≡ two_exchanges p (sync_paths pair_network events))
+        (sym (pace_is params))
         (subst (λ (x : SyncPaths). 1000002000 ≡ two_exchanges pair_pace x) (sym paths_then) refl)
 
     is : 1000002500 ≡ 1000002000 + way_span (sync_paths pair_network events)

@@ -23,7 +23,7 @@ use Rattle.gptp_invariants.specs.ChoiceTraces.{AreHeldCleanInTime, AreHeldWholeI
 use Rattle.gptp_invariants.specs.ChoiceView.{said}
 use Rattle.gptp_theorem.proofs.CalmLemmas.{quiet_stands, set_stands}
 use Rattle.gptp_theorem.proofs.SyncPathLemmas.{paths_stand}
-use Rattle.gptp_network_tests.specs.Pair.{HearsAnnounce, HoldsFirstAlone, HoldsFromFirst, IsPairAt, IsPairSince, pair_network, pair_pace, pair_snapshot}
+use Rattle.gptp_network_tests.specs.Pair.{HearsAnnounce, HoldsFirstAlone, HoldsFromFirst, IsPairAt, IsPairSince, pair_network, pair_pace, pair_snapshot, params}
 use Rattle.gptp_network_tests.proofs.PairLemmas.{bounded, calm as is_calm, pace_is, paths_are, snapshot_is}
 
 pub for_some : {X : Type 0} (P Q : X → Type 0) (found : Option X) → ((x : X) → P x → Q x) → IfSome found P
@@ -90,7 +90,7 @@ second_holds w s at shows whole r is =
 
 module _ (w : WorldState) (k : IsPairSince 15000000000 w) (sound : IsSound w) (claimed : SettlingInvariant w) where
   snapshot : snapshot_of w ≡ pair_snapshot
-  snapshot = snapshot_is w k.stands sound
+  snapshot = snapshot_is params w k.stands sound
 
   have_pace : HavePace (pace_of pair_network) w
   have_pace place station here = (set_stands pair_network [] w k.stands claimed place station here).starts
@@ -98,7 +98,7 @@ module _ (w : WorldState) (k : IsPairSince 15000000000 w) (sound : IsSound w) (c
   abbrev calm : IsCalmWorld w
   calm = record {
     pace = pair_pace;
-    set = subst (λ p. HavePace p w) pace_is have_pace;
+    set = subst (λ p. HavePace p w) (pace_is params) have_pace;
     quiet = quiet_stands pair_network [] w k.network k.stands sound is_calm;
     late = rw k.stands.last (omega arith);
   }
@@ -106,7 +106,7 @@ module _ (w : WorldState) (k : IsPairSince 15000000000 w) (sound : IsSound w) (c
   sent : (time : ℕ) → 15000000000 ≤ time → WasSentAfter 0 time w calm
   sent time late =
       subst (λ paths. w.last_change + turns_span 0 pair_pace paths (length (snapshot_of w).systems) + 1000000000 ≤ time)
-      (sym paths_are ∙ paths_stand pair_network [] w k.network k.stands sound)
+      (sym (paths_are params) ∙ paths_stand pair_network [] w k.network k.stands sound)
       (rw k.stands.last (omega (arith, late)))
 
   hears : (m : AnnounceView) (time : ℕ) (done : Done) → w.time ≤ time → HearsAnnounce 2 m done

@@ -1,5 +1,5 @@
 -- The world of two systems as it stands, and what it shows once they have settled.
-use Rattle.std.proofs.Common.{◌≡◌, ◌≢◌, ◌<◌, ◌≤◌, ◌+◌, ℕ, zero, suc, true, List, [], ◌∷◌, Option, Some, None, length, slice_get, refl, sym, ap, ap₂, subst, ◌∙◌, inl, inr, arith}
+use Rattle.std.proofs.Common.{◌≡◌, ◌≢◌, ◌<◌, ◌≤◌, ◌+◌, ◌*◌, ℕ, zero, suc, true, List, [], ◌∷◌, Option, Some, None, length, slice_get, refl, sym, ap, ap₂, subst, ◌∙◌, inl, inr, arith}
 use Rattle.std.specs.Prelude.{◌⊎◌, IfNone, IfSome, reverse}
 use Rattle.std.proofs.lemmas.List.{reverse-reverse}
 use Rattle.std.proofs.lemmas.Option.{same_Some}
@@ -63,27 +63,37 @@ use Rattle.gptp_theorem.proofs.CalmLemmas.{quiet_stands, set_stands}
 use Rattle.gptp_theorem.proofs.PlayedLemmas.{played_stands}
 use Rattle.gptp_theorem.proofs.SnapshotLemmas.{snapshots_stand, systems_stand}
 use Rattle.gptp_theorem.proofs.SyncPathLemmas.{paths_stand}
-use Rattle.gptp_network_tests.specs.Pair.{HasBegun, IsPairAt, first_member, following_pair, leading, pair_document, pair_network, pair_pace, pair_paths, pair_snapshot, second_member}
+use Rattle.gptp_setup.specs.declared.setup.Params.{Params}
+use Rattle.gptp_network_tests.specs.Pair.{HasBegun, HasBegunWith, IsPairAt, IsPairWith, document_with, first_member, following_pair, leading, network_with, pace_with, pair_network, pair_pace, pair_paths, pair_snapshot, params, second_member, stamped_params}
 
 -- ---- the network
 
-pub pace_is : pace_of pair_network ≡ pair_pace
+pub pace_is : (p : Params) → pace_of (network_with p) ≡ pace_with p
 unfolding largest_of
-pace_is = refl
+pace_is p = refl
 
-pub paths_are : sync_paths pair_network [] ≡ pair_paths
+pub paths_are : (p : Params) → sync_paths (network_with p) [] ≡ pair_paths
 unfolding path_systems
-paths_are = refl
+paths_are p = refl
 
-links_rest : AllRest pair_network.params pair_network.systems pair_network.links []
-links_rest zero x early = λ used. record { lossless = refl; good = omega arith }
-links_rest (suc i) x early = absurd (omega (arith, early))
+links_rest : (granularity noise : ℕ) → granularity + 2 * noise ≤ 296
+    → AllRest (stamped_params granularity noise) pair_network.systems pair_network.links []
+links_rest granularity noise few zero x early = λ used. record { lossless = refl; good = omega (arith, few) }
+links_rest granularity noise few (suc i) x early = absurd (omega (arith, early))
+
+pub stamped_calm : (granularity noise : ℕ) → granularity + 2 * noise ≤ 296
+    → IsCalm (network_with (stamped_params granularity noise)) []
+stamped_calm granularity noise few = record { links = links_rest granularity noise few; lapses = inl refl }
+
+-- exact time stamps are good enough
+pub good_exactly : 0 + 2 * 0 ≤ 296
+good_exactly = omega arith
 
 pub calm : IsCalm pair_network []
-calm = record { links = links_rest; lapses = inl refl }
+calm = stamped_calm 0 0 good_exactly
 
-pub stands_after : StandsAfter pair_network [] pair_snapshot
-stands_after = record {
+pub stands_after : (p : Params) → StandsAfter (network_with p) [] pair_snapshot
+stands_after p = record {
   systems = IsPermutation-refl pair_snapshot.systems;
   rising = ((λ y among. later y among), ((λ y among. absurd among), tt));
   links = refl;
@@ -95,24 +105,35 @@ stands_after = record {
 
 -- ---- its world
 
-pub snapshot_is : (w : WorldState) → StandsAsPlanned pair_network [] w → IsSound w → snapshot_of w ≡ pair_snapshot
-snapshot_is w so sound =
+pub snapshot_is : (p : Params) (w : WorldState) → StandsAsPlanned (network_with p) [] w → IsSound w
+    → snapshot_of w ≡ pair_snapshot
+snapshot_is p w so sound =
     ap₂ (λ (ss : List System) (ls : List Link). record { systems = ss; links = ls })
-    (systems_stand pair_network [] w so sound)
-    (snapshots_stand pair_network [] w pair_snapshot so sound stands_after).1
+    (systems_stand (network_with p) [] w so sound)
+    (snapshots_stand (network_with p) [] w pair_snapshot so sound (stands_after p)).1
 
--- what it comes to by a time
-module _ {F : Type 0} (answers : Bounds → ℕ → F → Option ℕ → F → Type 0) (fate fate_after : F) (told : List Told)
-    (time : ℕ) (start w : WorldState) (k : HasBegun answers fate start)
-    (advanced : Advanced answers time told fate fate_after start w) (claimed : SettlingInvariant w) where
-  reached : IsReached pair_document time w
-  reached = played_stands answers pair_document time k.before told w k.network tt (record {
+-- what it goes on to by a time
+module _ {F : Type 0} (p : Params) (answers : Bounds → ℕ → F → Option ℕ → F → Type 0) (fate fate_after : F)
+    (told : List Told) (time : ℕ) (start w : WorldState) (k : HasBegunWith p answers fate start)
+    (advanced : Advanced answers time told fate fate_after start w) where
+  pub goes_to : IsReached (document_with p) time w
+  goes_to = played_stands answers (document_with p) time k.before told w k.network tt (record {
     started = fate;
     start = start;
     begun = k.begun;
     drawn = fate_after;
     goes = advanced;
   })
+
+  pub remains : IsPairWith p time w
+  remains = record { network = k.network; stands = goes_to.stands; late = rw goes_to.now (omega arith) }
+
+-- and so what it shows
+module _ {F : Type 0} (answers : Bounds → ℕ → F → Option ℕ → F → Type 0) (fate fate_after : F) (told : List Told)
+    (time : ℕ) (start w : WorldState) (k : HasBegun answers fate start)
+    (advanced : Advanced answers time told fate fate_after start w) (claimed : SettlingInvariant w) where
+  reached : IsReached (document_with params) time w
+  reached = goes_to params answers fate fate_after told time start w k advanced
 
   so : StandsAsPlanned pair_network [] w
   so = reached.stands
@@ -125,14 +146,14 @@ module _ {F : Type 0} (answers : Bounds → ℕ → F → Option ℕ → F → T
 
   pub comes_to : IsPairAt time w
   comes_to = record {
-    since = record { network = k.network; stands = so; late = rw reached.now (omega arith) };
-    snapshot = snapshot_is w so reached.sound;
+    since = remains params answers fate fate_after told time start w k advanced;
+    snapshot = snapshot_is params w so reached.sound;
     calm = λ span early. record {
       pace = pair_pace;
-      set = subst (λ p. HavePace p w) pace_is have_pace;
+      set = subst (λ p. HavePace p w) (pace_is params) have_pace;
       quiet = quiet_stands pair_network [] w k.network so reached.sound calm;
       late = subst (λ paths. w.last_change + span pair_pace paths (length (snapshot_of w).systems) ≤ w.time)
-          (sym paths_are ∙ paths_stand pair_network [] w k.network so reached.sound)
+          (sym (paths_are params) ∙ paths_stand pair_network [] w k.network so reached.sound)
           (rw (so.last, systems, reached.now) (omega (arith, early)));
     };
   }

@@ -23,36 +23,37 @@ use Rattle.gptp_system.specs.Syncing.{held_reading}
 use Rattle.gptp_theorem.specs.Headline.{UsesFollowUp}
 use Rattle.gptp_reading.specs.Readings.{HeadlineOnReadings, LeavesReading, RunsReadExactly, WorldsReadExactly}
 use Rattle.gptp_scaled.specs.Counts.{AreWithin}
-use Rattle.gptp_network_tests.specs.Pair.{IsPairSince, first_member, pair_document, pair_pace, pair_snapshot, params}
+use Rattle.gptp_network_tests.specs.Pair.{IsPairSince, first_member, pair_document, pair_pace, pair_snapshot, pair_way, params}
 use Rattle.gptp_network_tests.specs.Readings.{RunsOfTwoReadExactly, WorldsOfTwoReadExactly}
-use Rattle.gptp_network_tests.proofs.ExactLemmas.{calm_pair, few, first_is, first_tells, found, late, leads, of_pair, phases, playable, short_way, shows, way, way_is}
-use Rattle.gptp_network_tests.proofs.PairLemmas.{follows, near}
+use Rattle.gptp_network_tests.proofs.ExactLemmas.{calm_pair, few, first_is, first_tells, found, late, leads, of_pair, phases, playable, shows, way, way_is}
+use Rattle.gptp_network_tests.proofs.PairLemmas.{follows, good_exactly, near}
 
-short_reading : reading_error_at short_way 0 100000000 ≡ 31
+short_reading : reading_error_at (pair_way 0 0) 0 100000000 ≡ 31
 short_reading = refl
 
 module _ (w : WorldState) (time : ℕ) (k : IsPairSince 27000000000 w) (sound : IsSound w) (claimed : SettlingInvariant w)
     (passed : w.time ≤ time) where
   error : IsReadingErrorOf params w 2 0 100000000 31
   error = record {
-    way = way w time k sound claimed passed;
-    phase = phases w time k sound claimed passed;
-    leads = leads w time k sound claimed passed;
-    is = sym (ap (λ (v : Way). reading_error_at v 0 100000000) (way_is w time k sound claimed passed) ∙ short_reading);
+    way = way 0 0 good_exactly w time k sound claimed passed;
+    phase = phases 0 0 good_exactly w time k sound claimed passed;
+    leads = leads 0 0 good_exactly w time k sound claimed passed;
+    is = sym (ap (λ (v : Way). reading_error_at v 0 100000000) (way_is 0 0 good_exactly w time k sound claimed passed)
+        ∙ short_reading);
   }
 
   shown : WorldInvariant w → IsBestsTime w 2 (time + 100000000) (local_clock 0 (pos 0) (time + 100000000))
   shown all =
       let (best, is_best, is) : IsBestIdentity pair_snapshot 2 first_member = follows.root in
-      let root = found w time k sound claimed passed 0 1 first_member refl refl in
+      let root = found 0 0 good_exactly w time k sound claimed passed 0 1 first_member refl refl in
       record {
         best = best;
-        is_best = of_pair w time k sound claimed passed (λ g. IsBest g 2 best) is_best;
+        is_best = of_pair 0 0 good_exactly w time k sound claimed passed (λ g. IsBest g 2 best) is_best;
         root = root.0.system;
         shows = subst (λ c. ShowsLive c w root.0.system)
-            (first_is w time k sound claimed passed best is_best.live is)
-            (shows w time k sound claimed passed 0 1 first_member refl refl);
-        is = sym (first_tells w time k sound claimed passed all (time + 100000000));
+            (first_is 0 0 good_exactly w time k sound claimed passed best is_best.live is)
+            (shows 0 0 good_exactly w time k sound claimed passed 0 1 first_member refl refl);
+        is = sym (first_tells 0 0 good_exactly w time k sound claimed passed all (time + 100000000));
       }
 
   read_by_theorem : WorldInvariant w → (w' : WorldState) (done : Done) (read : ℤ) → HeadlineOnReadings w time w' done
@@ -60,9 +61,9 @@ module _ (w : WorldState) (time : ℕ) (k : IsPairSince 27000000000 w) (sound : 
       → AreWithin 31 read (local_clock 0 (pos 0) (time + 100000000))
   read_by_theorem all w' done read promised left =
       promised pair_pace 2 0 2 100000000 31 read (local_clock 0 (pos 0) (time + 100000000))
-      (calm_pair w time k sound claimed passed) (few w time k sound claimed passed)
-      (let come = late w time k sound claimed passed in omega (arith, come)) left
-      (of_pair w time k sound claimed passed (λ g. IsNear g 2) near) error (shown all)
+      (calm_pair 0 0 good_exactly w time k sound claimed passed) (few 0 0 good_exactly w time k sound claimed passed)
+      (let come = late 0 0 good_exactly w time k sound claimed passed in omega (arith, come)) left
+      (of_pair 0 0 good_exactly w time k sound claimed passed (λ g. IsNear g 2) near) error (shown all)
 
 pub worlds_read : {F : Type 0} (answers : Bounds → ℕ → F → Option ℕ → F → Type 0) → WorldsReadExactly answers
     → WorldsOfTwoReadExactly answers
@@ -75,7 +76,8 @@ pub runs_read : {F : Type 0} (answers : Bounds → ℕ → F → Option ℕ → 
 runs_read answers theorem until fate start w ts t read early unfolds member k all passed left =
     read_by_theorem t.before t.told.timed.at k all.is.world.sound (record { pace = all.pace; is = all.is }) passed all
     t.after t.told.done read
-    (theorem pair_document until fate start w ts t (playable k.network) (omega (arith, early)) unfolds member) left
+    (theorem pair_document until fate start w ts t (playable params k.network) (omega (arith, early)) unfolds member)
+    left
 
 -- where a system used a Follow_Up, what it gives for its reading is what it reads by
 pub left : (w : WorldState) (done : Done) (s : SystemState) (time : ℕ) (r : Reading) → UsesFollowUp 2 done

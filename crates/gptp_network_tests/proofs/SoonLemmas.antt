@@ -33,7 +33,7 @@ use Rattle.gptp_settling_time.specs.HowSoon.{IsChoiceBound, two_exchanges, way_s
 use Rattle.gptp_settling_time.specs.Starts.{DelaysVaryLittle, LinksVaryLittle, StartsSettleAtOnce}
 use Rattle.gptp_settling_time.proofs.ClaimedToLemmas.{used_vary}
 use Rattle.gptp_system.specs.State.{clock}
-use Rattle.gptp_network_tests.specs.Pair.{HasBegun, IsPairAt, first_member, pair_document, pair_network, pair_pace, pair_snapshot}
+use Rattle.gptp_network_tests.specs.Pair.{HasBegun, IsPairAt, first_member, pair_document, pair_network, pair_pace, pair_snapshot, params}
 use Rattle.gptp_network_tests.specs.Soon.{IsPairSoon, SettlesWithin}
 use Rattle.gptp_network_tests.proofs.PairLemmas.{bounded, calm as is_calm, comes_to, lives, near, pace_is, paths_are, root_is, slave_is, steps_are}
 
@@ -62,7 +62,7 @@ module _ {F : Type 0} (answers : Bounds → ℕ → F → Option ℕ → F → T
   delay : delay_in w ≡ 500
   delay =
       ap (λ (x : SyncPaths). x.delay)
-      (sym (paths_stand pair_network [] w k.network there.since.stands claimed.is.world.sound) ∙ paths_are)
+      (sym (paths_stand pair_network [] w k.network there.since.stands claimed.is.world.sound) ∙ paths_are params)
 
   time : w.time ≡ 1000002501
   time = ap (λ (v : WorldState). v.time) advanced.is
@@ -83,7 +83,7 @@ module _ {F : Type 0} (answers : Bounds → ℕ → F → Option ℕ → F → T
     at = there;
     settled = (theorem pair_network k.before fate fate_after 1000002501 2 told start w k.network k.begun advanced calm
         refl little (subst (λ g. BoundsPaths g 2) (sym there.snapshot) bounded)
-        (subst (λ p. capable_from p w 0 + 1 * delay_in w ≤ w.time) (sym pace_is) late)).tree.settled;
+        (subst (λ p. capable_from p w 0 + 1 * delay_in w ≤ w.time) (sym (pace_is params)) late)).tree.settled;
   }
 
 -- the second is found, and follows the first
@@ -123,11 +123,11 @@ pair_bound =
   where
     ready : 1000002000 ≡ two_exchanges (pace_of pair_network) (sync_paths pair_network [])
     ready =
-        subst (λ (p : SettlingParams). 1000002000 ≡ two_exchanges p (sync_paths pair_network [])) (sym pace_is)
-        (subst (λ (x : SyncPaths). 1000002000 ≡ two_exchanges pair_pace x) (sym paths_are) refl)
+        subst (λ (p : SettlingParams). 1000002000 ≡ two_exchanges p (sync_paths pair_network [])) (sym (pace_is params))
+        (subst (λ (x : SyncPaths). 1000002000 ≡ two_exchanges pair_pace x) (sym (paths_are params)) refl)
 
     is : 1000002500 ≡ 1000002000 + way_span (sync_paths pair_network [])
-    is = subst (λ (x : SyncPaths). 1000002500 ≡ 1000002000 + way_span x) (sym paths_are) refl
+    is = subst (λ (x : SyncPaths). 1000002500 ≡ 1000002000 + way_span x) (sym (paths_are params)) refl
 
 -- a document that can be played settles within its choice bound
 pub settles_within : {F : Type 0} (answers : Bounds → ℕ → F → Option ℕ → F → Type 0) → ChoiceBoundsHold answers

@@ -2,9 +2,10 @@
 //! whose contract follows from a law. Times are in ns.
 
 ghost use Rattle.std.specs.Prelude.{◌≡◌, ◌≤◌, IfOk, IfSome, OnOk};
-ghost use Rattle.gptp_network_tests.specs.Ages.{HasLapsingBegun, IsLapsingPair, lapsing_network, lapsing_params};
+ghost use Rattle.gptp_network_tests.specs.Ages.{IsLapsingPair, lapsing_params};
+ghost use Rattle.gptp_network_tests.specs.Pair.{HasBegunWith};
 
-use crate::drawn::{PARAMS, pair_with};
+use crate::drawn::{PARAMS, begun_with};
 use gptp_links::Fate;
 use gptp_reading::worlds_are_recent;
 use gptp_setup::Timer;
@@ -28,21 +29,9 @@ fn lapsing() -> Params
     }
 }
 
-/// Their world as it begins.
-fn begun<F: Fate + Drop>(alloc: Global, fate: F) -> Result<World<F>, NetworkFault>
-    ensures { IfOk result (λ world. HasLapsingBegun F.answers world.fate world.world_core) }
-{
-    let network = pair_with(alloc, lapsing())?;
-    network.well_formed();
-    match World::new(alloc, &network, fate) {
-        Ok(world) => Ok(world),
-        Err(_) => Err(NetworkFault::OutOfMemory),
-    }
-}
-
 /// It goes on from there.
 fn go_on<F: Fate + Drop>(world: &mut World<F>) -> Result<(), NetworkFault>
-    requires { HasLapsingBegun F.answers world.old.fate world.old.world_core }
+    requires { HasBegunWith lapsing_params F.answers world.old.fate world.old.world_core }
     ensures { OnOk result (IsLapsingPair world.new.world_core) }
 {
     match world.advance(SETTLED) {
@@ -74,7 +63,7 @@ fn second_age<F: Fate + Drop>(world: &World<F>) -> Option<u64>
 pub fn age_in_time<F: Fate + Drop>(alloc: Global, fate: F) -> Result<Option<u64>, NetworkFault>
     ensures { IfOk result (λ age. IfSome age (λ a. a ≤ 125001500)) }
 {
-    let mut world = begun(alloc, fate)?;
+    let mut world = begun_with(alloc, fate, lapsing())?;
     go_on(&mut world)?;
     Ok(second_age(&world))
 }

@@ -9,6 +9,7 @@ use crate::drawn::{
 use crate::readings::read_in_time;
 use crate::same::same;
 use crate::soon::follow_soon;
+use crate::stamps::stamped_in_time;
 use gptp_links::PcgFate;
 use gptp_roles::Role;
 use gptp_vector::{ClockId, Identity, PortId, Trace};
@@ -52,6 +53,12 @@ fn two_systems_at_rest_are_as_proved(rt: HostRuntime) -> Result<(), Fail> {
     same(
         &rt,
         offset.is_some_and(|offset| offset.value().unsigned_abs() <= 19),
+        true,
+    );
+    let stamped = stamped_in_time(rt.alloc(), PcgFate::new(1))?;
+    same(
+        &rt,
+        stamped.is_some_and(|offset| offset.value().unsigned_abs() <= 2_097_811),
         true,
     );
     let read = read_in_time(rt.alloc(), PcgFate::new(1))?;

@@ -1,7 +1,7 @@
 //! What two systems show once they have settled, as functions whose contracts follow from those of their world's calls:
 //! from what these say of every world that has been calm for long enough. Times are in ns.
 
-ghost use Rattle.std.specs.Prelude.{◌≡◌, ◌≢◌, ◌∷◌, [], true, IfOk, IfSome, None, OnOk, Some, pos};
+ghost use Rattle.std.specs.Prelude.{◌≡◌, ◌≢◌, ◌∷◌, ℕ, [], true, IfOk, IfSome, None, OnOk, Some, pos};
 ghost use Rattle.gptp_setup.specs.Intervals.{IsMoment};
 ghost use Rattle.gptp_model.specs.Views.{ShowsLive};
 ghost use Rattle.gptp_model.specs.World.{port_id};
@@ -13,9 +13,10 @@ ghost use Rattle.gptp_messages.specs.declared.message.Message.TheVariants as mes
 ghost use Rattle.gptp_theorem.specs.Headline.{LeavesOffset, UsesFollowUp};
 ghost use Rattle.gptp_roles.specs.declared.role.Role.TheVariants.{Disabled, Master, Slave};
 ghost use Rattle.gptp_scaled.specs.Counts.{AreWithin};
-ghost use Rattle.gptp_network_tests.specs.Pair.{HasBegun, HearsAnnounce, HoldsFirstAlone, HoldsFromFirst, IsPairAt, IsPairSince};
-ghost use Rattle.gptp_network_tests.specs.Pair.{RunsOfTwoAreExact, WorldsOfTwoAreExact};
-ghost use Rattle.gptp_network_tests.specs.Pair.{each_second, first_member, following_pair, leading, pair_network, second_member};
+ghost use Rattle.gptp_network_tests.specs.Pair.{HasBegun, HasBegunWith, HearsAnnounce, HoldsFirstAlone, HoldsFromFirst};
+ghost use Rattle.gptp_network_tests.specs.Pair.{IsPairAt, IsPairSince, IsPairWithin, RunsOfTwoAreExact, WorldsOfTwoAreExact};
+ghost use Rattle.gptp_network_tests.specs.Pair.{each_second, first_member, following_pair, leading, network_with};
+ghost use Rattle.gptp_network_tests.specs.Pair.{params, second_member, stamped_params};
 
 use arrayvec::ArrayVec;
 use gptp_certificate::{Certificate, write_certificate};
@@ -95,9 +96,9 @@ fn port(clock: u64) -> PortId
     }
 }
 
-/// The network of two systems, of clocks 1 and 2, that a link joins.
-pub(crate) fn pair_with(alloc: Global, params: Params) -> Result<Network, NetworkFault>
-    ensures { IfOk result (λ network. network ≡ record pair_network { params = params }) }
+/// The network of two systems with these parameters, of clocks 1 and 2, that a link joins.
+fn pair_with(alloc: Global, params: Params) -> Result<Network, NetworkFault>
+    ensures { IfOk result (λ network. network ≡ network_with params) }
 {
     let mut network = Network::new(alloc, params)?;
     network.add_system(identity(1), 1, 0, 0, false, intervals())?;
@@ -106,16 +107,27 @@ pub(crate) fn pair_with(alloc: Global, params: Params) -> Result<Network, Networ
     Ok(network)
 }
 
-/// Their world as it begins.
-pub(crate) fn begun<F: Fate + Drop>(alloc: Global, fate: F) -> Result<World<F>, NetworkFault>
-    ensures { IfOk result (λ world. HasBegun F.answers world.fate world.world_core) }
+/// The world of that network as it begins.
+pub(crate) fn begun_with<F: Fate + Drop>(
+    alloc: Global,
+    fate: F,
+    params: Params,
+) -> Result<World<F>, NetworkFault>
+    ensures { IfOk result (λ world. HasBegunWith params F.answers world.fate world.world_core) }
 {
-    let network = pair_with(alloc, PARAMS)?;
+    let network = pair_with(alloc, params)?;
     network.well_formed();
     match World::new(alloc, &network, fate) {
         Ok(world) => Ok(world),
         Err(_) => Err(NetworkFault::OutOfMemory),
     }
+}
+
+/// Their world as it begins.
+pub(crate) fn begun<F: Fate + Drop>(alloc: Global, fate: F) -> Result<World<F>, NetworkFault>
+    ensures { IfOk result (λ world. HasBegun F.answers world.fate world.world_core) }
+{
+    begun_with(alloc, fate, PARAMS)
 }
 
 /// It goes on from there to a time.
@@ -389,12 +401,15 @@ fn second_offset<F: Fate + Drop>(world: &World<F>, done: &Done) -> Option<Scaled
 }
 
 /// The next act is done. The offset that it leaves the second, where that used a Follow_Up: in units of 2^-16 ns, and
-/// no more than rounding, as both clocks show the same.
+/// no more than the time error by their time stamps, as both clocks show the same.
 #[tactic(auto, using(crate::proofs::ExactLemmas::second_is_exact))]
-fn receive<F: Fate + Drop>(world: &mut World<F>) -> Result<Option<ScaledNs>, NetworkFault>
-    requires { IsPairSince 27000000000 world.old.world_core }
-    ensures since { OnOk result (IsPairSince 27000000000 world.new.world_core) }
-    ensures exact { IfOk result (λ received. IfSome received (λ offset. AreWithin 19 offset (pos 0))) }
+pub(crate) fn receive<F: Fate + Drop>(
+    world: &mut World<F>,
+) -> Result<Option<ScaledNs>, NetworkFault>
+    ghost error: { ℕ }
+    requires { IsPairWithin error 27000000000 world.old.world_core }
+    ensures since { OnOk result (IsPairWithin error 27000000000 world.new.world_core) }
+    ensures exact { IfOk result (λ received. IfSome received (λ offset. AreWithin error offset (pos 0))) }
 {
     world.well_formed();
     let timed = match world.next() {
@@ -410,8 +425,9 @@ fn receive<F: Fate + Drop>(world: &mut World<F>) -> Result<Option<ScaledNs>, Net
     }
 }
 
-/// The offset of the second by the first two acts after 27.125 s: it hears a Sync, and then the Follow_Up. Refused for
-/// want of memory alone.
+/// The offset of the second by the first two acts after 27.125 s: it hears a Sync, and then the Follow_Up. It is no more
+/// than rounding. Refused for want of memory alone.
+#[tactic(auto, using(crate::proofs::ExactLemmas::exact_pair))]
 pub fn exact_in_time<F: Fate + Drop>(
     alloc: Global,
     fate: F,
@@ -481,16 +497,19 @@ pub fn hear_in_time<F: Fate + Drop>(alloc: Global, fate: F) -> Result<Option<Por
     Ok(None)
 }
 
-/// By the theorem each act in a world of both leaves the second an offset that is exact but for rounding.
+/// By the theorem each act in a world of both leaves the second an offset that is exact but for rounding; and with time
+/// stamps of 8 ns and 4 ns of noise one that is exact but for 32.011 ns.
 pub fn worlds_of_two_are_exact<F: Fate>()
-    ensures { WorldsOfTwoAreExact F.answers }
+    ensures exact { WorldsOfTwoAreExact F.answers params 19 }
+    ensures stamped { WorldsOfTwoAreExact F.answers (stamped_params 8 4) 2097811 }
 {
     worlds_are_exact::<F>();
 }
 
-/// By the theorem each act of a run of the document of both leaves the second an offset that is exact but for rounding.
+/// By the theorem each act of a run of the document of both leaves the second such an offset.
 pub fn runs_of_two_are_exact<F: Fate>()
-    ensures { RunsOfTwoAreExact F.answers }
+    ensures exact { RunsOfTwoAreExact F.answers params 19 }
+    ensures stamped { RunsOfTwoAreExact F.answers (stamped_params 8 4) 2097811 }
 {
     runs_are_exact::<F>();
 }

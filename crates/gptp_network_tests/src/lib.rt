@@ -1,8 +1,8 @@
 //! Worked rows of networks and documents, as an outside caller sees them: also that whatever the order of acts and the
 //! fate of frames, a calm network settles in time.
 //!
-//! What they expect was written down before the code. What is in `ages`, `drawn`, `readings` and `soon` is no test:
-//! their contracts follow from those of the crates below.
+//! What they expect was written down before the code. What is in `ages`, `drawn`, `readings`, `soon` and `stamps` is no
+//! test: their contracts follow from those of the crates below.
 #![tactic(auto)]
 
 pub mod ages;
@@ -25,3 +25,4 @@ mod ring;
 #[cfg(test)]
 mod same;
 pub mod soon;
+pub mod stamps;

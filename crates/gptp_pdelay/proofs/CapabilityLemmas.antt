@@ -3,9 +3,10 @@ use Rattle.std.specs.Option.{IsSomeAnd, IfSome, option_map, option_map_or}
 use Rattle.gptp_vector.specs.declared.port.PortId.{PortId}
 use Rattle.gptp_messages.specs.declared.peer_delay.PdelayRespFollowUp.{PdelayRespFollowUp}
 use Rattle.gptp_pdelay.specs.declared.exchange.Measurement.{Measurement}
+use Rattle.gptp_pdelay.specs.declared.exchange.Times.{Times}
 use Rattle.gptp_pdelay.specs.declared.progress.Progress.{Progress}
 use Rattle.gptp_pdelay.specs.declared.progress.Progress.TheVariants.{Closed, Sent, Answered}
-use Rattle.gptp_pdelay.specs.Exchange.{IsWithinThreshold, shows_neighbor, measurement_of, carried_time}
+use Rattle.gptp_pdelay.specs.Exchange.{IsWithinThreshold, shows_neighbor, measurement_of, carried_time, oldest}
 use Rattle.gptp_pdelay.specs.Progress.{is_follow_up_to}
 use Rattle.gptp_pdelay.specs.Peer.{PeerState, is_capable, is_open, loses_too_many, reset_peer, completed, answered_by, after_response, measured_by, new_peer}
 use Rattle.gptp_pdelay.specs.Capability.{Event, Resets, Asks, IsAsked, Answers, HearsResponse, HearsFollowUp, IntervalEnds, after, after_all, exchanges_after, exchanges_after_all, MakesCapable, EndsCapable, CapabilityTurns, CapableByTwoExchanges, LostStaysAllowed}
@@ -65,7 +66,7 @@ becomes (IsAsked answer) p h = never (is_capable p) h
 becomes Answers p h = never (is_capable p) h
 becomes (HearsResponse r t4) p h =
     never (is_capable (after_response r t4 p)) (kept (answered_by r t4 p.own p.progress) p ∙ h)
-becomes (HearsFollowUp f) p h = exchange_becomes (measured_by f p.own p.last p.progress) p h
+becomes (HearsFollowUp f) p h = exchange_becomes (measured_by f p.own p.last p.past p.progress) p h
 becomes IntervalEnds p h = interval_becomes (is_open p.progress) (loses_too_many p) p h
 
 -- what a follow-up measures isn't the first measurement exactly where there was one
@@ -73,12 +74,13 @@ when : (t : Bool) (m m' : Measurement) → (if t then Some m else None) ≡ Some
 when true m m' e = ap (λ o. option_map_or (λ (x : Measurement). x.again) o true) e
 when false m m' e = search rules
 
-measured_again : (f : PdelayRespFollowUp) (own : PortId) (last : Option Measurement) (progress : Progress)
-    → (m : Measurement) → measured_by f own last progress ≡ Some m → m.again ≡ is_some last
-measured_again f own last Closed m e = search rules
-measured_again f own last (Sent request) m e = search rules
-measured_again f own last (Answered request response) m e =
-    let measured = measurement_of last request response (carried_time f.stamp f.head.correction) in
+measured_again : (f : PdelayRespFollowUp) (own : PortId) (last : Option Measurement) (past : List Times)
+    (progress : Progress) (m : Measurement) → measured_by f own last past progress ≡ Some m → m.again ≡ is_some last
+measured_again f own last past Closed m e = search rules
+measured_again f own last past (Sent request) m e = search rules
+measured_again f own last past (Answered request response) m e =
+    let measured =
+    measurement_of (oldest past) (is_some last) request response (carried_time f.stamp f.head.correction) in
     sym (when (is_follow_up_to own request response f) measured m e)
 
 -- a capable port has measured
@@ -108,8 +110,8 @@ stops Answers p h = always (is_capable p) h
 stops (HearsResponse r t4) p h =
     always (is_capable (after_response r t4 p)) (kept (answered_by r t4 p.own p.progress) p ∙ h)
 stops (HearsFollowUp f) p h =
-    exchange_stops (measured_by f p.own p.last p.progress) p
-    (λ m e. measured_again f p.own p.last p.progress m e ∙ has_measured p.last p.threshold h) h
+    exchange_stops (measured_by f p.own p.last p.past p.progress) p
+    (λ m e. measured_again f p.own p.last p.past p.progress m e ∙ has_measured p.last p.threshold h) h
 stops IntervalEnds p h = interval_stops (is_open p.progress) (loses_too_many p) p h
 
 -- capability turns by these events alone
@@ -152,7 +154,8 @@ counts_on (IsAsked answer) p n h = h
 counts_on Answers p n h = h
 counts_on (HearsResponse r t4) p n h = counts_response (answered_by r t4 p.own p.progress) p n h
 counts_on (HearsFollowUp f) p n h =
-    counts_exchange (measured_by f p.own p.last p.progress) p n (λ m e. measured_again f p.own p.last p.progress m e) h
+    counts_exchange (measured_by f p.own p.last p.past p.progress) p n
+    (λ m e. measured_again f p.own p.last p.past p.progress m e) h
 counts_on IntervalEnds p n h = counts_interval (is_open p.progress) (loses_too_many p) p n h
 
 counts_all : (es : List Event) (p : PeerState) (n : ℕ)
@@ -171,8 +174,8 @@ capable_by_count (Some m) threshold n (inr h) = (λ e. search rules, λ e. absur
 
 -- so the count since the reset and the last delay say whether the port is capable
 pub capable_by_two_exchanges : CapableByTwoExchanges
-capable_by_two_exchanges own threshold allowed events =
-    let start = new_peer own threshold allowed in
+capable_by_two_exchanges own threshold allowed window events =
+    let start = new_peer own threshold allowed window in
     let p = after_all events start in
     let n = exchanges_after_all events start 0 in
     capable_by_count p.last p.threshold n (counts_all events start 0 refl)
@@ -201,5 +204,5 @@ lost_stays_allowed (Asks t1) p h = h
 lost_stays_allowed (IsAsked answer) p h = h
 lost_stays_allowed Answers p h = h
 lost_stays_allowed (HearsResponse r t4) p h = lost_response (answered_by r t4 p.own p.progress) p h
-lost_stays_allowed (HearsFollowUp f) p h = lost_exchange (measured_by f p.own p.last p.progress) p h
+lost_stays_allowed (HearsFollowUp f) p h = lost_exchange (measured_by f p.own p.last p.past p.progress) p h
 lost_stays_allowed IntervalEnds p h = lost_interval (is_open p.progress) (loses_too_many p) p refl h

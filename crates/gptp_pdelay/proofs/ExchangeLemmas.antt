@@ -48,7 +48,7 @@ is_within false z = record { low = omega (arith, ints); high = omega (arith, int
 -- a neighbour rate is one of them
 pub neighbor_rate_is_within : NeighborRateIsWithin
 neighbor_rate_is_within None t3 t4 = is_within false (pos 0)
-neighbor_rate_is_within (Some before) t3 t4 =
-    let e3 = t3 -ℤ before.t3 in
-    let e4 = t4 -ℤ before.t4 in
+neighbor_rate_is_within (Some since) t3 t4 =
+    let e3 = t3 -ℤ since.t3 in
+    let e4 = t4 -ℤ since.t4 in
     is_within (int_lt (pos 0) e4) (floor_div ((e3 -ℤ e4) *ℤ unit) e4)

@@ -1,4 +1,4 @@
-use Rattle.std.proofs.Common.{◌≡◌, ℕ, ◌*◌, ◌+◌, ◌-◌, ◌≤◌, ℤ, pos, neg_ℤ, ◌+ℤ◌, ◌-ℤ◌, ◌*ℤ◌, ◌≤ℤ◌, int_le, is_some, true, rules, arith}
+use Rattle.std.proofs.Common.{◌≡◌, ℕ, ◌*◌, ◌+◌, ◌-◌, ◌≤◌, ℤ, pos, neg_ℤ, ◌+ℤ◌, ◌-ℤ◌, ◌*ℤ◌, ◌≤ℤ◌, int_le, true, rules, arith}
 use Rattle.std.proofs.lemmas.Int.{ints, clamps}
 use Rattle.gptp_scaled.specs.Rate.{unit, limit, scaled_by}
 use Rattle.gptp_scaled.proofs.FloorLemmas.{floor_is, floor_below}
@@ -52,12 +52,12 @@ is_at_most threshold delay h = search rules
 
 -- so the threshold's test passes, and only whether the exchange is the first is left of what it shows
 pub good_link_shows_neighbor : GoodLinkShowsNeighbor
-good_link_shows_neighbor w behind most turnaround threshold phase phase' drift drift' mine yours before request response
-    t3 good d d' c c' e =
-    let rate = neighbor_rate before t3 response.t4 in
-    let near = neighbor_rate_is_within before t3 response.t4 in
+good_link_shows_neighbor w behind most turnaround threshold phase phase' drift drift' mine yours since again request
+    response t3 good d d' c c' e =
+    let rate = neighbor_rate since t3 response.t4 in
+    let near = neighbor_rate_is_within since t3 response.t4 in
     let delay = mean_delay rate (response.t4 -ℤ request.t1) (t3 -ℤ response.t2) in
     let within : IsWithinThreshold threshold delay =
     good_link w behind most turnaround threshold phase phase' drift drift' mine yours rate _ _ _ _ good near d d' c c' e
     in
-    rw (is_at_most threshold delay within) (and-true (is_some before))
+    rw (is_at_most threshold delay within) (and-true again)

@@ -6,3 +6,4 @@ pub mod MeanLemmas
 pub mod LateLemmas
 pub mod DelayLemmas
 pub mod MeasurementLemmas
+pub mod PastLemmas

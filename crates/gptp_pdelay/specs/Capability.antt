@@ -38,7 +38,7 @@ after_all (e ∷ es) p = after_all es (after e p)
 -- how many full exchanges have come since the reset, after an event, where n had come before it
 abbrev pub exchanges_after : Event → PeerState → ℕ → ℕ
 exchanges_after Resets p n = 0
-exchanges_after (HearsFollowUp f) p n = option_map_or (λ _. n + 1) (measured_by f p.own p.last p.progress) n
+exchanges_after (HearsFollowUp f) p n = option_map_or (λ _. n + 1) (measured_by f p.own p.last p.past p.progress) n
 exchanges_after IntervalEnds p n = if is_open p.progress && loses_too_many p then 0 else n
 exchanges_after _ p n = n
 
@@ -54,15 +54,15 @@ IsCapableBy n p = (is_capable p ≡ true) ↔ ((2 ≤ n) × IfSome (delay_of p) 
 -- Whatever comes to a new port, it is capable exactly where at least two full exchanges have come since its reset,
 -- and the last of them gave a delay of at most the threshold.
 abbrev pub CapableByTwoExchanges : Type 0
-CapableByTwoExchanges = (own : PortId) (threshold allowed : ℕ) (events : List Event)
-    → IsCapableBy (exchanges_after_all events (new_peer own threshold allowed) 0)
-    (after_all events (new_peer own threshold allowed))
+CapableByTwoExchanges = (own : PortId) (threshold allowed window : ℕ) (events : List Event)
+    → IsCapableBy (exchanges_after_all events (new_peer own threshold allowed window) 0)
+    (after_all events (new_peer own threshold allowed window))
 
 -- what makes a port capable: a full exchange that isn't the first since the reset, and whose delay is at most the
 -- threshold
 abbrev pub MakesCapable : Event → PeerState → Type 0
 MakesCapable (HearsFollowUp f) p =
-    IsSomeAnd (measured_by f p.own p.last p.progress)
+    IsSomeAnd (measured_by f p.own p.last p.past p.progress)
     (λ (m : Measurement). (m.again ≡ true) × IsWithinThreshold p.threshold m.delay)
 MakesCapable _ p = ⊥
 
@@ -71,7 +71,7 @@ MakesCapable _ p = ⊥
 abbrev pub EndsCapable : Event → PeerState → Type 0
 EndsCapable Resets p = ⊤
 EndsCapable (HearsFollowUp f) p =
-    IsSomeAnd (measured_by f p.own p.last p.progress) (λ (m : Measurement). pos (65536 * p.threshold) <ℤ m.delay)
+    IsSomeAnd (measured_by f p.own p.last p.past p.progress) (λ (m : Measurement). pos (65536 * p.threshold) <ℤ m.delay)
 EndsCapable IntervalEnds p = (is_open p.progress ≡ true) × (loses_too_many p ≡ true)
 EndsCapable _ p = ⊥
 

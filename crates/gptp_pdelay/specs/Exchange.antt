@@ -1,11 +1,12 @@
 -- What one exchange of messages measures (IEEE 802.1AS-2020, 11.2.19.3).
-use Rattle.std.specs.Prelude.{ℕ, ◌+◌, ◌*◌, ◌^◌, ℤ, pos, neg_ℤ, ◌+ℤ◌, ◌-ℤ◌, ◌≤ℤ◌, ◌<ℤ◌, Bool, ◌&&◌, int_le, Option, Some, None, is_some}
+use Rattle.std.specs.Prelude.{ℕ, ◌+◌, ◌*◌, ◌^◌, ℤ, pos, neg_ℤ, ◌+ℤ◌, ◌-ℤ◌, ◌≤ℤ◌, ◌<ℤ◌, Bool, ◌&&◌, int_le, List, [], ◌∷◌, Option, Some, None}
 use Rattle.std.specs.Int.{int_max}
 use Rattle.gptp_scaled.specs.Floor.{floor_div}
 use Rattle.gptp_scaled.specs.Rate.{IsNeighborRate, scaled_by, rate_of}
 use Rattle.gptp_scaled.specs.Stamp.{Timestamp, scaled_of}
 use Rattle.gptp_pdelay.specs.Clock.{IsTime}
 use Rattle.gptp_pdelay.specs.declared.exchange.Measurement.{Measurement}
+use Rattle.gptp_pdelay.specs.declared.exchange.Times.{Times}
 use Rattle.gptp_pdelay.specs.declared.progress.Request.{Request}
 use Rattle.gptp_pdelay.specs.declared.progress.Response.{Response}
 
@@ -25,23 +26,33 @@ pub record IsCarriedTime (t : ℤ) : Type 0 where
 abbrev pub mean_delay : ℤ → ℤ → ℤ → ℤ
 mean_delay rate requester responder = int_max (pos 0) (floor_div (scaled_by rate requester -ℤ responder) (pos 2))
 
--- The rate of the responder's clock against the requester's, by what passed on both since the exchange before
+-- The rate of the responder's clock against the requester's, by what passed on both since an earlier exchange
 -- (11.2.19.3.3); 0 where there is none (profile).
-abbrev pub neighbor_rate : Option Measurement → ℤ → ℤ → ℤ
+abbrev pub neighbor_rate : Option Times → ℤ → ℤ → ℤ
 neighbor_rate None t3 t4 = pos 0
-neighbor_rate (Some before) t3 t4 = rate_of (t3 -ℤ before.t3) (t4 -ℤ before.t4)
+neighbor_rate (Some since) t3 t4 = rate_of (t3 -ℤ since.t3) (t4 -ℤ since.t4)
 
--- what a full exchange measures, after the one before it since the reset, if any
-abbrev pub measurement_of : Option Measurement → Request → Response → ℤ → Measurement
-measurement_of before request response t3 =
-    let rate = neighbor_rate before t3 response.t4 in
+-- the oldest of some exchanges, the newest first
+abbrev pub oldest : List Times → Option Times
+oldest [] = None
+oldest (t ∷ []) = Some t
+oldest (t ∷ (u ∷ ts)) = oldest (u ∷ ts)
+
+-- what a full exchange measures: the rate since an earlier one, and whether another came before it since the reset
+abbrev pub measurement_of : Option Times → Bool → Request → Response → ℤ → Measurement
+measurement_of since again request response t3 =
+    let rate = neighbor_rate since t3 response.t4 in
     record {
       t3 = t3;
       t4 = response.t4;
       rate = rate;
       delay = mean_delay rate (response.t4 -ℤ request.t1) (t3 -ℤ response.t2);
-      again = is_some before;
+      again = again;
     }
+
+-- those of its times that later ones need
+abbrev pub times_of : Measurement → Times
+times_of m = record { t3 = m.t3; t4 = m.t4 }
 
 -- a delay is at most the threshold, which is in ns
 abbrev pub IsWithinThreshold : ℕ → ℤ → Type 0
@@ -52,6 +63,11 @@ IsWithinThreshold threshold delay = delay ≤ℤ pos (65536 * threshold)
 abbrev pub shows_neighbor : ℕ → Measurement → Bool
 shows_neighbor threshold m = m.again && int_le m.delay (pos (65536 * threshold))
 
+-- what such times can be
+pub record AreTimes (t : Times) : Type 0 where
+  pub t3 : IsCarriedTime t.t3
+  pub t4 : IsTime t.t4
+
 -- what the times, the delay and the rate of a measurement can be
 pub record IsMeasured (m : Measurement) : Type 0 where
   pub t3 : IsCarriedTime m.t3
@@ -61,4 +77,4 @@ pub record IsMeasured (m : Measurement) : Type 0 where
 
 -- every neighbour rate is within 200 parts in a million, whatever the times
 abbrev pub NeighborRateIsWithin : Type 0
-NeighborRateIsWithin = (before : Option Measurement) (t3 t4 : ℤ) → IsNeighborRate (neighbor_rate before t3 t4)
+NeighborRateIsWithin = (since : Option Times) (t3 t4 : ℤ) → IsNeighborRate (neighbor_rate since t3 t4)

@@ -1,11 +1,11 @@
 -- The law of good links: over a link that is short enough for the threshold, clocks within their limits measure no
 -- delay above it, where two readings of them are off by at most w ns together.
-use Rattle.std.specs.Prelude.{◌≡◌, ℕ, ◌+◌, ◌-◌, ◌*◌, ◌/◌, ◌≤◌, ℤ, ◌-ℤ◌, Option, is_some}
+use Rattle.std.specs.Prelude.{◌≡◌, ℕ, ◌+◌, ◌-◌, ◌*◌, ◌/◌, ◌≤◌, ℤ, ◌-ℤ◌, Bool, Option}
 use Rattle.gptp_scaled.specs.Rate.{IsNeighborRate}
 use Rattle.gptp_pdelay.specs.Clock.{IsDrift, IsElapsed, IsStampClock}
 pub use Rattle.gptp_pdelay.specs.Exchange.{IsWithinThreshold}
 use Rattle.gptp_pdelay.specs.Exchange.{mean_delay, measurement_of, shows_neighbor}
-use Rattle.gptp_pdelay.specs.declared.exchange.Measurement.{Measurement}
+use Rattle.gptp_pdelay.specs.declared.exchange.Times.{Times}
 use Rattle.gptp_pdelay.specs.declared.progress.Request.{Request}
 use Rattle.gptp_pdelay.specs.declared.progress.Response.{Response}
 
@@ -53,11 +53,12 @@ GoodLink = (w behind most turnaround threshold phase phase' : ℕ) (drift drift'
     → ExchangeIsTimely most turnaround mine yours t1 t2 t3 t4
     → IsWithinThreshold threshold (mean_delay rate (t4 -ℤ t1) (t3 -ℤ t2))
 
--- On a good link each full exchange but the first since the reset shows the neighbour.
+-- On a good link each full exchange but the first since the reset shows the neighbour, since whichever exchange its
+-- rate is measured.
 abbrev pub GoodLinkShowsNeighbor : Type 0
 GoodLinkShowsNeighbor = (w behind most turnaround threshold phase phase' : ℕ) (drift drift' : ℤ) (mine yours : ℕ → ℤ)
-    (before : Option Measurement) (request : Request) (response : Response) (t3 : ℤ)
+    (since : Option Times) (again : Bool) (request : Request) (response : Response) (t3 : ℤ)
     → IsGoodLink (most + w) turnaround threshold → IsDrift drift → IsDrift drift'
     → IsStampClock w behind phase drift mine → IsStampClock w behind phase' drift' yours
     → ExchangeIsTimely most turnaround mine yours request.t1 response.t2 t3 response.t4
-    → shows_neighbor threshold (measurement_of before request response t3) ≡ is_some before
+    → shows_neighbor threshold (measurement_of since again request response t3) ≡ again

@@ -1,28 +1,34 @@
 -- The state of a port that measures its link, and what each call does to it (profile, for IEEE 802.1AS-2020, 11.2.2,
 -- 11.2.19 and 11.2.20).
-use Rattle.std.specs.Prelude.{ℕ, ◌+◌, ◌%◌, ◌≤◌, ℤ, pos, Bool, true, false, not, if◌then◌else◌, nat_lt, Option, Some, None, option_map}
+use Rattle.std.specs.Prelude.{ℕ, ◌+◌, ◌%◌, ◌≤◌, ℤ, pos, Bool, true, false, not, if◌then◌else◌, nat_lt, Option, Some, None, is_some, option_map}
+use Rattle.std.specs.Prelude.{List, [], ◌∷◌, length, take}
+use Rattle.std.specs.List.{AllByRecursion}
 use Rattle.std.specs.Option.{ForSome, option_map_or}
 use Rattle.gptp_vector.specs.declared.port.PortId.{PortId}
 use Rattle.gptp_messages.specs.declared.peer_delay.PdelayResp.{PdelayResp}
 use Rattle.gptp_messages.specs.declared.peer_delay.PdelayRespFollowUp.{PdelayRespFollowUp}
 use Rattle.gptp_pdelay.specs.declared.answer.Answer.{Answer}
 use Rattle.gptp_pdelay.specs.declared.exchange.Measurement.{Measurement}
+use Rattle.gptp_pdelay.specs.declared.exchange.Times.{Times}
 use Rattle.gptp_pdelay.specs.declared.progress.Progress.{Progress}
 use Rattle.gptp_pdelay.specs.declared.progress.Progress.TheVariants.{Closed, Sent, Answered}
 use Rattle.gptp_pdelay.specs.declared.step.Step.{Step}
 use Rattle.gptp_pdelay.specs.declared.step.Step.TheVariants.{Ignored, Recorded, Exchange}
-use Rattle.gptp_pdelay.specs.Exchange.{IsMeasured, carried_time, measurement_of, shows_neighbor}
+use Rattle.gptp_pdelay.specs.Exchange.{AreTimes, IsMeasured, carried_time, measurement_of, oldest, shows_neighbor, times_of}
 use Rattle.gptp_pdelay.specs.Progress.{HasTimes, is_response_to, response_of, is_follow_up_to}
 
--- The port, its threshold in ns, and how many requests in a row may be lost; how far the last request has come; the
--- last full exchange since the reset, if any; how many requests in a row were lost; the sequence number of the next
--- request; the answer that waits, if any.
+-- The port, its threshold in ns, how many requests in a row may be lost, and over how many exchanges a rate is
+-- measured; how far the last request has come; the last full exchange since the reset, if any; the full exchanges since
+-- the reset, the newest first, at most as many as the window has; how many requests in a row were lost; the sequence
+-- number of the next request; the answer that waits, if any.
 pub record PeerState : Type 0 where
   pub own : PortId
   pub threshold : ℕ
   pub allowed : ℕ
+  pub window : ℕ
   pub progress : Progress
   pub last : Option Measurement
+  pub past : List Times
   pub lost : ℕ
   pub next : ℕ
   pub waiting : Option Answer
@@ -31,16 +37,20 @@ pub record PeerState : Type 0 where
 pub record IsPeerState (p : PeerState) : Type 0 where
   pub progress : HasTimes p.progress
   pub last : ForSome p.last IsMeasured
+  pub past : AllByRecursion AreTimes p.past
+  pub few : length p.past ≤ p.window
   pub lost : p.lost ≤ p.allowed
 
 -- a port that has measured nothing
-abbrev pub new_peer : PortId → ℕ → ℕ → PeerState
-new_peer own threshold allowed = record {
+abbrev pub new_peer : PortId → ℕ → ℕ → ℕ → PeerState
+new_peer own threshold allowed window = record {
   own = own;
   threshold = threshold;
   allowed = allowed;
+  window = window;
   progress = Closed;
   last = None;
+  past = [];
   lost = 0;
   next = 0;
   waiting = None;
@@ -49,7 +59,7 @@ new_peer own threshold allowed = record {
 -- The port forgets what it measured and its open request, and counts no lost request. Its sequence numbers go on,
 -- and an answer waits on.
 abbrev pub reset_peer : PeerState → PeerState
-reset_peer p = record p { progress = Closed; last = None; lost = 0 }
+reset_peer p = record p { progress = Closed; last = None; past = []; lost = 0 }
 
 -- a request is sent at t1, in place of one that is open
 abbrev pub requested : ℤ → PeerState → PeerState
@@ -78,21 +88,24 @@ after_response r t4 p =
 abbrev pub response_step : PdelayResp → ℤ → PeerState → Step
 response_step r t4 p = option_map_or (λ _. Recorded) (answered_by r t4 p.own p.progress) Ignored
 
--- what is measured by a follow-up, where a request waits for this one; the last measurement came before it
-abbrev pub measured_by : PdelayRespFollowUp → PortId → Option Measurement → Progress → Option Measurement
-measured_by f own last (Answered request response) =
+-- What is measured by a follow-up, where a request waits for this one. The last measurement came before it, and the
+-- rate is that since the oldest exchange of the window.
+abbrev pub measured_by : PdelayRespFollowUp → PortId → Option Measurement → List Times → Progress → Option Measurement
+measured_by f own last past (Answered request response) =
     if is_follow_up_to own request response f
-    then Some (measurement_of last request response (carried_time f.stamp f.head.correction))
+    then
+    Some (measurement_of (oldest past) (is_some last) request response (carried_time f.stamp f.head.correction))
     else None
-measured_by f own last _ = None
+measured_by f own last past _ = None
 
 -- a full exchange: it closes the request, and no request is lost then
 abbrev pub completed : Measurement → PeerState → PeerState
-completed m p = record p { progress = Closed; last = Some m; lost = 0 }
+completed m p =
+    record p { progress = Closed; last = Some m; past = take p.window (times_of m ∷ p.past); lost = 0 }
 
 -- a follow-up is received: the one that the recorded response waits for completes the exchange
 abbrev pub after_follow_up : PdelayRespFollowUp → PeerState → PeerState
-after_follow_up f p = option_map_or (λ m. completed m p) (measured_by f p.own p.last p.progress) p
+after_follow_up f p = option_map_or (λ m. completed m p) (measured_by f p.own p.last p.past p.progress) p
 
 -- the port is capable (asCapable): its last full exchange since the reset shows the neighbour
 abbrev pub is_capable : PeerState → Bool
@@ -105,7 +118,8 @@ changes_capability before after = if is_capable before then not (is_capable afte
 -- what the port makes of a follow-up
 abbrev pub follow_up_step : PdelayRespFollowUp → PeerState → Step
 follow_up_step f p =
-    option_map_or (λ m. Exchange (changes_capability p (completed m p))) (measured_by f p.own p.last p.progress) Ignored
+    option_map_or (λ m. Exchange (changes_capability p (completed m p))) (measured_by f p.own p.last p.past p.progress)
+    Ignored
 
 -- a request is open
 abbrev pub is_open : Progress → Bool

@@ -5,13 +5,22 @@ ghost use Rattle.std.specs.Option.{ForSome};
 ghost use Rattle.gptp_scaled.specs.Rate.{IsNeighborRate, scaled_by};
 ghost use Rattle.gptp_scaled.specs.ScaledNs.{FitsScaled};
 ghost use Rattle.gptp_pdelay.specs.Clock.{IsTime};
-ghost use Rattle.gptp_pdelay.specs.Exchange.{IsCarriedTime, IsMeasured};
+ghost use Rattle.gptp_pdelay.specs.Exchange.{AreTimes, IsCarriedTime, IsMeasured, times_of};
 ghost use Rattle.gptp_pdelay.specs.Exchange.{carried_time, mean_delay, measurement_of, neighbor_rate, shows_neighbor};
 
 use crate::progress::{Request, Response};
 use gptp_scaled::{Interval, Rate, ScaledNs, Stamp};
 
-/// What a full exchange measured, with those of its times that the next one needs.
+/// The times of an exchange that the rate of a later one is measured since.
+#[derive(Clone, Copy, Debug, PartialEq, Eq, Hash, Default)]
+pub struct Times {
+    /// When the response was sent, by the responder's clock.
+    pub t3: ScaledNs,
+    /// When it came, by the requester's clock.
+    pub t4: ScaledNs,
+}
+
+/// What a full exchange measured, with those of its times that later ones need.
 #[derive(Clone, Copy, Debug, PartialEq, Eq, Hash)]
 pub struct Measurement {
     pub t3: ScaledNs,
@@ -23,22 +32,24 @@ pub struct Measurement {
 }
 
 impl Measurement {
-    /// What the exchange of this request and its response measures, which was sent at `t3`.
+    /// What the exchange of this request and its response measures, which was sent at `t3`: the rate since an earlier
+    /// exchange. `again` says whether another exchange came before it since the reset.
     pub fn of(
-        before: Option<Measurement>,
+        since: Option<Times>,
+        again: bool,
         request: &Request,
         response: &Response,
         t3: ScaledNs,
     ) -> Measurement
-        requires before { ForSome before IsMeasured }
+        requires since { ForSome since AreTimes }
         requires t1 { IsTime request.now.t1 }
         requires t2 { IsCarriedTime response.now.t2 }
         requires t3 { IsCarriedTime t3 }
         requires t4 { IsTime response.now.t4 }
-        ensures measurement { result ≡ measurement_of before request.now response.now t3 }
+        ensures measurement { result ≡ measurement_of since again request.now response.now t3 }
         ensures measured { IsMeasured result }
     {
-        let rate = neighbor_rate(before, t3, response.t4);
+        let rate = neighbor_rate(since, t3, response.t4);
         let delay = mean_delay(
             rate,
             elapsed(request.t1, response.t4),
@@ -49,7 +60,17 @@ impl Measurement {
             t4: response.t4,
             rate,
             delay,
-            again: before.is_some(),
+            again,
+        }
+    }
+
+    /// Its times that later ones need.
+    pub fn times(&self) -> Times
+        ensures { result ≡ times_of self.now }
+    {
+        Times {
+            t3: self.t3,
+            t4: self.t4,
         }
     }
 
@@ -80,16 +101,16 @@ fn elapsed(from: ScaledNs, to: ScaledNs) -> ScaledNs
     to.checked_sub(from).unwrap()
 }
 
-/// The rate of the responder's clock against the requester's.
-fn neighbor_rate(before: Option<Measurement>, t3: ScaledNs, t4: ScaledNs) -> Rate
-    requires before { ForSome before IsMeasured }
+/// The rate of the responder's clock against the requester's, since an earlier exchange.
+fn neighbor_rate(since: Option<Times>, t3: ScaledNs, t4: ScaledNs) -> Rate
+    requires since { ForSome since AreTimes }
     requires t3 { IsCarriedTime t3 }
     requires t4 { IsTime t4 }
-    ensures rate { result ≡ neighbor_rate before t3 t4 }
+    ensures rate { result ≡ neighbor_rate since t3 t4 }
     ensures within { IsNeighborRate result }
 {
-    match before {
-        Some(before) => Rate::of_elapsed(elapsed(before.t3, t3), elapsed(before.t4, t4)),
+    match since {
+        Some(since) => Rate::of_elapsed(elapsed(since.t3, t3), elapsed(since.t4, t4)),
         None => Rate::new(0),
     }
 }

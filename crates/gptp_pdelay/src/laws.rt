@@ -7,6 +7,7 @@ ghost use Rattle.gptp_pdelay.specs.Exchange.{NeighborRateIsWithin};
 ghost use Rattle.gptp_pdelay.specs.GoodLink.{GoodLink, GoodLinkByElapsed, GoodLinkShowsNeighbor};
 ghost use Rattle.gptp_pdelay.specs.Late.{LateIsAbove, LateIsBelow};
 ghost use Rattle.gptp_pdelay.specs.Measured.{ClockCounts, DelayIsWithin, MeanIsAbove, MeanIsBelow};
+ghost use Rattle.gptp_pdelay.specs.Past.{PastIsNewest, WindowStays};
 ghost use Rattle.gptp_pdelay.specs.Measured.{MeasurementIsWithin, RestIsLong, WeightedMean};
 
 /// What a local clock shows is a reading of it that is off by nothing.
@@ -55,6 +56,16 @@ pub fn good_link()
 /// Each exchange over a good link but the first since the reset shows the neighbour.
 pub fn good_link_shows_neighbor()
     ensures { GoodLinkShowsNeighbor }
+{}
+
+/// Whatever came to a port since it was made, its rate is measured over the newest exchanges since its reset.
+pub fn past_is_newest()
+    ensures { PastIsNewest }
+{}
+
+/// The window of a port stays as it was made, and a port never keeps more exchanges than its window has.
+pub fn window_stays()
+    ensures { WindowStays }
 {}
 
 /// Whatever came to a port since it was made, it is capable exactly where at least two full exchanges have come

@@ -12,8 +12,10 @@
 #![tactic(auto)]
 
 mod answer;
+mod earlier;
 mod exchange;
 pub mod laws;
+mod packed;
 mod peer;
 mod progress;
 mod step;

@@ -34,8 +34,8 @@ exchanges_are_good w k threshold rate t1 t2 t3 t4 link clocks near exchange =
 
 -- and it shows the neighbour
 pub exchanges_show_neighbor : ExchangesShowNeighbor
-exchanges_show_neighbor w k threshold before request response t3 link clocks exchange =
+exchanges_show_neighbor w k threshold since again request response t3 link clocks exchange =
     good_link_shows_neighbor w clocks.behind k.most k.turnaround threshold clocks.asking_phase clocks.answering_phase
-    clocks.asking_drift clocks.answering_drift k.asking_clock k.answering_clock before request response t3 link
-    clocks.asking_limit clocks.answering_limit clocks.asking clocks.answering
+    clocks.asking_drift clocks.answering_drift k.asking_clock k.answering_clock since again request response t3
+    link clocks.asking_limit clocks.answering_limit clocks.asking clocks.answering
     (timely k request.t1 response.t2 t3 response.t4 exchange)

@@ -1,7 +1,8 @@
 -- From the first request on that finds nothing old: exchanges are clean, and with the second the port is capable.
-use Rattle.std.proofs.Common.{◌≡◌, ◌≤◌, ◌<◌, ◌+◌, ◌*◌, ◌++◌, ℕ, max, true, List, ◌∷◌, Option, None, refl, sym, ap, subst, ◌∙◌, inl, inr, arith}
+use Rattle.std.proofs.Common.{◌≡◌, ◌≤◌, ◌<◌, ◌+◌, ◌*◌, ◌++◌, ℕ, zero, suc, max, true, List, ◌∷◌, None, refl, sym, ap, subst, ◌∙◌, inl, inr, arith}
+use Rattle.std.proofs.lemmas.Bool.{cases_lt}
+use Rattle.std.proofs.lemmas.Nat.{mul-le}
 use Rattle.gptp_lists.specs.Members.{In}
-use Rattle.gptp_pdelay.specs.declared.exchange.Measurement.{Measurement}
 use Rattle.gptp_pdelay_machine.specs.Lanes.{LaneFrame, AreMute}
 use Rattle.gptp_pdelay_machine.specs.Messages.{Request, Reply}
 use Rattle.gptp_pdelay_machine.specs.Setting.{Setting, IsBetween}
@@ -13,9 +14,9 @@ use Rattle.gptp_pdelay_machine.specs.Facts.{Facts, IsSentLate}
 use Rattle.gptp_pdelay_machine.specs.Phases.{Phase, Rests, RequestGoes, AnswerWaits, ResponseComes, FollowUpComes}
 use Rattle.gptp_pdelay_machine.specs.Phases.{IsLastRequest, IsItsResponse, IsItsFollowUp, FollowUpInFlight, RequestInFlight}
 use Rattle.gptp_pdelay_machine.specs.Invariant.{IsClean}
-use Rattle.gptp_pdelay_machine.specs.Meter.{Meter, MeterActs, MeterPasses}
+use Rattle.gptp_pdelay_machine.specs.Meter.{Kept, Meter, MeterActs, MeterPasses}
 use Rattle.gptp_pdelay_machine.specs.Meter.{meter_asks, meter_hears, meter_heard, meter_answered, meter_rests}
-use Rattle.gptp_pdelay_machine.specs.Measured.{HasMeasured, MeasuredSince}
+use Rattle.gptp_pdelay_machine.specs.Measured.{Chain, HasMeasured, MeasuredSince}
 use Rattle.gptp_pdelay_machine.specs.First.{AsksBy, HasAsked, InvFirst, NothingIsPending, HasJustAsked}
 use Rattle.gptp_pdelay_machine.specs.FirstLaws.{exchange_span}
 use Rattle.gptp_pdelay_machine.proofs.LaneLemmas.{first_is_there, mute_append, mute_rest, new_is_there}
@@ -166,26 +167,26 @@ module _ (k : Setting) (least : ℕ) (asks : List ℕ → Request → Type 0) (r
 
     -- and what is measured
     measured_kept : (m m' : Meter) → exchange_span k < k.period → Facts k gone m.pair → MeterActs k asks replies m m'
-        → InvFirst k least asks replies first m → MeasuredSince k least first m'.pair.asker m'.last
+        → InvFirst k least asks replies first m → MeasuredSince k least first m'.pair.asker m'.kept
     measured_kept m m' short facts (meter_asks act kept) inv =
         let p = m.pair in
         let now = act.now in
         let ended = over p facts (omega (arith, short, now)) inv.clean.phase in
         measured_still k least first
         (asks_now p.time act.sequence (k.asking_clock p.time) (asker_after_interval k.allowed p.asker.progress p.asker))
-        m'.pair.asker m'.last m'.last act.asker refl
-        (measured_asked k least first p.asker m.last m'.last p.time act.sequence (k.asking_clock p.time) act.now kept
+        m'.pair.asker m'.kept m'.kept act.asker refl
+        (measured_asked k least first p.asker m.kept m'.kept p.time act.sequence (k.asking_clock p.time) act.now kept
         (λ since. (ended.closed, inv.measured)))
     measured_kept m m' short facts (meter_hears act takes) inv =
         measured_heard k least asks replies gone first m m' act short takes
         (subst (λ b. Phase k least asks replies m.pair.asker m.pair.waits m.pair.out b) act.was inv.clean.phase)
         inv.measured
     measured_kept m m' short facts (meter_heard act kept) inv =
-        measured_still k least first m.pair.asker m'.pair.asker m.last m'.last act.asker kept inv.measured
+        measured_still k least first m.pair.asker m'.pair.asker m.kept m'.kept act.asker kept inv.measured
     measured_kept m m' short facts (meter_answered act kept) inv =
-        measured_still k least first m.pair.asker m'.pair.asker m.last m'.last act.asker kept inv.measured
+        measured_still k least first m.pair.asker m'.pair.asker m.kept m'.kept act.asker kept inv.measured
     measured_kept m m' short facts (meter_rests act kept) inv =
-        measured_still k least first m.pair.asker m'.pair.asker m.last m'.last act.asker kept inv.measured
+        measured_still k least first m.pair.asker m'.pair.asker m.kept m'.kept act.asker kept inv.measured
 
     -- requests go on
     asked_kept : (m m' : Meter) → MeterActs k asks replies m m' → HasAsked k first m.pair.asker.asked
@@ -193,11 +194,8 @@ module _ (k : Setting) (least : ℕ) (asks : List ℕ → Request → Type 0) (r
     asked_kept m m' (meter_asks act kept) since =
         let asked : m'.pair.asker.asked ≡ m.pair.time = ap (λ (b : Asker). b.asked) act.asker in
         let now = act.now in
-        elim since [
-          | inl one ↦ inr (inl (omega (arith, one, asked, now)))
-          | inr (inl two) ↦ inr (inr (omega (arith, two, asked, now)))
-          | inr (inr more) ↦ inr (inr (omega (arith, more, asked, now)))
-        ]
+        let (n, is) = since in
+        (n + 1, omega (arith, is, asked, now))
     asked_kept m m' (meter_hears act takes) since = subst (HasAsked k first) (sym act.asker.asked) since
     asked_kept m m' (meter_heard act kept) since =
         subst (HasAsked k first) (sym (ap (λ (b : Asker). b.asked) act.asker)) since
@@ -208,9 +206,7 @@ module _ (k : Setting) (least : ℕ) (asks : List ℕ → Request → Type 0) (r
 
   -- the first request was sent by now
   sent_by : (first asked : ℕ) → HasAsked k first asked → first ≤ asked
-  sent_by first asked (inl one) = omega (arith, one)
-  sent_by first asked (inr (inl two)) = omega (arith, two)
-  sent_by first asked (inr (inr more)) = omega (arith, more)
+  sent_by first asked (n, is) = omega (arith, is)
 
   pub first_kept : (first : ℕ) (m m' : Meter) → exchange_span k < k.period → gone ≤ first → Facts k gone m.pair
       → Facts k gone m'.pair → IsSentLate least m.pair.time m.pair.out m'.pair.out
@@ -233,7 +229,7 @@ module _ (k : Setting) (least : ℕ) (asks : List ℕ → Request → Type 0) (r
       let open' = is.progress in
       let asked = is.asked in
       record {
-        since = inl asked;
+        since = (0, omega (arith, asked));
         clean = record {
           phase = RequestGoes sequence (open' ∙ ap (λ t. Asked sequence (k.asking_clock t)) (sym asked))
               (subst (λ t. RequestInFlight k least asks replies sequence t m.pair.out) (sym asked) is.out) is.waits
@@ -250,16 +246,23 @@ module _ (k : Setting) (least : ℕ) (asks : List ℕ → Request → Type 0) (r
           };
         };
         measured = record {
-          one = λ since. elim since [
+          few = λ since. elim since [
             | inl late ↦ absurd (omega (arith, late, asked, positive))
             | inr closed ↦ absurd cc
           ];
-          two = λ since. elim since [
+          open' = λ n most late goes. none_taken n late;
+          closed = λ n most late closed. absurd cc;
+          whole = λ since. elim since [
             | inl late ↦ absurd (omega (arith, late, asked, positive))
             | inr (late, closed) ↦ absurd cc
           ];
         };
       }
+    where
+      none_taken : (n : ℕ) → first + n * k.period ≤ m.pair.asker.asked
+          → Chain k least n m.pair.asker.asked m.kept.past
+      none_taken zero late = refl
+      none_taken (suc n) late = let asked = is.asked in absurd (omega (arith, late, asked, positive))
 
   pub first_later : (first : ℕ) (m m' : Meter) → MeterPasses m m' → InvFirst k least asks replies first m
       → InvFirst k least asks replies first m'
@@ -269,14 +272,14 @@ module _ (k : Setting) (least : ℕ) (asks : List ℕ → Request → Type 0) (r
   -- ---- until the first request
 
   -- A request that is sent where nothing is pending is such a first one, whatever the port had measured and counted.
-  pub asked_first : (gone : ℕ) (p p' : Pair) (last : Option Measurement) (sequence : ℕ) (left : Asker)
+  pub asked_first : (gone : ℕ) (p p' : Pair) (kept : Kept) (sequence : ℕ) (left : Asker)
       (news : List LaneFrame) → 0 < k.period → gone ≤ p.time → p'.time ≡ p.time → Facts k gone p'
       → IsSentLate least p.time p.out p'.out
       → p'.asker ≡ asks_now p.time sequence (k.asking_clock p.time) left → p'.waits ≡ p.waits → p'.back ≡ p.back
       → p'.out ≡ p.out ++ news → SendsRequest asks (own_request k sequence) news → NothingIsPending asks replies p
-      → InvFirst k least asks replies p.time (record { pair = p'; last = last })
-  asked_first gone p p' last sequence left news positive old time facts' there asker waits back out sent clear =
-      first_begins sequence p.time (record { pair = p'; last = last }) positive
+      → InvFirst k least asks replies p.time (record { pair = p'; kept = kept })
+  asked_first gone p p' kept sequence left news positive old time facts' there asker waits back out sent clear =
+      first_begins sequence p.time (record { pair = p'; kept = kept }) positive
       (record {
         asked = ap (λ (b : Asker). b.asked) asker;
         progress = ap (λ (b : Asker). b.progress) asker;
@@ -299,7 +302,7 @@ module _ (k : Setting) (least : ℕ) (asks : List ℕ → Request → Type 0) (r
         p.time,
         old,
         omega (arith, now, due),
-        asked_first gone p m'.pair m'.last act.sequence
+        asked_first gone p m'.pair m'.kept act.sequence
             (asker_after_interval k.allowed p.asker.progress p.asker) act.news
             (omega (arith, short)) old act.time facts' there act.asker act.waits act.back act.out act.sent clear,
       )
@@ -368,33 +371,69 @@ module _ (k : Setting) (least : ℕ) (asks : List ℕ → Request → Type 0) (r
       subst (λ (n : Meter). AsksBy k least asks replies gone by n) (sym is) (go asked)
     where
       go : AsksBy k least asks replies gone by m
-          → AsksBy k least asks replies gone by (record { pair = pair_at_time m.pair time; last = m.last })
+          → AsksBy k least asks replies gone by (record { pair = pair_at_time m.pair time; kept = m.kept })
       go (inl (clear, due)) = inl (record { out = clear.out; waits = clear.waits; back = clear.back }, due)
       go (inr (first, since, until, inv)) =
           inr (first, since, until, first_later first m _ (time, on, refl) inv)
 
-  -- ---- the port is capable
+  -- ---- the port is capable, and has measured
 
   pub exchange_full : (gone first : ℕ) (m : Meter) → Facts k gone m.pair → InvFirst k least asks replies first m
-      → first + k.period + exchange_span k < m.pair.time
-      → (m.pair.asker.capable ≡ true) × HasMeasured k least m.last
-  exchange_full gone first m facts inv late = elim inv.since [
-    | inl one ↦ (let timer = facts.request_timer in absurd (omega (arith, timer, one, late)))
-    | inr (inl two) ↦ (let ended = over k least asks replies gone m.pair facts (omega (arith, two, late))
-        inv.clean.phase in
-        let second : first + k.period ≤ m.pair.asker.asked = omega (arith, two) in
-        (inv.clean.counts.two (inr (second, ended.closed)), inv.measured.two (inr (second, ended.closed))))
-    | inr (inr more) ↦ (inv.clean.counts.two (inl more), inv.measured.two (inl more))
-  ]
+      → first + k.period + exchange_span k < m.pair.time → m.pair.asker.capable ≡ true
+  exchange_full gone first m facts inv late = by inv.since.0 inv.since.1
+    where
+      by : (n : ℕ) → m.pair.asker.asked ≡ first + n * k.period → m.pair.asker.capable ≡ true
+      by zero is = let timer = facts.request_timer in absurd (omega (arith, timer, is, late))
+      by (suc zero) is =
+          let ended = over k least asks replies gone m.pair facts (omega (arith, is, late)) inv.clean.phase in
+          inv.clean.counts.two (inr (omega (arith, is), ended.closed))
+      by (suc (suc n)) is = inv.clean.counts.two (inl (omega (arith, is)))
+
+  -- fewer periods are shorter
+  fewer : (n v : ℕ) → n ≤ v → n * k.period ≤ v * k.period
+  fewer n v h = mul-le n k.period v k.period h (omega arith)
+
+  pub window_full : (gone first : ℕ) (m : Meter) → Facts k gone m.pair → InvFirst k least asks replies first m
+      → first + k.window * k.period + exchange_span k < m.pair.time → HasMeasured k least m.kept.last
+  window_full gone first m facts inv late = by inv.since.0 inv.since.1
+    where
+      by : (n : ℕ) → m.pair.asker.asked ≡ first + n * k.period → HasMeasured k least m.kept.last
+      by n is = elim (cases_lt n k.window) [
+        | inl less ↦ (let timer = facts.request_timer in
+            let most = fewer (n + 1) k.window (omega (arith, less)) in
+            absurd (omega (arith, timer, is, most, late)))
+        | inr least_of ↦ elim (cases_lt k.window n) [
+          | inl more ↦ (let most = fewer (suc k.window) n (omega (arith, more)) in
+              inv.measured.whole (inl (omega (arith, is, most))))
+          | inr few ↦ (let same : n ≡ k.window = omega (arith, least_of, few) in
+              let all = ap (λ v. v * k.period) same in
+              let ended = over k least asks replies gone m.pair facts (omega (arith, is, all, late))
+              inv.clean.phase in
+              inv.measured.whole (inr (omega (arith, is, all), ended.closed)))
+        ]
+      ]
 
   pub capable_by : (gone by : ℕ) (m : Meter) → Facts k gone m.pair → AsksBy k least asks replies gone by m
-      → by + k.period + exchange_span k < m.pair.time
-      → (m.pair.asker.capable ≡ true) × HasMeasured k least m.last
+      → by + k.period + exchange_span k < m.pair.time → m.pair.asker.capable ≡ true
   capable_by gone by m facts (inl (clear, due)) late =
       let timer = facts.request_timer in absurd (omega (arith, timer, due, late))
   capable_by gone by m facts (inr (first, since, until, inv)) late =
       exchange_full gone first m facts inv (omega (arith, until, late))
 
+  pub measured_by : (gone by : ℕ) (m : Meter) → 0 < k.window → Facts k gone m.pair
+      → AsksBy k least asks replies gone by m → by + k.window * k.period + exchange_span k < m.pair.time
+      → HasMeasured k least m.kept.last
+  measured_by gone by m some facts (inl (clear, due)) late =
+      let timer = facts.request_timer in
+      let one = fewer 1 k.window (omega (arith, some)) in
+      absurd (omega (arith, timer, due, one, late))
+  measured_by gone by m some facts (inr (first, since, until, inv)) late =
+      window_full gone first m facts inv (omega (arith, until, late))
+
   pub stays_capable : (first : ℕ) (m : Meter) → InvFirst k least asks replies first m
-      → first + 2 * k.period ≤ m.pair.asker.asked → (m.pair.asker.capable ≡ true) × HasMeasured k least m.last
-  stays_capable first m inv late = (inv.clean.counts.two (inl late), inv.measured.two (inl late))
+      → first + 2 * k.period ≤ m.pair.asker.asked → m.pair.asker.capable ≡ true
+  stays_capable first m inv late = inv.clean.counts.two (inl late)
+
+  pub stays_measured : (first : ℕ) (m : Meter) → InvFirst k least asks replies first m
+      → first + (k.window + 1) * k.period ≤ m.pair.asker.asked → HasMeasured k least m.kept.last
+  stays_measured first m inv late = inv.measured.whole (inl (omega (arith, late)))

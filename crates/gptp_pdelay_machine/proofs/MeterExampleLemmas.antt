@@ -1,13 +1,12 @@
 -- The example's exchanges are a run that measures.
-use Rattle.std.proofs.Common.{◌≡◌, ◌≤◌, ◌+◌, ◌*◌, ◌++◌, ℕ, ℤ, List, [], ◌∷◌, Option, Some, None, refl, ap, inl, inr, arith}
+use Rattle.std.proofs.Common.{◌≡◌, ◌≤◌, ◌+◌, ◌*◌, ◌++◌, ℕ, ℤ, List, [], ◌∷◌, refl, ap, inl, inr, arith}
 use Rattle.gptp_lists.specs.Members.{In}
-use Rattle.gptp_pdelay.specs.declared.exchange.Measurement.{Measurement}
 use Rattle.gptp_pdelay_machine.specs.Lanes.{LaneFrame}
 use Rattle.gptp_pdelay_machine.specs.Facts.{IsSentLate}
-use Rattle.gptp_pdelay_machine.specs.Meter.{Measures, Meter, TakesMeasure, meter_answered, meter_asks, meter_heard, meter_hears}
+use Rattle.gptp_pdelay_machine.specs.Meter.{Kept, Measures, Meter, TakesMeasure, meter_answered, meter_asks, meter_heard, meter_hears}
 use Rattle.gptp_pdelay_machine.specs.Runs.{IsMeterRun}
 use Rattle.gptp_pdelay_machine.specs.Example.{Start, answered_port, asking_port, spells_request, frame_came, first_exchange, follow_up, follow_up_frame, home, example_link, next, next_due, recorded, replies, request_frame, response_frame, second, timer_due}
-use Rattle.gptp_pdelay_machine.specs.MeterExample.{TwoExchangesMeasure, measured_meter, example_meter, metered, one}
+use Rattle.gptp_pdelay_machine.specs.MeterExample.{TwoExchangesMeasure, kept_then, measured_meter, example_meter, metered, nothing_kept, one_kept}
 use Rattle.gptp_pdelay_machine.proofs.ExampleLemmas.{at_answer, at_follow_up, at_replies, at_request, at_rest, at_timer, first_is_fresh, hears_follow_up, hears_request, hears_response, same_stamp, sends_answer, sends_request}
 
 -- no frame is new
@@ -18,9 +17,9 @@ none_new time was now there f at = inl (there f at)
 due_late : (time due : ℕ) (f g : LaneFrame) → g.due ≡ time + 500 → f ≡ g → time + 500 ≤ f.due
 due_late time due f g is e = let same = ap (λ (h : LaneFrame). h.due) e in omega (arith, is, same)
 
-module _ (x : Start) (last : Option Measurement) where
+module _ (x : Start) (kept : Kept) where
   -- a response measures nothing
-  takes_response : TakesMeasure example_link replies (response_frame x).octets (asking_port x) last last
+  takes_response : TakesMeasure example_link replies (response_frame x).octets (asking_port x) kept kept
   takes_response = record {
     nothing = λ none. refl;
     response = λ sequence t1 t2 is says. refl;
@@ -28,8 +27,8 @@ module _ (x : Start) (last : Option Measurement) where
   }
 
   -- the follow-up measures by the four times of the exchange
-  takes_follow_up : TakesMeasure example_link replies (follow_up_frame x).octets (recorded x) last
-      (Some (measured_meter x last))
+  takes_follow_up : TakesMeasure example_link replies (follow_up_frame x).octets (recorded x) kept
+      (kept_then x kept)
   takes_follow_up = record {
     nothing = λ none. absurd (none (follow_up x) refl);
     response = λ sequence t1 t2 is says. absurd cc;
@@ -40,11 +39,13 @@ module _ (x : Start) (last : Option Measurement) where
       measures : (t1 t2 t3 t4 : ℤ) → example_link.asking_clock x.sent ≡ t1
           → example_link.answering_clock (frame_came x) ≡ t2
           → example_link.answering_clock (answered_port x) ≡ t3 → example_link.asking_clock (home x) ≡ t4
-          → Measures last (Some (measured_meter x last)) t1 t2 t3 t4
+          → Measures example_link.window kept (kept_then x kept) t1 t2 t3 t4
       measures t1 t2 t3 t4 first_is second_is third_is fourth_is = rw (← first_is, ← second_is, ← third_is, ← fourth_is)
           (record {
-            measured = measured_meter x last;
-            is = refl;
+            some = omega arith;
+            measured = measured_meter x kept;
+            last_is = refl;
+            past_is = refl;
             t3_is = refl;
             t4_is = refl;
             rate_is = refl;
@@ -66,9 +67,9 @@ module _ (x : Start) (last : Option Measurement) where
   -- the exchange is a run, and what comes after it goes on
   measures_on : (rest : List Meter) → x.before.asked + example_link.period ≡ x.sent
       → IsMeterRun example_link 500 spells_request replies second
-      (example_meter (next_due x) (Some (measured_meter x last))) rest
-      → IsMeterRun example_link 500 spells_request replies second (example_meter (timer_due x) last)
-      (metered x last ++ rest)
+      (example_meter (next_due x) (kept_then x kept)) rest
+      → IsMeterRun example_link 500 spells_request replies second (example_meter (timer_due x) kept)
+      (metered x kept ++ rest)
   unfolding hears_response hears_follow_up
   measures_on rest now on = (
     at_timer x now,
@@ -128,8 +129,8 @@ module _ (x : Start) (last : Option Measurement) where
 pub two_measurements : TwoExchangesMeasure
 two_measurements = record {
   fresh = first_is_fresh;
-  run = measures_on first_exchange None (metered next (Some one)) refl
-      (measures_on next (Some one) [] refl (at_rest next (3 * second) (omega arith) (omega arith)));
+  run = measures_on first_exchange nothing_kept (metered next one_kept) refl
+      (measures_on next one_kept [] refl (at_rest next (3 * second) (omega arith) (omega arith)));
   first_delay = refl;
   rate = refl;
   delay = refl;

@@ -1,6 +1,6 @@
 -- A port isn't capable before its second exchange can be full, and what its neighbour tells from then on comes after
 -- the follow-up that makes it capable.
-use Rattle.std.proofs.Common.{◌≡◌, ◌≢◌, ◌≤◌, ◌<◌, ◌+◌, ◌++◌, ◌⊎◌, ℕ, ℤ, true, false, ◌&&◌, List, [], ◌∷◌, refl, sym, ap, subst, ◌∙◌, inl, inr, arith}
+use Rattle.std.proofs.Common.{◌≡◌, ◌≢◌, ◌≤◌, ◌<◌, ◌+◌, ◌++◌, ◌*◌, ◌⊎◌, ℕ, zero, suc, ℤ, true, false, ◌&&◌, List, [], ◌∷◌, refl, sym, ap, subst, ◌∙◌, inl, inr, arith}
 use Rattle.std.specs.Bool.{⊤}
 use Rattle.std.proofs.lemmas.Bool.{cases_lt}
 use Rattle.gptp_lists.specs.Members.{In}
@@ -17,7 +17,7 @@ use Rattle.gptp_pdelay_machine.specs.Phases.{Phase, Rests, RequestGoes, AnswerWa
 use Rattle.gptp_pdelay_machine.specs.Phases.{FollowUpInFlight, IsItsFollowUp, IsItsResponse, IsLastRequest}
 use Rattle.gptp_pdelay_machine.specs.Meter.{Meter, MeterActs, MeterPasses}
 use Rattle.gptp_pdelay_machine.specs.Meter.{meter_asks, meter_hears, meter_heard, meter_answered, meter_rests}
-use Rattle.gptp_pdelay_machine.specs.First.{InvFirst}
+use Rattle.gptp_pdelay_machine.specs.First.{HasAsked, InvFirst}
 use Rattle.gptp_pdelay_machine.specs.FirstLaws.{exchange_span}
 use Rattle.gptp_pdelay_machine.specs.Order.{Answers, AnswersIt, AreUntold, FollowUpFirst, FollowsIt, IsNotBefore, IsOrdered, ResponseFirst, Tells, either_order, least_exchange}
 use Rattle.gptp_pdelay_machine.specs.Order.{FollowUpAhead, IsCapable, ResponseAhead, Untold}
@@ -29,6 +29,13 @@ use Rattle.gptp_pdelay_machine.proofs.LaneLemmas.{first_append, first_is_there}
 
 module _ (k : Setting) (least : ℕ) (asks : List ℕ → Request → Type 0) (replies : List ℕ → Reply → Type 0)
     (first : ℕ) where
+  -- it sent the first request, the second or a later one
+  how_far : (asked : ℕ) → HasAsked k first asked
+      → (asked ≡ first) ⊎ ((asked ≡ first + k.period) ⊎ (first + 2 * k.period ≤ asked))
+  how_far asked (zero, is) = inl (omega (arith, is))
+  how_far asked (suc zero, is) = inr (inl (omega (arith, is)))
+  how_far asked (suc (suc n), is) = inr (inr (omega (arith, is)))
+
   -- the port that asks is as it was
   not_before_still : (p p' : Pair) → p'.time ≡ p.time → p'.asker ≡ p.asker → IsNotBefore k least first p
       → IsNotBefore k least first p'
@@ -63,7 +70,7 @@ module _ (k : Setting) (least : ℕ) (asks : List ℕ → Request → Type 0) (r
       let open' : p'.asker.progress ≡ Asked act.sequence (k.asking_clock p.time) =
       ap (λ (a : Asker). a.progress) becomes in
       let capable : p'.asker.capable ≡ p.asker.capable = ap (λ (a : Asker). a.capable) becomes in
-      let since : first ≤ p.asker.asked = elim inv.since [
+      let since : first ≤ p.asker.asked = elim (how_far m.pair.asker.asked inv.since) [
         | inl one ↦ omega (arith, one)
         | inr (inl two) ↦ omega (arith, two)
         | inr (inr more) ↦ omega (arith, more)
@@ -165,7 +172,7 @@ module _ (k : Setting) (least : ℕ) (asks : List ℕ → Request → Type 0) (r
   pub not_capable_before : (gone : ℕ) (m : Meter) → least ≤ k.most → exchange_span k < k.period → Facts k gone m.pair
       → InvFirst k least asks replies first m → IsNotBefore k least first m.pair → m.pair.asker.capable ≡ true
       → first + k.period + least_exchange k least ≤ m.pair.time
-  not_capable_before gone m less short facts inv before capable = elim inv.since [
+  not_capable_before gone m less short facts inv before capable = elim (how_far m.pair.asker.asked inv.since) [
     | inl one ↦ (let never = before.fresh one in absurd cc)
     | inr (inl two) ↦ before.second two capable
     | inr (inr more) ↦ (let since = facts.asked in omega (arith, more, since, less, short))
@@ -229,11 +236,12 @@ module _ (k : Setting) (least : ℕ) (asks : List ℕ → Request → Type 0) (r
       → first + k.period + k.most + k.turnaround < from
       → from ≤ m.pair.time → Facts k gone m.pair → InvFirst k least asks replies first m
       → AreUntold tells m.pair.back → Ordered m.pair.asker (m.pair.back ++ news)
-  answer_is_ahead gone from m news past late facts inv untold = elim inv.since [
-    | inl one ↦ (let timer = facts.request_timer in absurd (omega (arith, one, timer, past, late)))
-    | inr (inl two) ↦ by_phase two inv.clean.phase
-    | inr (inr more) ↦ IsCapable (omega (arith, more)) (inv.clean.counts.two (inl more))
-  ]
+  answer_is_ahead gone from m news past late facts inv untold =
+      elim (how_far k least asks replies first m.pair.asker.asked inv.since) [
+        | inl one ↦ (let timer = facts.request_timer in absurd (omega (arith, one, timer, past, late)))
+        | inr (inl two) ↦ by_phase two inv.clean.phase
+        | inr (inr more) ↦ IsCapable (omega (arith, more)) (inv.clean.counts.two (inl more))
+      ]
     where
       p : Pair
       p = m.pair

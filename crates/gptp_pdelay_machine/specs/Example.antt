@@ -28,6 +28,7 @@ example_link = record {
   turnaround = 1000;
   period = second;
   allowed = 9;
+  window = 1;
   asking_clock = local_clock 0 (pos 0);
   answering_clock = local_clock 1000 (negsuc 99999999);
 }

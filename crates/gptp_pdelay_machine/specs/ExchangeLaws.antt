@@ -1,8 +1,8 @@
 -- Laws on what one exchange measures.
-use Rattle.std.specs.Prelude.{◌≡◌, ◌+◌, ℕ, ℤ, ◌-ℤ◌, Option, is_some}
+use Rattle.std.specs.Prelude.{◌≡◌, ◌+◌, ℕ, ℤ, ◌-ℤ◌, Bool, Option}
 use Rattle.gptp_scaled.specs.Rate.{IsNeighborRate}
 use Rattle.gptp_pdelay.specs.Clock.{IsDrift, IsStampClock}
-use Rattle.gptp_pdelay.specs.declared.exchange.Measurement.{Measurement}
+use Rattle.gptp_pdelay.specs.declared.exchange.Times.{Times}
 use Rattle.gptp_pdelay.specs.declared.progress.Request.{Request}
 use Rattle.gptp_pdelay.specs.declared.progress.Response.{Response}
 use Rattle.gptp_pdelay.specs.Exchange.{mean_delay, measurement_of, shows_neighbor}
@@ -30,8 +30,8 @@ ExchangesAreGood = (w : ℕ) (k : Setting) (threshold : ℕ) (rate t1 t2 t3 t4 :
 
 -- The measurement of such an exchange shows the neighbour, unless it is the first since the reset.
 abbrev pub ExchangesShowNeighbor : Type 0
-ExchangesShowNeighbor = (w : ℕ) (k : Setting) (threshold : ℕ) (before : Option Measurement) (request : Request)
-    (response : Response) (t3 : ℤ)
+ExchangesShowNeighbor = (w : ℕ) (k : Setting) (threshold : ℕ) (since : Option Times) (again : Bool)
+    (request : Request) (response : Response) (t3 : ℤ)
     → IsGoodLink (k.most + w) k.turnaround threshold → ReadsClocks w k
     → IsExchange k request.t1 response.t2 t3 response.t4
-    → shows_neighbor threshold (measurement_of before request response t3) ≡ is_some before
+    → shows_neighbor threshold (measurement_of since again request response t3) ≡ again

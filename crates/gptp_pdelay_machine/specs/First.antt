@@ -17,10 +17,9 @@ pub record NothingIsPending (asks : List ℕ → Request → Type 0) (replies : 
   pub waits : p.waits ≡ None
   pub back : AreMute replies p.back
 
--- the last request is the first, or the second, or a later one
+-- the last request is so many periods after the first
 abbrev pub HasAsked : Setting → ℕ → ℕ → Type 0
-HasAsked k first asked =
-    (asked ≡ first) ⊎ ((asked ≡ first + k.period) ⊎ (first + 2 * k.period ≤ asked))
+HasAsked k first asked = (n : ℕ) × (asked ≡ first + n * k.period)
 
 module _ (k : Setting) (least : ℕ) (asks : List ℕ → Request → Type 0) (replies : List ℕ → Reply → Type 0) where
   -- The first request was sent at this time: exchanges are clean, and what the exchanges since then had to measure is
@@ -28,7 +27,7 @@ module _ (k : Setting) (least : ℕ) (asks : List ℕ → Request → Type 0) (r
   pub record InvFirst (first : ℕ) (m : Meter) : Type 0 where
     pub since : HasAsked k first m.pair.asker.asked
     pub clean : IsClean k least asks replies first m.pair.asker m.pair.waits m.pair.out m.pair.back
-    pub measured : MeasuredSince k least first m.pair.asker m.last
+    pub measured : MeasuredSince k least first m.pair.asker m.kept
 
   -- Such a request is sent by this time: nothing is pending and the next request is due by then, or it was sent once
   -- old frames were gone. It is the case of a link whose other end recovers, and isn't shown of worlds.

@@ -1,5 +1,5 @@
--- Laws: a port on a good link is capable, and has measured it, once the second of the requests that find nothing old is
--- answered.
+-- Laws: a port on a good link is capable once the second of the requests that find nothing old is answered, and has
+-- measured the link once a whole window of them and one more are.
 use Rattle.std.specs.Prelude.{◌≡◌, ℕ, ◌+◌, ◌*◌, ◌<◌, ◌≤◌, true, List}
 use Rattle.gptp_pdelay_machine.specs.Messages.{Request, Reply}
 use Rattle.gptp_pdelay_machine.specs.Setting.{Setting}
@@ -49,24 +49,44 @@ module _ (asks : List ℕ → Request → Type 0) (replies : List ℕ → Reply 
       → MeterPasses m m' → AsksBy k least asks replies gone by m
       → AsksBy k least asks replies gone by m'
 
-  -- one period and one exchange after the first request the port is capable, and it has measured the link by two
-  -- exchanges
+  -- one period and one exchange after the first request the port is capable
   abbrev pub ExchangeIsFull : Type 0
   ExchangeIsFull = (k : Setting) (least gone first : ℕ) (m : Meter)
       → Facts k gone m.pair → InvFirst k least asks replies first m
       → first + k.period + exchange_span k < m.pair.time
-      → (m.pair.asker.capable ≡ true) × HasMeasured k least m.last
+      → m.pair.asker.capable ≡ true
 
-  -- one period and one exchange after the time by which a first request is sent the port is capable, and it has
-  -- measured the link by two exchanges
+  -- as many periods as the window has exchanges, and one exchange, after the first request the port has measured the
+  -- link by two exchanges, a window apart
+  abbrev pub WindowIsFull : Type 0
+  WindowIsFull = (k : Setting) (least gone first : ℕ) (m : Meter)
+      → Facts k gone m.pair → InvFirst k least asks replies first m
+      → first + k.window * k.period + exchange_span k < m.pair.time
+      → HasMeasured k least m.kept.last
+
+  -- one period and one exchange after the time by which a first request is sent the port is capable
   abbrev pub CapableBy : Type 0
   CapableBy = (k : Setting) (least gone by : ℕ) (m : Meter)
       → Facts k gone m.pair → AsksBy k least asks replies gone by m
       → by + k.period + exchange_span k < m.pair.time
-      → (m.pair.asker.capable ≡ true) × HasMeasured k least m.last
+      → m.pair.asker.capable ≡ true
 
-  -- from the third request on it is so at every time
+  -- as many periods as the window has exchanges, and one exchange, after that time it has measured the link, where the
+  -- window has one exchange at least
+  abbrev pub MeasuredBy : Type 0
+  MeasuredBy = (k : Setting) (least gone by : ℕ) (m : Meter)
+      → 0 < k.window → Facts k gone m.pair → AsksBy k least asks replies gone by m
+      → by + k.window * k.period + exchange_span k < m.pair.time
+      → HasMeasured k least m.kept.last
+
+  -- from the third request on it is capable at every time
   abbrev pub StaysCapable : Type 0
   StaysCapable = (k : Setting) (least first : ℕ) (m : Meter)
       → InvFirst k least asks replies first m → first + 2 * k.period ≤ m.pair.asker.asked
-      → (m.pair.asker.capable ≡ true) × HasMeasured k least m.last
+      → m.pair.asker.capable ≡ true
+
+  -- and from two requests after a whole window on it has measured the link
+  abbrev pub StaysMeasured : Type 0
+  StaysMeasured = (k : Setting) (least first : ℕ) (m : Meter)
+      → InvFirst k least asks replies first m → first + (k.window + 1) * k.period ≤ m.pair.asker.asked
+      → HasMeasured k least m.kept.last

@@ -1,5 +1,5 @@
 -- Laws on what a port has measured, on a good link between two live systems.
-use Rattle.std.specs.Prelude.{ℕ, ◌+◌, ◌*◌, ◌<◌, ◌≤◌, List, ◌∷◌}
+use Rattle.std.specs.Prelude.{ℕ, ◌+◌, ◌-◌, ◌*◌, ◌<◌, ◌≤◌, List, ◌∷◌}
 use Rattle.gptp_lists.specs.Members.{In}
 use Rattle.gptp_pdelay.specs.GoodLink.{IsGoodLink}
 use Rattle.gptp_pdelay_machine.specs.Messages.{Request, Reply}
@@ -37,27 +37,28 @@ module _ (asks : List ℕ → Request → Type 0) (replies : List ℕ → Reply 
       → MeterInv k least asks replies gone calm m
       → PortInvariant k asks replies gone calm m.pair
 
-  -- three periods after `calm` the last measurement is that of two exchanges, one after the other
+  -- a window and two periods after `calm` the last measurement is that of two exchanges, a window apart
   abbrev pub MeasuredFromCalm : Type 0
   MeasuredFromCalm = (k : Setting) (least gone calm : ℕ) (m : Meter)
-      → Facts k gone m.pair → MeterInv k least asks replies gone calm m → calm + 3 * k.period ≤ m.pair.time
-      → HasMeasured k least m.last
+      → Facts k gone m.pair → MeterInv k least asks replies gone calm m
+      → calm + (k.window + 2) * k.period ≤ m.pair.time
+      → HasMeasured k least m.kept.last
 
-  -- five announce intervals after the last change the last measurement is that of two exchanges, one after the other,
-  -- where old frames are gone after one such interval
+  -- Five announce intervals after the last change, and a period more for each exchange of the window but one, the last
+  -- measurement is that of two exchanges, a window apart, where old frames are gone after one such interval.
   abbrev pub MeasuringSettles : Type 0
   MeasuringSettles = (k : Setting) (least change interval : ℕ) (m : Meter)
       → k.period ≤ interval → Facts k (change + interval) m.pair
       → MeterInv k least asks replies (change + interval) (change + 2 * interval) m
-      → change + 5 * interval ≤ m.pair.time
-      → HasMeasured k least m.last
+      → change + 5 * interval + (k.window - 1) * k.period ≤ m.pair.time
+      → HasMeasured k least m.kept.last
 
   -- In every run over a good link that begins just after the last change, the last measurement is that of two
-  -- exchanges, one after the other, from five announce intervals after that change on. Threshold, turnaround and
-  -- intervals keep their limits.
+  -- exchanges, a window apart, from then on. Threshold, turnaround and intervals keep their limits.
   abbrev pub RunsEndMeasured : Type 0
   RunsEndMeasured = (k : Setting) (least threshold change interval : ℕ) (m n : Meter) (run : List Meter)
       → IsGoodLink k.most k.turnaround threshold → 2 * threshold + k.turnaround < k.period → k.period ≤ interval
       → IsJustChanged k (change + interval) (change + 2 * interval) m.pair
-      → IsMeterRun k least asks replies (change + interval) m run → In n (m ∷ run) → change + 5 * interval ≤ n.pair.time
-      → HasMeasured k least n.last
+      → IsMeterRun k least asks replies (change + interval) m run → In n (m ∷ run)
+      → change + 5 * interval + (k.window - 1) * k.period ≤ n.pair.time
+      → HasMeasured k least n.kept.last

@@ -3,9 +3,10 @@ use Rattle.std.specs.Prelude.{◌≡◌, ℕ, ◌+◌, ◌≤◌, ℤ}
 use Rattle.gptp_graph.specs.Snapshot.{PortIdentity}
 
 -- The ports, and what doesn't change between two changes of the network; times in ns. `most` is the greatest delay of
--- the link, `turnaround` the time that an answer waits, `period` the interval between two requests and `allowed` how
--- many in a row may be lost (allowedLostResponses, IEEE 802.1AS-2020, 11.5.3). The clocks give the time stamps that the
--- two systems take of their local clocks, in 2^-16 ns, at each time.
+-- the link, `turnaround` the time that an answer waits, `period` the interval between two requests, `allowed` how many
+-- in a row may be lost (allowedLostResponses, IEEE 802.1AS-2020, 11.5.3), and `window` over how many exchanges a rate
+-- is measured. The clocks give the time stamps that the two systems take of their local clocks, in 2^-16 ns, at each
+-- time.
 --
 -- No act changes a phase, a drift or how time is stamped, and a system that recovers has those that it had. The ports
 -- are of two systems, so a response never has the own clock as its source. Shown of worlds by acts_are_acts of
@@ -17,6 +18,7 @@ pub record Setting : Type 0 where
   pub turnaround : ℕ
   pub period : ℕ
   pub allowed : ℕ
+  pub window : ℕ
   pub asking_clock : ℕ → ℤ
   pub answering_clock : ℕ → ℤ
 

@@ -2,7 +2,7 @@
 
 ghost use Rattle.gptp_pdelay_machine.specs.FirstLaws.{FirstBegins, FirstIsKept, FirstHoldsLater};
 ghost use Rattle.gptp_pdelay_machine.specs.FirstLaws.{AsksByIsKept, AsksByHoldsLater};
-ghost use Rattle.gptp_pdelay_machine.specs.FirstLaws.{ExchangeIsFull, CapableBy, StaysCapable};
+ghost use Rattle.gptp_pdelay_machine.specs.FirstLaws.{ExchangeIsFull, CapableBy, MeasuredBy, StaysCapable, StaysMeasured, WindowIsFull};
 
 use crate::coding::Coding;
 
@@ -32,19 +32,34 @@ pub fn asks_by_holds_later<C: Coding>()
     ensures { AsksByHoldsLater C.asks C.replies }
 {}
 
-/// One interval between requests and one exchange after the first request the port is capable, and has measured the
-/// link by two exchanges.
+/// One interval between requests and one exchange after the first request the port is capable.
 pub fn exchange_is_full<C: Coding>()
     ensures { ExchangeIsFull C.asks C.replies }
 {}
 
-/// One interval between requests and one exchange after the time by which a first request is sent, the port is capable,
-/// and has measured the link by two exchanges.
+/// As many intervals between requests as the window has exchanges, and one exchange, after the first request the port
+/// has measured the link over a whole window.
+pub fn window_is_full<C: Coding>()
+    ensures { WindowIsFull C.asks C.replies }
+{}
+
+/// One interval between requests and one exchange after the time by which a first request is sent, the port is capable.
 pub fn capable_by<C: Coding>()
     ensures { CapableBy C.asks C.replies }
+{}
+
+/// As many intervals as the window has exchanges, and one exchange, after that time it has measured the link over a
+/// whole window.
+pub fn measured_by<C: Coding>()
+    ensures { MeasuredBy C.asks C.replies }
 {}
 
 /// From the third request on the port is capable at every time.
 pub fn stays_capable<C: Coding>()
     ensures { StaysCapable C.asks C.replies }
+{}
+
+/// From two requests after a whole window on it has measured the link at every time.
+pub fn stays_measured<C: Coding>()
+    ensures { StaysMeasured C.asks C.replies }
 {}

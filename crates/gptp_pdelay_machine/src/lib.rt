@@ -10,10 +10,11 @@
 //! The definitions stand in `specs/`. Each function of this crate is a law: it does nothing, and its contract is a
 //! theorem about the definitions. On a link that is up, loses nothing and is good, between two live systems, the port
 //! is capable from L + 5 announce intervals after the last change on, where L is the number of requests that may be
-//! lost, and what it has measured is that of two exchanges over the link from five on. On a link whose other end has
-//! failed it isn't capable from L + 5 on. Where a request finds nothing old in flight, the port is capable sooner: one
-//! interval between requests and one exchange after that request. Lemmas for the crates above are in the public modules
-//! of `proofs/`.
+//! lost, and what it has measured is that of two exchanges over the link, a window apart, from five on and an interval
+//! between requests more for each exchange of the window but one. On a link whose other end has failed it isn't capable
+//! from L + 5 on. Where a request finds nothing old in flight, the port is capable sooner: one interval between
+//! requests and one exchange after that request; as many intervals as the window has exchanges, and one exchange, after
+//! it the port has measured over a window. Lemmas for the crates above are in the public modules of `proofs/`.
 //!
 //! What a world must show to be such a machine is said where it is defined, with the law of gptp_invariants that shows
 //! it. Nothing else is supposed. By these laws each port on a good link is watched from the last change on

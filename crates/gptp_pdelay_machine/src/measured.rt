@@ -5,8 +5,8 @@ ghost use Rattle.gptp_pdelay_machine.specs.MeasuredLaws.{MeasuredFromCalm, Measu
 
 use crate::coding::Coding;
 
-/// Every act keeps the invariant of what is measured: the last measurement is that of an exchange which found nothing
-/// old, or of two, one after the other.
+/// Every act keeps the invariant of what is measured: as many of the exchanges that are kept as there were requests
+/// found nothing old, and with a whole window of them the last measurement is over it.
 pub fn meter_kept<C: Coding>()
     ensures { MeterInvIsKept C.asks C.replies }
 {}
@@ -26,13 +26,14 @@ pub fn meter_is_invariant<C: Coding>()
     ensures { MeterInvIsInv C.asks C.replies }
 {}
 
-/// Neighbour rate and mean link delay are those of two exchanges, one after the other, from three intervals between
-/// requests on, counted from when the old frames are gone and answered.
+/// Neighbour rate and mean link delay are those of two exchanges, a window apart, from a window and two intervals
+/// between requests on, counted from when the old frames are gone and answered.
 pub fn measured_from_calm<C: Coding>()
     ensures { MeasuredFromCalm C.asks C.replies }
 {}
 
-/// They are so from five announce intervals after the last change on.
+/// They are so from five announce intervals after the last change on, and an interval between requests more for each
+/// exchange of the window but one.
 pub fn measuring_settles<C: Coding>()
     ensures { MeasuringSettles C.asks C.replies }
 {}

@@ -1,6 +1,6 @@
 //! Entries of any time: a run for each kind, and a heap for those that are put out of order.
 
-ghost use Rattle.std.specs.Prelude.{◌≡◌, ℕ, ◌+◌, ◌<◌, ◌≤◌, ◌∷◌, length, true, false, IsSome, IfOk, IfSome, OnOk, None, slice_set};
+ghost use Rattle.std.specs.Prelude.{◌≡◌, ℕ, ◌+◌, ◌<◌, ◌≤◌, ◌∷◌, ◌++◌, [], length, true, false, IsSome, IfOk, IfSome, OnOk, None, slice_set};
 ghost use Rattle.gptp_queue.specs.Order.{first_of, part_at, AddsTo, IsLeastOf, Sweeps, Takes, TakesLeast, Within};
 
 use crate::entry::Entry;
@@ -52,6 +52,19 @@ impl Far {
             runs,
             first: MaybeEntry::none(),
             at: 0,
+        })
+    }
+
+    /// The same entries, in the same parts. Refused for want of memory alone.
+    pub fn copy(&self, alloc: Global) -> Result<Self, AllocError>
+        ensures parts { IfOk result (λ far. far.parts ≡ self.now.parts) }
+        ensures first { IfOk result (λ far. far.first ≡ self.now.first) }
+    {
+        Ok(Far {
+            heap: self.heap.copy()?,
+            runs: copy_runs(alloc, &self.runs)?,
+            first: self.first,
+            at: self.at,
         })
     }
 
@@ -142,6 +155,25 @@ impl Far {
         self.at = at;
         grown
     }
+}
+
+/// Equal runs. Refused for want of memory alone.
+fn copy_runs(alloc: Global, runs: &[Run]) -> Result<Vec<Run>, AllocError>
+    ensures { IfOk result (λ copies. copies.items ≡ runs.now) }
+{
+    let mut copies = Vec::with_capacity(alloc, runs.len())?;
+    for run in runs {
+        push_copy(&mut copies, run)?;
+    }
+    Ok(copies)
+}
+
+/// Puts an equal run behind others.
+fn push_copy(copies: &mut Vec<Run>, run: &Run) -> Result<(), AllocError>
+    ensures { OnOk result (copies.new.items ≡ copies.old.items ++ run.now ∷ []) }
+{
+    copies.push(run.copy()?)?;
+    Ok(())
 }
 
 /// Takes the first entry of a part out.

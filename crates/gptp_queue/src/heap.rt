@@ -1,6 +1,6 @@
 //! Entries that were put in any order.
 
-ghost use Rattle.std.specs.Prelude.{◌≡◌, ◌+◌, ◌<◌, ◌≤◌, [], IsOk, OnOk};
+ghost use Rattle.std.specs.Prelude.{◌≡◌, ◌+◌, ◌<◌, ◌≤◌, [], IsOk, IfOk, OnOk};
 ghost use Rattle.gptp_queue.specs.Order.{among, first_of, Adds, IsLeastOf, IsSwept, Takes};
 
 use crate::entry::Entry;
@@ -40,6 +40,15 @@ impl Heap {
         Heap {
             entries: BinaryHeap::new(alloc),
         }
+    }
+
+    /// A heap with the same entries. Refused for want of memory alone.
+    pub fn copy(&self) -> Result<Self, AllocError>
+        ensures { IfOk result (λ heap. heap.entries ≡ self.now.entries) }
+    {
+        Ok(Heap {
+            entries: self.entries.clone()?,
+        })
     }
 
     /// The first entry, if there is one: the least.

@@ -44,6 +44,17 @@ impl Order {
         Ok(Order { ring, far })
     }
 
+    /// The same entries, in the same parts. Refused for want of memory alone.
+    pub fn copy(&self, alloc: Global) -> Result<Self, AllocError>
+        ensures parts { IfOk result (λ order. order.parts ≡ self.now.parts) }
+        ensures first { IfOk result (λ order. order.first ≡ self.now.first) }
+    {
+        Ok(Order {
+            ring: self.ring.copy(alloc)?,
+            far: self.far.copy(alloc)?,
+        })
+    }
+
     /// The least entry, if there is one.
     pub fn first(&self) -> MaybeEntry
         ensures first { result ≡ self.now.first }

@@ -63,6 +63,18 @@ impl Queue {
         })
     }
 
+    /// A queue with the same entries, under the same numbers, whose room has to be made. Refused for want of memory
+    /// alone.
+    pub fn copy(&self, alloc: Global) -> Result<Self, AllocError>
+        ensures { IfOk result (λ queue. queue ≡ record self.now { room = 0 }) }
+    {
+        Ok(Queue {
+            table: self.table.copy(alloc)?,
+            order: self.order.copy(alloc)?,
+            spare: 0,
+        })
+    }
+
     /// Makes places until there are so many. Refused where there is no memory for them; nothing changes then.
     pub fn make_places(&mut self, places: usize) -> Result<(), AllocError>
         ensures ok { OnOk result (self.new ≡ record self.old { places = max self.old.places places }) }

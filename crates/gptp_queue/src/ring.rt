@@ -44,6 +44,18 @@ impl Ring {
         })
     }
 
+    /// A ring with the same entries. Refused for want of memory alone.
+    pub fn copy(&self, alloc: Global) -> Result<Self, AllocError>
+        ensures parts { IfOk result (λ ring. ring.parts ≡ self.now.parts) }
+        ensures first { IfOk result (λ ring. ring.first ≡ self.now.first) }
+    {
+        Ok(Ring {
+            base: self.base,
+            slots: self.slots.copy(alloc)?,
+            first: self.first,
+        })
+    }
+
     /// The least entry, if there is one.
     pub fn first(&self) -> MaybeEntry
         ensures first { result ≡ self.now.first }

@@ -1,6 +1,6 @@
 //! Entries that are due one after the other.
 
-ghost use Rattle.std.specs.Prelude.{◌≡◌, [], ◌∷◌, ◌++◌, true, false};
+ghost use Rattle.std.specs.Prelude.{◌≡◌, [], ◌∷◌, ◌++◌, true, false, IfOk};
 ghost use Rattle.gptp_queue.specs.Order.{first_of, rest_of, IsSwept, Rise};
 
 use crate::before::is_before;
@@ -40,6 +40,16 @@ impl Run {
             first: MaybeEntry::none(),
             rest: VecDeque::new(alloc),
         }
+    }
+
+    /// An equal run. Refused for want of memory alone.
+    pub fn copy(&self) -> Result<Self, AllocError>
+        ensures { IfOk result (λ run. run ≡ self.now) }
+    {
+        Ok(Run {
+            first: self.first,
+            rest: self.rest.clone()?,
+        })
     }
 
     /// The first entry, if there is one.

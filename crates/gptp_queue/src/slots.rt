@@ -49,6 +49,16 @@ impl Slots {
         })
     }
 
+    /// Slots with the same entries. Refused for want of memory alone.
+    pub fn copy(&self, alloc: Global) -> Result<Self, AllocError>
+        ensures { IfOk result (λ slots. slots.queues ≡ self.now.queues) }
+    {
+        Ok(Slots {
+            filled: self.filled,
+            entries: self.entries.copy(alloc)?,
+        })
+    }
+
     /// How many more entries there is room for.
     pub fn room(&self) -> usize
         ensures { result ≡ self.now.room }

@@ -58,6 +58,16 @@ impl Table {
         })
     }
 
+    /// An equal table. Refused for want of memory alone.
+    pub fn copy(&self, alloc: Global) -> Result<Self, AllocError>
+        ensures { IfOk result (λ table. table ≡ self.now) }
+    {
+        Ok(Table {
+            next: self.next,
+            cells: Vec::from_slice(alloc, &self.cells)?,
+        })
+    }
+
     /// Makes places until there are so many. Refused where there is no memory for them; nothing changes then.
     pub fn make_places(&mut self, places: usize) -> Result<(), AllocError>
         ensures ok { OnOk result (self.new ≡ record self.old { places = max self.old.places places }) }

@@ -20,7 +20,7 @@ use Rattle.gptp_links.specs.declared.link.Direction.{Direction}
 use Rattle.gptp_links.specs.Fate.{Draw}
 use Rattle.gptp_links.specs.Queue.{Frame, frame}
 use Rattle.gptp_setup.specs.SettlingParams.{SettlingParams}
-use Rattle.gptp_scenario.specs.SettlingTime.{settling_span_with}
+use Rattle.gptp_scenario.specs.SettlingTime.{settling_span_with, window_span}
 use Rattle.gptp_scenario.specs.declared.change.Act.{Act}
 use Rattle.gptp_scenario.specs.declared.change.Act.TheVariants.{Deliver, Expire, Change as Changing}
 use Rattle.gptp_scenario.specs.declared.change.Timed.{Timed}
@@ -56,7 +56,7 @@ use Rattle.gptp_invariants.specs.SyncTimedClaim.{WorldInvariant, CarriesWhereCal
 use Rattle.gptp_invariants.specs.SyncTimedLaws.{IsRootOf}
 use Rattle.gptp_invariants.specs.ChoiceView.{port_identity_number}
 use Rattle.gptp_invariants.proofs.ChoiceCalmKeptLemmas.{acts_keep}
-use Rattle.gptp_invariants.proofs.WorldSettlingInvariantLemmas.{over_capable}
+use Rattle.gptp_invariants.proofs.WorldSettlingInvariantLemmas.{over_measured}
 use Rattle.gptp_invariants.proofs.SyncExactLemmas.{all_later}
 use Rattle.gptp_invariants.proofs.SyncFollowClaimLemmas.{settled_from}
 use Rattle.gptp_invariants.proofs.SyncFollowDeliveryLemmas.{opposite_same}
@@ -304,7 +304,7 @@ module _ (link : ℕ) (direction : Direction) (w w' : WorldState) (draws : List 
     (early : w.time ≤ 10 ^ 18) (near : IsNear (snapshot_of w) number)
     (leads : IsWayTo (follower_parts p.params w) (snapshot_of w) (suc steps) number way phase) where
   abbrev settled : ℕ
-  settled = w.last_change + settling_span_with p (sync_paths_of w) m
+  settled = w.last_change + settling_span_with p (sync_paths_of w) m + window_span p.params
 
   come_late : settled + suc steps * (p.params.threshold + p.params.residence) ≤ w.time
   come_late = omega (arith, come)
@@ -328,10 +328,10 @@ module _ (link : ℕ) (direction : Direction) (w w' : WorldState) (draws : List 
         pace = p;
         set = calm.of;
         quiet = quiet_as p w calm;
-        late = already;
+        late = omega (arith, already);
       } in
       measured_right p settled p.params.threshold w is_settled
-      (claimed_measured w (record { pace = p; is = claimed }) (over_capable m w set))
+      (claimed_measured w (record { pace = p; is = claimed }) (over_measured m w set already))
 
   pub has_reading_here : (moment : ℕ) → IsSome (reading system moment)
   has_reading_here =

@@ -20,7 +20,7 @@ use Rattle.gptp_setup.proofs.IntervalLemmas.{interval_positive}
 use Rattle.gptp_scenario.specs.declared.change.Act.{Act}
 use Rattle.gptp_scenario.specs.declared.change.Act.TheVariants.{Deliver, Expire, Change as Changing}
 use Rattle.gptp_scenario.specs.declared.change.Timed.{Timed}
-use Rattle.gptp_scenario.specs.SettlingTime.{settling_span_with}
+use Rattle.gptp_scenario.specs.SettlingTime.{settling_span_with, window_span}
 use Rattle.gptp_scenario.specs.SyncWait.{step_more}
 use Rattle.gptp_system.specs.State.{SystemState, clock, local_time}
 use Rattle.gptp_system.specs.Takeover.{told_time}
@@ -60,11 +60,12 @@ use Rattle.gptp_reading.proofs.RunLemmas.{AreKept, IsKeptAct, one_more, runs_kee
 
 -- ---- the world before an act
 
--- the world is calm, no path of it has more than m systems, and by this time it has settled since its last change
+-- the world is calm, no path of it has more than m systems, and by this time it has settled since its last change and
+-- rates are measured over whole windows
 record IsSettledBy (p : SettlingParams) (m settled : ℕ) (w : WorldState) : Type 0 where
   calm : WorldIsCalm p w
   bounded : BoundsPaths (snapshot_of w) m
-  passed : w.last_change + settling_span_with p (sync_paths_of w) m ≤ settled
+  passed : w.last_change + settling_span_with p (sync_paths_of w) m + window_span p.params ≤ settled
 
 module _ (p : SettlingParams) (v w : WorldState) (keeps : KeepsNetwork v w) (calm : WorldIsCalm p w) where
   -- it was calm
@@ -107,12 +108,15 @@ module _ (p : SettlingParams) (v w : WorldState) (keeps : KeepsNetwork v w) (cal
 
   -- it had settled by the same time
   settled_before : (m settled : ℕ) → BoundsPaths (snapshot_of w) m
-      → w.last_change + settling_span_with p (sync_paths_of w) m ≤ settled → IsSettledBy p m settled v
+      → w.last_change + settling_span_with p (sync_paths_of w) m + window_span p.params ≤ settled
+      → IsSettledBy p m settled v
   settled_before m settled bounded passed = record {
     calm = calm_before;
     bounded = subst (λ g. BoundsPaths g m) (same_snapshot v w keeps) bounded;
-    passed = subst (λ last. last + settling_span_with p (sync_paths_of v) m ≤ settled) keeps.change
-        (subst (λ paths. w.last_change + settling_span_with p paths m ≤ settled) (same_paths v w keeps) passed);
+    passed =
+        subst (λ last. last + settling_span_with p (sync_paths_of v) m + window_span p.params ≤ settled) keeps.change
+        (subst (λ paths. w.last_change + settling_span_with p paths m + window_span p.params ≤ settled)
+        (same_paths v w keeps) passed);
   }
 
 -- ---- what lasts

@@ -15,7 +15,7 @@ use std::alloc::{AllocError, Global};
 use std::process::Abort;
 use std::test::Fail;
 
-/// What both systems have: intervals of 1 s, and of 125 ms for time.
+/// What both systems have: intervals of 1 s, and of 125 ms for time, and a window, for which a port takes memory.
 const PARAMS: Params = Params {
     announce: 0,
     sync: -3,
@@ -28,7 +28,7 @@ const PARAMS: Params = Params {
     sync_timeout: 0,
     granularity: 0,
     noise: 0,
-    window: 1,
+    window: 2,
 };
 
 /// The interval of a system's only port.

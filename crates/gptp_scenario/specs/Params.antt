@@ -26,9 +26,8 @@ abbrev pub are_times_in_range : Params → Bool
 are_times_in_range p =
     is_between 1 1000000000 p.threshold && is_between 1 1000000000 p.turnaround && is_between 1 1000000000 p.residence
 
--- No system measures a rate over more than one exchange yet: the window has its default.
 abbrev pub are_stamps_in_range : Params → Bool
-are_stamps_in_range p = is_between 0 1000 p.granularity && is_between 0 1000 p.noise && is_between 1 1 p.window
+are_stamps_in_range p = is_between 0 1000 p.granularity && is_between 0 1000 p.noise && is_between 1 16 p.window
 
 abbrev pub are_in_range : Params → Bool
 are_in_range p =
@@ -53,7 +52,6 @@ pub record AreInRange (p : Params) : Type 0 where
   pub lost-least : 1 ≤ p.lost
   pub threshold-least : 1 ≤ p.threshold
   pub threshold : p.threshold ≤ 1000000000
-  pub one_exchange : p.window ≡ 1
 
 pub record KeepParams (p : Params) : Type 0 where
   pub ranges : AreInRange p

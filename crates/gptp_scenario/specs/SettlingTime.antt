@@ -1,6 +1,8 @@
 -- By when a calm network has settled after its last change (profile).
-use Rattle.std.specs.Prelude.{ℕ, ◌+◌, ◌*◌, List}
+use Rattle.std.specs.Prelude.{ℕ, ◌+◌, ◌-◌, ◌*◌, List}
+use Rattle.gptp_setup.specs.Intervals.{interval_of}
 use Rattle.gptp_setup.specs.SettlingParams.{largest_interval, SettlingParams}
+use Rattle.gptp_setup.specs.declared.setup.Params.{Params}
 use Rattle.gptp_scenario.specs.Calm.{last_change}
 use Rattle.gptp_scenario.specs.InUse.{count_live}
 use Rattle.gptp_scenario.specs.Network.{NetworkState, pace_of}
@@ -12,6 +14,11 @@ use Rattle.gptp_scenario.specs.declared.sync_wait.SyncPaths.{SyncPaths}
 -- announce interval of any port.
 abbrev pub capability_span : SettlingParams → ℕ
 capability_span p = (p.params.lost + 5) * largest_interval p
+
+-- How much longer it takes to measure a rate over a whole window than by two exchanges: one interval between requests
+-- for each exchange of the window but one.
+abbrev pub window_span : Params → ℕ
+window_span p = (p.window - 1) * interval_of p.pdelay
 
 -- With n live systems: what isn't of a live system ages within k + 1 announce intervals for each of them, what is left
 -- settles within two more for each, and links become capable in the rest. So it is where nothing lapses.

@@ -46,14 +46,13 @@ fn are_times_in_range(params: &Params) -> bool
         && is_between(1, 1_000_000_000, params.residence)
 }
 
-/// Whether the granularity and the noise of time stamps lie in their ranges, and a rate is measured over one exchange,
-/// which is all that systems do yet.
+/// Whether the granularity and the noise of time stamps and the window of rates lie in their ranges.
 fn are_stamps_in_range(params: &Params) -> bool
     ensures { result ≡ are_stamps_in_range params.now }
 {
     is_between(0, 1000, u64::from(params.granularity))
         && is_between(0, 1000, u64::from(params.noise))
-        && is_between(1, 1, u64::from(params.window))
+        && is_between(1, 16, u64::from(params.window))
 }
 
 /// Whether each value lies in its range.

@@ -13,7 +13,7 @@ use Rattle.gptp_pdelay_machine.specs.Lanes.{LaneFrame}
 use Rattle.gptp_bmca_machine.specs.Frame.{AnnounceFrame, Lane}
 use Rattle.gptp_invariants.specs.ChoiceSettlesAsMachine.{IsWorld}
 use Rattle.gptp_invariants.specs.ChoiceView.{frame_view, lane_place, lane_view, port_identity_number, view}
-use Rattle.gptp_invariants.specs.DelayLinkView.{IsLinkOf, LinkPlace, asker_view, link_frame_view, link_lane_view, other_direction, waits_view}
+use Rattle.gptp_invariants.specs.DelayLinkView.{IsLinkOf, LinkPlace, asker_view, link_frame_view, link_lane_view, other_direction, waits_view, kept_view}
 use Rattle.gptp_invariants.proofs.ChoiceSeenLaneLemmas.{lane_there}
 use Rattle.gptp_invariants.proofs.WorldWayLemmas.{one_way}
 use Rattle.gptp_settling_time.proofs.RaisedLemmas.{IsRaised}
@@ -66,7 +66,7 @@ module _ (at : LinkPlace) (w w' : WorldState) (l : IsLinkOf at w) (whole : HasSa
             out = out i;
             back = back i;
           };
-          last = (asking i).peer.last;
+          kept = kept_view (asking i).peer;
         };
         bounds = whole.bounds;
       }

@@ -4,6 +4,7 @@ use Rattle.std.proofs.lemmas.Bool.{cases_lt}
 use Rattle.gptp_lists.specs.Members.{In}
 use Rattle.gptp_links.specs.declared.bounds.Bounds.{Bounds}
 use Rattle.gptp_setup.specs.SettlingParams.{SettlingParams, largest_interval}
+use Rattle.gptp_scenario.specs.SettlingTime.{window_span}
 use Rattle.gptp_scenario.specs.Calm.{IsCalm, last_change}
 use Rattle.gptp_scenario.specs.Network.{pace_of}
 use Rattle.gptp_scenario.specs.declared.change.Timed.{Timed}
@@ -49,6 +50,10 @@ module _ (d : DocumentState) (playable : IsPlayable d) (all : List Timed) (calm 
   abbrev p : SettlingParams
   p = pace_of d.network
 
+  -- when its ports have measured over whole windows
+  abbrev whole : ℕ
+  whole = settled + window_span p.params
+
   -- the world as if it had been changed last when a link was last set
   abbrev seen : WorldState → WorldState
   seen w = changed_at (last_set all) w
@@ -62,28 +67,30 @@ module _ (d : DocumentState) (playable : IsPlayable d) (all : List Timed) (calm 
 
   -- its ports have measured their links
   have_measured : (past : Past) (w : WorldState) → IsAfter d all past w → SettlesAfter d.network all past settled
-      → HaveQuietLinks p.params w → settled ≤ w.time → HaveMeasuredLinks w
+      → HaveQuietLinks p.params w → whole ≤ w.time → HaveMeasuredLinks w
   have_measured AnyPast w keeps so links on =
       let change = keeps.stands.last in
       used_measured p w keeps.claim.pace keeps.claim.world links keeps.claim.watched (by so change)
     where
       by : SettlesAfter d.network all AnyPast settled → w.last_change ≡ last_change all
-          → w.last_change + 5 * largest_interval p ≤ w.time
+          → w.last_change + 5 * largest_interval p + window_span p.params ≤ w.time
       by (inl (off, passed)) change = omega (arith, passed, on, change)
       by (inr passed) change = omega (arith, passed, on, change)
   have_measured Starting w so none links on = absurd none
   have_measured (Gained start) w so settles links on =
-      let late = by settles in news_measured p start w (news_now p start w late so.news) links late
+      let late = by settles in
+      news_measured p start w (news_now p start w (omega (arith, late)) so.news) links late
     where
-      by : SettlesAfter d.network all (Gained start) settled → start ≤ w.time
+      by : SettlesAfter d.network all (Gained start) settled → start + window_span p.params ≤ w.time
       by (inl (off, late)) = omega (arith, late, on)
       by (inr (short, late)) = omega (arith, late, on)
   have_measured (Heard start) w so (off, late) links on =
       news_measured p start w so.since.news links (omega (arith, late, on))
-  have_measured (Left start) w so (off, late) links on = left_measured p so.before start w so.since links
+  have_measured (Left start) w so (off, late) links on =
+      left_measured p so.before start w so.since links (omega (arith, late, on))
 
-  settled_from : (w : WorldState) → IsAfter d all last w → settled ≤ w.time → w.time ≤ 10 ^ 18
-      → IsSettledFrom p settled p.params.threshold (seen w)
+  settled_from : (w : WorldState) → IsAfter d all last w → whole ≤ w.time → w.time ≤ 10 ^ 18
+      → IsSettledFrom p whole p.params.threshold (seen w)
   settled_from w so on shown =
       let keeps = after_keeps d all last w so in
       let links = quiet w so in
@@ -92,8 +99,8 @@ module _ (d : DocumentState) (playable : IsPlayable d) (all : List Timed) (calm 
         world = world_so p (last_set all) w keeps.unset keeps.claim.world;
         measured = measured_so p (last_set all) w keeps.claim.measured;
         links = links;
-        choice = (after_settles d playable all calm settled w on last so settles).0;
-        old = old;
+        choice = (after_settles d playable all calm settled w (omega (arith, on)) last so settles).0;
+        old = omega (arith, old);
         late = on;
         shown = shown;
         short = used_within (live_stations w.stations) w.net.channels p.params.threshold
@@ -101,10 +108,10 @@ module _ (d : DocumentState) (playable : IsPlayable d) (all : List Timed) (calm 
         limit = keeps.claim.pace.params.ranges.threshold;
       }
 
-  right : (w : WorldState) → IsAfter d all last w → settled ≤ w.time → w.time ≤ 10 ^ 18
+  right : (w : WorldState) → IsAfter d all last w → whole ≤ w.time → w.time ≤ 10 ^ 18
       → AllMeasureRight p.params (seen w)
   right w so on shown =
-      measured_right p settled p.params.threshold (seen w) (settled_from w so on shown)
+      measured_right p whole p.params.threshold (seen w) (settled_from w so on shown)
       (measured_links_so p (last_set all) w (have_measured last w so settles (quiet w so) on))
 
   -- what is known of it as it is seen so
@@ -117,7 +124,7 @@ module _ (d : DocumentState) (playable : IsPlayable d) (all : List Timed) (calm 
   -- time is carried right from then on
   record IsExactTo (w : WorldState) : Type 0 where
     so : IsAfter d all last w
-    carries : settled ≤ w.time → w.time ≤ 10 ^ 18 → CarriesTime p.params settled p.params.threshold (seen w)
+    carries : whole ≤ w.time → w.time ≤ 10 ^ 18 → CarriesTime p.params whole p.params.threshold (seen w)
 
   exact_begins : (w : WorldState) → IsAfter d all last w → w.last_change ≡ w.time → IsExactTo w
   exact_begins w so now =
@@ -125,16 +132,16 @@ module _ (d : DocumentState) (playable : IsPlayable d) (all : List Timed) (calm 
       record { so = so; carries = λ on shown. absurd (omega (arith, on, behind, change, now)) }
 
   carries_later : (w : WorldState) (time : ℕ) → w.time ≤ time → IsAfter d all last (at time w) → IsExactTo w
-      → settled ≤ time → time ≤ 10 ^ 18 → CarriesTime p.params settled p.params.threshold (seen (at time w))
-  carries_later w time later then is on shown = by (cases_lt w.time settled)
+      → whole ≤ time → time ≤ 10 ^ 18 → CarriesTime p.params whole p.params.threshold (seen (at time w))
+  carries_later w time later then is on shown = by (cases_lt w.time whole)
     where
-      by : (w.time < settled) ⊎ (settled ≤ w.time)
-          → CarriesTime p.params settled p.params.threshold (seen (at time w))
+      by : (w.time < whole) ⊎ (whole ≤ w.time)
+          → CarriesTime p.params whole p.params.threshold (seen (at time w))
       by (inl early) =
-          time_begins p settled p.params.threshold (seen w) time early (known w is.so)
+          time_begins p whole p.params.threshold (seen w) time early (known w is.so)
           (settled_from (at time w) then on shown)
       by (inr already) =
-          time_carries p settled p.params.threshold (seen w) time later
+          time_carries p whole p.params.threshold (seen w) time later
           (is.carries already (omega (arith, later, shown)))
 
   exact_later : (w : WorldState) (time : ℕ) → w.time ≤ time → NothingBefore time w.net.pending → IsExactTo w
@@ -156,10 +163,10 @@ module _ (d : DocumentState) (playable : IsPlayable d) (all : List Timed) (calm 
           so = after;
           carries = λ on shown.
               let time = acts_time timed.act (at timed.at w) was.draws t.told.done t.after was.acts in
-              let on_then : settled ≤ timed.at = omega (arith, on, time) in
+              let on_then : whole ≤ timed.at = omega (arith, on, time) in
               let shown_then : timed.at ≤ 10 ^ 18 = omega (arith, shown, time) in
               let now = was.ready.timely.now in
-              done_carries answers p settled p.params.threshold timed fate drawn (seen w) (seen t.after) t.told.done
+              done_carries answers p whole p.params.threshold timed fate drawn (seen w) (seen t.after) t.told.done
               still (was_done_so (last_set all) answers timed fate drawn w t.after t.told.done still was)
               (known w is.so) (settled_from (at timed.at w) then on_then shown_then)
               (right (at timed.at w) then on_then shown_then) (settled_from t.after after on shown)
@@ -167,20 +174,21 @@ module _ (d : DocumentState) (playable : IsPlayable d) (all : List Timed) (calm 
         }
 
   -- so time is carried right in it at each time from then on
-  carries_right : (w : WorldState) → IsExactTo w → settled ≤ w.time → w.time ≤ 10 ^ 18
-      → CarriesRight p settled (seen w)
+  carries_right : (w : WorldState) → IsExactTo w → whole ≤ w.time → w.time ≤ 10 ^ 18
+      → CarriesRight p whole (seen w)
   carries_right w is on shown =
       record { is = settled_from w is.so on shown; right = right w is.so on shown; carries = is.carries on shown }
 
--- An act was done in a world in which time is carried right from when it has settled on, where that is seen as if its
--- last change had been at another time.
+-- An act was done in a world in which time is carried right from when it has settled and rates are measured over whole
+-- windows, where that is seen as if its last change had been at another time.
 pub record IsCarried {F : Type 0} (answers : Bounds → ℕ → F → Option ℕ → F → Type 0) (p : SettlingParams)
     (settled : ℕ) (t : ActTrace) : Type 0 where
   pub since : ℕ
   pub fate : F
   pub drawn : F
   pub was : WasDone answers t.told.timed fate drawn (changed_at since t.before) (changed_at since t.after) t.told.done
-  pub right : settled ≤ t.told.timed.at → CarriesRight p settled (changed_at since (at t.told.timed.at t.before))
+  pub right : settled + window_span p.params ≤ t.told.timed.at
+      → CarriesRight p (settled + window_span p.params) (changed_at since (at t.told.timed.at t.before))
 
 -- ---- the law
 

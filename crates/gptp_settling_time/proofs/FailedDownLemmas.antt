@@ -37,7 +37,7 @@ use Rattle.gptp_bmca_machine.specs.SoundEverywhere.{IsSoundEverywhere, LaneIsSou
 use Rattle.gptp_invariants.specs.ChoiceCalm.{HaveQuietLinks, lane_of}
 use Rattle.gptp_invariants.specs.ChoiceSettlesAsMachine.{IsWorld}
 use Rattle.gptp_invariants.specs.ChoiceView.{lane_view, says_announce, span_at, station_view, system_view, view}
-use Rattle.gptp_invariants.specs.DelayLinkView.{IsLinkOf, LinkPlace, asker_view, link_lane_view, other_direction, waits_view}
+use Rattle.gptp_invariants.specs.DelayLinkView.{IsLinkOf, LinkPlace, asker_view, link_lane_view, other_direction, waits_view, kept_view}
 use Rattle.gptp_invariants.specs.DelayMeasured.{LinkStandsAt}
 use Rattle.gptp_invariants.specs.WorldNews.{AreSilentBy, IsNews}
 use Rattle.gptp_invariants.specs.WorldSettlingInvariant.{KeepsAll}
@@ -291,7 +291,7 @@ module _ (p : SettlingParams) (start : ℕ) (w : WorldState) (news : IsNews p st
               out = link_lane_view at.direction (one i);
               back = link_lane_view (other_direction at.direction) (one i);
             };
-            last = (asking i).peer.last;
+            kept = kept_view (asking i).peer;
           };
           bounds = whole.bounds;
         }

@@ -98,11 +98,11 @@ watched_on : (p : SettlingParams) (gone calm : ℕ) (at : LinkPlace) (w : WorldS
 watched_on p gone calm at w is x =
     let period = period_is p at w is x.watched.link in
     let late = x.late in
-    (watched_stay_capable at gone calm w x.watched (omega (arith, late, period))).0
+    watched_stay_capable at gone calm w x.watched (omega (arith, late, period))
 
 first_on : (first by : ℕ) (at : LinkPlace) (w : WorldState) → (x : IsFirstLong first by at w) → IsOn at w x.is.0.link
 first_on first by at w x =
-    let soon = x.is.1 in let late = x.late in (first_full at first w x.is.0 (omega (arith, soon, late))).0
+    let soon = x.is.1 in let late = x.late in first_full at first w x.is.0 (omega (arith, soon, late))
 
 pub stays_on : (p : SettlingParams) (at : LinkPlace) (w : WorldState) → IsWorld p w → (x : StaysCapableAt p at w)
     → IsOn at w (stays_link p at w x)
@@ -117,8 +117,8 @@ pub heard_on : (p : SettlingParams) (start : ℕ) (at : LinkPlace) (w : WorldSta
 heard_on p start at w is (inl (first, x)) late =
     let t = x.one.timely in
     let by = x.by in
-    (exchange_full (link_setting at w t.link) (least_delay at w t.link) reads_as_request reads_as_reply first first
-    (meter at w t.link) t.facts t.inv (omega (arith, by, late))).0
+    exchange_full (link_setting at w t.link) (least_delay at w t.link) reads_as_request reads_as_reply first first
+    (meter at w t.link) t.facts t.inv (omega (arith, by, late))
 heard_on p start at w is (inr x) late = stays_on p at w is x
 
 timely_due : (first : ℕ) (at : LinkPlace) (w : WorldState) (x : IsTimelyAt first at w) (f : LaneFrame)
@@ -126,11 +126,7 @@ timely_due : (first : ℕ) (at : LinkPlace) (w : WorldState) (x : IsTimelyAt fir
 timely_due first at w x f member =
     let latest = (x.facts.out f member).latest in
     let asked = x.facts.asked in
-    let since : first ≤ (pair at w x.link).asker.asked = elim x.inv.since [
-      | inl one ↦ omega (arith, one)
-      | inr (inl two) ↦ omega (arith, two)
-      | inr (inr more) ↦ omega (arith, more)
-    ] in
+    let since : first ≤ (pair at w x.link).asker.asked = let (n, is) = x.inv.since in omega (arith, is) in
     omega (arith, latest, asked, since)
 
 -- what is in flight to the other port is due within the greatest delay of the link
@@ -143,11 +139,7 @@ heard_due p start at w (inr (inl (first, x))) f member = timely_due first at w x
 heard_due p start at w (inr (inr (inr (first, by, x)))) f member =
     let latest = (x.is.0.facts.out f member).latest in
     let asked = x.is.0.facts.asked in
-    let since : first ≤ (pair at w x.is.0.link).asker.asked = elim x.is.0.inv.since [
-      | inl one ↦ omega (arith, one)
-      | inr (inl two) ↦ omega (arith, two)
-      | inr (inr more) ↦ omega (arith, more)
-    ] in
+    let since : first ≤ (pair at w x.is.0.link).asker.asked = let (n, is) = x.is.0.inv.since in omega (arith, is) in
     omega (arith, latest, asked, since)
 heard_due p start at w (inr (inr (inl (gone, calm, x)))) f member =
     let latest = (x.watched.facts.out f member).latest in

@@ -5,6 +5,7 @@ use Rattle.gptp_graph.specs.PathBound.{BoundsPaths}
 use Rattle.gptp_graph.specs.Snapshot.{IsWellFormed, Snapshot}
 use Rattle.gptp_links.specs.Fate.{Draw}
 use Rattle.gptp_scenario.specs.Calm.{NothingLapses}
+use Rattle.gptp_scenario.specs.SettlingTime.{window_span}
 use Rattle.gptp_scenario.specs.declared.change.Act.{Act}
 use Rattle.gptp_setup.specs.SettlingParams.{SettlingParams}
 use Rattle.gptp_model.specs.Acts.{Acts, at as at_time}
@@ -67,26 +68,22 @@ standing_acts p start act w draws done w' none octet k is =
       silent = acts_silent p start act w draws done w' none k is.world is.measured is.silent;
     }
 
--- each port at a link first asked long enough ago
-abbrev pub HaveAskedLong : WorldState → Type 0
-HaveAskedLong w = (at : LinkPlace) → LinkStandsAt at w → (first : ℕ) × (by : ℕ) × IsFirstLong first by at w
+-- each port at a link first asked long enough before the start
+abbrev pub HaveAskedBy : ℕ → WorldState → Type 0
+HaveAskedBy start w = (at : LinkPlace) → LinkStandsAt at w → (first : ℕ) × IsFirstLong first start at w
 
 -- so what is told to it is heard, and it has measured the link
-pub asked_heard : (p : SettlingParams) (start : ℕ) (w : WorldState) → HaveAskedLong w → AreHeard p start w
-asked_heard p start w asked at stands = inr (inr (inr (asked at stands)))
+pub asked_heard : (p : SettlingParams) (start : ℕ) (w : WorldState) → HaveAskedBy start w → AreHeard p start w
+asked_heard p start w asked at stands = let (first, x) = asked at stands in inr (inr (inr (first, start, x)))
 
-asked_ready : (p : SettlingParams) (w : WorldState) → HaveAskedLong w → AreReadyBy p w.time w
-asked_ready p w asked at stands =
-    let (first, by, x) = asked at stands in
-    let late = x.late in
-    let soon = x.is.1 in
-    inl (first, (x.is.0, omega (arith, late, soon)))
+asked_ready : (p : SettlingParams) (start : ℕ) (w : WorldState) → HaveAskedBy start w → AreReadyBy p start w
+asked_ready p start w asked at stands = let (first, x) = asked at stands in inl (first, x.is)
 
 -- ---- a loss that moved none
 
 pub record IsLeftAlways (p : SettlingParams) (g : Snapshot) (start : ℕ) (w : WorldState) : Type 0 where
   pub standing : IsStanding p start w
-  pub asked : HaveAskedLong w
+  pub asked : HaveAskedBy start w
   pub well : IsWellFormed g
   pub left : IsLeftUnmoved g (snapshot_of w)
   pub fits : HaveQuietLinks p.params w → EverythingFits says_announce g (start_network p 0 start w) (view w)
@@ -94,7 +91,7 @@ pub record IsLeftAlways (p : SettlingParams) (g : Snapshot) (start : ℕ) (w : W
       → Invariant says_announce (start_network p m start w) (view w)
 
 module _ (p : SettlingParams) (g : Snapshot) (start : ℕ) (w w' : WorldState) (is : IsLeftAlways p g start w)
-    (standing' : IsStanding p start w') (asked' : HaveAskedLong w') (keeps : KeepsNetwork w w')
+    (standing' : IsStanding p start w') (asked' : HaveAskedBy start w') (keeps : KeepsNetwork w w')
     (step : MachineSteps says_announce (view w) (view w'))
     (early : (m : ℕ) → HaveQuietLinks p.params w
     → EarlyPortsHear says_announce (start_network p m start w) (view w) (view w')) where
@@ -140,8 +137,8 @@ pub left_later : (p : SettlingParams) (g : Snapshot) (start time : ℕ) (w : Wor
     → NothingBefore time w.net.pending → IsLeftAlways p g start w → IsLeftAlways p g start (at_time time w)
 left_later p g start time w later first is =
     left_step p g start w (at_time time w) is (standing_later p start time w later first is.standing)
-    (λ at stands. let (one, by, x) = is.asked at (stood_in at (at_time time w) w stands refl stands.here) in
-    (one, by, first_later p one by at time w is.standing.world later first x)) (later_keeps time w)
+    (λ at stands. let (one, x) = is.asked at (stood_in at (at_time time w) w stands refl stands.here) in
+    (one, first_later p one start at time w is.standing.world later first x)) (later_keeps time w)
     (inl (record { time = time; later = later; is = refl }))
     (λ m quiet. early_later p start m time w is.standing (asked_heard p start w is.asked) quiet)
 
@@ -153,10 +150,9 @@ left_acts p g start act w draws done w' none octet acts is =
     let standing' = standing_acts p start act w draws done w' none octet acts is.standing in
     let keeps = acts_keep act w draws done w' none acts in
     left_step p g start w w' is standing'
-    (λ at stands. let (one, by, x) = is.asked at (stood p w w' world standing'.world keeps at stands) in (
+    (λ at stands. let (one, x) = is.asked at (stood p w w' world standing'.world keeps at stands) in (
       one,
-      by,
-      first_acted p start act w draws done w' none acts world standing'.world is.standing.measured at one by x,
+      first_acted p start act w draws done w' none acts world standing'.world is.standing.measured at one start x,
     )) keeps
     (inr (acts_seen act w draws done w' none world.sound world.encodable acts))
     (λ m quiet. early_acts p start m act w draws done w' none acts is.standing standing'
@@ -172,6 +168,6 @@ left_settles p g start m w is quiet bounded off late =
 
 -- its ports have measured their links
 pub left_measured : (p : SettlingParams) (g : Snapshot) (start : ℕ) (w : WorldState) → IsLeftAlways p g start w
-    → HaveQuietLinks p.params w → HaveMeasuredLinks w
+    → HaveQuietLinks p.params w → start + window_span p.params ≤ w.time → HaveMeasuredLinks w
 left_measured p g start w is quiet =
-    ready_measures p w.time w is.standing.world (asked_ready p w is.asked) quiet (omega arith)
+    ready_measures p start w is.standing.world (asked_ready p start w is.asked) quiet

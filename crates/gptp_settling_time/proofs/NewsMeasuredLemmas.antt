@@ -1,10 +1,11 @@
 -- From their start on the ports of a world since news have measured the links of the snapshot.
-use Rattle.std.proofs.Common.{◌≡◌, ◌≤◌, ℕ, suc, true, Some, slice_get, sym, ap, subst, ◌∙◌, inl, inr, arith}
+use Rattle.std.proofs.Common.{◌≡◌, ◌≤◌, ◌+◌, ◌-◌, ◌*◌, ℕ, zero, suc, true, Some, slice_get, sym, ap, subst, ◌∙◌, inl, inr, arith}
 use Rattle.gptp_lists.proofs.MappedLemmas.{same_there, some_same}
 use Rattle.gptp_graph.specs.Snapshot.{Joins, PortIdentity}
 use Rattle.gptp_setup.specs.declared.setup.Params.{Params}
 use Rattle.gptp_setup.specs.Intervals.{interval_of}
 use Rattle.gptp_setup.specs.SettlingParams.{SettlingParams}
+use Rattle.gptp_scenario.specs.SettlingTime.{window_span}
 use Rattle.gptp_system.specs.declared.port.Port.{Port}
 use Rattle.gptp_system.specs.State.{clock, number, own}
 use Rattle.gptp_model.specs.declared.station.Station.{Station}
@@ -19,8 +20,8 @@ use Rattle.gptp_invariants.specs.DelayMeasuredLinks.{HasMeasuredLink, HaveMeasur
 use Rattle.gptp_invariants.specs.WorldNews.{AreReadyBy, IsNews, IsReadyBy}
 use Rattle.gptp_invariants.specs.WorldStanding.{live_stations, snapshot_of}
 use Rattle.gptp_invariants.specs.ChoiceView.{port_identity_number}
-use Rattle.gptp_invariants.proofs.DelayElsewhereLemmas.{watched_stay_capable}
-use Rattle.gptp_invariants.proofs.DelayFirstAtLemmas.{first_full}
+use Rattle.gptp_invariants.proofs.DelayElsewhereLemmas.{watched_stay_measured}
+use Rattle.gptp_invariants.proofs.DelayFirstAtLemmas.{first_measured}
 use Rattle.gptp_invariants.proofs.WorldStandsLemmas.{stands_well, used_up}
 use Rattle.gptp_invariants.proofs.WorldWayLemmas.{IsWay, way_of}
 use Rattle.gptp_invariants.proofs.DelayUsedLinkLemmas.{receiver_lives}
@@ -28,29 +29,41 @@ use Rattle.gptp_invariants.proofs.DelayLinkLemmas.{good_between}
 
 -- ---- a link that is ready
 
--- the port that asks has measured the link by two exchanges
+-- the intervals of a window are one and those of its other exchanges
+whole_window : (window period : ℕ) → window * period ≤ (window - 1) * period + period
+whole_window zero period = omega arith
+whole_window (suc n) period = let e : suc n - 1 ≡ n = omega arith in rw e (omega arith)
+
+-- the port that asks has measured the link by two exchanges, a window apart
 record HasMeasuredAt (at : LinkPlace) (w : WorldState) : Type 0 where
   link : IsLinkOf at w
   measured : HasMeasured (link_setting at w link) (least_delay at w link) link.asking.state.peer.last
 
 ready_measured : (p : SettlingParams) (start : ℕ) (at : LinkPlace) (w : WorldState) → IsKnown p w
     → IsReadyBy p start at w
-    → start ≤ w.time → HasMeasuredAt at w
+    → start + window_span p.params ≤ w.time → HasMeasuredAt at w
 ready_measured p start at w known (inl (first, (l, by))) late =
-    record { link = l.link; measured = (first_full at first w l (omega (arith, by, late))).1 }
+    let k = link_setting at w l.link in
+    let span : (k.window - 1) * k.period ≡ window_span p.params =
+    ap window_span (known.set at.asking l.link.asking.station l.link.asking.here).starts.params in
+    let more = whole_window k.window k.period in
+    record { link = l.link; measured = first_measured at first w l (omega (arith, by, late, span, more)) }
 ready_measured p start at w known (inr (gone, since, l, past, by)) late =
     let asks = (known.set at.asking l.link.asking.station l.link.asking.here).starts.params in
     let period : (link_setting at w l.link).period ≡ interval_of p.params.pdelay =
     ap (λ (x : Params). interval_of x.pdelay) asks in
+    let k = link_setting at w l.link in
+    let span : (k.window - 1) * k.period ≡ window_span p.params = ap window_span asks in
+    let more = whole_window k.window k.period in
     record {
       link = l.link;
-      measured = (watched_stay_capable at gone since w l (omega (arith, by, late, period))).1;
+      measured = watched_stay_measured at gone since w l (omega (arith, by, late, period, span, more));
     }
 
 -- ---- where a link of the snapshot stands
 
 module _ (p : SettlingParams) (start : ℕ) (w : WorldState) (is : IsWorld p w) (ready : AreReadyBy p start w)
-    (quiet : HaveQuietLinks p.params w) (late : start ≤ w.time) (place : ℕ) (station : Station)
+    (quiet : HaveQuietLinks p.params w) (late : start + window_span p.params ≤ w.time) (place : ℕ) (station : Station)
     (here : slice_get w.stations place ≡ Some station) (live : station.live ≡ true) where
   -- where a way from a port of the system stands
   abbrev place_of_way : (n : ℕ) (to : PortIdentity) → IsWay w (port_identity_number (own station.system n)) to
@@ -127,11 +140,11 @@ module _ (p : SettlingParams) (start : ℕ) (w : WorldState) (is : IsWorld p w) 
 
 -- so all links are measured
 pub ready_measures : (p : SettlingParams) (start : ℕ) (w : WorldState) → IsWorld p w → AreReadyBy p start w
-    → HaveQuietLinks p.params w → start ≤ w.time → HaveMeasuredLinks w
+    → HaveQuietLinks p.params w → start + window_span p.params ≤ w.time → HaveMeasuredLinks w
 ready_measures p start w is ready quiet late place station here live i h q holds there to joins =
     way_measured p start w is ready quiet late place station here live i q to there joins
     (way_of w (port_identity_number (own station.system (suc i))) to joins)
 
 pub news_measured : (p : SettlingParams) (start : ℕ) (w : WorldState) → IsNews p start w → HaveQuietLinks p.params w
-    → start ≤ w.time → HaveMeasuredLinks w
+    → start + window_span p.params ≤ w.time → HaveMeasuredLinks w
 news_measured p start w news = ready_measures p start w news.world news.ready

@@ -37,6 +37,7 @@ use Rattle.gptp_invariants.proofs.SyncFollowOffsetLemmas.{offsets_are_exact}
 use Rattle.gptp_invariants.proofs.SyncFollowWayLemmas.{Follows, follows_parent}
 use Rattle.gptp_invariants.proofs.SyncExactLemmas.{ahead_then, error_then, stood}
 use Rattle.gptp_theorem.specs.Headline.{UsesFollowUp}
+use Rattle.gptp_scenario.specs.SettlingTime.{window_span}
 use Rattle.gptp_settling_time.specs.Exactly.{AreExactFrom}
 use Rattle.gptp_settling_time.proofs.TimedNewsLemmas.{CanSettle, IsOldBy, IsTimed, can_later, right_from, settled_from, timed_later}
 
@@ -131,7 +132,8 @@ pub record CarriesRight (p : SettlingParams) (settled : ℕ) (w : WorldState) : 
 
 module _ {F : Type 0} (answers : Bounds → ℕ → F → Option ℕ → F → Type 0) (timed : Timed) (fate fate_after : F)
     (w w' : WorldState) (p : SettlingParams) (settled : ℕ)
-    (so : settled ≤ timed.at → CarriesRight p settled (at timed.at w)) where
+    (so : settled + window_span p.params ≤ timed.at
+    → CarriesRight p (settled + window_span p.params) (at timed.at w)) where
   abbrev then : WorldState
   then = at timed.at w
 
@@ -143,7 +145,8 @@ module _ {F : Type 0} (answers : Bounds → ℕ → F → Option ℕ → F → T
       λ steps number error offset ahead late leaves near way is_ahead.
       let (same, used, (message, reads)) = leaves.uses in
       let now = so (omega (arith, late)) in
-      used_exactly link direction then w' draws number port frame.items (Heard name port answer frame) p settled steps
+      used_exactly link direction then w' draws number port frame.items (Heard name port answer frame) p
+      (settled + window_span p.params) steps
       error ahead offset leaves.system k (same, refl, used, refl) message reads leaves.shows leaves.is now.is now.right
       now.carries late near (error_then p.params w timed.at number (suc steps) error way)
       (ahead_then w number timed.at ahead is_ahead)

@@ -32,7 +32,7 @@ use Rattle.gptp_bmca_machine.specs.Syncs.{SyncsAreExpected, TellsBy}
 use Rattle.gptp_invariants.specs.ChoiceCalm.{HaveQuietLinks, clock_place, delay_in, greatest_channel_delay, lane_of, log_at, log_of, paths_with, setups_of}
 use Rattle.gptp_invariants.specs.ChoiceSettlesAsMachine.{IsWorld}
 use Rattle.gptp_invariants.specs.ChoiceView.{lanes_view, says_announce, says_sync, station_view, view}
-use Rattle.gptp_invariants.specs.DelayLinkView.{IsEndAmong, IsLinkOf, IsMeasuring, LinkPlace, asker_view, pair_view, setting_view, setup_stamping}
+use Rattle.gptp_invariants.specs.DelayLinkView.{IsEndAmong, IsLinkOf, IsMeasuring, LinkPlace, asker_view, pair_view, setting_view, setup_stamping, kept_view}
 use Rattle.gptp_invariants.specs.DelayMeasured.{LinkIsMeasured, LinkStandsAt, StationIsLiveAt}
 use Rattle.gptp_invariants.specs.FailedUnanswered.{IsFailedAmong, IsNeverAnswered, IsSilent, IsUnansweredAt, IsUnmeasured, StandsUnanswered, silent_setting, silent_view}
 use Rattle.gptp_invariants.specs.WorldNews.{AreSilentBy, IsNews, turn_network}
@@ -284,7 +284,7 @@ module _ (w w' : WorldState) (still : StandsStill w w') where
         seen = λ i. record {
           pair = pair_view (time i) (interval_of (a.same i).setup.params.pdelay) at.direction l.channel
               (measure_at (a.state i)) (measure_at (b.state i));
-          last = (a.state i).peer.last;
+          kept = kept_view (a.state i).peer;
         };
         bounds = refl;
       }

@@ -4,6 +4,7 @@ use Rattle.std.proofs.lemmas.Bool.{cases_lt}
 use Rattle.gptp_graph.specs.PathBound.{BoundsPaths}
 use Rattle.gptp_links.specs.declared.bounds.Bounds.{Bounds}
 use Rattle.gptp_setup.specs.SettlingParams.{SettlingParams, largest_interval}
+use Rattle.gptp_scenario.specs.SettlingTime.{window_span}
 use Rattle.gptp_scenario.specs.declared.change.Timed.{Timed}
 use Rattle.gptp_model.specs.Acts.{at}
 use Rattle.gptp_model.specs.Course.{WasDone}
@@ -111,18 +112,23 @@ module _ (p : SettlingParams) (m start settled : ℕ) where
                 (news_above_in_turn p start m w news short can.quiet can.bounded (omega (arith, passed, on))),
           )
 
+  -- when its ports have measured over whole windows
+  abbrev pub whole : ℕ
+  whole = settled + window_span p.params
+
   -- so it is settled from then on, and its ports have measured right
   pub settled_from : (w : WorldState) → IsNewsFrom p start w → CanSettle p m start settled w → IsOldBy p settled w
-      → settled ≤ w.time → w.time ≤ 10 ^ 18 → IsSettledFrom p settled p.params.threshold w
+      → whole ≤ w.time → w.time ≤ 10 ^ 18 → IsSettledFrom p whole p.params.threshold w
   settled_from w from can old on shown =
-      let news = news_then w from can on in
+      let by_now : settled ≤ w.time = omega (arith, on) in
+      let news = news_then w from can by_now in
       record {
         pace = news.pace;
         world = news.world;
         measured = news.measured;
         links = can.quiet;
-        choice = (has_settled w from can on).0;
-        old = old;
+        choice = (has_settled w from can by_now).0;
+        old = omega (arith, old);
         late = on;
         shown = shown;
         short = used_within (live_stations w.stations) w.net.channels p.params.threshold
@@ -131,17 +137,17 @@ module _ (p : SettlingParams) (m start settled : ℕ) where
       }
 
   pub right_from : (w : WorldState) → IsNewsFrom p start w → CanSettle p m start settled w → IsOldBy p settled w
-      → settled ≤ w.time → w.time ≤ 10 ^ 18 → AllMeasureRight p.params w
+      → whole ≤ w.time → w.time ≤ 10 ^ 18 → AllMeasureRight p.params w
   right_from w from can old on shown =
       let before = starts_before p m start settled w can in
-      measured_right p settled p.params.threshold w (settled_from w from can old on shown)
-      (news_measured p start w (news_then w from can on) can.quiet (omega (arith, before, on)))
+      measured_right p whole p.params.threshold w (settled_from w from can old on shown)
+      (news_measured p start w (news_then w from can (omega (arith, on))) can.quiet (omega (arith, before, on)))
 
   -- what is kept: the news, and that time is carried right from then on
   pub record IsTimed (w : WorldState) : Type 0 where
     pub news : IsNewsFrom p start w
-    pub carries : CanSettle p m start settled w → IsOldBy p settled w → settled ≤ w.time → w.time ≤ 10 ^ 18
-        → CarriesTime p.params settled p.params.threshold w
+    pub carries : CanSettle p m start settled w → IsOldBy p settled w → whole ≤ w.time → w.time ≤ 10 ^ 18
+        → CarriesTime p.params whole p.params.threshold w
 
   pub timed_begins : (w : WorldState) → IsNewsFrom p start w → w.time < settled → IsTimed w
   timed_begins w news early = record { news = news; carries = λ can old on shown. absurd (omega (arith, early, on)) }
@@ -150,19 +156,19 @@ module _ (p : SettlingParams) (m start settled : ℕ) where
       → IsTimed (at time w)
   timed_later w time later first is = record {
     news = after;
-    carries = λ can old on shown. by can old on shown (cases_lt w.time settled);
+    carries = λ can old on shown. by can old on shown (cases_lt w.time whole);
   }
     where
       after : IsNewsFrom p start (at time w)
       after = from_later p start time w later first is.news
 
-      by : CanSettle p m start settled (at time w) → IsOldBy p settled (at time w) → settled ≤ time → time ≤ 10 ^ 18
-          → (w.time < settled) ⊎ (settled ≤ w.time) → CarriesTime p.params settled p.params.threshold (at time w)
+      by : CanSettle p m start settled (at time w) → IsOldBy p settled (at time w) → whole ≤ time → time ≤ 10 ^ 18
+          → (w.time < whole) ⊎ (whole ≤ w.time) → CarriesTime p.params whole p.params.threshold (at time w)
       by can old on shown (inl early) =
-          time_begins p settled p.params.threshold w time early (from_world p start w is.news).known
+          time_begins p whole p.params.threshold w time early (from_world p start w is.news).known
           (settled_from (at time w) after can old on shown)
       by can old on shown (inr already) =
-          time_carries p settled p.params.threshold w time later
+          time_carries p whole p.params.threshold w time later
           (is.carries (can_earlier p m start settled w time can) old already (omega (arith, later, shown)))
 
   module _ {F : Type 0} (answers : Bounds → ℕ → F → Option ℕ → F → Type 0) (timed : Timed) (fate fate_after : F)
@@ -177,18 +183,18 @@ module _ (p : SettlingParams) (m start settled : ℕ) where
     from_after : IsNewsFrom p start w'
     from_after = from_done p start answers timed fate fate_after w w' done none octet k is.news
 
-    carries_after : CanSettle p m start settled w' → IsOldBy p settled w' → settled ≤ w'.time → w'.time ≤ 10 ^ 18
-        → CarriesTime p.params settled p.params.threshold w'
+    carries_after : CanSettle p m start settled w' → IsOldBy p settled w' → whole ≤ w'.time → w'.time ≤ 10 ^ 18
+        → CarriesTime p.params whole p.params.threshold w'
     carries_after can old on shown =
         let keeps = acts_keep timed.act moved k.draws done w' none k.acts in
         let time = acts_time timed.act moved k.draws done w' k.acts in
         let can_then : CanSettle p m start settled moved = can_back p m start settled moved w' keeps can in
         let change = keeps.change in
         let old_then : IsOldBy p settled moved = omega (arith, old, change) in
-        let on_then : settled ≤ timed.at = omega (arith, on, time) in
+        let on_then : whole ≤ timed.at = omega (arith, on, time) in
         let shown_then : timed.at ≤ 10 ^ 18 = omega (arith, shown, time) in
         let now = k.ready.timely.now in
-        done_carries answers p settled p.params.threshold timed fate fate_after w w' done none k
+        done_carries answers p whole p.params.threshold timed fate fate_after w w' done none k
         (from_world p start w is.news).known
         (settled_from moved from_then can_then old_then on_then shown_then)
         (right_from moved from_then can_then old_then on_then shown_then)

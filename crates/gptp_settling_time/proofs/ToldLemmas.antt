@@ -1,5 +1,5 @@
 -- What is told over a link first finds the port that hears it capable, and that stays so.
-use Rattle.std.proofs.Common.{◌≡◌, ◌≤◌, ◌<◌, ◌+◌, ℕ, true, ◌&&◌, List, ◌∷◌, refl, ap, subst, ◌∙◌, inl, inr, arith}
+use Rattle.std.proofs.Common.{◌≡◌, ◌≤◌, ◌<◌, ◌+◌, ◌*◌, ℕ, zero, suc, true, ◌&&◌, List, ◌∷◌, refl, ap, subst, ◌∙◌, inl, inr, arith}
 use Rattle.gptp_pdelay_machine.specs.Acts.{AskerHears, RequestTimerExpires}
 use Rattle.gptp_pdelay_machine.specs.Asker.{Asker, Progress, asker_after_interval, asker_completed, asks_now}
 use Rattle.gptp_pdelay_machine.specs.Facts.{Facts}
@@ -44,11 +44,11 @@ module _ (k : Setting) (least : ℕ) (asks : List ℕ → Request → Type 0) (r
   -- only its second exchange can have made it so
   second : InvFirst k least asks replies first m → IsNotBefore k least first m.pair → a.capable ≡ true
       → first + k.period ≤ a.asked
-  second inv before capable = elim inv.since [
-    | inl one ↦ (let never = before.fresh one in absurd cc)
-    | inr (inl two) ↦ omega (arith, two)
-    | inr (inr more) ↦ omega (arith, more)
-  ]
+  second inv before capable = by inv.since.0 inv.since.1
+    where
+      by : (n : ℕ) → a.asked ≡ first + n * k.period → first + k.period ≤ a.asked
+      by zero is = let never = before.fresh (omega (arith, is)) in absurd cc
+      by (suc n) is = omega (arith, is)
 
   hears : (act : AskerHears k asks replies m.pair m'.pair) → InvFirst k least asks replies first m
       → first + k.period ≤ a.asked → a.capable ≡ true

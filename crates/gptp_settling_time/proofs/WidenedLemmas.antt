@@ -1,7 +1,8 @@
 -- A link in use whose delays get wider: in a world that has settled all stands as it did, and claims are made of all
 -- links always.
-use Rattle.std.proofs.Common.{◌≡◌, ◌≢◌, ◌<◌, ◌≤◌, ◌+◌, ◌*◌, ℕ, zero, suc, Bool, true, false, List, [], ◌∷◌, map, Some, slice_get, slice_set, refl, sym, ap, subst, ◌∙◌, inl, inr, arith}
+use Rattle.std.proofs.Common.{◌≡◌, ◌≢◌, ◌<◌, ◌≤◌, ◌+◌, ◌-◌, ◌*◌, ◌/◌, ◌%◌, ℕ, zero, suc, Bool, true, false, List, [], ◌∷◌, map, Some, slice_get, slice_set, refl, sym, ap, subst, ◌∙◌, inl, inr, arith}
 use Rattle.std.specs.Prelude.{if◌then◌else◌, max}
+use Rattle.std.proofs.lemmas.Nat.{div-add-mod', mod_below}
 use Rattle.std.proofs.lemmas.Option.{same_Some}
 use Rattle.gptp_lists.specs.Members.{In}
 use Rattle.gptp_lists.proofs.MappedLemmas.{same_there}
@@ -45,7 +46,7 @@ use Rattle.gptp_invariants.specs.ChoiceCalm.{HaveQuietLinks, greatest_channel_de
 use Rattle.gptp_invariants.specs.ChoiceSettlesAsMachine.{IsWorld}
 use Rattle.gptp_invariants.specs.ChoiceView.{lane_view, lanes_view, says_announce, station_view, view}
 use Rattle.gptp_invariants.specs.DelayFirstAt.{IsFirstBy}
-use Rattle.gptp_invariants.specs.DelayLinkView.{IsLinkOf, LinkPlace, least_delay, link_setting, meter, pair, pair_view, reads_as_reply, reads_as_request, setting_view}
+use Rattle.gptp_invariants.specs.DelayLinkView.{IsLinkOf, LinkPlace, least_delay, link_setting, meter, pair, pair_view, reads_as_reply, reads_as_request, setting_view, kept_view}
 use Rattle.gptp_invariants.specs.DelayMeasured.{LinkIsMeasured, LinkStandsAt}
 use Rattle.gptp_invariants.specs.FailedUnanswered.{IsFailedAmong, IsNeverAnswered, IsSilent, StandsUnanswered}
 use Rattle.gptp_invariants.specs.WorldNews.{AreReadyBy, AreSilentBy, IsNews, IsReadyBy, news_network}
@@ -64,7 +65,7 @@ use Rattle.gptp_settling_time.proofs.SameLinkLemmas.{StaysSameLink, ready_same}
 use Rattle.gptp_settling_time.proofs.SettledSeenLemmas.{HasSettledSeen, IsSettledSeen, stage_settled}
 use Rattle.gptp_settling_time.proofs.StandsLikeLemmas.{none_short}
 use Rattle.gptp_settling_time.proofs.WiderLinkLemmas.{facts_wide, first_wide}
-use Rattle.gptp_settling_time.proofs.WillAskLemmas.{first_since}
+use Rattle.gptp_settling_time.proofs.WillAskLemmas.{first_since, watched_later}
 
 -- the second bounds are wider than the first, the greatest delay by so much at most
 pub record AreWiderBy (by : ℕ) (old new : Bounds) : Type 0 where
@@ -82,13 +83,21 @@ module _ (p : SettlingParams) (start : ℕ) (w : WorldState) (is : IsWorld p w) 
   ready_first at (inl by) = by
   ready_first at (inr (gone, calm, x, old, late)) =
       let k = link_setting at w x.link in
+      let asked = (pair at w x.link).asker.asked in
       let timer = x.facts.request_timer in
       let period = period_is p at w is x.link in
-      let short = x.good.short in (
-        calm,
+      let short = x.good.short in
+      let beyond : calm ≤ asked = omega (arith, timer, period, late, past) in
+      let n = (asked - calm) / k.period in
+      let first = calm + (asked - calm) % k.period in
+      let parts = div-add-mod' (asked - calm) k.period in
+      let within : first < calm + k.period =
+      let below = mod_below (asked - calm) k.period (omega (arith, short)) in omega (arith, below) in (
+        first,
         (
-          first_since gone calm at w x (inr (inr (omega (arith, timer, period, late, past)))),
-          omega (arith, short, period, late),
+          first_since gone first at w (watched_later gone calm first at w (omega arith) x)
+              (n, omega (arith, parts, beyond)),
+          omega (arith, short, period, late, within),
         ),
       )
 
@@ -309,7 +318,7 @@ module _ (p : SettlingParams) (start next by place : ℕ) (w : WorldState) (is :
     seen = λ i. record {
       pair = pair_set w.time (interval_of l.asking.station.setup.params.pdelay) at.direction l.channel b
           (measure_at l.asking.state) (measure_at l.answering.state) i;
-      last = l.asking.state.peer.last;
+      kept = kept_view l.asking.state.peer;
     }
 
     longer : set.most ≤ b.max

@@ -1,17 +1,18 @@
 -- A link whose delays get wider: exchanges that were in their phases are so by the wider delays, and what was measured
 -- was.
-use Rattle.std.proofs.Common.{◌≤◌, ◌+◌, ℕ, List, Option, arith}
+use Rattle.std.proofs.Common.{◌≤◌, ◌+◌, ℕ, zero, suc, List, [], ◌∷◌, Option, refl, arith}
 use Rattle.gptp_pdelay.specs.Measured.{IsCarried, Moments}
 use Rattle.gptp_pdelay.specs.declared.exchange.Measurement.{Measurement}
+use Rattle.gptp_pdelay.specs.declared.exchange.Times.{Times}
 use Rattle.gptp_pdelay_machine.specs.Answerer.{Waiting}
 use Rattle.gptp_pdelay_machine.specs.Asker.{Asker}
 use Rattle.gptp_pdelay_machine.specs.Facts.{Facts, IsDueInTime}
 use Rattle.gptp_pdelay_machine.specs.First.{InvFirst}
 use Rattle.gptp_pdelay_machine.specs.Invariant.{IsClean}
 use Rattle.gptp_pdelay_machine.specs.Lanes.{AreMute, LaneFrame}
-use Rattle.gptp_pdelay_machine.specs.Measured.{HasMeasured, HasTaken, MeasuredSince}
+use Rattle.gptp_pdelay_machine.specs.Measured.{Chain, HasMeasured, MeasuredSince}
 use Rattle.gptp_pdelay_machine.specs.Messages.{Reply, Request}
-use Rattle.gptp_pdelay_machine.specs.Meter.{Meter}
+use Rattle.gptp_pdelay_machine.specs.Meter.{Kept, Meter}
 use Rattle.gptp_pdelay_machine.specs.Pair.{Pair}
 use Rattle.gptp_pdelay_machine.specs.Phases.{AnswerWaits, FollowUpComes, FollowUpInFlight, IsItsFollowUp, IsItsResponse, IsLastRequest, Phase, RequestGoes, RequestInFlight, ResponseComes, ResponseInFlight, Rests}
 use Rattle.gptp_pdelay_machine.specs.Setting.{IsBetween, Setting}
@@ -90,17 +91,19 @@ module _ (k : Setting) (most least less : ℕ) (longer : k.most ≤ most) (soone
         home_short = omega (arith, home_short, longer);
       }
 
-  taken_wide : (a : Asker) (last : Option Measurement) → HasTaken k least a last → HasTaken wide less a last
-  taken_wide a last is = record {
-    measured = is.measured;
-    moments = is.moments;
-    is = is.is;
-    carried = carried_wide is.moments is.carried;
-    t3_is = is.t3_is;
-    t4_is = is.t4_is;
-    asked = is.asked;
-    ended = is.ended;
-  }
+  chain_wide : (n before : ℕ) (ts : List Times) → Chain k least n before ts → Chain wide less n before ts
+  chain_wide zero before ts chain = refl
+  chain_wide (suc n) before [] chain = absurd chain
+  chain_wide (suc n) before (t ∷ ts) (moments, is, rest) = (
+    moments,
+    record {
+      carried = carried_wide moments is.carried;
+      t3_is = is.t3_is;
+      t4_is = is.t4_is;
+      asked = is.asked;
+    },
+    chain_wide n moments.asked ts rest,
+  )
 
   measured_wide : (last : Option Measurement) → HasMeasured k least last → HasMeasured wide less last
   measured_wide last is =
@@ -120,11 +123,13 @@ module _ (k : Setting) (most least less : ℕ) (longer : k.most ≤ most) (soone
         };
       }
 
-  since_wide : (calm : ℕ) (a : Asker) (last : Option Measurement) → MeasuredSince k least calm a last
-      → MeasuredSince wide less calm a last
-  since_wide calm a last is = record {
-    one = λ over. taken_wide a last (is.one over);
-    two = λ over. measured_wide last (is.two over);
+  since_wide : (calm : ℕ) (a : Asker) (kept : Kept) → MeasuredSince k least calm a kept
+      → MeasuredSince wide less calm a kept
+  since_wide calm a kept is = record {
+    few = is.few;
+    open' = λ n most late goes. chain_wide n a.asked kept.past (is.open' n most late goes);
+    closed = λ n most late closed. chain_wide n (a.asked + k.period) kept.past (is.closed n most late closed);
+    whole = λ over. measured_wide kept.last (is.whole over);
   }
 
   -- ---- the link
@@ -147,5 +152,5 @@ module _ (k : Setting) (most least less : ℕ) (longer : k.most ≤ most) (soone
   first_wide first m is = record {
     since = is.since;
     clean = clean_wide first m.pair.asker m.pair.waits m.pair.out m.pair.back is.clean;
-    measured = since_wide first m.pair.asker m.last is.measured;
+    measured = since_wide first m.pair.asker m.kept is.measured;
   }

@@ -1,5 +1,5 @@
 -- A port at a good link that asks again soon: nothing old is in flight then, and the exchanges that count begin.
-use Rattle.std.proofs.Common.{◌≡◌, ◌⊎◌, ◌<◌, ◌≤◌, ◌+◌, ℕ, List, refl, sym, ap, subst, inl, inr, arith}
+use Rattle.std.proofs.Common.{◌≡◌, ◌⊎◌, ◌<◌, ◌≤◌, ◌+◌, ◌*◌, ℕ, suc, List, refl, sym, ap, subst, inl, inr, arith}
 use Rattle.gptp_links.specs.declared.bounds.Bounds.{Bounds}
 use Rattle.gptp_links.specs.Fate.{Draw}
 use Rattle.gptp_scenario.specs.declared.change.Act.{Act}
@@ -10,12 +10,13 @@ use Rattle.gptp_model.specs.Pending.{NothingBefore}
 use Rattle.gptp_model.specs.Sound.{IsSound}
 use Rattle.gptp_model.specs.World.{WorldState}
 use Rattle.gptp_pdelay_machine.specs.Asker.{Asker}
+use Rattle.gptp_pdelay_machine.specs.Counts.{RequestsMeasure}
 use Rattle.gptp_pdelay_machine.specs.Facts.{Facts, IsDueInTime, IsGood}
 use Rattle.gptp_pdelay_machine.specs.First.{HasAsked}
 use Rattle.gptp_pdelay_machine.specs.FirstLaws.{exchange_span}
 use Rattle.gptp_pdelay_machine.specs.Lanes.{LaneFrame}
-use Rattle.gptp_pdelay_machine.specs.Measured.{MeterInv}
-use Rattle.gptp_pdelay_machine.specs.Meter.{Meter, MeterActs, act_of, meter_answered, meter_asks, meter_heard, meter_hears, meter_rests}
+use Rattle.gptp_pdelay_machine.specs.Measured.{MeasuredSince, MeterInv}
+use Rattle.gptp_pdelay_machine.specs.Meter.{Kept, Meter, MeterActs, act_of, meter_answered, meter_asks, meter_heard, meter_hears, meter_rests}
 use Rattle.gptp_pdelay_machine.specs.Pair.{Pair}
 use Rattle.gptp_pdelay_machine.specs.Setting.{Setting}
 use Rattle.gptp_pdelay_machine.proofs.FactLemmas.{facts_kept, facts_later}
@@ -47,16 +48,64 @@ due_since k gone calm p f late due =
     let latest = due.latest in
     record { earliest = due.earliest; latest = omega (arith, latest, late) }
 
+-- exchanges that count from a time on count from a later one on
+pub counts_later : (k : Setting) (calm since : ℕ) (a : Asker) → calm ≤ since → RequestsMeasure k calm a
+    → RequestsMeasure k since a
+counts_later k calm since a later h = record {
+  one = λ when. h.one (elim when [
+    | inl by ↦ inl (omega (arith, later, by))
+    | inr closed ↦ inr closed
+  ]);
+  two = λ when. h.two (elim when [
+    | inl by ↦ inl (omega (arith, later, by))
+    | inr (by, closed) ↦ inr (omega (arith, later, by), closed)
+  ]);
+}
+
+pub measures_later : (k : Setting) (least calm since : ℕ) (a : Asker) (kept : Kept) → calm ≤ since
+    → MeasuredSince k least calm a kept → MeasuredSince k least since a kept
+measures_later k least calm since a kept later h = record {
+  few = λ when. h.few (elim when [
+    | inl by ↦ inl (omega (arith, later, by))
+    | inr closed ↦ inr closed
+  ]);
+  open' = λ n most by. h.open' n most (omega (arith, later, by));
+  closed = λ n most by. h.closed n most (omega (arith, later, by));
+  whole = λ when. h.whole (elim when [
+    | inl by ↦ inl (omega (arith, later, by))
+    | inr (by, closed) ↦ inr (omega (arith, later, by), closed)
+  ]);
+}
+
+abbrev pub watched_later : (gone calm since : ℕ) (at : LinkPlace) (w : WorldState) → calm ≤ since
+    → IsWatched gone calm at w → IsWatched gone since at w
+watched_later gone calm since at w later x =
+    let k = link_setting at w x.link in
+    let asker = (pair at w x.link).asker in
+    let late = x.good.late in
+    record {
+      link = x.link;
+      good = record { short = x.good.short; late = omega (arith, late, later) };
+      facts = x.facts;
+      inv = record {
+        phases = record {
+          bounds = x.inv.phases.bounds;
+          clean = λ from.
+              let clean = x.inv.phases.clean (omega (arith, later, from)) in
+              record { phase = clean.phase; counts = counts_later k calm since asker later clean.counts };
+        };
+        measured = λ from.
+            measures_later k (least_delay at w x.link) calm since asker (meter at w x.link).kept later
+            (x.inv.measured (omega (arith, later, from)));
+      };
+    }
+
 -- Where the last request of a watched link is one of those that count, the exchanges that count began with the first.
 abbrev pub first_since : (gone calm : ℕ) (at : LinkPlace) (w : WorldState) (x : IsWatched gone calm at w)
     → HasAsked (link_setting at w x.link) calm (pair at w x.link).asker.asked → IsFirstAt calm at w
 first_since gone calm at w x asked =
     let late = x.good.late in
-    let since : calm ≤ (pair at w x.link).asker.asked = elim asked [
-      | inl one ↦ omega (arith, one)
-      | inr (inl two) ↦ omega (arith, two)
-      | inr (inr more) ↦ omega (arith, more)
-    ] in
+    let since : calm ≤ (pair at w x.link).asker.asked = let (n, is) = asked in omega (arith, is) in
     record {
       link = x.link;
       short = x.good.short;
@@ -84,10 +133,8 @@ asked_on k calm m m' (meter_asks act kept) since =
     let asked : m'.pair.asker.asked ≡ m.pair.time = ap (λ (b : Asker). b.asked) act.asker in
     let now = act.now in
     elim since [
-      | inl before ↦ inr (inl (omega (arith, before, asked, now)))
-      | inr (inl one) ↦ inr (inr (inl (omega (arith, one, asked, now))))
-      | inr (inr (inl two)) ↦ inr (inr (inr (omega (arith, two, asked, now))))
-      | inr (inr (inr more)) ↦ inr (inr (inr (omega (arith, more, asked, now))))
+      | inl before ↦ inr (0, omega (arith, before, asked, now))
+      | inr (n, later) ↦ inr (n + 1, omega (arith, later, asked, now))
     ]
 asked_on k calm m m' (meter_hears act takes) since = subst (IsBeforeOrAsked k calm) (sym act.asker.asked) since
 asked_on k calm m m' (meter_heard act kept) since =

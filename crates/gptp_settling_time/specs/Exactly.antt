@@ -2,8 +2,9 @@
 --
 -- A network whose ports at links are all capable from a *start* on has settled by a time (`SettlesBy`): after one
 -- announce interval, and the greatest delay of a link for each system of a path but one; or where something may lapse
--- for want of Sync, after a step of distance for each but one. What a root sends from then on is carried right. So once
--- a Sync has had the time to come down a way from then, each Follow_Up that the system at its end uses leaves an offset
+-- for want of Sync, after a step of distance for each but one. What a root sends is carried right once rates are
+-- measured over whole windows, an interval between requests later for each exchange of the window but one. So once a
+-- Sync has had the time to come down a way from then, each Follow_Up that the system at its end uses leaves an offset
 -- that is exact (`AreExactFrom`), however long the settling span is.
 use Rattle.std.specs.Prelude.{◌<◌, ◌≤◌, ◌⊎◌, ◌+◌, ◌*◌, ◌^◌, ℕ, ℤ, pred, suc, List, Option}
 use Rattle.gptp_graph.specs.Distance.{IsNear}
@@ -14,7 +15,7 @@ use Rattle.gptp_setup.specs.SettlingParams.{SettlingParams, lapse_span, largest_
 use Rattle.gptp_scenario.specs.Allowed.{IsFitAct}
 use Rattle.gptp_scenario.specs.Calm.{NothingLapses}
 use Rattle.gptp_scenario.specs.Network.{IsNetwork, NetworkState, pace_of}
-use Rattle.gptp_scenario.specs.SettlingTime.{capability_span}
+use Rattle.gptp_scenario.specs.SettlingTime.{capability_span, window_span}
 use Rattle.gptp_scenario.specs.SyncWait.{sync_wait}
 use Rattle.gptp_scenario.specs.declared.change.Act.TheVariants.{Change as Changing}
 use Rattle.gptp_scenario.specs.declared.change.Change.{Change}
@@ -61,10 +62,10 @@ pub record IsSettledBy (p : SettlingParams) (m start settled : ℕ) (w : WorldSt
 
 -- The offset that an act at a time leaves a near system, if it leaves one by a Follow_Up, is within the time error of
 -- the system's way of its clock less what its best tells: where a Sync has had the time to come down that way since
--- this one.
+-- rates are measured over whole windows.
 abbrev pub AreExactFrom : SettlingParams → ℕ → WorldState → ℕ → WorldState → Done → Type 0
 AreExactFrom p settled w time w' done = (steps number error : ℕ) (offset ahead : ℤ)
-    → settled + suc steps * (p.params.threshold + p.params.residence) ≤ time
+    → settled + window_span p.params + suc steps * (p.params.threshold + p.params.residence) ≤ time
     → LeavesOffset number offset w' done
     → IsNear (snapshot_of w) number → IsWayError p.params w number (suc steps) error → IsAhead w number time ahead
     → AreWithin error offset ahead

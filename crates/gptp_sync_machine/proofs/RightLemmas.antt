@@ -421,6 +421,7 @@ exchanges_measure_right k w phase i last on h =
       h.is,
       measured_right w phase i k.asking_clock k.answering_clock m.rate m.delay on.documented on.on_way on.asking
           on.answering (omega (arith, on.order, on.most)) (omega (arith, on.rested, on.most, on.turnaround))
-          (same_exchanges l.least k.most l.most k.turnaround w.turnaround k.period w.interval k.asking_clock
-          k.answering_clock m.rate m.delay (sym on.most) (sym on.turnaround) (sym on.period) h.exchanges),
+          (same_exchanges l.least k.most l.most k.turnaround w.turnaround (k.window * k.period) w.interval
+          k.asking_clock k.answering_clock m.rate m.delay (sym on.most) (sym on.turnaround) (sym on.interval)
+          h.exchanges),
     )

@@ -250,7 +250,7 @@ parents_are_measured x g steps clock longest parent w phase k parts follows way 
       order = subst (λ (l : WayLink). l.least ≤ k.most) (sym end) m.least;
       most = m.most ∙ ap (λ (l : WayLink). l.most) (sym end);
       turnaround = m.turnaround ∙ sym all.1;
-      period = m.period ∙ sym all.0;
+      interval = m.interval ∙ sym all.0;
       rested = omega (arith, all.3, all.0, m.rested);
       asking = stamps_at_end x g (suc steps) clock w phase k.asking_clock way m.asking;
       answering = stamps_before x g steps clock parent w phase k.answering_clock follows way m.answering;

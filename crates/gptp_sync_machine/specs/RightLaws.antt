@@ -94,20 +94,20 @@ RightStays = (w : Way) (l : WayLink) (phase phase' : ℕ → ℕ) (base : Option
     → i ≤ length w.links → phase' 0 ≡ phase 0 → FollowUpIsRight w phase base i told sent
     → FollowUpIsRight (longer w l) phase' base i told sent
 
--- A port measures the link at a place: delays and parameters are those of the way, and the clocks of the way are
--- stamped. An exchange leaves 12 times the blur to the next, where there is a blur.
+-- A port measures the link at a place: delays and parameters are those of the way, whose interval is that of a window,
+-- and the clocks of the way are stamped. An exchange leaves 12 times the blur to the one that is measured after it.
 pub record MeasuresOnWay (k : Setting) (w : Way) (phase : ℕ → ℕ) (i : ℕ) : Type 0 where
   pub documented : IsDocumented w
   pub on_way : i < length w.links
   pub order : (link_at w i).least ≤ k.most
   pub most : k.most ≡ (link_at w i).most
   pub turnaround : k.turnaround ≡ w.turnaround
-  pub period : k.period ≡ w.interval
+  pub interval : k.window * k.period ≡ w.interval
   pub rested : 12 * w.blur ≤ w.interval - (2 * k.most + k.turnaround)
   pub asking : IsReadAt w phase (suc i) k.asking_clock
   pub answering : IsReadAt w phase i k.answering_clock
 
--- what such a port has measured, once that is of two exchanges, one after the other, is right
+-- what such a port has measured, once that is of two exchanges, a window apart, is right
 abbrev pub ExchangesMeasureRight : Type 0
 ExchangesMeasureRight = (k : Setting) (w : Way) (phase : ℕ → ℕ) (i : ℕ) (last : Option Measurement)
     → MeasuresOnWay k w phase i → HasMeasured k (link_at w i).least last

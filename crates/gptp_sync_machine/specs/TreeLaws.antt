@@ -78,12 +78,12 @@ ParentsAreParents = (x : Parts) (g : Snapshot) (steps clock settled longest : �
     (follower_of w' phase' base (suc steps) stamps' port' settled longest)
 
 -- A system measures its link to its parent: delays and parameters are those of the parts, and the clocks of the two are
--- stamped. An exchange leaves 12 times the blur to the next.
+-- stamped. An exchange leaves 12 times the blur to the one that is measured after it.
 pub record MeasuresParent (x : Parts) (clock : ℕ) (parent : ParentLink) (k : Measuring) : Type 0 where
   pub least : x.least (port_of clock parent.own_port) ≤ k.most
   pub most : k.most ≡ x.most (port_of clock parent.own_port)
   pub turnaround : k.turnaround ≡ x.turnaround
-  pub period : k.period ≡ x.interval
+  pub interval : k.window * k.period ≡ x.interval
   pub rested : 12 * x.blur ≤ x.interval - (2 * k.most + k.turnaround)
   pub asking : AreStampsOf x clock k.asking_clock
   pub answering : AreStampsOf x parent.clock k.answering_clock

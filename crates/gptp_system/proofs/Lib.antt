@@ -22,6 +22,7 @@ pub mod ReactLemmas
 pub mod AnswerLemmas
 pub mod FollowLemmas
 pub mod MeasureLemmas
+pub mod WindowLemmas
 pub mod SentLemmas
 pub mod SystemLemmas
 pub mod TimeLemmas

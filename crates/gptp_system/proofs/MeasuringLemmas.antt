@@ -121,7 +121,7 @@ response_keeps m t4 q =
 -- and where a follow-up comes
 pub follow_up_keeps : (m : PdelayRespFollowUp) (q : PeerState) → (after_follow_up m q).waiting ≡ q.waiting
 follow_up_keeps m q =
-    perhaps_keeps (λ (one : Measurement). completed one q) (measured_by m q.own q.last q.progress) q (λ _. refl)
+    perhaps_keeps (λ (one : Measurement). completed one q) (measured_by m q.own q.last q.past q.progress) q (λ _. refl)
 
 -- ---- sends
 

@@ -1,6 +1,6 @@
 -- The ports of a new system, and what they hold.
-use Rattle.std.proofs.Common.{◌≡◌, ℕ, zero, suc, ◌+◌, ◌<◌, ℤ, pos, List, [], ◌∷◌, ◌++◌, length, map, take, Some, slice_get, sym, ap, ◌∙◌, refl, arith}
-use Rattle.std.specs.Prelude.{get_or}
+use Rattle.std.proofs.Common.{◌≡◌, ℕ, zero, suc, ◌+◌, ◌<◌, ◌≤◌, ℤ, pos, List, [], ◌∷◌, ◌++◌, length, map, take, Some, slice_get, sym, ap, ◌∙◌, refl, arith}
+use Rattle.std.specs.Prelude.{get_or, slice_index_or, slice_set}
 use Rattle.std.specs.List.{range_with_len}
 use Rattle.std.proofs.lemmas.List.FromFn.{length-map-range_with_len}
 use Rattle.std.proofs.lemmas.Option.{none-some, same_Some}
@@ -59,6 +59,49 @@ new_ports-more clock params n (suc i) (log ∷ logs) within =
     ap (λ qs. new_at clock params log n ∷ qs) behind
     ∙ ap (λ p. new_at clock params log n ∷ new_ports clock params (n + 1) (take i logs)
     ++ new_at clock params (get_or logs i (pos 0)) p ∷ []) number
+
+-- ports, of which those at the first places are new, with these announce intervals
+abbrev pub renewed : ℕ → Params → ℕ → List ℤ → List Port → List Port
+renewed clock params n [] qs = qs
+renewed clock params n (log ∷ logs) [] = []
+renewed clock params n (log ∷ logs) (q ∷ qs) =
+    new_port (record { clock = clock; port = n }) params log ∷ renewed clock params (n + 1) logs qs
+
+-- one that isn't reached stays
+pub renewed-behind : (clock : ℕ) (params : Params) (n i : ℕ) (logs : List ℤ) (qs : List Port) (d : Port)
+    → length logs ≤ i → slice_index_or (renewed clock params n logs qs) i d ≡ slice_index_or qs i d
+renewed-behind clock params n i [] qs d past = refl
+renewed-behind clock params n i (log ∷ logs) [] d past = refl
+renewed-behind clock params n zero (log ∷ logs) (q ∷ qs) d past = absurd (omega arith)
+renewed-behind clock params n (suc i) (log ∷ logs) (q ∷ qs) d past =
+    renewed-behind clock params (n + 1) i logs qs d (omega arith)
+
+-- one port more
+pub renewed-more : (clock : ℕ) (params : Params) (n i : ℕ) (logs : List ℤ) (qs : List Port) → i < length logs
+    → length qs ≡ length logs
+    → slice_set (renewed clock params n (take i logs) qs) i
+    (new_port (record { clock = clock; port = n + i }) params (get_or logs i (pos 0)))
+    ≡ renewed clock params n (take (suc i) logs) qs
+renewed-more clock params n i [] qs within same = absurd (omega arith)
+renewed-more clock params n i (log ∷ logs) [] within same = absurd (omega arith)
+renewed-more clock params n zero (log ∷ logs) (q ∷ qs) within same =
+    let number : n + 0 ≡ n = omega arith in
+    ap (λ p. new_at clock params log p ∷ qs) number
+renewed-more clock params n (suc i) (log ∷ logs) (q ∷ qs) within same =
+    let behind = renewed-more clock params (n + 1) i logs qs (omega arith) (omega arith) in
+    let number : n + suc i ≡ n + 1 + i = omega arith in
+    ap (λ p. new_at clock params log n ∷ slice_set (renewed clock params (n + 1) (take i logs) qs) i
+    (new_at clock params (get_or logs i (pos 0)) p)) number
+    ∙ ap (λ rest. new_at clock params log n ∷ rest) behind
+
+-- in the end all are new
+pub renewed-all : (clock : ℕ) (params : Params) (n : ℕ) (logs : List ℤ) (qs : List Port) → length qs ≡ length logs
+    → renewed clock params n logs qs ≡ new_ports clock params n logs
+renewed-all clock params n [] [] same = refl
+renewed-all clock params n [] (q ∷ qs) same = absurd (omega arith)
+renewed-all clock params n (log ∷ logs) [] same = absurd (omega arith)
+renewed-all clock params n (log ∷ logs) (q ∷ qs) same =
+    ap (λ rest. new_at clock params log n ∷ rest) (renewed-all clock params (n + 1) logs qs (omega arith))
 
 -- ---- what they hold
 

@@ -39,6 +39,10 @@ AreHeld s = (i : ℕ) (h : Held) → slice_get s.held i ≡ Some h → HoldsFor 
 abbrev pub intervals : SystemState → List ℤ
 intervals s = map (λ (q : Port). q.log_interval) s.ports
 
+-- each port measures its rate over so many exchanges
+abbrev pub MeasuresOver : ℕ → List Port → Type 0
+MeasuresOver window qs = (i : ℕ) (q : Port) → slice_get qs i ≡ Some q → q.peer.window ≡ window
+
 -- what no call changes: the network's parameters and largest interval, the local clock, whether it goes on with the
 -- time that it read, the seed of its noise, the clockIdentity, and how many ports there are, with their intervals
 pub record Keeps (s s' : SystemState) : Type 0 where

@@ -23,7 +23,7 @@ use Rattle.gptp_system.specs.Ready.{IsReady}
 use Rattle.gptp_system.specs.Start.{started}
 use Rattle.gptp_system.specs.Takeover.{reads_own}
 use Rattle.gptp_system.specs.TimeKept.{GoesOnTelling, MakesOfTime}
-use Rattle.gptp_system.specs.Facts.{AreHeld, AreShown, IsAtRest, IsNew, Keeps}
+use Rattle.gptp_system.specs.Facts.{AreHeld, AreShown, IsAtRest, IsNew, Keeps, MeasuresOver}
 
 -- a new system is at rest, and what it holds is as it must be
 abbrev pub StartLaw : Type 0
@@ -68,6 +68,12 @@ abbrev pub KeepsLaw : Type 0
 KeepsLaw = (input : Input) (now : ℕ) (s s' : SystemState) (sends : List Sending) (answer : Answer)
     → Steps input now s s' sends answer
     → Keeps s s'
+
+-- no step changes over how many exchanges the ports measure a rate
+abbrev pub WindowLaw : Type 0
+WindowLaw = (window : ℕ) (input : Input) (now : ℕ) (s s' : SystemState) (sends : List Sending) (answer : Answer)
+    → Steps input now s s' sends answer → MeasuresOver window s.ports
+    → MeasuresOver window s'.ports
 
 -- nor its identity, unless its priority1 is set
 abbrev pub IdentityLaw : Type 0

@@ -19,7 +19,7 @@ use Rattle.gptp_system.specs.State.{SystemState, held_at}
 abbrev pub new_port : PortId → Params → ℤ → Port
 new_port own params log = record {
   log_interval = log;
-  peer = new_peer own params.threshold params.lost;
+  peer = new_peer own params.threshold params.lost params.window;
   pdelay = None;
   respond = None;
   announce = 0;

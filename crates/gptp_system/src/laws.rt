@@ -1,7 +1,7 @@
 //! What holds of a system between its calls, whatever it is given.
 
 ghost use Rattle.gptp_system.specs.Laws.{AgainLaw, CountersLaw, FollowsLaw, GoesOnLaw, HeldLaw, IdentityLaw, InTimeLaw, KeepsLaw, LaterLaw, LeavesLaw, MeasuresLaw};
-ghost use Rattle.gptp_system.specs.Laws.{PlacedLaw, RanOutLaw, ReachLaw, ReactsLaw, RestLaw, RunsOnLaw, SelectsLaw, SendsLaw, ShownLaw, SpanLaw, StartLaw, StartedLaw, StartsInTimeLaw, TimeKeptLaw, TraceLaw};
+ghost use Rattle.gptp_system.specs.Laws.{PlacedLaw, RanOutLaw, ReachLaw, ReactsLaw, RestLaw, RunsOnLaw, SelectsLaw, SendsLaw, ShownLaw, SpanLaw, StartLaw, StartedLaw, StartsInTimeLaw, TimeKeptLaw, TraceLaw, WindowLaw};
 
 /// A new system, all ports of which are disabled, is at rest and its own root.
 pub fn starts_at_rest()
@@ -28,11 +28,12 @@ pub fn holds_what_qualified()
 {}
 
 /// No step changes the parameters, the local clock, whether the system goes on with the time that it read, the
-/// clockIdentity, how many ports there are or their announce intervals; none but a change of priority1 changes the
-/// identity.
+/// clockIdentity, how many ports there are, their announce intervals or over how many exchanges they measure a rate;
+/// none but a change of priority1 changes the identity.
 pub fn keeps_its_setup()
     ensures keeps { KeepsLaw }
     ensures identity { IdentityLaw }
+    ensures windows { WindowLaw }
 {}
 
 /// Every step is the answer to what it does to the ports: each port keeps what it then holds or becomes Master, and a

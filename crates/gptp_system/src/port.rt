@@ -1,10 +1,10 @@
 //! One port of a system, apart from what it holds.
 
 use gptp_pdelay::Peer;
-use gptp_vector::PortId;
+use std::alloc::{AllocError, Global};
 
 /// What a port keeps beside what it holds. Times are in ns.
-#[derive(Clone, Copy, Debug)]
+#[derive(Debug, Drop)]
 pub struct Port {
     /// The logarithm to base 2 of its announce interval in seconds (currentLogAnnounceInterval).
     pub log_interval: i8,
@@ -31,12 +31,31 @@ impl Default for Port {
     fn default() -> Self {
         Port {
             log_interval: 0,
-            peer: Peer::new(PortId::default(), 1, 1),
+            peer: Peer::default(),
             pdelay: None,
             respond: None,
             announce: 0,
             announces: 0,
             syncs: 0,
         }
+    }
+}
+
+impl Port {
+    ghost use Rattle.std.specs.Prelude.{◌≡◌, IfOk};
+
+    /// The same port. Refused for want of memory alone.
+    pub fn copy(&self, alloc: Global) -> Result<Port, AllocError>
+        ensures { IfOk result (λ q. q ≡ self.now) }
+    {
+        Ok(Port {
+            log_interval: self.log_interval,
+            peer: self.peer.copy(alloc)?,
+            pdelay: self.pdelay,
+            respond: self.respond,
+            announce: self.announce,
+            announces: self.announces,
+            syncs: self.syncs,
+        })
     }
 }

@@ -45,8 +45,7 @@ pub(crate) fn frame_reach(frame: &[u8]) -> Reach
 fn stops(port: &Port) -> bool
     ensures { result ≡ is_turned after_interval (Some port.now) }
 {
-    let mut peer = port.peer;
-    peer.on_interval()
+    port.peer.stops()
 }
 
 /// Whether one of the ports does.

@@ -1,6 +1,6 @@
 //! What a system keeps.
 
-ghost use Rattle.std.specs.Prelude.{◌≡◌, ◌≤◌, length};
+ghost use Rattle.std.specs.Prelude.{◌≡◌, ◌≤◌, IfOk, length};
 
 use crate::port::Port;
 use crate::reading::TimeRead;
@@ -10,6 +10,7 @@ use gptp_receipt::Held;
 use gptp_scaled::ScaledNs;
 use gptp_setup::{MOST_PORTS, Params};
 use gptp_vector::Identity;
+use std::alloc::{AllocError, Global};
 
 /// What a system keeps. Port i stands at place i - 1 of `held` and of `ports`.
 #[derive(Debug, Drop)]
@@ -48,26 +49,29 @@ fn copy_held(held: &[Held]) -> ArrayVec<Held, MOST_PORTS>
     copies
 }
 
-/// A copy of the ports.
-fn copy_ports(ports: &[Port]) -> ArrayVec<Port, MOST_PORTS>
+/// A copy of the ports. Refused for want of memory alone.
+fn copy_ports(alloc: Global, ports: &[Port]) -> Result<ArrayVec<Port, MOST_PORTS>, AllocError>
     requires { length ports.now ≤ MOST_PORTS }
-    ensures { result.items ≡ ports.now }
+    ensures { IfOk result (λ copies. copies.items ≡ ports.now) }
 {
     let mut copies = ArrayVec::new();
-    let _ = copies.try_extend_from_slice(ports);
-    copies
+    for one in ports {
+        copies.push(one.copy(alloc)?);
+    }
+    Ok(copies)
 }
 
 impl State {
-    ghost use Rattle.std.specs.Prelude.{◌≡◌};
+    ghost use Rattle.std.specs.Prelude.{◌≡◌, IfOk};
     ghost use Rattle.gptp_system.specs.Ready.{IsReady, state_of};
 
-    /// A copy of the state.
-    pub(crate) fn copy(&self) -> State
+    /// A copy of the state. Refused for want of memory alone.
+    pub(crate) fn copy(&self, alloc: Global) -> Result<State, AllocError>
         requires { IsReady (state_of self.now) }
-        ensures { state_of result ≡ state_of self.now }
+        ensures { IfOk result (λ s. state_of s ≡ state_of self.now) }
     {
-        State {
+        let ports = copy_ports(alloc, self.ports.as_slice())?;
+        Ok(State {
             params: self.params,
             largest: self.largest,
             phase: self.phase,
@@ -86,8 +90,8 @@ impl State {
             sync: self.sync,
             relay: self.relay,
             lapse: self.lapse,
-            ports: copy_ports(self.ports.as_slice()),
+            ports,
             held: copy_held(self.held.as_slice()),
-        }
+        })
     }
 }

@@ -10,6 +10,7 @@ use gptp_roles::Role;
 use gptp_scaled::ScaledNs;
 use gptp_setup::{Setup, Timer};
 use gptp_vector::{ClockId, Identity, PortId, Trace};
+use std::alloc::{AllocError, Global};
 use std::marker::Model;
 
 /// One gPTP system in one domain: an end station or a time-aware bridge. Between its calls it is at rest: selecting
@@ -33,9 +34,10 @@ impl Model for System {
 }
 
 impl System {
-    ghost use Rattle.std.specs.Prelude.{◌≡◌, ◌≤◌, ◌<◌, ◌^◌, ◌++◌, ◌∷◌, [], length, IfSome, unsigned_abs};
+    ghost use Rattle.std.specs.Prelude.{◌≡◌, ◌≤◌, ◌<◌, ◌^◌, ◌++◌, ◌∷◌, [], length, IfOk, IfSome, IsOk, unsigned_abs};
     ghost use Rattle.gptp_pdelay.specs.Clock.{IsDrift};
     ghost use Rattle.gptp_system.specs.Announcing.{ChangesPriority};
+    ghost use Rattle.gptp_system.specs.Facts.{MeasuresOver};
     ghost use Rattle.gptp_system.specs.Input.{given, IsTimely, Steps};
     ghost use Rattle.gptp_setup.specs.declared.limits.TheConstants.{MOST_PORTS};
     ghost use Rattle.gptp_setup.specs.Intervals.{AreIntervals, AreParams, IsMoment};
@@ -51,28 +53,45 @@ impl System {
     ghost use Rattle.gptp_system.specs.TimersChanged.{Touches};
 
     /// A system as it starts at `now`, in ns: its own root, with all ports Disabled until their links come up, each of
-    /// which announces at its own interval. The setup keeps its limits.
-    pub fn new(setup: Setup, now: u64) -> System
+    /// which announces at its own interval. The setup keeps its limits. Refused for want of memory alone, which its
+    /// ports take where they measure rates over more than one exchange.
+    pub fn new(alloc: Global, setup: Setup, now: u64) -> Result<System, AllocError>
         requires ports { setup.ports ≤ MOST_PORTS }
         requires params { AreParams setup.params }
         requires intervals { AreIntervals setup }
         requires phase { setup.phase ≤ 1000000000000000000 }
         requires drift { IsDrift setup.drift }
         requires moment { IsMoment now }
-        ensures { result ≡ started setup now }
+        ensures started { IfOk result (λ s. s ≡ started setup now) }
+        ensures free { setup.params.window ≡ 1 → IsOk result }
     {
-        System {
-            state: State::new(setup, now),
-        }
+        let state = State::new(alloc, setup, now)?;
+        Ok(System { state })
     }
 
-    /// A copy of the system. It takes no memory, and costs what the paths have that its ports hold.
-    pub fn copy(&self) -> System
-        ensures { result ≡ self.now }
+    /// A copy of the system. Refused for want of memory alone, which its ports take where they measure rates over more
+    /// than one exchange; it costs what the paths have that its ports hold.
+    pub fn copy(&self, alloc: Global) -> Result<System, AllocError>
+        ensures { IfOk result (λ s. s ≡ self.now) }
     {
-        System {
-            state: self.state.copy(),
-        }
+        let state = self.state.copy(alloc)?;
+        Ok(System { state })
+    }
+
+    /// The system starts at `now`, in ns, in place of the one that stood here, whose ports were as many and measured
+    /// rates over as many exchanges. Takes no memory.
+    pub fn start_again(&mut self, setup: Setup, now: u64)
+        requires ports { setup.ports ≤ MOST_PORTS }
+        requires params { AreParams setup.params }
+        requires intervals { AreIntervals setup }
+        requires phase { setup.phase ≤ 1000000000000000000 }
+        requires drift { IsDrift setup.drift }
+        requires moment { IsMoment now }
+        requires places { length self.old.ports ≡ setup.ports }
+        requires windows { MeasuresOver setup.params.window self.old.ports }
+        ensures { self.new ≡ started setup now }
+    {
+        self.state.start_again(setup, now);
     }
 
     /// The system is given an input at `now`, in ns: what became of it, and which timers the step can have set or

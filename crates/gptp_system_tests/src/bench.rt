@@ -85,7 +85,7 @@ fn alike(ports: u8) -> ArrayVec<i8, MOST_PORTS>
 }
 
 /// A system that starts at 0, of a clock with all defaults but these.
-pub fn started(clock: u64, ports: u8, phase: u64, lost: u8) -> Result<System, Fail> {
+pub fn started(alloc: Global, clock: u64, ports: u8, phase: u64, lost: u8) -> Result<System, Fail> {
     if usize::from(ports) > MOST_PORTS || phase > 1_000_000_000 || lost == 0 {
         return Err(Fail::from("no such system"));
     }
@@ -100,7 +100,7 @@ pub fn started(clock: u64, ports: u8, phase: u64, lost: u8) -> Result<System, Fa
         seed: 1,
         params: Params { lost, ..DEFAULTS },
     };
-    Ok(System::new(setup, 0))
+    Ok(System::new(alloc, setup, 0)?)
 }
 
 /// Whether the system has a port of this number.
@@ -273,7 +273,7 @@ impl Bench {
     pub fn new(alloc: Global, setups: &[(u64, u8, u64)], lost: u8) -> Result<Bench, Fail> {
         let mut systems = Vec::new(alloc);
         for (clock, ports, phase) in setups {
-            systems.push(started(*clock, *ports, *phase, lost)?)?;
+            systems.push(started(alloc, *clock, *ports, *phase, lost)?)?;
         }
         Ok(Bench {
             systems,

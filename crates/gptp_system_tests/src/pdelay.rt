@@ -6,6 +6,7 @@ use gptp_pdelay::{Peer, Step, laws};
 use gptp_samples::{head, port};
 use gptp_scaled::{ScaledNs, Stamp};
 use gptp_vector::PortId;
+use std::alloc::Global;
 use std::process::Abort;
 use std::test::Fail;
 
@@ -122,9 +123,17 @@ fn says(peer: &Peer) -> (Option<i128>, i32, bool) {
     (delay, peer.rate().q(), peer.capable())
 }
 
-/// A port that may lose this many requests in a row.
-fn new(lost: u8) -> Peer {
-    Peer::new(own(), THRESHOLD, lost)
+/// A port that may lose this many requests in a row, and measures rates over so many exchanges.
+fn over(alloc: Global, lost: u8, window: u8) -> Result<Peer, Fail> {
+    if window < 1 || 16 < window {
+        return Err(Fail::from("no such window"));
+    }
+    Ok(Peer::new(alloc, own(), THRESHOLD, lost, window)?)
+}
+
+/// A port that may lose this many requests in a row, and measures rates over one exchange.
+fn new(alloc: Global, lost: u8) -> Result<Peer, Fail> {
+    over(alloc, lost, 1)
 }
 
 /// What the port does or gets, and what is wanted of it then.
@@ -187,8 +196,14 @@ fn take(rt: &impl Abort, what: &str, peer: &mut Peer, event: &Event) -> Result<(
 }
 
 /// What a new port that may lose so many requests in a row does and gets, one after the other.
-fn play(rt: &impl Abort, what: &str, lost: u8, events: &[Event]) -> Result<(), Fail> {
-    let mut peer = new(lost);
+fn play(
+    rt: &impl Abort,
+    alloc: Global,
+    what: &str,
+    lost: u8,
+    events: &[Event],
+) -> Result<(), Fail> {
+    let mut peer = new(alloc, lost)?;
     for event in events {
         take(rt, what, &mut peer, event)?;
     }
@@ -218,7 +233,7 @@ fn the_delay_is_half_of_what_is_left(rt: HostRuntime) -> Result<(), Fail> {
         ("a clock that went back", [LAST, 0, 0, 0], 0),
     ];
     for (what, times, want) in cases {
-        let mut peer = new(9);
+        let mut peer = new(rt.alloc(), 9)?;
         same_at(&rt, &what, says(&peer), (None, 0, false));
         same_at(&rt, &what, exchanges(&rt, &mut peer, times)?, FIRST);
         same_at(&rt, &what, says(&peer), (Some(want), 0, false));
@@ -236,7 +251,7 @@ fn the_rate_is_that_of_the_last_two_exchanges(rt: HostRuntime) -> Result<(), Fai
         ("time went back", 5, -1, 0),
     ];
     for (what, e3, e4, want) in cases {
-        let mut peer = new(9);
+        let mut peer = new(rt.alloc(), 9)?;
         let (t3, t4) = (100_000 + i128::from(e3), 100_000 + i128::from(e4));
         exchanges(&rt, &mut peer, [100_000, 100_000, 100_000, 100_000])?;
         exchanges(&rt, &mut peer, [100_000, 100_000, t3, t4])?;
@@ -246,8 +261,32 @@ fn the_rate_is_that_of_the_last_two_exchanges(rt: HostRuntime) -> Result<(), Fai
 }
 
 #[test]
+fn the_rate_is_that_over_the_window(rt: HostRuntime) -> Result<(), Fail> {
+    let ahead = [0, 1, 3, 6, 10];
+    let cases = [
+        (1, [0, 2_199_023, 4_398_046, 6_597_069, 8_796_093]),
+        (2, [0, 2_199_023, 3_298_534, 5_497_558, 7_696_581]),
+        (3, [0, 2_199_023, 3_298_534, 4_398_046, 6_597_069]),
+        (16, [0, 2_199_023, 3_298_534, 4_398_046, 5_497_558]),
+    ];
+    for (window, rates) in cases {
+        let mut peer = over(rt.alloc(), 9, window)?;
+        for _again in 0..2 {
+            let mut t4 = 0;
+            for (ahead, want) in ahead.into_iter().zip(rates) {
+                exchanges(&rt, &mut peer, [t4, t4, t4 + ahead, t4])?;
+                same_at(&rt, &(window, ahead), peer.rate().q(), want);
+                t4 += 1_000_000;
+            }
+            peer.reset();
+        }
+    }
+    Ok(())
+}
+
+#[test]
 fn the_delay_counts_the_rate_with_its_own_exchange(rt: HostRuntime) -> Result<(), Fail> {
-    let mut peer = new(9);
+    let mut peer = new(rt.alloc(), 9)?;
     exchanges(&rt, &mut peer, [100_000, 100_000, 100_000, 100_000])?;
     exchanges(&rt, &mut peer, [90_000, 110_000, 110_001, 110_000])?;
     same(&rt, says(&peer), (Some(10_000), 219_902_325, true));
@@ -256,7 +295,7 @@ fn the_delay_counts_the_rate_with_its_own_exchange(rt: HostRuntime) -> Result<()
 
 #[test]
 fn the_threshold_decides_from_the_second_exchange_on(rt: HostRuntime) -> Result<(), Fail> {
-    let mut peer = new(9);
+    let mut peer = new(rt.alloc(), 9)?;
     let cases = [
         ("the first", LONGEST, 0, FIRST, false),
         (
@@ -294,7 +333,7 @@ fn too_many_lost_requests_in_a_row_reset(rt: HostRuntime) -> Result<(), Fail> {
         Event::Exchanges(70, FIRST),
         Event::Exchanges(80, CHANGED),
     ];
-    play(&rt, "one may be lost", 1, &events)
+    play(&rt, rt.alloc(), "one may be lost", 1, &events)
 }
 
 #[test]
@@ -316,7 +355,7 @@ fn an_exchange_ends_the_row_of_lost_requests(rt: HostRuntime) -> Result<(), Fail
         Event::Interval(false),
         Event::Says(Some(NS), 0, true),
     ];
-    play(&rt, "one may be lost", 1, &events)
+    play(&rt, rt.alloc(), "one may be lost", 1, &events)
 }
 
 #[test]
@@ -339,7 +378,7 @@ fn a_response_that_is_not_awaited_is_ignored(rt: HostRuntime) -> Result<(), Fail
             Event::Says(Some(4), 0, false),
             Event::Hears(awaited(0), 7, 9, Step::Ignored),
         ];
-        play(&rt, what, 9, &events)?;
+        play(&rt, rt.alloc(), what, 9, &events)?;
     }
     Ok(())
 }
@@ -363,14 +402,14 @@ fn a_follow_up_that_is_not_awaited_is_ignored(rt: HostRuntime) -> Result<(), Fai
             Event::Follows(awaited(0), 7, FIRST),
             Event::Follows(awaited(0), 7, Step::Ignored),
         ];
-        play(&rt, what, 9, &events)?;
+        play(&rt, rt.alloc(), what, 9, &events)?;
     }
     Ok(())
 }
 
 #[test]
 fn sequence_numbers_wrap(rt: HostRuntime) -> Result<(), Fail> {
-    let mut peer = new(9);
+    let mut peer = new(rt.alloc(), 9)?;
     for want in 0..=u16::MAX {
         same(&rt, requests(&rt, &mut peer, 0)?, want);
     }
@@ -392,7 +431,13 @@ fn a_newer_request_replaces_one_that_is_open(rt: HostRuntime) -> Result<(), Fail
         Event::Interval(false),
         Event::Says(Some(NS), 0, true),
     ];
-    play(&rt, "the third asks before it is answered", 1, &events)
+    play(
+        &rt,
+        rt.alloc(),
+        "the third asks before it is answered",
+        1,
+        &events,
+    )
 }
 
 #[test]
@@ -409,7 +454,7 @@ fn a_reset_leaves_the_sequence_and_the_answer(rt: HostRuntime) -> Result<(), Fai
         Event::Answers(Some((neighbor(), 77, 5))),
         Event::Answers(None),
     ];
-    play(&rt, "a request is open", 1, &events)
+    play(&rt, rt.alloc(), "a request is open", 1, &events)
 }
 
 #[test]
@@ -421,7 +466,7 @@ fn the_newest_request_is_answered_once(rt: HostRuntime) -> Result<(), Fail> {
         Event::Answers(Some((neighbor(), 2, -6))),
         Event::Answers(None),
     ];
-    play(&rt, "two ask", 9, &events)
+    play(&rt, rt.alloc(), "two ask", 9, &events)
 }
 
 #[test]

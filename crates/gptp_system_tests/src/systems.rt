@@ -74,7 +74,7 @@ fn what_is_not_for_the_port_changes_nothing(rt: HostRuntime) -> Result<(), Fail>
         (&RESPONSE, Answer::Ignored),
         (&RESPONSE_FOLLOW_UP, Answer::Ignored),
     ];
-    let mut system = started(2, 1, 0, 9)?;
+    let mut system = started(rt.alloc(), 2, 1, 0, 9)?;
     let mut outbox = Outbox::new();
     if has_port(&system, 1) {
         system.port_up(1, 0, &mut outbox);

@@ -5,7 +5,7 @@
 -- are up between two of them; the *best* of a component has the lowest identity (IEEE 802.1AS-2020, 10.3.2), the
 -- *distance* of a system is the least number of links from it to the best, and a system is *near* where that is below
 -- 255.
-use Rattle.std.specs.Prelude.{◌≡◌, ◌≤◌, ◌+◌, ◌*◌, ℕ, ℤ, max, pred, suc, true, List, Some, length}
+use Rattle.std.specs.Prelude.{◌≡◌, ◌≤◌, ◌+◌, ◌-◌, ◌*◌, ℕ, ℤ, max, pred, suc, true, List, Some, length}
 use Rattle.gptp_lists.specs.Members.{In}
 use Rattle.gptp_graph.specs.Distance.{IsNear}
 use Rattle.gptp_graph.specs.Labelling.{SystemLine, line_clocks}
@@ -17,6 +17,7 @@ use Rattle.gptp_messages.specs.declared.message.Message.TheVariants as messages
 use Rattle.gptp_messages.specs.Grammar.{Reads}
 use Rattle.gptp_pdelay.specs.GoodLink.{ceil_div}
 use Rattle.gptp_scaled.specs.Counts.{AreWithin}
+use Rattle.gptp_setup.specs.Intervals.{interval_of}
 use Rattle.gptp_setup.specs.SettlingParams.{SettlingParams, largest_interval}
 use Rattle.gptp_scenario.specs.Calm.{SyncsComeInTime}
 use Rattle.gptp_scenario.specs.SyncWait.{step_more}
@@ -112,13 +113,14 @@ HeadlineByNeighbours w = (p : SettlingParams)
 
 -- ---- how exactly
 
--- By this time a Sync that left the root when all was settled has come down a way of so many links, even where each
--- takes as long as a good link may, and where it stays a residence at each system.
+-- By this time a Sync has come down a way of so many links that left the root when all was settled and rates were
+-- measured over whole windows, even where each link takes as long as a good link may, and where the Sync stays a
+-- residence at each system.
 abbrev pub HasComeDown : SettlingParams → ℕ → ℕ → ℕ → WorldState → Type 0
 HasComeDown p m steps time w =
     w.last_change
     + (((p.params.timeout + 3) * m + p.params.lost + 5) * largest_interval p + m * step_more p (sync_paths_of w))
-    + steps * (p.params.threshold + p.params.residence)
+    + (p.params.window - 1) * interval_of p.params.pdelay + steps * (p.params.threshold + p.params.residence)
     ≤ time
 
 -- by an act of which this is told, the system with this clock used a Follow_Up (IEEE 802.1AS-2020, 11.2.14)
@@ -139,7 +141,7 @@ pub record LeavesOffset (number : ℕ) (offset : ℤ) (w' : WorldState) (done : 
 -- clock less what the best tells, which is its clock and its base. Systems read their clocks by their time stamps. A
 -- way leads over the system's parent and the parents of that. Its time error (gptp_error_laws) is what each link costs,
 -- its jitter and twice what two time stamps are off together, and what each bridge costs: its residence times the error
--- of the rate so far, to which each link above adds the same over the interval of peer delay requests.
+-- of the rate so far, to which each link above adds the same over a window of peer delay requests.
 abbrev pub HeadlineOnTime : WorldState → ℕ → WorldState → Done → Type 0
 HeadlineOnTime w time w' done = (p : SettlingParams) (m steps number error : ℕ) (offset ahead : ℤ)
     → WorldIsCalm p w → BoundsPaths (snapshot_of w) m → HasComeDown p m (suc steps) time w

@@ -1,5 +1,5 @@
 -- What is kept of what systems read is what is defined over the acts.
-use Rattle.std.proofs.Common.{◌≡◌, ◌==◌, ◌&&◌, ℕ, Bool, true, false, if◌then◌else◌, List, [], ◌∷◌, ◌++◌, map, Option, Some, None, is_some, option_map, unsigned_abs, refl, sym, ap, ◌∙◌}
+use Rattle.std.proofs.Common.{◌≡◌, ◌<◌, ◌==◌, ◌&&◌, ℕ, Bool, true, false, if◌then◌else◌, List, [], ◌∷◌, ◌++◌, map, Option, Some, None, is_some, option_map, unsigned_abs, refl, sym, ap, ◌∙◌}
 use Rattle.gptp_model.specs.World.{WorldState}
 use Rattle.gptp_model.specs.Views.{rising_clocks}
 use Rattle.gptp_model.specs.declared.done.Done.{Done}
@@ -23,9 +23,9 @@ use Rattle.gptp_timeline.specs.Stretch.{at_of}
 use Rattle.gptp_timeline.specs.Aside.{aside_begun, aside_behind, aside_over, AsideState, is_out, looked_acts, nobody_aside, readings_begun}
 use Rattle.gptp_timeline.specs.TimeLines.{reads_words}
 use Rattle.gptp_timeline.specs.TimeWatch.{reading_lines, TimeState, times_after, times_begun, times_looked, times_with}
-use Rattle.gptp_timeline.proofs.AsideLemmas.{looked_more, nobody_acts, nobody_out, nobody_over, over_more}
+use Rattle.gptp_timeline.proofs.AsideLemmas.{later_acts, later_over, looked_more, nobody_acts, nobody_out, nobody_over, over_more}
 use Rattle.gptp_timeline.specs.Timeline.{asks_lines, exact_time, line_of_times, none_carried, reads_if, reads_kept, StretchTrace, stretch_reading_lines, times_ended, tracks}
-use Rattle.gptp_timeline.specs.Watch.{event_look, own_look, place_of, places_of, see_act, see_all, see_at, see_delivery, see_each, see_one, see_placed, see_receipt_if, see_receipt_of, see_system, take_error, times_lines_if, WatchState}
+use Rattle.gptp_timeline.specs.Watch.{event_look, own_look, place_of, places_of, see_act, see_all, see_at, see_delivery, see_each, see_one, see_placed, see_receipt_if, see_receipt_of, see_system, take_error, times_aside, times_lines_if, WatchState}
 use Rattle.gptp_timeline.specs.declared.compared.Compared.{Compared}
 use Rattle.gptp_timeline.specs.declared.exact_reads.ExactReads.{ExactReads}
 use Rattle.gptp_timeline.specs.declared.exact_reads.SystemReads.{SystemReads}
@@ -238,6 +238,19 @@ module _ (options : TimelineOptions) (from : Option ℕ) (names : List ℕ) (eve
   account_ended to w (Some rs) =
       ap Some (sym (measured_both (looked_over rs events looked) (looked_all to w (readings_after looked rs))
       nothing_read))
+
+-- ---- where systems are set aside later
+
+-- the account is the same as where nobody is set aside, but for who will be
+pub later_kept : (options : TimelineOptions) (from : Option ℕ) (names : List ℕ) (events : ℕ) (a b : AsideState)
+    (ts : List ActTrace) → a.clocks ≡ [] → b.begun < b.from → (readings : Option (List SystemReading))
+    → option_map (times_aside b) (account_if options from names events a ts readings)
+    ≡ account_if options from names events b ts readings
+later_kept options from names events a b ts nobody later None = refl
+later_kept options from names events a b ts nobody later (Some rs) =
+    ap (λ us. Some (account_of options from names events b us rs))
+    (nobody_acts ts a nobody ∙ sym (later_acts ts b later))
+    ∙ ap (λ c. Some (account_of options from names events c (looked_acts b ts) rs)) (sym (later_over ts b later))
 
 -- ---- between stretches
 

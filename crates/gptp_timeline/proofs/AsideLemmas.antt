@@ -1,5 +1,6 @@
 -- Acts of systems that are set aside, one act more, and where nobody is.
-use Rattle.std.proofs.Common.{◌≡◌, ◌==◌, ◌&&◌, ◌++◌, ℕ, Bool, true, false, if◌then◌else◌, List, [], ◌∷◌, Option, Some, None, refl, ap, ◌∙◌}
+use Rattle.std.proofs.Common.{◌≡◌, ◌<◌, ◌==◌, ◌&&◌, ◌++◌, ℕ, Bool, true, false, if◌then◌else◌, List, [], ◌∷◌, Option, Some, None, refl, ap, ◌∙◌, arith}
+use Rattle.std.proofs.lemmas.Bool.Decides.{nat_tests}
 use Rattle.gptp_model.specs.declared.done.Done.{Done}
 use Rattle.gptp_scenario.specs.declared.change.Act.{Act}
 use Rattle.gptp_scenario.specs.declared.change.Act.TheVariants.{Change as Changing, Deliver, Expire}
@@ -108,3 +109,35 @@ nobody_begins a nobody rs =
     by : (begins : Bool) → (if begins then rs else rs) ≡ rs
     by true = refl
     by false = refl
+
+-- ---- where systems are set aside later than the stretch that passes begins
+
+not_yet : (a : AsideState) → a.begun < a.from → is_set_aside a ≡ false
+not_yet a later = grind (arith, nat_tests)
+
+later_out : (a : AsideState) → a.begun < a.from → (t : ActTrace) → is_out a t ≡ false
+later_out a later t =
+    ap (λ aside. aside && left_out a.clocks (is_returned a) t.told.timed.act t.told.done) (not_yet a later)
+
+later_behind : (a : AsideState) → a.begun < a.from → (t : ActTrace) → aside_behind t a ≡ a
+later_behind a later t =
+    ap (λ aside. if aside && is_returned a
+    then record a { clocks = without_clock (received_in t.told.timed.act t.told.done) a.clocks } else a)
+    (not_yet a later)
+
+pub later_acts : (ts : List ActTrace) (a : AsideState) → a.begun < a.from → looked_acts a ts ≡ ts
+later_acts [] a later = refl
+later_acts (t ∷ ts) a later =
+    ap (λ out. if out then looked_acts (aside_behind t a) ts else t ∷ looked_acts (aside_behind t a) ts)
+    (later_out a later t)
+    ∙ ap (λ b. t ∷ looked_acts b ts) (later_behind a later t)
+    ∙ ap (λ us. t ∷ us) (later_acts ts a later)
+
+pub later_over : (ts : List ActTrace) (a : AsideState) → a.begun < a.from → aside_over ts a ≡ a
+later_over [] a later = refl
+later_over (t ∷ ts) a later = ap (aside_over ts) (later_behind a later t) ∙ later_over ts a later
+
+pub later_begins : (a : AsideState) → a.begun < a.from → (rs : List SystemReading) → readings_begun a rs ≡ rs
+later_begins a later rs =
+    let other : a.begun == a.from ≡ false = grind (arith, nat_tests) in
+    ap (λ begins. if begins then without_readings a.clocks rs else rs) other

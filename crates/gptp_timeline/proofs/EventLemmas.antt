@@ -1,5 +1,5 @@
 -- Events that come later than a time, and those of a stretch.
-use Rattle.std.proofs.Common.{◌≡◌, ◌≢◌, ◌≤◌, ◌<◌, ℕ, zero, suc, Bool, true, false, nat_le, nat_lt, List, [], ◌∷◌, length, drop, Some, None, slice_get, refl, ap, arith}
+use Rattle.std.proofs.Common.{◌≡◌, ◌≢◌, ◌≤◌, ◌<◌, ◌++◌, ℕ, zero, suc, Bool, true, false, nat_le, nat_lt, List, [], ◌∷◌, length, drop, Some, None, slice_get, refl, ap, subst, arith}
 use Rattle.std.specs.List.{AllByRecursion, filter}
 use Rattle.std.specs.List.Sorted.{IsPartitionPoint}
 use Rattle.std.proofs.lemmas.Bool.Decides.{nat_tests}
@@ -8,13 +8,15 @@ use Rattle.gptp_model.specs.Prompt.{AllDelaysFitIntervals, DelaysFitIntervals}
 use Rattle.gptp_model.specs.World.{WorldState}
 use Rattle.gptp_model.proofs.PromptLemmas.{stay_prompt}
 use Rattle.gptp_model.proofs.StayLemmas.{Stays}
-use Rattle.gptp_lists.proofs.SystemSpecLemmas.{In-slice_get, slice_get-In}
+use Rattle.gptp_lists.proofs.SystemSpecLemmas.{In-right, In-slice_get, slice_get-In}
 use Rattle.gptp_network.specs.Events.{AreInOrder}
 use Rattle.gptp_network.specs.Snapshot.{events_by}
 use Rattle.gptp_network.proofs.SnapshotLemmas.{from_filter}
+use Rattle.gptp_network.proofs.TakingLemmas.{all_in, in_all}
+use Rattle.gptp_scenario.specs.Calm.{last_change}
 use Rattle.gptp_scenario.specs.Allowed.{AreAllowed, IsAllowed}
 use Rattle.gptp_scenario.specs.declared.change.Timed.{Timed}
-use Rattle.gptp_timeline.specs.Passing.{first_time}
+use Rattle.gptp_timeline.specs.Passing.{first_time, MayPass}
 use Rattle.gptp_timeline.specs.Timeline.{end_before, later_than, now_of}
 
 abbrev by_then : ℕ → Timed → Bool
@@ -183,14 +185,6 @@ fewer_later (x ∷ xs) time is =
 
 -- ---- what lets stretches pass
 
--- The events that are left are in order, none after the end, and the world can be asked for each.
-pub record MayPass (until from : ℕ) (left : List Timed) (w : WorldState) : Type 0 where
-  pub order : AreInOrder left
-  pub due : Each (λ (e : Timed). nat_le e.at until ≡ true) left
-  pub within : from ≤ until
-  pub allowed : AreAllowed left
-  pub prompt : AllDelaysFitIntervals w left
-
 pub may_begin : (until : ℕ) (events : List Timed) (w : WorldState) → AreInOrder events → AreAllowed events
     → AllDelaysFitIntervals w events → MayPass until 0 (events_by until events) w
 may_begin until events w order allowed prompt =
@@ -233,3 +227,97 @@ pub ends_in_time : (until from to : ℕ) (left : List Timed) (w : WorldState) �
 ends_in_time until from to left w may is =
     first_due until to (later_than from left)
     (filter_each (λ (e : Timed). nat_le e.at until ≡ true) (λ (e : Timed). nat_lt from e.at) left may.due) is
+
+-- ---- events of two documents, of which one has more
+
+-- what is so of all is so at each place
+pub each_in : (P : Timed → Type 0) (xs : List Timed) → AllByRecursion P xs → Each P xs
+each_in P xs all place x there = in_all P x xs all (In-slice_get x xs place there)
+
+-- and at each place of those behind
+pub each_behind : (P : Timed → Type 0) (xs ys : List Timed) → Each P (xs ++ ys) → Each P ys
+each_behind P xs ys each place x there =
+    let (other, here) = slice_get-In x (xs ++ ys) (In-right x xs ys (In-slice_get x ys place there)) in
+    each other x here
+
+pub filter_all : (P : Timed → Type 0) (test : Timed → Bool) (xs : List Timed) → AllByRecursion P xs
+    → AllByRecursion P (filter test xs)
+filter_all P test xs all = all_in P (filter test xs) (λ x member. in_all P x xs all (from_filter test x xs member).0)
+
+-- those that are later than a time are later than an earlier one
+pub later_by : (from at : ℕ) (xs : List Timed) → from < at → AllByRecursion (λ (x : Timed). at ≤ x.at) xs
+    → AllByRecursion (λ (x : Timed). from < x.at) xs
+later_by from at [] less late = tt
+later_by from at (x ∷ xs) less late =
+    let first = late.0 in
+    (omega (arith, less, first), later_by from at xs less late.1)
+
+-- where all are later than a time
+pub all_later : (time : ℕ) (xs : List Timed) → AllByRecursion (λ (x : Timed). time < x.at) xs
+    → (now_of time xs ≡ []) × (later_than time xs ≡ xs)
+all_later time [] late = (refl, refl)
+all_later time (x ∷ xs) late =
+    let first = late.0 in
+    let later : nat_lt time x.at ≡ true = grind (arith, nat_tests) in
+    let early : nat_le x.at time ≡ false = grind (arith, nat_tests) in
+    let rest = all_later time xs late.1 in
+    (rw early rest.0, rw later (ap (λ ys. x ∷ ys) rest.1))
+
+-- where none is later than a time
+pub all_due : (until : ℕ) (xs : List Timed) → AllByRecursion (λ (x : Timed). x.at ≤ until) xs
+    → events_by until xs ≡ xs
+all_due until [] due = refl
+all_due until (x ∷ xs) due =
+    let first = due.0 in
+    let soon : nat_le x.at until ≡ true = grind (arith, nat_tests) in
+    rw soon (ap (λ ys. x ∷ ys) (all_due until xs due.1))
+
+-- none is later than the last
+pub last_latest : (xs : List Timed) → AreInOrder xs → AllByRecursion (λ (x : Timed). x.at ≤ last_change xs) xs
+last_latest [] order = tt
+last_latest (x ∷ []) order = (omega arith, tt)
+last_latest (x ∷ (y ∷ ys)) order =
+    let rest = last_latest (y ∷ ys) order.1 in let soon = rest.0 in let first = order.0 in
+    (omega (arith, first, soon), rest)
+
+pub order_front : (xs ys : List Timed) → AreInOrder (xs ++ ys) → AreInOrder xs
+order_front [] ys order = tt
+order_front (x ∷ []) ys order = tt
+order_front (x ∷ (z ∷ zs)) ys order = (order.0, order_front (z ∷ zs) ys order.1)
+
+pub order_behind : (xs ys : List Timed) → AreInOrder (xs ++ ys) → AreInOrder ys
+order_behind [] ys order = order
+order_behind (x ∷ xs) ys order = order_behind xs ys (rest_in_order x (xs ++ ys) order)
+
+-- the first is the same with more behind
+pub first_both : (xs ys : List Timed) (time : ℕ) → first_time xs ≡ Some time → first_time (xs ++ ys) ≡ Some time
+first_both [] ys time is = absurd cc
+first_both (x ∷ xs) ys time is = is
+
+-- what is so of the times of all is so of the first
+pub first_so : (P : ℕ → Type 0) (xs : List Timed) (time : ℕ) → AllByRecursion (λ (x : Timed). P x.at) xs
+    → first_time xs ≡ Some time → P time
+first_so P [] time all is = absurd cc
+first_so P (x ∷ xs) time all is = subst P (same_Some x.at time is) all.0
+
+-- what is due at each place is so of all
+pub due_all : (until : ℕ) (xs : List Timed) → Each (λ (x : Timed). nat_le x.at until ≡ true) xs
+    → events_by until xs ≡ xs
+due_all until xs due =
+    all_due until xs (all_in (λ (x : Timed). x.at ≤ until) xs (λ x member.
+    let (place, there) = slice_get-In x xs member in
+    let soon : nat_le x.at until ≡ true = due place x there in grind (arith, nat_tests)))
+
+-- all events of a document can be made before a time that isn't before the last
+pub may_before : (until : ℕ) (events : List Timed) (w : WorldState) → AreInOrder events → AreAllowed events
+    → AllDelaysFitIntervals w events → last_change events ≤ until → MayPass until 0 events w
+may_before until events w order allowed prompt last =
+    let late : (x : Timed) → x.at ≤ last_change events → nat_le x.at until ≡ true =
+    λ x soon. grind (arith, nat_tests) in
+    let all = last_latest events order in record {
+      order = order;
+      due = λ place x there. late x (each_in (λ (y : Timed). y.at ≤ last_change events) events all place x there);
+      within = omega arith;
+      allowed = allowed;
+      prompt = prompt;
+    }

@@ -26,6 +26,8 @@ pub mod LeavingLemmas
 pub mod LookLemmas
 pub mod ChainStepLemmas
 pub mod StretchesSoFarLemmas
+pub mod CutLemmas
+pub mod GoOnLemmas
 pub mod PassLemmas
 pub mod NameLemmas
 mod ClockLemmas

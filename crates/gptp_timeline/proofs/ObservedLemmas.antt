@@ -1,5 +1,5 @@
 -- What an observer keeps and tells is what is defined over the acts: as systems start, and stretch by stretch.
-use Rattle.std.proofs.Common.{◌≡◌, ℕ, Bool, true, false, if◌then◌else◌, List, [], ◌∷◌, ◌++◌, map, Option, Some, None, inl, inr, length, option_map, refl, sym, ap, subst, ◌∙◌, append_assoc, append-nil}
+use Rattle.std.proofs.Common.{◌≡◌, ◌<◌, ℕ, Bool, true, false, if◌then◌else◌, List, [], ◌∷◌, ◌++◌, map, Option, Some, None, inl, inr, length, option_map, refl, sym, ap, subst, ◌∙◌, append_assoc, append-nil}
 use Rattle.std.specs.List.{filter_map, flat_map}
 use Rattle.std.proofs.lemmas.List.Folds.{flat_map-map}
 use Rattle.gptp_model.specs.declared.station.Station.{Station}
@@ -35,7 +35,7 @@ use Rattle.gptp_timeline.specs.Looks.{measured_times}
 use Rattle.gptp_timeline.specs.Readings.{new_reading, read_after, readings_after}
 use Rattle.gptp_timeline.specs.TimeWatch.{reading_lines, times_after, times_with, TimeState}
 use Rattle.gptp_timeline.specs.Timeline.{StretchTrace, accuracy_at, act_lines, acts_lines, asks_lines, end_lines, ended_of, exact_time, is_begun, kept_accuracy, kept_accuracy_at, line_of_times, none_carried, none_waits, reads_if, reads_kept, start_lines, stretch_of, stretch_reading_lines, timeline_accuracy_lines, times_ended, tracks}
-use Rattle.gptp_timeline.specs.Watch.{GetsNone, WatchState, watch_begun, event_look, lines_all, see_act, see_all, see_times, seen_lines, tells_changes, TellsSeen, times_lines_if, unless, unseen, without_error}
+use Rattle.gptp_timeline.specs.Watch.{GetsNone, WatchState, watch_begun, event_look, lines_all, see_act, see_all, see_times, seen_lines, tells_changes, TellsSeen, times_aside, times_lines_if, unless, unseen, with_aside, without_error}
 use Rattle.gptp_timeline.specs.declared.counts.Counts.{Counts}
 use Rattle.gptp_timeline.specs.declared.looks.TimeMeasures.{TimeMeasures}
 use Rattle.gptp_timeline.specs.declared.measures.Greatest.{Greatest}
@@ -48,7 +48,7 @@ use Rattle.gptp_timeline.specs.declared.stretch.Stretch.{Stretch}
 use Rattle.gptp_timeline.specs.declared.timeline.Plan.{Plan}
 use Rattle.gptp_timeline.specs.declared.timeline.TimelineOptions.{TimelineOptions}
 use Rattle.gptp_timeline.specs.declared.watched.Watched.{Watched}
-use Rattle.gptp_timeline.proofs.AccountLemmas.{account_ended, account_if, account_if_more, account_told, act_times, line_kept, reads_are, readings_more, rest_after, rest_begun, rest_first, RestTimes}
+use Rattle.gptp_timeline.proofs.AccountLemmas.{account_ended, account_if, account_if_more, account_told, act_times, later_kept, line_kept, reads_are, readings_more, rest_after, rest_begun, rest_first, RestTimes}
 use Rattle.gptp_timeline.proofs.AsideLemmas.{aside_stays}
 use Rattle.gptp_timeline.proofs.AtRestLemmas.{AllFollow, acts_follow, first_follow}
 use Rattle.gptp_timeline.proofs.BeginLemmas.{none_expects}
@@ -358,7 +358,7 @@ module _ (options : TimelineOptions) (names : List ℕ) (c : CarriedAside) where
         )
 
     -- after several
-    chained : (us ts : List ActTrace) (w w' : WorldState) (before after : List Station) (o o_after : WatchState)
+    pub chained : (us ts : List ActTrace) (w w' : WorldState) (before after : List Station) (o o_after : WatchState)
         (lines : List (List ℕ)) → before ≡ w.stations → Chain us before after → w'.stations ≡ after
         → Tells tells_changes us o o_after lines → Observes options names c from events ts w o
         → Observes options names c from events (ts ++ us) w' o_after
@@ -553,4 +553,23 @@ module _ (options : TimelineOptions) (names : List ℕ) (c : CarriedAside) where
     errors = λ name. error_from name from ts;
     stands = observes.tracks.stands;
     times = rest_after options from names events c.aside ts c.carried.readings o.times observes.times_are;
+  }
+
+  -- those that are set aside later may be others
+  pub later_aside : (from : Option ℕ) (events : ℕ) (ts : List ActTrace) (w : WorldState) (o : WatchState)
+      (b : AsideState) → c.aside.clocks ≡ [] → b.begun < b.from → Observes options names c from events ts w o
+      → Observes options names (record { carried = c.carried; aside = b }) from events ts w (with_aside b o)
+  later_aside from events ts w o b nobody later observes = record {
+    named = observes.named;
+    follow = observes.follow;
+    tracks = record {
+      summary_is = observes.tracks.summary_is;
+      offsets_is = observes.tracks.offsets_is;
+      from_is = observes.tracks.from_is;
+      stands = observes.tracks.stands;
+      measures_are = observes.tracks.measures_are;
+    };
+    times_are = ap (option_map (times_aside b)) observes.times_are
+        ∙ later_kept options from names events c.aside b ts nobody later c.carried.readings;
+    others = observes.others;
   }

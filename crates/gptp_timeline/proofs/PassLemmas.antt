@@ -1,6 +1,7 @@
 -- Stretches that pass one after another, and the observer between them.
-use Rattle.std.proofs.Common.{◌≡◌, ◌==◌, ℕ, Bool, true, false, not, length, None, arith, List, [], ◌∷◌, ◌++◌, Option, Some, Result, Ok, Err, inl, inr, refl, sym, ap, subst, ◌∙◌, append_assoc, append-nil}
-use Rattle.std.specs.Prelude.{IfOk, OnOk}
+use Rattle.std.proofs.Common.{◌≡◌, ◌==◌, ◌≤◌, ℕ, zero, suc, Bool, true, false, not, length, None, arith, List, [], ◌∷◌, ◌++◌, Option, Some, Result, Ok, Err, inl, inr, refl, sym, ap, subst, ◌∙◌, append_assoc, append-nil}
+use Rattle.std.specs.List.{AllByRecursion}
+use Rattle.std.specs.Prelude.{IfErr, IfOk, OnOk}
 use Rattle.std.proofs.lemmas.Bool.Decides.{nat_tests}
 use Rattle.gptp_model.specs.Sound.{HaveTheirSetups}
 use Rattle.gptp_model.specs.World.{WorldState}
@@ -14,17 +15,19 @@ use Rattle.gptp_world.specs.Transitions.{ActTrace}
 use Rattle.gptp_report.specs.Transitions.{Courses, CoursesSoFar}
 use Rattle.gptp_world.proofs.FollowLemmas.{text_append}
 use Rattle.gptp_report.proofs.RunLemmas.{made_if_stays, passed_stays}
+use Rattle.gptp_sink.specs.declared.cut.Cut.{Cut}
+use Rattle.gptp_sink.specs.declared.cut.Cut.TheVariants.{Memory, Write}
 use Rattle.gptp_words.specs.Lines.{text_of}
 use Rattle.gptp_timeline.specs.Ends.{EndState}
-use Rattle.gptp_timeline.specs.Aside.{AsideState}
 use Rattle.gptp_timeline.specs.Keepers.{keepers_among}
-use Rattle.gptp_timeline.specs.LastStretches.{all_kept, carry_begun, carry_over, CarriedAside, end_in, end_of, kept_after, none_kept}
-use Rattle.gptp_timeline.specs.Passing.{first_time, StretchIsSeen, IsSeenSoFar, StopsSeen}
+use Rattle.gptp_timeline.specs.LastStretches.{all_kept, carry_begun, carry_over, CarriedAside, end_in, end_of, kept_after}
+use Rattle.gptp_timeline.specs.Passing.{AllAreSeen, EarlierAreSeen, first_time, StretchIsSeen, IsSeenSoFar, OneIsSeen, Standing, StopsBetween, StopsSeen}
 use Rattle.gptp_timeline.specs.Stretch.{roots_of, shown_of_all}
 use Rattle.gptp_timeline.specs.StretchText.{after_line, ended_stretch}
-use Rattle.gptp_timeline.specs.Timeline.{acts_lines, all_lines, AllPass, AreErrorsIf, asks_lines, carry, end_before, end_lines, ended_of, exact_time, is_begun, kept_accuracy, IsPassage, IsTimelinePlan, later_than, line_of_times, none_carried, now_of, passage_lines, reads_kept, SomePass, StretchTrace, times_ended, tracks}
+use Rattle.gptp_timeline.specs.Timeline.{acts_lines, all_lines, AllPass, AreErrorsIf, asks_lines, carry, end_before, end_lines, ended_of, exact_time, is_begun, kept_accuracy, IsPassage, IsTimelinePlan, later_than, line_of_times, now_of, passage_lines, reads_kept, SomePass, StretchTrace, times_ended}
 use Rattle.gptp_timeline.specs.Watch.{watch_begun, tells_changes, WatchState}
 use Rattle.gptp_timeline.specs.declared.keepers.Keeper.{Keeper}
+use Rattle.gptp_timeline.specs.declared.limits.Limits.{Limits}
 use Rattle.gptp_timeline.specs.declared.ends.StretchesSoFar.{StretchesSoFar}
 use Rattle.gptp_timeline.specs.declared.looks.TimeMeasures.{TimeMeasures}
 use Rattle.gptp_timeline.specs.declared.measures.Measures.{Measures}
@@ -32,9 +35,9 @@ use Rattle.gptp_timeline.specs.declared.stretch.Stretch.{Stretch}
 use Rattle.gptp_timeline.specs.declared.timeline.Plan.{Plan}
 use Rattle.gptp_timeline.specs.declared.timeline.TimelineOptions.{TimelineOptions}
 use Rattle.gptp_timeline.specs.declared.watched.Watched.{Watched}
-use Rattle.gptp_timeline.proofs.EventLemmas.{ends_before, some_left}
+use Rattle.gptp_timeline.proofs.EventLemmas.{ends_before, ends_later, some_left}
 use Rattle.gptp_timeline.proofs.LineLemmas.{line_on, lines_on}
-use Rattle.gptp_timeline.proofs.StretchesSoFarLemmas.{nobody_begun, nobody_next, nobody_over_it}
+use Rattle.gptp_timeline.proofs.StretchesSoFarLemmas.{nobody_begun, nobody_next, nobody_over_it, over_all, over_one}
 use Rattle.gptp_timeline.proofs.ObservedLemmas.{broken_told, end_is, end_told, ended_with, IsOfPlan, Observes, Rests, stretch_begins, stretch_passes, stretch_rests, stretch_told}
 
 -- ---- answers
@@ -44,6 +47,15 @@ pub if_ok_both : {X E : Type 0} (result : Result X E) (P : X → Type 0) (Q : Ty
     → ((x : X) → P x → Q → R x) → IfOk result P → OnOk result Q → IfOk result R
 if_ok_both (Ok x) P Q R follows p q = follows x p q
 if_ok_both (Err e) P Q R follows p q = tt
+
+-- a call that breaks off otherwise than by a write had no memory
+pub memory_alone : (e : Cut) → (e ≡ Write → ⊥) → e ≡ Memory
+memory_alone Memory no_write = refl
+memory_alone Write no_write = absurd (no_write refl)
+
+pub memory_else : {X : Type 0} (result : Result X Cut) → (result ≡ Err Write → ⊥) → IfErr result (λ e. e ≡ Memory)
+memory_else (Ok x) no_write = tt
+memory_else (Err e) no_write = memory_alone e (λ is. no_write (ap Err is))
 
 -- a stretch begins with an event where there is one
 pub begun_is : (events : List Timed) (empty : Bool) → empty ≡ (length events == 0) → not empty ≡ is_begun events
@@ -118,39 +130,48 @@ module _ {F : Type 0} (answers : Bounds → ℕ → F → Option ℕ → F → T
 
 -- ---- several stretches
 
-module _ {F : Type 0} (answers : Bounds → ℕ → F → Option ℕ → F → Type 0) (exact : Bool) (d : DocumentState) (until : ℕ)
-    (options : TimelineOptions) (names : List ℕ) (events : List Timed) (fate : F) (w : WorldState) (a : AsideState)
-  where
-    -- as systems start
-    abbrev pub first : CarriedAside
-    first = record { carried = none_carried (tracks options) names; aside = a }
+-- none of some stretches, and of one more, began later than a time
+begun_by : (from to : ℕ) (ps : List StretchTrace) (p : StretchTrace) → from ≤ to → p.from ≤ to
+    → AllByRecursion (λ (q : StretchTrace). q.from ≤ from) ps
+    → AllByRecursion (λ (q : StretchTrace). q.from ≤ to) (ps ++ p ∷ [])
+begun_by from to [] p less last begun = (last, tt)
+begun_by from to (q ∷ qs) p less last begun =
+    let first = begun.0 in (omega (arith, first, less), begun_by from to qs p less last begun.1)
 
+module _ {F : Type 0} (answers : Bounds → ℕ → F → Option ℕ → F → Type 0) (exact : Bool) (d : DocumentState) (until : ℕ)
+    (options : TimelineOptions) (names : List ℕ) (start : Standing F) (first : CarriedAside)
+  where
     -- nobody is set aside
     abbrev Nobody : Type 0
-    Nobody = a.clocks ≡ []
+    Nobody = first.aside.clocks ≡ []
 
-    -- Stretches passed, the first from 0 on with these events; the next begins at a time with those that are left.
+    -- Stretches passed from the start on; the next begins at a time with the events that are left.
     pub record Gone (from : ℕ) (left : List Timed) (drawn : F) (between : WorldState) (kept : StretchesSoFar)
         (c : CarriedAside) (lines : List (List ℕ)) : Type 0 where
       pub passages : List StretchTrace
       pub more : (q : StretchTrace) (qs : List StretchTrace) (fate_after : F) (w' : WorldState)
           → AllPass answers exact d until from left drawn fate_after between w' (q ∷ qs)
-          → AllPass answers exact d until 0 events fate fate_after w w' (passages ++ q ∷ qs)
+          → AllPass answers exact d until start.from start.left start.fate fate_after start.world w'
+          (passages ++ q ∷ qs)
       pub some : (qs : List StretchTrace) (ts : List ActTrace)
           → SomePass answers exact d until from left drawn between qs ts
-          → SomePass answers exact d until 0 events fate w (passages ++ qs) ts
+          → SomePass answers exact d until start.from start.left start.fate start.world (passages ++ qs) ts
+      pub begin : AllByRecursion (λ (p : StretchTrace). p.from ≤ from) passages
+      pub over : c ≡ over_all passages first
       pub nobody : Nobody → c.aside.clocks ≡ []
       pub lines_are : Nobody → (qs : List StretchTrace) (ts : List ActTrace)
           → lines ++ all_lines options names c.carried qs ts
           ≡ all_lines options names first.carried (passages ++ qs) ts
       pub kept_is : (qs : List StretchTrace) → all_kept options.limits names c qs kept
-          ≡ all_kept options.limits names first (passages ++ qs) none_kept
+          ≡ all_kept options.limits names first (passages ++ qs) start.kept
 
-    pub gone_none : Gone 0 events fate w none_kept first []
+    pub gone_none : Gone start.from start.left start.fate start.world start.kept first []
     gone_none = record {
       passages = [];
       more = λ q qs fate_after w' all. all;
       some = λ qs ts some. some;
+      begin = tt;
+      over = refl;
       nobody = λ none. none;
       lines_are = λ none qs ts. refl;
       kept_is = λ qs. refl;
@@ -160,15 +181,15 @@ module _ {F : Type 0} (answers : Bounds → ℕ → F → Option ℕ → F → T
     pub record AllGone (fate_after : F) (w' : WorldState) (verdict : StretchesSoFar) (all : List (List ℕ)) : Type 0
       where
         pub passages : List StretchTrace
-        pub pass : AllPass answers exact d until 0 events fate fate_after w w' passages
-        pub verdict_is : verdict ≡ all_kept options.limits names first passages none_kept
+        pub pass : AllPass answers exact d until start.from start.left start.fate fate_after start.world w' passages
+        pub verdict_is : verdict ≡ all_kept options.limits names first passages start.kept
         pub are : Nobody → all ≡ all_lines options names first.carried passages []
 
     -- or some of them did
     pub record SomeGone (some_lines : List (List ℕ)) : Type 0 where
       pub passages : List StretchTrace
       pub acts : List ActTrace
-      pub pass : SomePass answers exact d until 0 events fate w passages acts
+      pub pass : SomePass answers exact d until start.from start.left start.fate start.world passages acts
       pub are : Nobody → some_lines ≡ all_lines options names first.carried passages acts
 
     -- one stretch more after which another comes
@@ -188,7 +209,8 @@ module _ {F : Type 0} (answers : Bounds → ℕ → F → Option ℕ → F → T
       gone_more = record {
         passages = gone.passages ++ p ∷ [];
         more = λ q qs fate_after w' all.
-            subst (AllPass answers exact d until 0 events fate fate_after w w') (behind (q ∷ qs))
+            subst (AllPass answers exact d until start.from start.left start.fate fate_after start.world w')
+            (behind (q ∷ qs))
             (gone.more p (q ∷ qs) fate_after w' (
               next,
               passage,
@@ -197,12 +219,16 @@ module _ {F : Type 0} (answers : Bounds → ℕ → F → Option ℕ → F → T
                   (sym to_is)
                   all,
             ));
-        some = λ qs ts rest. subst (λ ps. SomePass answers exact d until 0 events fate w ps ts) (behind qs)
+        some = λ qs ts rest.
+            subst (λ ps. SomePass answers exact d until start.from start.left start.fate start.world ps ts) (behind qs)
             (gone.some (p ∷ qs) ts (
               next,
               passage,
               subst (λ t. SomePass answers exact d until t (later_than from left) next p.after qs ts) (sym to_is) rest,
             ));
+        begin = begun_by from to gone.passages p (ends_later from to left is)
+            (subst (λ time. time ≤ to) (sym passage.from_is) (ends_later from to left is)) gone.begin;
+        over = ap (carry_over p) gone.over ∙ sym (over_one gone.passages p first);
         nobody = λ none. nobody_next p c (gone.nobody none);
         lines_are = λ none qs ts.
             ap (λ carried. (lines ++ told) ++ all_lines options names carried qs ts)
@@ -213,7 +239,7 @@ module _ {F : Type 0} (answers : Bounds → ℕ → F → Option ℕ → F → T
             ∙ gone.lines_are none (p ∷ qs) ts
             ∙ ap (λ ps. all_lines options names first.carried ps ts) (behind qs);
         kept_is = λ qs. gone.kept_is (p ∷ qs)
-            ∙ ap (λ ps. all_kept options.limits names first ps none_kept) (behind qs);
+            ∙ ap (λ ps. all_kept options.limits names first ps start.kept) (behind qs);
       }
 
     -- the last of them
@@ -390,151 +416,162 @@ module _ {F : Type 0} (answers : Bounds → ℕ → F → Option ℕ → F → T
       nobody some.courses
       ∙ ap (λ carried. acts_lines options names carried.readings some.acts) (nobody_begun plan.from c nobody)
 
+-- ---- so many stretches
+
+module _ {F : Type 0} (answers : Bounds → ℕ → F → Option ℕ → F → Type 0) (exact : Bool) (d : DocumentState)
+    (limits : Limits) where
+  -- with one more
+  pub earlier_more : (count : ℕ) (s t u : Standing F) (lines more : List (List ℕ))
+      → EarlierAreSeen answers exact d limits count s t lines → OneIsSeen answers exact d limits t u more
+      → first_time u.left ≡ Some u.from → EarlierAreSeen answers exact d limits (suc count) s u (lines ++ more)
+  earlier_more zero s t u lines more (same, none) one comes = (
+    u,
+    more,
+    [],
+    subst (λ x. OneIsSeen answers exact d limits x u more) same one,
+    comes,
+    (refl, refl),
+    ap (λ ls. ls ++ more) none ∙ sym (append-nil more),
+  )
+  earlier_more (suc count) s t u lines more (v, first, rest, passed, came, others, are) one comes = (
+    v,
+    first,
+    rest ++ more,
+    passed,
+    came,
+    earlier_more count v t u rest more others one comes,
+    ap (λ ls. ls ++ more) are ∙ append_assoc first rest more,
+  )
+
 -- ---- all stretches before an observer
 
 module _ {F : Type 0} (answers : Bounds → ℕ → F → Option ℕ → F → Type 0) (exact : Bool) (d : DocumentState) (until : ℕ)
-    (options : TimelineOptions) (names : List ℕ) (events : List Timed) (fate : F) (w : WorldState) (a : AsideState)
-  where
-    -- Stretches passed; the observer is where the next can begin, and this is so of the text of them.
-    pub record GoneSeen (from : ℕ) (left : List Timed) (drawn : F) (between : WorldState) (kept : StretchesSoFar)
-        (o : WatchState) (So : List ℕ → Type 0) : Type 0 where
-      pub carried : CarriedAside
-      pub lines : List (List ℕ)
-      pub gone : Gone answers exact d until options names events fate w a from left drawn between kept carried lines
-      pub rests : Rests options names carried between o
-      pub so : So (text_of lines)
+    (options : TimelineOptions) (names : List ℕ) (start : Standing F) (first : CarriedAside) where
+  -- stretches passed, and the observer is where the next can begin
+  pub record GoneSeen (s : Standing F) (lines : List (List ℕ)) : Type 0 where
+    pub carried : CarriedAside
+    pub gone : Gone answers exact d until options names start first s.from s.left s.fate s.world s.kept carried lines
+    pub rests : Rests options names carried s.world s.watch
 
-    pub seen_none : (o : WatchState) (So : List ℕ → Type 0)
-        → Rests options names (record { carried = none_carried (tracks options) names; aside = a }) w o → So []
-        → GoneSeen 0 events fate w none_kept o So
-    seen_none o So rests so = record {
-      carried = record { carried = none_carried (tracks options) names; aside = a };
-      lines = [];
-      gone = gone_none answers exact d until options names events fate w a;
-      rests = rests;
-      so = so;
-    }
+  seen_none : Rests options names first start.world start.watch → GoneSeen start []
+  seen_none rests = record {
+    carried = first;
+    gone = gone_none answers exact d until options names start first;
+    rests = rests;
+  }
 
-    module _ (from to : ℕ) (left : List Timed) (drawn : F) (between : WorldState) (kept : StretchesSoFar)
-        (o : WatchState) (First Second Both : List ℕ → Type 0)
-        (both : (one two : List ℕ) → First one → Second two → Both (one ++ two))
-        (so_far : GoneSeen from left drawn between kept o First) where
-      -- what is so of the lines so far and of those of the next is so of both
-      joined : (told : List (List ℕ)) → Second (text_of told) → Both (text_of (so_far.lines ++ told))
-      joined told so =
-          subst Both (sym (text_append so_far.lines told)) (both (text_of so_far.lines) (text_of told) so_far.so so)
+  -- one more
+  module _ (s t : Standing F) (lines more : List (List ℕ)) (so_far : GoneSeen s lines)
+      (k : OneIsSeen answers exact d options.limits s t more) where
+    abbrev passed : StretchTrace
+    passed = passage_of k.plan (now_of s.from s.left) k.seen.acts t.world
 
-      -- it passed
-      module _ (plan : Plan) (next : F) (after : WorldState) (o_after : WatchState) (told : List (List ℕ))
-          (verdict : StretchesSoFar) (known : IsTimelinePlan exact d from to (is_begun (now_of from left)) plan)
-          (seen : StretchIsSeen answers plan (now_of from left) drawn next between after o o_after told)
-          (verdict_is : verdict ≡ kept_after options.limits (end_of plan after o_after) kept)
-          (so : Second (text_of (told ++ end_lines plan after o_after))) where
-        abbrev passed : StretchTrace
-        passed = passage_of plan (now_of from left) seen.acts after
+    lines_are : first.aside.clocks ≡ [] → more ≡ passage_lines options names so_far.carried.carried passed
+    lines_are nobody =
+        k.are
+        ∙ seen_lines answers options names so_far.carried k.plan (now_of s.from s.left) s.fate s.world s.watch
+        so_far.rests t.fate t.world t.watch k.told k.seen k.known.begins_is (so_far.gone.nobody nobody)
 
-        abbrev written : List (List ℕ)
-        written = told ++ end_lines plan after o_after
+    kept_so : t.kept ≡ kept_after options.limits (end_in names so_far.carried passed) s.kept
+    kept_so =
+        k.kept_is
+        ∙ ap (λ e. kept_after options.limits e s.kept)
+        (seen_end answers options names so_far.carried k.plan (now_of s.from s.left) s.fate s.world s.watch
+        so_far.rests t.fate t.world t.watch k.told k.seen k.known.begins_is)
 
-        lines_are : a.clocks ≡ [] → written ≡ passage_lines options names so_far.carried.carried passed
-        lines_are nobody =
-            seen_lines answers options names so_far.carried plan (now_of from left) drawn between o so_far.rests next
-            after o_after told seen known.begins_is (so_far.gone.nobody nobody)
+    passes : t.from ≡ end_before until (later_than s.from s.left)
+        → IsPassage answers exact d until s.from s.left s.fate t.fate s.world passed
+    passes ends =
+        is_passage answers exact d until s.from t.from s.left ends k.plan k.known s.fate t.fate s.world t.world
+        k.seen.acts k.seen.courses
 
-        verdict_so : verdict ≡ kept_after options.limits (end_in names so_far.carried passed) kept
-        verdict_so =
-            verdict_is
-            ∙ ap (λ e. kept_after options.limits e kept)
-            (seen_end answers options names so_far.carried plan (now_of from left) drawn between o so_far.rests next
-            after o_after told seen known.begins_is)
-
-        both_so : Both (text_of (so_far.lines ++ written))
-        both_so = joined written so
-
-        -- and another comes
-        pub seen_more : first_time (later_than from left) ≡ Some to
-            → GoneSeen to (later_than from left) next after verdict o_after Both
-        seen_more is = record {
+    -- and another comes
+    seen_more : first_time t.left ≡ Some t.from → GoneSeen t (lines ++ more)
+    seen_more comes =
+        let is : first_time (later_than s.from s.left) ≡ Some t.from = ap first_time (sym k.left_is) ∙ comes in record {
           carried = carry_over passed so_far.carried;
-          lines = so_far.lines ++ written;
-          gone = subst (λ e. Gone answers exact d until options names events fate w a to (later_than from left) next
-              after e (carry_over passed so_far.carried) (so_far.lines ++ written))
-              (sym verdict_so)
-              (gone_more answers exact d until options names events fate w a from to left drawn next between kept
-              so_far.carried so_far.lines so_far.gone passed written lines_are
-              (is_passage answers exact d until from to left (sym (ends_before until (later_than from left) to is)) plan
-              known drawn next between after seen.acts seen.courses) is);
-          rests = seen_rests answers options names so_far.carried plan (now_of from left) drawn between o so_far.rests
-              next after o_after told seen known.begins_is;
-          so = both_so;
+          gone = subst (λ left. Gone answers exact d until options names start first t.from left t.fate t.world t.kept
+              (carry_over passed so_far.carried) (lines ++ more)) (sym k.left_is)
+              (subst (λ e. Gone answers exact d until options names start first t.from (later_than s.from s.left)
+              t.fate t.world e (carry_over passed so_far.carried) (lines ++ more)) (sym kept_so)
+              (gone_more answers exact d until options names start first s.from t.from s.left s.fate t.fate s.world
+              s.kept so_far.carried lines so_far.gone passed more lines_are
+              (passes (sym (ends_before until (later_than s.from s.left) t.from is))) is));
+          rests = seen_rests answers options names so_far.carried k.plan (now_of s.from s.left) s.fate s.world s.watch
+              so_far.rests t.fate t.world t.watch k.told k.seen k.known.begins_is;
         }
 
-        -- and it is the last
-        pub seen_all : later_than from left ≡ [] → to ≡ until
-            → (passages : List StretchTrace) × AllPass answers exact d until 0 events fate next w after passages
-            × (verdict ≡ all_kept options.limits names
-            (record { carried = none_carried (tracks options) names; aside = a }) passages none_kept)
-            × (a.clocks ≡ []
-            → Both (text_of (all_lines options names (none_carried (tracks options) names) passages [])))
-        seen_all none last =
-            let ends : to ≡ end_before until (later_than from left) = last ∙ ap (end_before until) (sym none) in
-            let all = gone_all answers exact d until options names events fate w a from left drawn between kept
-            so_far.carried so_far.lines so_far.gone passed written lines_are next
-            (is_passage answers exact d until from to left ends plan known drawn next between after seen.acts
-            seen.courses) none in (
-              all.passages,
-              all.pass,
-              verdict_so ∙ all.verdict_is,
-              λ nobody. subst (λ xs. Both (text_of xs)) (all.are nobody) both_so,
-            )
+    -- and it is the last
+    seen_last : t.from ≡ until → t.left ≡ []
+        → AllGone answers exact d until options names start first t.fate t.world t.kept (lines ++ more)
+    seen_last ends none =
+        let none_later : later_than s.from s.left ≡ [] = sym k.left_is ∙ none in
+        subst (λ e. AllGone answers exact d until options names start first t.fate t.world e (lines ++ more))
+        (sym kept_so)
+        (gone_all answers exact d until options names start first s.from s.left s.fate s.world s.kept so_far.carried
+        lines so_far.gone passed more lines_are t.fate (passes (ends ∙ ap (end_before until) (sym none_later)))
+        none_later)
 
-      -- it breaks off
-      pub seen_some : (lines : List (List ℕ)) → to ≡ end_before until (later_than from left)
-          → StopsSeen answers exact d from to (now_of from left) drawn between o lines → Second (text_of lines)
-          → (passages : List StretchTrace) × (acts : List ActTrace)
-          × SomePass answers exact d until 0 events fate w passages acts
-          × (a.clocks ≡ []
-          → Both (text_of (all_lines options names (none_carried (tracks options) names) passages acts)))
-      seen_some lines ends stops so = by stops
-        where
-          some_of : (more : List (List ℕ)) → lines ≡ more
-              → SomeGone answers exact d until options names events fate w a (so_far.lines ++ more)
-              → (passages : List StretchTrace) × (acts : List ActTrace)
-              × SomePass answers exact d until 0 events fate w passages acts
-              × (a.clocks ≡ []
-              → Both (text_of (all_lines options names (none_carried (tracks options) names) passages acts)))
-          some_of more are some = (
-            some.passages,
-            some.acts,
-            some.pass,
-            λ nobody. subst (λ xs. Both (text_of xs)) (ap (λ xs. so_far.lines ++ xs) are ∙ some.are nobody)
-                (joined lines so),
-          )
+  -- so many
+  earlier_seen : (count : ℕ) (s t : Standing F) (before lines : List (List ℕ)) → GoneSeen s before
+      → EarlierAreSeen answers exact d options.limits count s t lines → GoneSeen t (before ++ lines)
+  earlier_seen zero s t before lines so_far (same, none) =
+      subst (λ x. GoneSeen x (before ++ lines)) (sym same)
+      (subst (GoneSeen s) (sym (ap (λ ls. before ++ ls) none ∙ append-nil before)) so_far)
+  earlier_seen (suc count) s t before lines so_far (u, one, rest, passed, comes, others, are) =
+      subst (GoneSeen t) (append_assoc before one rest ∙ ap (λ ls. before ++ ls) (sym are))
+      (earlier_seen count u t (before ++ one) rest (seen_more s u before one so_far passed comes) others)
 
-          by : StopsSeen answers exact d from to (now_of from left) drawn between o lines
-              → (passages : List StretchTrace) × (acts : List ActTrace)
-              × SomePass answers exact d until 0 events fate w passages acts
-              × (a.clocks ≡ []
-              → Both (text_of (all_lines options names (none_carried (tracks options) names) passages acts)))
-          by (inl none) =
-              some_of [] none
-              (gone_no_further answers exact d until options names events fate w a from left drawn between kept
-              so_far.carried so_far.lines so_far.gone)
-          by (inr (plan, known, inl some)) =
-              some_of lines refl
-              (gone_on answers exact d until options names events fate w a from left drawn between kept so_far.carried
-              so_far.lines so_far.gone some.acts lines
-              (some_acts answers exact d until from to left ends plan known drawn between some.acts some.courses)
-              (λ nobody. seen_so_far answers options names so_far.carried plan (now_of from left) drawn between o
-              so_far.rests lines some (so_far.gone.nobody nobody)))
-          by (inr (plan, known, inr whole)) =
-              some_of lines refl
-              (gone_to_end answers exact d until options names events fate w a from left drawn between kept
-              so_far.carried so_far.lines so_far.gone
-              (passage_of plan (now_of from left) whole.seen.acts whole.after) lines
-              (λ nobody. whole.are
-              ∙ seen_lines answers options names so_far.carried plan (now_of from left) drawn between o so_far.rests
-              whole.fate_after whole.after whole.o_after whole.told whole.seen known.begins_is
-              (so_far.gone.nobody nobody)) whole.fate_after
-              (is_passage answers exact d until from to left ends plan known drawn whole.fate_after between whole.after
-              whole.seen.acts whole.seen.courses))
+  pub earlier_from : (count : ℕ) (t : Standing F) (lines : List (List ℕ))
+      → Rests options names first start.world start.watch
+      → EarlierAreSeen answers exact d options.limits count start t lines → GoneSeen t lines
+  earlier_from count t lines rests k = earlier_seen count start t [] lines (seen_none rests) k
+
+  -- all of them
+  pub all_seen : (t : Standing F) (lines : List (List ℕ)) → Rests options names first start.world start.watch
+      → AllAreSeen answers exact d options.limits start t lines → t.from ≡ until
+      → AllGone answers exact d until options names start first t.fate t.world t.kept lines
+  all_seen t lines rests k ends =
+      subst (AllGone answers exact d until options names start first t.fate t.world t.kept) (sym k.are)
+      (seen_last k.last t k.before k.more
+      (earlier_from k.count k.last k.before rests k.earlier) k.final ends k.none_left)
+
+  -- or it stops
+  pub stops_seen : (lines : List (List ℕ)) → Rests options names first start.world start.watch
+      → StopsBetween answers exact d options.limits until start lines
+      → SomeGone answers exact d until options names start first lines
+  stops_seen lines rests k =
+      subst (SomeGone answers exact d until options names start first) (sym k.are) (by k.more k.stops)
+    where
+      s : Standing F
+      s = k.last
+
+      so_far : GoneSeen s k.before
+      so_far = earlier_from k.count s k.before rests k.earlier
+
+      to : ℕ
+      to = end_before until (later_than s.from s.left)
+
+      by : (more : List (List ℕ))
+          → StopsSeen answers exact d s.from to (now_of s.from s.left) s.fate s.world s.watch more
+          → SomeGone answers exact d until options names start first (k.before ++ more)
+      by more (inl none) =
+          subst (λ ls. SomeGone answers exact d until options names start first (k.before ++ ls)) (sym none)
+          (gone_no_further answers exact d until options names start first s.from s.left s.fate s.world s.kept
+          so_far.carried k.before so_far.gone)
+      by more (inr (plan, known, inl some)) =
+          gone_on answers exact d until options names start first s.from s.left s.fate s.world s.kept so_far.carried
+          k.before so_far.gone some.acts more
+          (some_acts answers exact d until s.from to s.left refl plan known s.fate s.world some.acts some.courses)
+          (λ nobody. seen_so_far answers options names so_far.carried plan (now_of s.from s.left) s.fate s.world
+          s.watch so_far.rests more some (so_far.gone.nobody nobody))
+      by more (inr (plan, known, inr whole)) =
+          gone_to_end answers exact d until options names start first s.from s.left s.fate s.world s.kept
+          so_far.carried k.before so_far.gone
+          (passage_of plan (now_of s.from s.left) whole.seen.acts whole.after) more
+          (λ nobody. whole.are
+          ∙ seen_lines answers options names so_far.carried plan (now_of s.from s.left) s.fate s.world s.watch
+          so_far.rests whole.fate_after whole.after whole.o_after whole.told whole.seen known.begins_is
+          (so_far.gone.nobody nobody)) whole.fate_after
+          (is_passage answers exact d until s.from to s.left refl plan known s.fate whole.fate_after s.world whole.after
+          whole.seen.acts whole.seen.courses)

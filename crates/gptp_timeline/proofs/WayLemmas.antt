@@ -1,5 +1,5 @@
 -- The way that a system has by a document is the one that it has in each world that the document leads to.
-use Rattle.std.proofs.Common.{◌≡◌, ℕ, zero, suc, ◌*◌, ℤ, pos, List, [], Some, slice_get, inl, inr, sym, ap, ap₂, subst, ◌∙◌, arith}
+use Rattle.std.proofs.Common.{◌≡◌, ℕ, zero, suc, ◌*◌, ℤ, pos, List, [], Some, slice_get, inl, inr, refl, sym, ap, ap₂, subst, ◌∙◌, arith}
 use Rattle.std.proofs.lemmas.Option.{same_Some}
 use Rattle.gptp_error_laws.specs.TimeError.{WayLink, Way}
 use Rattle.gptp_error_laws.specs.WayLaws.{longer}
@@ -29,8 +29,6 @@ use Rattle.gptp_scenario.proofs.AfterLemmas.{after_keeps}
 use Rattle.gptp_theorem.specs.AlikeLaws.{AreAlike}
 use Rattle.gptp_theorem.specs.Reached.{Shape, shape, shape_after, StandsAsPlanned, channel_wire}
 use Rattle.gptp_theorem.proofs.AlikeLemmas.{distance, parent, turned}
-use Rattle.gptp_setup.specs.Intervals.{interval_of}
-use Rattle.gptp_setup.specs.Stamping.{behind_of, blur_of, rate_interval}
 use Rattle.gptp_roles.specs.Selection.{clock_of}
 use Rattle.gptp_accuracy.specs.Ways.{HasDrift, IsLinkTo, IsWay, root_way}
 use Rattle.gptp_sync_machine.specs.Tree.{IsWayTo, last_link, Parts, tree_root_way}
@@ -103,21 +101,8 @@ module _ (n : NetworkState) (network : IsNetwork n) (events : List Timed) (w : W
 
   -- ---- ways
 
-  -- a rate is measured over one exchange
   exact_way : (clock : ℕ) → tree_root_way x clock ≡ root_way n.params (x.drift clock)
-  exact_way clock =
-      let ranges = network.params.ranges in
-      let window : rate_interval n.params ≡ interval_of n.params.pdelay =
-      ap (λ v. v * interval_of n.params.pdelay) ranges.one_exchange ∙ omega arith in
-      λ i. record {
-        drift = x.drift clock;
-        links = [];
-        blur = blur_of n.params;
-        behind = behind_of n.params;
-        interval = sym window i;
-        turnaround = n.params.turnaround;
-        residence = n.params.residence;
-      }
+  exact_way clock = refl
 
   module _ (g : Snapshot) (same : AreAlike (snapshot_of w) g) where
     one_way : (steps clock : ℕ) (way v : Way) (phase : ℕ → ℕ) → IsWay n events g steps clock way

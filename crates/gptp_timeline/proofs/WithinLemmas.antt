@@ -34,7 +34,7 @@ use Rattle.gptp_network.proofs.LawLemmas.{one_snapshot}
 use Rattle.gptp_pdelay.specs.Clock.{local_clock}
 use Rattle.gptp_scenario.specs.Calm.{IsCalm, last_change}
 use Rattle.gptp_scenario.specs.Network.{NetworkState, pace_of}
-use Rattle.gptp_scenario.specs.SettlingTime.{settling_span_with}
+use Rattle.gptp_scenario.specs.SettlingTime.{settling_span_with, window_span}
 use Rattle.gptp_scenario.specs.SyncWait.{sync_paths}
 use Rattle.gptp_scenario.specs.declared.change.Timed.{Timed}
 use Rattle.gptp_scenario.specs.declared.sync_wait.SyncPaths.{SyncPaths}
@@ -144,9 +144,9 @@ best_apart g name steps best wf far is_best is =
 -- ---- times
 
 -- a system has fewer steps than a path has systems
-late_enough : (change span from time most steps each : ℕ) → from ≡ change + span + most * each → from ≤ time
-    → steps ≤ most → change + (span + steps * each) ≤ time
-late_enough change span from time most steps each is late few =
+late_enough : (change span window from time most steps each : ℕ) → from ≡ change + span + window + most * each
+    → from ≤ time → steps ≤ most → change + (span + window + steps * each) ≤ time
+late_enough change span window from time most steps each is late few =
     let product : steps * each ≤ most * each = mul-le-mul few (le_refl each) in omega (arith, is, late, product)
 
 -- settling takes some time
@@ -238,8 +238,8 @@ module _ {F : Type 0} (answers : Bounds → ℕ → F → Option ℕ → F → T
         calm =
             calm_since answers d playable names events (last_change events) span g has.calm has.stands (omega arith)
             refl (exact_span (path_bound g) (suc has.steps)) then keeps_then
-            (late_enough (last_change events) span from (at_of t) (path_bound g) (suc has.steps)
-            (n.params.threshold + n.params.residence) has.from_is late few)
+            (late_enough (last_change events) span (window_span n.params) from (at_of t) (path_bound g)
+            (suc has.steps) (n.params.threshold + n.params.residence) has.from_is late few)
 
         pub rest : (s : SystemState) → live_system name t.after ≡ Some s → IsAtRest (snapshot_of t.after) s
         rest s is =

@@ -17,7 +17,7 @@ use Rattle.gptp_network.specs.Snapshot.{events_by, IsSnapshot}
 use Rattle.gptp_network.specs.Span.{IsBound}
 use Rattle.gptp_scenario.specs.Calm.{last_change}
 use Rattle.gptp_scenario.specs.Network.{NetworkState, pace_of}
-use Rattle.gptp_scenario.specs.SettlingTime.{settling_span_with}
+use Rattle.gptp_scenario.specs.SettlingTime.{settling_span_with, window_span}
 use Rattle.gptp_scenario.specs.SyncWait.{sync_paths}
 use Rattle.gptp_scenario.specs.declared.change.Timed.{Timed}
 use Rattle.gptp_theorem.specs.PlayedLaws.{IsPlayable}
@@ -106,11 +106,12 @@ StretchesFollow {F} answers = (d : DocumentState) (until : ℕ) (options : Timel
     (lines : List (List ℕ)) (exceeded : Bool) (t : TimelineOf answers d until options fate lines exceeded)
     → IsPlayable d → Follow d t.start t.passages
 
--- From when on a network that is calm after these events is exact whatever came before: it has settled by then, and
--- what each system uses has come down the settled tree, at most a threshold and a residence for each system of a path.
+-- From when on a network that is calm after these events is exact whatever came before: it has settled by then, rates
+-- are measured over whole windows, and what each system uses has come down the settled tree, at most a threshold and a
+-- residence for each system of a path.
 abbrev pub exact_by_span : NetworkState → List Timed → Snapshot → ℕ
 exact_by_span n events g =
-    last_change events + settling_span_with (pace_of n) (sync_paths n events) (path_bound g)
+    last_change events + settling_span_with (pace_of n) (sync_paths n events) (path_bound g) + window_span n.params
     + path_bound g * (n.params.threshold + n.params.residence)
 
 -- from when on a document is so after its events up to a time

@@ -31,4 +31,5 @@ pub mod Ends
 pub mod Keepers
 pub mod LastStretches
 pub mod Passing
+pub mod RunSoFar
 pub mod Laws

@@ -1,5 +1,5 @@
 -- What is asked of stretches, and which of it isn't so (profile).
-use Rattle.std.specs.Prelude.{ℕ, ◌-◌, ◌*◌, ◌==◌, ◌&&◌, ◌||◌, nat_lt, Bool, true, false, if◌then◌else◌, List, [], ◌∷◌, ◌++◌, codes, Option, Some, None, is_some, slice_index_or}
+use Rattle.std.specs.Prelude.{ℕ, ◌-◌, ◌*◌, ◌==◌, ◌&&◌, ◌||◌, nat_lt, Bool, true, false, if◌then◌else◌, List, [], ◌∷◌, ◌++◌, codes, Option, Some, None, is_some, replicate, slice_index_or}
 use Rattle.std.specs.Option.{option_and_then, option_map}
 use Rattle.gptp_how_soon.specs.declared.bounds.Settling.{Settling}
 use Rattle.gptp_timeline.specs.declared.limits.Limit.{Limit}
@@ -11,6 +11,10 @@ use Rattle.gptp_timeline.specs.declared.measures.Greatest.{Greatest}
 use Rattle.gptp_timeline.specs.declared.stretch.Stretch.{Stretch}
 
 -- ---- the limits
+
+-- none is given
+abbrev pub no_limits : Limits
+no_limits = record { most = replicate 13 None }
 
 -- in the order in which a verdict names the first that is exceeded
 abbrev pub all_limits : List Limit

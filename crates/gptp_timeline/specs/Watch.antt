@@ -20,6 +20,7 @@ use Rattle.gptp_timeline.specs.Readings.{new_reading}
 use Rattle.gptp_timeline.specs.Receipts.{offset_error, offset_line, received_by}
 use Rattle.gptp_timeline.specs.Shown.{is_expecting, live_system, same_choice, same_roles}
 use Rattle.gptp_timeline.specs.Stretch.{same_known}
+use Rattle.gptp_timeline.specs.Aside.{AsideState}
 use Rattle.gptp_timeline.specs.TimeWatch.{TimeState, times_after, times_begun, times_lines}
 use Rattle.gptp_timeline.specs.declared.compared.Compared.{Compared}
 use Rattle.gptp_timeline.specs.declared.compared.Compared.TheVariants.{All}
@@ -91,6 +92,13 @@ watch_begun at exact_from events o = record o {
   measures = nothing;
   times = option_map (times_begun at exact_from events) o.times;
 }
+
+-- others are set aside
+abbrev pub times_aside : AsideState → TimeState → TimeState
+times_aside aside times = record times { aside = aside }
+
+abbrev pub with_aside : AsideState → WatchState → WatchState
+with_aside aside o = record o { times = option_map (times_aside aside) o.times }
 
 -- ---- systems that are looked at
 

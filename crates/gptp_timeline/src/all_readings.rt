@@ -152,7 +152,7 @@ fn lose_none(systems: &mut Vec<SystemReading>, sources: &[TimeSource], clock: Cl
 }
 
 impl AllReadings {
-    ghost use Rattle.std.specs.Prelude.{◌≡◌, [], None, OnOk, Some};
+    ghost use Rattle.std.specs.Prelude.{◌≡◌, [], None, IfOk, OnOk, Some};
     ghost use Rattle.gptp_timeline.specs.Readings.{put_reading, reading_among};
     ghost use Rattle.gptp_timeline.specs.ToldSources.{AreSources, IsAccount, ReadingsRise};
 
@@ -165,6 +165,16 @@ impl AllReadings {
             systems,
             sources: Vec::new(alloc),
         }
+    }
+
+    /// Each system reads by the same. Refused for want of memory alone.
+    pub(crate) fn copy(&self, alloc: Global) -> Result<Self, AllocError>
+        ensures { IfOk result (λ readings. readings ≡ self.now) }
+    {
+        Ok(AllReadings {
+            systems: Vec::from_slice(alloc, &self.systems)?,
+            sources: Vec::from_slice(alloc, &self.sources)?,
+        })
     }
 
     /// What each system reads by, by rising clock.

@@ -79,6 +79,15 @@ impl Ports {
     ghost use Rattle.gptp_setup.specs.declared.limits.TheConstants.{MOST_PORTS};
     ghost use Rattle.gptp_system.specs.State.{number};
 
+    /// Equal ports. Takes no memory.
+    pub(crate) fn copy(&self) -> Self
+        ensures { result ≡ self.now }
+    {
+        let mut ports = ArrayVec::new();
+        let _ = ports.try_extend_from_slice(self.ports.as_slice());
+        Ports { ports }
+    }
+
     /// What is shown of the port with a number, if there is one.
     pub(crate) fn port(&self, port: u16) -> Option<ShownPort>
         ensures { result ≡ number self.now port }

@@ -26,6 +26,33 @@ pub(crate) struct Shown {
     pub ports: Ports,
 }
 
+impl Shown {
+    ghost use Rattle.std.specs.Prelude.{◌≡◌};
+
+    /// The same is shown. Takes no memory.
+    fn copy(&self) -> Self
+        ensures { result ≡ self.now }
+    {
+        Shown {
+            root: self.root,
+            steps: self.steps,
+            slave: self.slave,
+            known: self.known,
+            ports: self.ports.copy(),
+        }
+    }
+}
+
+/// The same is shown of a system, or nothing.
+pub(crate) fn copy_shown(shown: &Option<Shown>) -> Option<Shown>
+    ensures { result ≡ shown.now }
+{
+    match shown {
+        Some(shown) => Some(shown.copy()),
+        None => None,
+    }
+}
+
 /// What is shown of a live system.
 pub(crate) fn shown_of(system: &System) -> Shown
     requires { length system.now.ports ≤ MOST_PORTS }

@@ -188,6 +188,22 @@ impl TimeWatch {
         })
     }
 
+    /// The same account, of which these systems are set aside. Refused for want of memory alone.
+    pub(crate) fn copy(&self, alloc: Global, aside: SetAside) -> Result<Self, AllocError>
+        ensures { IfOk result (λ w. w ≡ record self.now { aside = aside }) }
+    {
+        Ok(TimeWatch {
+            lines: self.lines,
+            told: self.told,
+            exact_from: self.exact_from,
+            events_left: self.events_left,
+            systems: self.systems.copy(alloc)?,
+            reads: Vec::from_slice(alloc, &self.reads)?,
+            measures: self.measures,
+            aside,
+        })
+    }
+
     /// Whether its lines are asked for where a stretch ends.
     pub(crate) fn lines(&self) -> bool
         ensures { result ≡ self.now.lines }

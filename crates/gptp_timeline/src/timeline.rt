@@ -15,7 +15,8 @@ ghost use Rattle.gptp_words.specs.Lines.{text_of};
 ghost use Rattle.gptp_accuracy.specs.Settlings.{AreTimesOf};
 ghost use Rattle.gptp_timeline.specs.LastStretches.{EndsOf, all_kept, end_of, first_aside, kept_after, none_kept};
 ghost use Rattle.gptp_timeline.specs.Limits.{is_exceeded, verdict_lines};
-ghost use Rattle.gptp_timeline.specs.Passing.{StretchBreaksOff, StretchIsSeen, StopsSeen, aside_kept, first_time, times_before, watch_at_start, watch_before};
+ghost use Rattle.gptp_timeline.specs.Passing.{AllAreSeen, EarlierAreSeen, MayPass, StopsBetween, StretchBreaksOff, StretchIsSeen, StopsSeen, aside_kept, first_time, standing, times_before, watch_at_start, watch_before};
+ghost use Rattle.gptp_timeline.specs.RunSoFar.{summary_of};
 ghost use Rattle.gptp_timeline.specs.Timeline.{AllPass, AreErrorsBy, AreErrorsIf, BeginsTimeline, IsTimelinePlan, StretchTrace, SomePass, TimelineOf, all_lines, asks_lines, end_lines, exact_time, is_begun, kept_accuracy, later_than, line_of_times, none_carried, now_of, reads_kept, times_ended, tracks};
 ghost use Rattle.gptp_timeline.specs.Watch.{event_look, lines_all, see_all};
 
@@ -54,7 +55,7 @@ pub struct TimelineOptions {
 
 /// A stretch that begins: what is known of it by the document alone.
 #[derive(Drop)]
-struct Plan {
+pub(crate) struct Plan {
     from: u64,
     to: u64,
     begins_with_event: bool,
@@ -73,7 +74,7 @@ fn count_by(events: &[Timed], time: u64) -> usize
 }
 
 /// The events with time up to a time.
-fn events_by(events: &[Timed], until: u64) -> &[Timed]
+pub(crate) fn events_by(events: &[Timed], until: u64) -> &[Timed]
     requires { AreInOrder events.now }
     ensures { result.now ≡ events_by until events.now }
 {
@@ -82,7 +83,7 @@ fn events_by(events: &[Timed], until: u64) -> &[Timed]
 }
 
 /// The events that come later than a time.
-fn events_after(events: &[Timed], time: u64) -> &[Timed]
+pub(crate) fn events_after(events: &[Timed], time: u64) -> &[Timed]
     requires { AreInOrder events.now }
     ensures { result.now ≡ later_than time events.now }
 {
@@ -91,7 +92,7 @@ fn events_after(events: &[Timed], time: u64) -> &[Timed]
 }
 
 /// When the first of these events comes that come later than a time.
-fn next_time(events: &[Timed], time: u64) -> Option<u64>
+pub(crate) fn next_time(events: &[Timed], time: u64) -> Option<u64>
     requires { AreInOrder events.now }
     ensures { result ≡ first_time (later_than time events.now) }
 {
@@ -139,7 +140,7 @@ fn errors_asked(
 }
 
 /// What is known of a stretch by the document alone, whose times these are.
-fn plan_of(
+pub(crate) fn plan_of(
     alloc: Global,
     document: &Document,
     times: &[SettlingTime],
@@ -259,7 +260,7 @@ fn times_before<F: Fate + Drop>(
 }
 
 /// An observer of a world whose systems start, before it has seen that, of which some are set aside.
-fn watch_before<F: Fate + Drop>(
+pub(crate) fn watch_before<F: Fate + Drop>(
     alloc: Global,
     world: &World<F>,
     options: &TimelineOptions,
@@ -272,7 +273,7 @@ fn watch_before<F: Fate + Drop>(
 }
 
 /// Writes the lines of a stretch that ended in a world, and answers how it did.
-fn end_stretch<F: Fate + Drop, K: Sink>(
+pub(crate) fn end_stretch<F: Fate + Drop, K: Sink>(
     alloc: Global,
     world: &World<F>,
     plan: &Plan,
@@ -337,7 +338,7 @@ fn pass_stretch<F: Fate + Drop, K: Sink>(
 }
 
 /// Lets a stretch pass that begins at a time with its events, and answers what is kept of all until then.
-fn next_stretch<F: Fate + Drop, K: Sink>(
+pub(crate) fn next_stretch<F: Fate + Drop, K: Sink>(
     alloc: Global,
     document: &Document,
     times: &[SettlingTime],
@@ -371,6 +372,98 @@ fn next_stretch<F: Fate + Drop, K: Sink>(
     let plan = plan_of(alloc, document, times, exact, from, to, !events.is_empty())?;
     let end = pass_stretch(alloc, world, &plan, events, watch, sink)?;
     Ok(keep(limits, end, before))
+}
+
+/// Where a stretch begins: when, in ns, the events that are left then, and what is kept of the stretches before.
+#[derive(Drop)]
+pub(crate) struct StretchBegins<'a> {
+    pub(crate) from: u64,
+    pub(crate) left: &'a [Timed],
+    pub(crate) kept: StretchesSoFar,
+}
+
+/// Lets all stretches pass up to a time but the last, and answers where that begins.
+pub(crate) fn earlier_stretches<'a, F: Fate + Drop, K: Sink>(
+    alloc: Global,
+    document: &Document,
+    times: &[SettlingTime],
+    exact: bool,
+    world: &mut World<F>,
+    until: u64,
+    begins: StretchBegins<'a>,
+    limits: &Limits,
+    watch: &mut Watch,
+    sink: &mut K,
+) -> Result<StretchBegins<'a>, Cut>
+    requires moment { IsMoment until }
+    requires may { MayPass until begins.from begins.left.now world.old.world_core }
+    requires times { AreTimesOf document.now times.now }
+    ensures passed { IfOk result (λ last. (count : ℕ) × (lines : List (List ℕ))
+        × EarlierAreSeen F.answers exact document.now limits.now count
+        (standing begins.entry.from begins.entry.left.now world.old.fate world.old.world_core watch.old begins.entry.kept)
+        (standing last.from last.left.now world.new.fate world.new.world_core watch.new last.kept) lines
+        × Appends (K.written sink.old) (K.written sink.new) (text_of lines)) }
+    ensures may { IfOk result (λ last. MayPass until last.from last.left.now world.new.world_core) }
+    ensures last { IfOk result (λ last. later_than last.from last.left.now ≡ []) }
+    ensures broken { OnErr result ((lines : List (List ℕ))
+        × StopsBetween F.answers exact document.now limits.now until
+        (standing begins.entry.from begins.entry.left.now world.old.fate world.old.world_core watch.old begins.entry.kept) lines
+        × AppendsSome (K.written sink.old) (K.written sink.new) (text_of lines)) }
+    ensures works { result ≢ Err Cut.Write → K.failures sink.new ≡ K.failures sink.old }
+    ensures fails { result ≡ Err Cut.Write → K.failures sink.new ≢ K.failures sink.old }
+{
+    let StretchBegins {
+        mut from,
+        mut left,
+        mut kept,
+    } = begins;
+    while let Some(to) = next_time(left, from) {
+        world.well_formed();
+        let now = events_by(left, from);
+        kept = next_stretch(
+            alloc, document, times, exact, world, from, to, now, limits, kept, watch, sink,
+        )?;
+        left = events_after(left, from);
+        from = to;
+    }
+    Ok(StretchBegins { from, left, kept })
+}
+
+/// Lets all stretches pass up to a time, and answers what is kept of them.
+pub(crate) fn stretches_from<'a, F: Fate + Drop, K: Sink>(
+    alloc: Global,
+    document: &Document,
+    times: &[SettlingTime],
+    exact: bool,
+    world: &mut World<F>,
+    until: u64,
+    begins: StretchBegins<'a>,
+    limits: &Limits,
+    watch: &mut Watch,
+    sink: &mut K,
+) -> Result<StretchesSoFar, Cut>
+    requires moment { IsMoment until }
+    requires may { MayPass until begins.from begins.left.now world.old.world_core }
+    requires times { AreTimesOf document.now times.now }
+    ensures passed { IfOk result (λ kept. (lines : List (List ℕ))
+        × AllAreSeen F.answers exact document.now limits.now
+        (standing begins.entry.from begins.entry.left.now world.old.fate world.old.world_core watch.old begins.entry.kept)
+        (standing until [] world.new.fate world.new.world_core watch.new kept) lines
+        × Appends (K.written sink.old) (K.written sink.new) (text_of lines)) }
+    ensures broken { OnErr result ((lines : List (List ℕ))
+        × StopsBetween F.answers exact document.now limits.now until
+        (standing begins.entry.from begins.entry.left.now world.old.fate world.old.world_core watch.old begins.entry.kept) lines
+        × AppendsSome (K.written sink.old) (K.written sink.new) (text_of lines)) }
+    ensures works { result ≢ Err Cut.Write → K.failures sink.new ≡ K.failures sink.old }
+    ensures fails { result ≡ Err Cut.Write → K.failures sink.new ≢ K.failures sink.old }
+{
+    let last = earlier_stretches(
+        alloc, document, times, exact, world, until, begins, limits, watch, sink,
+    )?;
+    next_stretch(
+        alloc, document, times, exact, world, last.from, until, last.left, limits, last.kept,
+        watch, sink,
+    )
 }
 
 /// Lets all stretches pass of a world as it begins, and answers what is kept of them, where these are the times of the
@@ -410,25 +503,27 @@ fn all_stretches<F: Fate + Drop, K: Sink>(
 {
     document.well_formed();
     world.well_formed();
-    let limits = options.limits;
-    let mut left = events_by(document.events(), until);
-    let mut from = 0;
-    let mut kept = none_kept();
-    while let Some(to) = next_time(left, from) {
-        let now = events_by(left, from);
-        kept = next_stretch(
-            alloc, document, times, exact, world, from, to, now, &limits, kept, watch, sink,
-        )?;
-        left = events_after(left, from);
-        from = to;
-    }
-    next_stretch(
-        alloc, document, times, exact, world, from, until, left, &limits, kept, watch, sink,
+    let begins = StretchBegins {
+        from: 0,
+        left: events_by(document.events(), until),
+        kept: none_kept(),
+    };
+    stretches_from(
+        alloc,
+        document,
+        times,
+        exact,
+        world,
+        until,
+        begins,
+        &options.limits,
+        watch,
+        sink,
     )
 }
 
 /// Writes what the systems of a world are like as they start.
-fn write_start<F: Fate + Drop, K: Sink>(
+pub(crate) fn write_start<F: Fate + Drop, K: Sink>(
     alloc: Global,
     world: &World<F>,
     watch: &mut Watch,
@@ -504,8 +599,9 @@ pub fn write_timeline<F: Fate + Drop, K: Sink>(
 }
 
 /// A summary, in which it is told what systems read, or isn't.
-fn summary_with(times: bool) -> TimelineOptions
-    ensures { tracks result ≡ times }
+pub(crate) fn summary_with(times: bool) -> TimelineOptions
+    ensures is { result ≡ summary_of times }
+    ensures tracks { tracks result ≡ times }
 {
     TimelineOptions {
         summary: true,

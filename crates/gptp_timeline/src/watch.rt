@@ -8,8 +8,9 @@ ghost use Rattle.gptp_words.specs.Lines.{text_of};
 ghost use Rattle.gptp_timeline.specs.Leaving.{LeavesAll};
 ghost use Rattle.gptp_timeline.specs.Measures.{one_at};
 ghost use Rattle.gptp_timeline.specs.TimeWatch.{times_after, times_begun};
-ghost use Rattle.gptp_timeline.specs.Watch.{GetsNone, counts_from, times_lines_if, unseen, without_error};
+ghost use Rattle.gptp_timeline.specs.Watch.{GetsNone, counts_from, times_aside, times_lines_if, unseen, without_error};
 
+use crate::aside::SetAside;
 use crate::changes::write_changes;
 use crate::compared::{Compared, compared_by_expiry, compared_by_frame};
 use crate::event_line::write_event;
@@ -19,7 +20,8 @@ use crate::receipts::{error_of, received_by, write_offset};
 use crate::shown::{Shown, shown_of, shows_left};
 use crate::time_watch::TimeWatch;
 use crate::watched::{
-    ActView, Watched, error_after, measures_after, since_behind, wait_behind, waits_on,
+    ActView, Watched, copy_systems, error_after, measures_after, since_behind, wait_behind,
+    waits_on,
 };
 use gptp_hints::ClockHints;
 use gptp_links::Fate;
@@ -180,6 +182,20 @@ fn gets_none<F: Fate + Drop>(
     }
 }
 
+/// The same account, where there is one, of which these systems are set aside.
+fn copy_times(
+    alloc: Global,
+    times: &Option<TimeWatch>,
+    aside: SetAside,
+) -> Result<Option<TimeWatch>, AllocError>
+    ensures { IfOk result (λ copy. copy ≡ option_map (times_aside aside) times.now) }
+{
+    match times {
+        Some(times) => Ok(Some(times.copy(alloc, aside)?)),
+        None => Ok(None),
+    }
+}
+
 /// A stretch begins in the account, where there is one.
 fn begin_times(times: &mut Option<TimeWatch>, at: u64, exact_from: Option<u64>, events: usize)
     ensures { times.new ≡ option_map (times_begun at exact_from events) times.old }
@@ -219,7 +235,7 @@ impl Watch {
     ghost use Rattle.gptp_timeline.specs.Receipts.{offset_line};
     ghost use Rattle.gptp_timeline.specs.Compared.{left_by};
     ghost use Rattle.gptp_timeline.specs.Shown.{shown_of};
-    ghost use Rattle.gptp_timeline.specs.Watch.{WatchedRise, watch_begun, delivery_lines, event_look, lines_all, lines_at, nothing, PassesOver, place_of, placed_lines, receipt_lines_of, see_act, see_all, see_at, see_delivery, see_placed, see_receipt_of, see_system, see_times, seen_lines, times_lines_if, watched_lines, take_error, taken, unless, unseen};
+    ghost use Rattle.gptp_timeline.specs.Watch.{WatchedRise, watch_begun, delivery_lines, event_look, lines_all, lines_at, nothing, PassesOver, place_of, placed_lines, receipt_lines_of, see_act, see_all, see_at, see_delivery, see_placed, see_receipt_of, see_system, see_times, seen_lines, times_lines_if, watched_lines, take_error, taken, unless, unseen, with_aside};
     ghost use Rattle.gptp_timeline.specs.declared.watched.Watched.{Watched};
 
     /// An observer of a world whose systems start, before it has seen that.
@@ -250,6 +266,23 @@ impl Watch {
             hints,
             measures: NOTHING,
             times,
+        })
+    }
+
+    /// The same observer, with these systems set aside. Refused for want of memory alone.
+    pub(crate) fn copy(&self, alloc: Global, aside: SetAside) -> Result<Self, AllocError>
+        ensures { IfOk result (λ w. w ≡ with_aside aside self.now) }
+    {
+        let systems = copy_systems(alloc, &self.systems)?;
+        let hints = list_hints(alloc, &systems)?;
+        Ok(Watch {
+            summary: self.summary,
+            offsets: self.offsets,
+            exact_from: self.exact_from,
+            systems,
+            hints,
+            measures: self.measures,
+            times: copy_times(alloc, &self.times, aside)?,
         })
     }
 

@@ -1,13 +1,14 @@
 //! What is kept of each system while a document runs.
 
-ghost use Rattle.std.specs.Prelude.{◌≡◌};
+ghost use Rattle.std.specs.Prelude.{◌≡◌, ◌++◌, ◌∷◌, [], IfOk, OnOk};
 ghost use Rattle.gptp_timeline.specs.Watch.{error_after, measures_after, since_behind, wait_behind, waits_on};
 
 use crate::compared::Compared;
 use crate::measures::{Greatest, Measures, better_if, ended_by, last_if, since_after};
 use crate::ports::same_bool;
-use crate::shown::{Shown, is_expecting, is_known, same_choice, same_roles};
+use crate::shown::{Shown, copy_shown, is_expecting, is_known, same_choice, same_roles};
 use gptp_vector::ClockId;
+use std::alloc::{AllocError, Global};
 
 /// What is known of an act where a system is looked at.
 #[derive(Clone, Copy, Debug)]
@@ -34,6 +35,41 @@ pub(crate) struct Watched {
     /// The greatest absolute error of its receipts from the time on from which they are promised to be exact, in units
     /// of 2^-16 ns.
     pub error: Option<u128>,
+}
+
+impl Watched {
+    ghost use Rattle.std.specs.Prelude.{◌≡◌};
+
+    /// The same is kept. Takes no memory.
+    fn copy(&self) -> Self
+        ensures { result ≡ self.now }
+    {
+        Watched {
+            clock: self.clock,
+            shown: copy_shown(&self.shown),
+            since: self.since,
+            error: self.error,
+        }
+    }
+}
+
+/// Puts what is kept of a system behind others.
+fn push_watched(systems: &mut Vec<Watched>, system: &Watched) -> Result<(), AllocError>
+    ensures { OnOk result (systems.new.items ≡ systems.old.items ++ system.now ∷ []) }
+{
+    systems.push(system.copy())?;
+    Ok(())
+}
+
+/// The same is kept of all systems. Refused for want of memory alone.
+pub(crate) fn copy_systems(alloc: Global, systems: &[Watched]) -> Result<Vec<Watched>, AllocError>
+    ensures { IfOk result (λ copies. copies.items ≡ systems.now) }
+{
+    let mut copies = Vec::with_capacity(alloc, systems.len())?;
+    for system in systems {
+        push_watched(&mut copies, system)?;
+    }
+    Ok(copies)
 }
 
 /// When the wait under way of a system began, after an act that left it as `after`.

@@ -45,6 +45,7 @@ use Rattle.gptp_settling_time.proofs.CutLemmas.{acts_by}
 use Rattle.gptp_settling_time.proofs.ExactInTurnLemmas.{IsCarried}
 use Rattle.gptp_settling_time.proofs.MomentLemmas.{last_by}
 use Rattle.gptp_setup.specs.SettlingParams.{largest_interval}
+use Rattle.gptp_scenario.specs.SettlingTime.{window_span}
 use Rattle.gptp_sync_machine.specs.Tree.{IsWayTo}
 use Rattle.gptp_system.specs.State.{local_time, SystemState}
 use Rattle.gptp_system.specs.Takeover.{told_time}
@@ -210,6 +211,7 @@ module _ {F : Type 0} (answers : Bounds → ℕ → F → Option ℕ → F → T
   pub told_short : come_from short time choice ≤ exact
   told_short =
       subst (λ es. max (time + choice) (last_set es + largest_interval (pace_of d.network))
+      + window_span d.network.params
       + (sync_paths d.network es).systems * (d.network.params.threshold + d.network.params.residence)
       ≤ exact) (sym (by_sooner time p.from d.events le)) told
 
@@ -235,7 +237,7 @@ module _ {F : Type 0} (answers : Bounds → ℕ → F → Option ℕ → F → T
     -- time is carried right since a Sync may have come down the way
     pub carried : p.to ≤ 10 ^ 18
         → IsCarried answers (pace_of d.network) (carried_from short time choice + 1) a
-        × (carried_from short time choice + 1
+        × (carried_from short time choice + 1 + window_span d.network.params
         + suc has.steps * (d.network.params.threshold + d.network.params.residence)
         ≤ at_of a)
     carried ends =

@@ -13,6 +13,7 @@ use Rattle.gptp_network.specs.Document.{DocumentState}
 use Rattle.gptp_network.specs.Snapshot.{events_by}
 use Rattle.gptp_scenario.specs.Calm.{last_change}
 use Rattle.gptp_scenario.specs.Network.{pace_of}
+use Rattle.gptp_scenario.specs.SettlingTime.{window_span}
 use Rattle.gptp_scenario.specs.declared.change.Timed.{Timed}
 use Rattle.gptp_how_soon_laws.proofs.StepLemmas.{IsKept}
 use Rattle.gptp_settling_time.proofs.AsIfChangedLemmas.{changed_at, shows_so}
@@ -49,7 +50,8 @@ module _ {F : Type 0} (answers : Bounds → ℕ → F → Option ℕ → F → T
     (has : HasBound answers d playable names events g name from bound) (t : ActTrace)
     (kept_so : IsKept (record { network = d.network; events = es }) events t) (settled_so : Settled t.after)
     (start : ℕ) (is : IsCarried answers (pace_of d.network) start t)
-    (late : start + suc has.steps * (d.network.params.threshold + d.network.params.residence) ≤ at_of t) where
+    (late : start + window_span d.network.params
+    + suc has.steps * (d.network.params.threshold + d.network.params.residence) ≤ at_of t) where
   -- a live system of the world as if it had been changed last at another time
   back : {number : ℕ} {w : WorldState} {s : SystemState} → ShowsLive number (changed_at is.since w) s
       → ShowsLive number w s
@@ -83,12 +85,13 @@ module _ {F : Type 0} (answers : Bounds → ℕ → F → Option ℕ → F → T
               s,
               back shows,
               carried_have_readings answers t.told.timed is.fate is.drawn before after t.told.done is.was
-                  (pace_of d.network) start has.steps name right.is right.right right.carries late close s has.way phase
+                  (pace_of d.network) (start + window_span d.network.params) has.steps name right.is right.right
+                  right.carries late close s has.way phase
                   uses shows leads,
             );
         exact = λ later read shown leaves best.
             carried_reads answers t.told.timed is.fate is.drawn before after t.told.done is.was (pace_of d.network)
-            start has.steps name right.is right.right right.carries late close later
+            (start + window_span d.network.params) has.steps name right.is right.right right.carries late close later
             (reading_error_at has.way has.steps later) read shown
             (record {
               uses = leaves.uses;

@@ -15,6 +15,7 @@ use Rattle.gptp_links.specs.declared.link.Direction.TheVariants.{FromA, FromB}
 use Rattle.gptp_pdelay.specs.Clock.{IsDrift}
 use Rattle.gptp_roles.specs.Selection.{clock_of}
 use Rattle.gptp_system.proofs.StartLemmas.{length-new_ports}
+use Rattle.gptp_system.proofs.WindowLemmas.{starts_measuring_over}
 use Rattle.gptp_system.specs.State.{clock}
 use Rattle.gptp_vector.specs.declared.port.PortId.{PortId}
 use Rattle.gptp_world.specs.declared.joined_link.JoinedLink.{JoinedLink}
@@ -145,6 +146,7 @@ initial_setups n is = each_station n IsItsSetup (λ place m there.
       drift = limits.drift;
       intervals = intervals_within n is place m there;
       named = refl;
+      windows = starts_measuring_over (setup_of n m) 0;
     })
 
 sends_from_end : (direction : Direction) (w : LinkSpec) → IsEnd (sender direction (channel_from w)) w

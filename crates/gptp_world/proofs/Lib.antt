@@ -31,3 +31,4 @@ pub mod WorldCoreLemmas
 pub mod LaterLemmas
 pub mod ViewLemmas
 pub mod UsedLemmas
+pub mod CopyLemmas

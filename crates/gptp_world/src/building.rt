@@ -74,15 +74,21 @@ fn list_stations(alloc: Global, network: &Network, seed: u64) -> Result<Vec<Stat
 {
     let mut stations = Vec::with_capacity(alloc, network.systems())?;
     for place in 0..network.systems() {
-        stations.push(station_in(network, place, seed))?;
+        stations.push(station_in(alloc, network, place, seed)?)?;
     }
     Ok(stations)
 }
 
-/// The system at a place of a network, before it starts, which draws noise from this seed.
-fn station_in(network: &Network, place: usize, seed: u64) -> Station
+/// The system at a place of a network, before it starts, which draws noise from this seed. Refused for want of memory
+/// alone.
+fn station_in(
+    alloc: Global,
+    network: &Network,
+    place: usize,
+    seed: u64,
+) -> Result<Station, AllocError>
     requires { place < length network.now.systems }
-    ensures { slice_get (stations_of (seeded seed network.now)) place ≡ Some result }
+    ensures { IfOk result (λ s. slice_get (stations_of (seeded seed network.now)) place ≡ Some s) }
 {
     network.well_formed();
     let (identity, ports, phase, drift, intervals) = network.system_at(place).unwrap();
@@ -99,12 +105,12 @@ fn station_in(network: &Network, place: usize, seed: u64) -> Station
         seed,
         params: network.params(),
     };
-    let system = System::new(setup.copy(), 0);
-    Station {
+    let system = System::new(alloc, setup.copy(), 0)?;
+    Ok(Station {
         setup,
         system,
         live: false,
-    }
+    })
 }
 
 /// The links of a network, with nothing in flight.

@@ -89,6 +89,21 @@ impl Directory {
         })
     }
 
+    /// An equal directory. Refused for want of memory alone.
+    pub(crate) fn copy(&self, alloc: Global) -> Result<Self, AllocError>
+        ensures { IfOk result (λ d. d ≡ self.now) }
+    {
+        Ok(Directory {
+            clocks: Vec::from_slice(alloc, &self.clocks)?,
+            joins: Vec::from_slice(alloc, &self.joins)?,
+            rising: Vec::from_slice(alloc, &self.rising)?,
+            ranked: Vec::from_slice(alloc, &self.ranked)?,
+            hints: list_hints(alloc, &self.rising)?,
+            outs: Vec::from_slice(alloc, &self.outs)?,
+            ends: Vec::from_slice(alloc, &self.ends)?,
+        })
+    }
+
     /// How many systems there are.
     pub(crate) fn systems(&self) -> usize
         ensures { result ≡ length self.now.clocks }

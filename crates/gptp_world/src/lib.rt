@@ -13,6 +13,7 @@ mod buffers;
 mod building;
 mod changing;
 mod checking;
+mod copying;
 mod delivering;
 mod directory;
 mod expiring;

@@ -159,6 +159,21 @@ impl Pending {
         })
     }
 
+    /// The same is pending; room for more has to be made. Refused for want of memory alone.
+    pub fn copy(&self, alloc: Global) -> Result<Self, AllocError>
+        ensures { IfOk result (λ pending. pending ≡ record self.now { room = 0 }) }
+    {
+        Ok(Pending {
+            systems: self.systems,
+            links: self.links,
+            queue: self.queue.copy(alloc)?,
+            items: Vec::from_slice(alloc, &self.items)?,
+            pending_index: self.pending_index.copy(alloc)?,
+            free: Vec::from_slice(alloc, &self.free)?,
+            spare: 0,
+        })
+    }
+
     /// Makes room for so many more entries: after `Ok` the next so many find it. Refused where there is no memory for
     /// them, or where the numbers below 2^64 - 1 don't suffice. Nothing else changes.
     pub fn reserve(&mut self, additional: usize) -> Result<(), AllocError>

@@ -2,7 +2,7 @@
 
 use crate::world_parts::WorldParts;
 use gptp_links::Fate;
-use gptp_system::{Input, System};
+use gptp_system::Input;
 
 impl WorldParts {
     ghost use Rattle.std.specs.Prelude.{◌≡◌, ◌<◌, [], ◌∷◌, Some, false, length, slice_get};
@@ -63,7 +63,8 @@ impl WorldParts {
     {
         let now = self.now;
         let station = &mut self.stations[place];
-        station.system = System::new(station.setup.copy(), now);
+        let setup = station.setup.copy();
+        station.system.start_again(setup, now);
         station.live = true;
     }
 

@@ -18,7 +18,7 @@ use std::marker::Model;
 #[derive(Drop)]
 pub(crate) struct WorldCore {
     pub(crate) parts: WorldParts,
-    frame_budget: FrameBudget,
+    pub(crate) frame_budget: FrameBudget,
 }
 
 impl Model for WorldCore {

@@ -1,11 +1,22 @@
-use Rattle.std.proofs.Common.{◌≡◌, List, ℕ, arith, rules, subst, ◌∙◌}
+use Rattle.std.proofs.Common.{◌≡◌, List, ℕ, arith, rules, subst, sym, ◌∙◌}
 use Rattle.gptp_network.specs.Document.{DocumentState}
 use Rattle.gptp_faults.specs.Extremes.{greatest_of_two}
 use Rattle.gptp_faults.specs.Follows.{AreFollows}
 use Rattle.gptp_faults.specs.Outcomes.{back_in, down_in}
-use Rattle.gptp_faults.specs.Runs.{CaseRunEnds}
+use Rattle.gptp_faults.specs.Runs.{CaseRunEnds, IsKept}
 use Rattle.gptp_faults.proofs.OutcomeLemmas.{all_tried, more_tried, one_tried}
 use Rattle.gptp_faults.proofs.outcome.try_case.Goals as goal
+
+-- the document is as it was, so the run that is kept is of it
+pub run_case-requires-clause-kept : goal.run_case-requires-clause-kept
+run_case-requires-clause-kept c =
+    subst (λ (d : DocumentState). IsKept d c.args.options.now c.args.times.now c.args.kept.now)
+    (sym c.in_ok-plan.ensures.same) c.requires.kept
+
+pub run_case-requires-in-loop-run-clause-kept : goal.run_case-requires-in-loop-run-clause-kept
+run_case-requires-in-loop-run-clause-kept c =
+    subst (λ (d : DocumentState). IsKept d c.args.options.now c.args.times.now c.args.kept.now)
+    (sym c.loop-run.invariant.same) c.requires.kept
 
 pub loop-run-init : goal.loop-run-init
 loop-run-init c =

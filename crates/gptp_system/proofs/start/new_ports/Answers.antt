@@ -10,7 +10,7 @@ push-requires c =
     let logs = c.args.intervals.now in
     let size = ap length c.loop-log_interval.invariant
     ∙ length-new_ports c.args.clock c.args.params.now 1 (take i logs) in
-    (omega arith, omega (arith, size, length-take i logs, c.loop-log_interval-test.true, c.requires))
+    (omega arith, omega (arith, size, length-take i logs, c.loop-log_interval-test.true, c.requires.few))
 
 pub loop-log_interval-preserved : goal.loop-log_interval-preserved
 loop-log_interval-preserved c =
@@ -23,5 +23,5 @@ loop-log_interval-preserved c =
     omega (arith, size, length-take i logs, within, c.len.ensures.value) in
     let next : i + 1 ≡ suc i = omega arith in
     let fits : SFits w8 (get_or logs i (pos 0)) = search rules in
-    rw (next, c.push.ensures.items, c.loop-log_interval.invariant, c.new_port.ensures, number, to_z-of_z fits)
+    rw (next, c.push.ensures.items, c.loop-log_interval.invariant, c.in_ok-new_port.ensures.new, number, to_z-of_z fits)
     (sym (new_ports-more c.args.clock c.args.params.now 1 i logs within))

@@ -1,13 +1,12 @@
 use Rattle.std.proofs.Common.{◌≡◌, Err, ap, ◌∙◌, refl}
 use Rattle.std.proofs.lemmas.Result.{err_from_is_err_and}
-use Rattle.gptp_sink.specs.declared.cut.Cut.{Cut}
-use Rattle.gptp_sink.specs.declared.cut.Cut.TheVariants.{Memory, Write}
 use Rattle.gptp_model.specs.Views.{rising_clocks}
 use Rattle.gptp_timeline.specs.LastStretches.{aside_if, first_aside, last_behind, none_last}
 use Rattle.gptp_timeline.specs.Timeline.{tracks}
 use Rattle.gptp_timeline.specs.Watch.{event_look, see_all}
 use Rattle.gptp_timeline.specs.Passing.{aside_kept}
 use Rattle.gptp_timeline.proofs.AccountLemmas.{kept_at_start, starts_with_kept}
+use Rattle.gptp_timeline.proofs.PassLemmas.{memory_alone}
 use Rattle.gptp_timeline.proofs.StretchesSoFarLemmas.{last_are}
 use Rattle.gptp_timeline.proofs.timeline.last_stretches.Goals as goal
 
@@ -19,11 +18,6 @@ all_stretches-requires-clause-starts g c =
     let w = c.in_ok-world.world.world_core in
     starts_with_kept c.summary_with-options.result c.args.aside w c.write_start.new.watch
     (c.in_ok-write_start.ensures.sees ∙ ap (see_all (event_look 0) w) c.in_ok-watch.ensures)
-
--- a call that breaks off otherwise than by a write had no memory
-memory_alone : (e : Cut) → (e ≡ Write → ⊥) → e ≡ Memory
-memory_alone Memory no_write = refl
-memory_alone Write no_write = absurd (no_write refl)
 
 pub returns-in_err-watch-clause-memory : goal.returns-in_err-watch-clause-memory
 returns-in_err-watch-clause-memory g c =
@@ -61,5 +55,5 @@ returns-clause-ends g c =
           (ap aside_kept (c.in_ok-write_start.ensures.sees ∙ ap (see_all (event_look 0) start) c.in_ok-watch.ensures)
           ∙ kept_at_start options c.args.aside start)
           ∙ ap (λ asked. last_behind names (first_aside asked (aside_if asked c.args.aside) names) passed.0 none_last)
-          c.summary_with-options.ensures;
+          c.summary_with-options.ensures.tracks;
     }

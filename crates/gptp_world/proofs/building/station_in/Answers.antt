@@ -12,8 +12,8 @@ use Rattle.gptp_world.proofs.InitialLemmas.{intervals_within, member_told, set_u
 use Rattle.gptp_lists.proofs.MappedLemmas.{mapped_there}
 use Rattle.gptp_world.proofs.building.station_in.Goals as goal
 
-pub new-system-requires-clause-ports : goal.new-system-requires-clause-ports
-new-system-requires-clause-ports c =
+pub new-requires-clause-ports : goal.new-requires-clause-ports
+new-requires-clause-ports c =
     let plain = c.args.network.now in
     let n = seeded c.args.seed plain in
     let here = member_told plain c.args.place _ _ _ _ c.system_at.ensures c.unwrap-identity.ensures
@@ -24,8 +24,8 @@ new-system-requires-clause-ports c =
     (most.is ∙ sym (seeded_largest plain c.args.seed)) refl c.params.ensures c.copy.ensures in
     rw made limits.ports
 
-pub new-system-requires-clause-phase : goal.new-system-requires-clause-phase
-new-system-requires-clause-phase c =
+pub new-requires-clause-phase : goal.new-requires-clause-phase
+new-requires-clause-phase c =
     let plain = c.args.network.now in
     let n = seeded c.args.seed plain in
     let here = member_told plain c.args.place _ _ _ _ c.system_at.ensures c.unwrap-identity.ensures
@@ -36,8 +36,8 @@ new-system-requires-clause-phase c =
     (most.is ∙ sym (seeded_largest plain c.args.seed)) refl c.params.ensures c.copy.ensures in
     rw made limits.phase
 
-pub new-system-requires-clause-drift : goal.new-system-requires-clause-drift
-new-system-requires-clause-drift c =
+pub new-requires-clause-drift : goal.new-requires-clause-drift
+new-requires-clause-drift c =
     let plain = c.args.network.now in
     let n = seeded c.args.seed plain in
     let here = member_told plain c.args.place _ _ _ _ c.system_at.ensures c.unwrap-identity.ensures
@@ -48,8 +48,8 @@ new-system-requires-clause-drift c =
     (most.is ∙ sym (seeded_largest plain c.args.seed)) refl c.params.ensures c.copy.ensures in
     rw made limits.drift
 
-pub new-system-requires-clause-intervals : goal.new-system-requires-clause-intervals
-new-system-requires-clause-intervals c =
+pub new-requires-clause-intervals : goal.new-requires-clause-intervals
+new-requires-clause-intervals c =
     let plain = c.args.network.now in
     let n = seeded c.args.seed plain in
     let here = member_told plain c.args.place _ _ _ _ c.system_at.ensures c.unwrap-identity.ensures
@@ -75,5 +75,5 @@ returns c =
     let station : Setup → SystemState → Station =
     λ setup system. record { setup = setup; system = system; live = false } in
     mapped_there (station_of n) n.systems c.args.place _ here
-    ∙ sym (ap (λ s. Some (station s c.new-system.result)) (sym c.copy.ensures ∙ made)
-    ∙ ap (λ s. Some (station (setup_of n member) s)) (c.new-system.ensures ∙ ap (λ s. started s 0) made))
+    ∙ sym (ap (λ s. Some (station s c.in_ok-system.system)) (sym c.copy.ensures ∙ made)
+    ∙ ap (λ s. Some (station (setup_of n member) s)) (c.in_ok-system.ensures.started ∙ ap (λ s. started s 0) made))
