@@ -262,7 +262,13 @@ fn the_rate_is_that_of_the_last_two_exchanges(rt: HostRuntime) -> Result<(), Fai
 
 #[test]
 fn the_rate_is_that_over_the_window(rt: HostRuntime) -> Result<(), Fail> {
-    let ahead = [0, 1, 3, 6, 10];
+    let times = [
+        (0, 0),
+        (1_000_001, 1_000_000),
+        (2_000_003, 2_000_000),
+        (3_000_006, 3_000_000),
+        (4_000_010, 4_000_000),
+    ];
     let cases = [
         (1, [0, 2_199_023, 4_398_046, 6_597_069, 8_796_093]),
         (2, [0, 2_199_023, 3_298_534, 5_497_558, 7_696_581]),
@@ -272,11 +278,9 @@ fn the_rate_is_that_over_the_window(rt: HostRuntime) -> Result<(), Fail> {
     for (window, rates) in cases {
         let mut peer = over(rt.alloc(), 9, window)?;
         for _again in 0..2 {
-            let mut t4 = 0;
-            for (ahead, want) in ahead.into_iter().zip(rates) {
-                exchanges(&rt, &mut peer, [t4, t4, t4 + ahead, t4])?;
-                same_at(&rt, &(window, ahead), peer.rate().q(), want);
-                t4 += 1_000_000;
+            for ((t3, t4), want) in times.into_iter().zip(rates) {
+                exchanges(&rt, &mut peer, [t4, t4, t3, t4])?;
+                same_at(&rt, &(window, t4), peer.rate().q(), want);
             }
             peer.reset();
         }
