@@ -7,7 +7,6 @@ use Rattle.gptp_setup.specs.SettlingParams.{largest_interval, longest_span}
 use Rattle.gptp_lists.specs.Members.{In}
 use Rattle.gptp_network.specs.Document.{DocumentState}
 use Rattle.gptp_scenario.specs.Network.{NetworkState, pace_of}
-use Rattle.gptp_scenario.specs.SettlingAtOnce.{settling_span_at_once}
 use Rattle.gptp_scenario.specs.SettlingTime.{capability_span, settling_span_with}
 use Rattle.gptp_scenario.specs.declared.sync_wait.SyncPaths.{SyncPaths}
 use Rattle.gptp_how_soon.specs.Bounds.{choice_by, choice_of_row, roles_by, roles_of_row, settled, settling_by, sound_row, watch}

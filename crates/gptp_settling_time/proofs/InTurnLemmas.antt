@@ -80,7 +80,6 @@ use Rattle.gptp_settling_time.proofs.NewsSoonLemmas.{IsNewsFrom, from_later, fro
 use Rattle.gptp_settling_time.proofs.PassLemmas.{passes_to}
 use Rattle.gptp_settling_time.proofs.RecoverAloneLemmas.{recovered_claimed}
 use Rattle.gptp_settling_time.proofs.RestClaimedLemmas.{AreOn, rest_claimed, rest_on, rest_settled}
-use Rattle.gptp_settling_time.proofs.SameShownLemmas.{settled_choice}
 use Rattle.gptp_settling_time.proofs.SettledClaimedLemmas.{settled_claimed}
 use Rattle.gptp_settling_time.proofs.SettledSeenLemmas.{HasSettledSeen, IsSettledSeen, always_settled}
 use Rattle.gptp_settling_time.proofs.BetterClockLemmas.{better_claimed}
