@@ -1,4 +1,4 @@
--- Events by which no system is moved.
+-- Events by which no system is moved, or none but such as are cut off.
 --
 -- An event *moves* a system that lives after it where another system, or the same with another identity, is the best of
 -- its component then, or it is nearer to that or farther from it. So its root or its steps are others.
