@@ -68,7 +68,7 @@ use Rattle.gptp_settling_time.specs.Losses.{IsUnmoved}
 use Rattle.gptp_settling_time.proofs.AlwaysClaimedLemmas.{IsStanding, same_start, start_calm, start_network}
 use Rattle.gptp_settling_time.proofs.FitsLemmas.{IsLeftUnmoved, everything_fits, lived, received_still}
 use Rattle.gptp_settling_time.proofs.GoesDownLemmas.{GoesDownQuietly, goes_down_quietly, held_among, without}
-use Rattle.gptp_settling_time.proofs.LeftClaimedLemmas.{HaveAskedBy, IsLeftAlways, asked_heard, left_calm, left_net, left_network}
+use Rattle.gptp_settling_time.proofs.LeftClaimedLemmas.{HaveAskedLong, IsLeftAlways, asked_heard, left_calm, left_net, left_network}
 use Rattle.gptp_settling_time.proofs.LinkStoodLemmas.{second_still}
 use Rattle.gptp_settling_time.proofs.LinkUpLemmas.{lane_set}
 use Rattle.gptp_settling_time.proofs.ReducedLemmas.{HoldsAsMuch, IsReduced, IsReducedStation, fits_reduced, holds_as_much, levels_reduced, reduced_itself}
@@ -430,10 +430,11 @@ module _ (p : SettlingParams) (w : WorldState) (is : IsWorld p w) (place : ℕ) 
       silent = silent_down p w is place channel here draws w' is' k told.channels next silent;
     }
 
-    asked_then : HaveAskedBy next w'
+    asked_then : HaveAskedLong w'
     asked_then at stands =
         let (first, by) = ready_first p next w' is' by_now at (ready' at stands) in
-        (first, next, omega arith, record { is = by; late = by_now })
+        let change = keeps.change in
+        (first, next, omega (arith, past, change), record { is = by; late = by_now })
 
     fits_then : EverythingFits says_announce g (left_network p next w') (view w')
     fits_then =
