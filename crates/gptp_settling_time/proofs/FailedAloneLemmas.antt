@@ -54,7 +54,7 @@ use Rattle.gptp_invariants.proofs.WorldWayLemmas.{used_joins, way_of}
 use Rattle.gptp_settling_time.specs.Losses.{IsFarEnd, IsUnmoved}
 use Rattle.gptp_settling_time.proofs.AlwaysClaimedLemmas.{IsStanding, start_network}
 use Rattle.gptp_settling_time.proofs.FitsLemmas.{IsLeftUnmoved, UnlinkedHoldNothing, everything_fits, lived, received_still}
-use Rattle.gptp_settling_time.proofs.LeftClaimedLemmas.{HaveAskedBy, IsLeftAlways, left_calm, left_net, left_network}
+use Rattle.gptp_settling_time.proofs.LeftClaimedLemmas.{HaveAskedLong, IsLeftAlways, left_calm, left_net, left_network}
 use Rattle.gptp_settling_time.proofs.ReactsLemmas.{places_set}
 use Rattle.gptp_settling_time.proofs.ReducedLemmas.{IsReduced, fits_reduced, levels_reduced, reduced_itself}
 use Rattle.gptp_settling_time.proofs.SettledSeenLemmas.{IsSettledSeen, wired_as}
@@ -325,7 +325,7 @@ module _ (p : SettlingParams) (number : ℕ) (w : WorldState) (draws : List Draw
           }
 
       module _ (next silent : ℕ) (pace : KeepPace p) (measured : LinkIsMeasured w) (measured' : LinkIsMeasured w')
-          (past : next ≤ w.time) (soon : next ≤ silent) (delay : delay_in w' ≡ delay_in w)
+          (past : next ≤ w.time) (delay : delay_in w' ≡ delay_in w)
           (way : pred (path_bound g') * delay_in w' ≤ w'.time) (ready : AreReadyBy p next w)
           (silent_then : AreSilentBy p silent w') where
         by_now : next ≤ w'.time
@@ -334,12 +334,13 @@ module _ (p : SettlingParams) (number : ℕ) (w : WorldState) (draws : List Draw
         standing_then : IsStanding p silent w'
         standing_then = record { pace = pace; world = is'; measured = measured'; silent = silent_then }
 
-        asked_then : HaveAskedBy silent w'
+        asked_then : HaveAskedLong w'
         asked_then at stands =
             let ready' = ready_goes_through p next at (Changing (Fail number)) w w' draws done is.sound measured
             (elsewhere at stands) acts (ready at (stood_link at stands)) in
             let (first, by) = ready_first p next w' is' by_now at ready' in
-            (first, next, soon, record { is = by; late = by_now })
+            let change : w'.last_change ≡ w.time = ap (λ (v : WorldState). v.last_change) same in
+            (first, next, omega (arith, past, change), record { is = by; late = by_now })
 
         fits_then : EverythingFits says_announce g (left_network p silent w') (view w')
         fits_then =

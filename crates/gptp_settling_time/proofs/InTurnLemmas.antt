@@ -498,7 +498,7 @@ module _ {F : Type 0} (answers : Bounds → ℕ → F → Option ℕ → F → T
               (record { here = came.1.is.here; named = came.1.is.named }))
               (seen_then fails.calm fails.off) (near_then x.few) (far_end x.clock x.far) (stays_unmoved x.moves) sound
               start next keeps_then.claim.pace keeps_then.claim.measured after.claim.measured (omega (arith, over))
-              (omega (arith, over, same)) (same_delay x.delay) (way_over x.delay x.paths) ready
+              (same_delay x.delay) (way_over x.delay x.paths) ready
               (unanswered_silent p next w' after.claim.silent (omega (arith, last, time, same)));
         }
 

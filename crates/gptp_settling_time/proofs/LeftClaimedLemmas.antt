@@ -75,18 +75,18 @@ standing_acts p start act w draws done w' none octet k is =
       silent = acts_silent p start act w draws done w' none k is.world is.measured is.silent;
     }
 
--- each port at a link first asked long ago, and long enough before that time
-abbrev pub HaveAskedBy : ℕ → WorldState → Type 0
-HaveAskedBy start w = (at : LinkPlace) → LinkStandsAt at w
-    → (first : ℕ) × (by : ℕ) × (by ≤ start) × IsFirstLong first by at w
+-- each port at a link first asked long enough before the last change
+abbrev pub HaveAskedLong : WorldState → Type 0
+HaveAskedLong w = (at : LinkPlace) → LinkStandsAt at w
+    → (first : ℕ) × (by : ℕ) × (by ≤ w.last_change) × IsFirstLong first by at w
 
 -- so what is told to it is heard, and it has measured the link
-pub asked_heard : (p : SettlingParams) (start asked : ℕ) (w : WorldState) → HaveAskedBy asked w → AreHeard p start w
-asked_heard p start asked w have at stands =
-    let (first, by, before, x) = have at stands in inr (inr (inr (first, by, x)))
+pub asked_heard : (p : SettlingParams) (start : ℕ) (w : WorldState) → HaveAskedLong w → AreHeard p start w
+asked_heard p start w asked at stands =
+    let (first, by, before, x) = asked at stands in inr (inr (inr (first, by, x)))
 
-asked_ready : (p : SettlingParams) (start : ℕ) (w : WorldState) → HaveAskedBy start w → AreReadyBy p start w
-asked_ready p start w asked at stands =
+asked_ready : (p : SettlingParams) (w : WorldState) → HaveAskedLong w → AreReadyBy p w.last_change w
+asked_ready p w asked at stands =
     let (first, by, before, x) = asked at stands in
     let soon = x.is.1 in
     inl (first, (x.is.0, omega (arith, before, soon)))
@@ -123,7 +123,7 @@ same_left p silent w w' keeps =
 -- a time on.
 pub record IsLeftAlways (p : SettlingParams) (g : Snapshot) (silent : ℕ) (w : WorldState) : Type 0 where
   pub standing : IsStanding p silent w
-  pub asked : HaveAskedBy silent w
+  pub asked : HaveAskedLong w
   pub well : IsWellFormed g
   pub left : IsLeftUnmoved g (snapshot_of w)
   pub near : AllAreNear (snapshot_of w)
@@ -133,12 +133,12 @@ pub record IsLeftAlways (p : SettlingParams) (g : Snapshot) (silent : ℕ) (w : 
       → IsLeftSeen says_announce g (left_network p silent w) (view w)
 
 -- so the world is calm
-pub left_calm : (p : SettlingParams) (silent : ℕ) (w : WorldState) → IsStanding p silent w → HaveAskedBy silent w
+pub left_calm : (p : SettlingParams) (silent : ℕ) (w : WorldState) → IsStanding p silent w → HaveAskedLong w
     → HaveQuietLinks p.params w → UnlinkedHoldNothing (snapshot_of w) (view w)
     → Calm (left_network p silent w) (view w)
 left_calm p silent w standing asked quiet none =
     let c : Calm (start_network p (path_bound (snapshot_of w)) silent w) (view w) =
-    start_calm p silent w standing (asked_heard p silent silent w asked) quiet (path_bound (snapshot_of w)) in
+    start_calm p silent w standing (asked_heard p silent w asked) quiet (path_bound (snapshot_of w)) in
     record {
       facts = c.facts;
       stations = λ i s there lives.
@@ -152,7 +152,7 @@ left_calm p silent w standing asked quiet none =
                   interval = y.interval;
                   timer = y.timer;
                   capable = λ now linked.
-                      linked_on p 0 w standing.world (asked_heard p 0 silent w asked) quiet (omega arith) i s place q there at
+                      linked_on p 0 w standing.world (asked_heard p 0 w asked) quiet (omega arith) i s place q there at
                       linked;
                   bare = λ now unlinked r holds. none i s place r there lives unlinked (q, at, holds);
                   unlinked = y.unlinked;
@@ -171,7 +171,7 @@ left_calm p silent w standing asked quiet none =
     }
 
 module _ (p : SettlingParams) (g : Snapshot) (silent : ℕ) (w w' : WorldState) (is : IsLeftAlways p g silent w)
-    (standing' : IsStanding p silent w') (asked' : HaveAskedBy silent w') (keeps : KeepsNetwork w w')
+    (standing' : IsStanding p silent w') (asked' : HaveAskedLong w') (keeps : KeepsNetwork w w')
     (step : MachineSteps says_announce (view w) (view w')) (on : w.time ≤ w'.time) where
   same_snap : snapshot_of w' ≡ snapshot_of w
   same_snap = same_snapshot w w' keeps
@@ -231,10 +231,11 @@ left_acts p g silent act w draws done w' none octet acts is =
     let keeps = acts_keep act w draws done w' none acts in
     let time = acts_time act w draws done w' acts in
     left_step p g silent w w' is standing'
-    (λ at stands. let (one, by, before, x) = is.asked at (stood p w w' world standing'.world keeps at stands) in (
+    (λ at stands. let (one, by, before, x) = is.asked at (stood p w w' world standing'.world keeps at stands) in
+    let change = keeps.change in (
       one,
       by,
-      before,
+      omega (arith, before, change),
       first_acted p silent act w draws done w' none acts world standing'.world is.standing.measured at one by x,
     )) keeps
     (inr (acts_seen act w draws done w' none world.sound world.encodable acts)) (omega (arith, time))
@@ -277,6 +278,6 @@ module _ (p : SettlingParams) (g : Snapshot) (silent : ℕ) (w : WorldState) (is
 
 -- its ports have measured their links
 pub left_measured : (p : SettlingParams) (g : Snapshot) (silent : ℕ) (w : WorldState) → IsLeftAlways p g silent w
-    → HaveQuietLinks p.params w → silent + window_span p.params ≤ w.time → HaveMeasuredLinks w
+    → HaveQuietLinks p.params w → w.last_change + window_span p.params ≤ w.time → HaveMeasuredLinks w
 left_measured p g silent w is quiet =
-    ready_measures p silent w is.standing.world (asked_ready p silent w is.asked) quiet
+    ready_measures p w.last_change w is.standing.world (asked_ready p w is.asked) quiet

@@ -69,10 +69,10 @@ use Rattle.gptp_invariants.proofs.WorldStandsLemmas.{stands_well}
 use Rattle.gptp_invariants.proofs.WorldSystemLemmas.{live_there}
 use Rattle.gptp_invariants.proofs.WorldWayLemmas.{one_way, used_joins, way_of}
 use Rattle.gptp_settling_time.specs.Losses.{IsCutOff, IsUnmoved, IsUnmovedOrCutOff}
-use Rattle.gptp_settling_time.proofs.AlwaysClaimedLemmas.{IsStanding, same_start, start_calm, start_network}
+use Rattle.gptp_settling_time.proofs.AlwaysClaimedLemmas.{AreHeard, IsStanding, same_start, start_calm, start_network}
 use Rattle.gptp_settling_time.proofs.FitsLemmas.{IsLeftUnmoved, UnlinkedHoldNothing, at_zero, everything_fits, lived, received_still}
 use Rattle.gptp_settling_time.proofs.GoesDownLemmas.{AreDisabled, GoesDownQuietly, goes_down_alone, goes_down_quietly, held_among, others_disabled, without}
-use Rattle.gptp_settling_time.proofs.LeftClaimedLemmas.{HaveAskedBy, IsLeftAlways, asked_heard, left_calm, left_net, left_network}
+use Rattle.gptp_settling_time.proofs.LeftClaimedLemmas.{HaveAskedLong, IsLeftAlways, asked_heard, left_calm, left_net, left_network}
 use Rattle.gptp_settling_time.proofs.LinkStoodLemmas.{second_still}
 use Rattle.gptp_settling_time.proofs.LinkUpLemmas.{lane_set}
 use Rattle.gptp_settling_time.proofs.ReducedLemmas.{HoldsAsMuch, IsReduced, IsReducedStation, fits_reduced, holds_as_much, levels_reduced, reduced_itself}
@@ -508,10 +508,11 @@ module _ (p : SettlingParams) (w : WorldState) (is : IsWorld p w) (place : ℕ) 
       silent = silent_down p w is place channel here draws w' is' k told.channels next silent;
     }
 
-    asked_then : HaveAskedBy next w'
+    asked_then : HaveAskedLong w'
     asked_then at stands =
         let (first, by) = ready_first p next w' is' by_now at (ready' at stands) in
-        (first, next, omega arith, record { is = by; late = by_now })
+        let change = keeps.change in
+        (first, next, omega (arith, past, change), record { is = by; late = by_now })
 
     fits_then : EverythingFits says_announce g (left_network p next w') (view w')
     fits_then =
@@ -583,16 +584,12 @@ module _ (p : SettlingParams) (next owner port : ℕ) (w : WorldState) (draws : 
     -- ports that no link was at were off
     dark : UnlinkedAreOff (snapshot_of w) (view w)
     dark i s place q there live at unlinked =
-        let asked : HaveAskedBy next w =
-        (λ at stands. let (first, by) = ready_first p next w is past at (ready at stands) in (
-          first,
-          next,
-          omega arith,
-          record { is = by; late = past },
-        )) in
+        let heard : AreHeard p next w =
+        (λ at stands.
+        let (first, by) = ready_first p next w is past at (ready at stands) in
+        inr (inr (inr (first, next, record { is = by; late = past })))) in
         let calm : Calm (start_network p 0 next w) (view w) =
-        start_calm p next w (record { pace = pace; world = is; measured = measured; silent = silent })
-        (asked_heard p next next w asked) quiet 0 in
+        start_calm p next w (record { pace = pace; world = is; measured = measured; silent = silent }) heard quiet 0 in
         ((calm.stations i s there live).ports place q at).unlinked past unlinked
 
     ends : TellsEnds PortDown at_link.channel
