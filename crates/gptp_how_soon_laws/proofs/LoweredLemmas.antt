@@ -23,7 +23,6 @@ use Rattle.gptp_scenario.specs.declared.change.Timed.{Timed}
 use Rattle.gptp_scenario.specs.declared.network.SystemSpec.{SystemSpec}
 use Rattle.gptp_theorem.proofs.EventLemmas.{system_behind}
 use Rattle.gptp_how_soon.specs.Chosen.{ends_at, is_joined, moves_joined, used_ends}
-use Rattle.gptp_how_soon.specs.declared.chosen.Ends.{Ends}
 use Rattle.gptp_how_soon.proofs.ChosenLemmas.{IsAt, at_clock, touched}
 use Rattle.gptp_how_soon.proofs.RoundsLemmas.{Touches}
 use Rattle.gptp_how_soon.specs.Kinds.{is_link_down, is_loss, is_lowering, lowers_one}
@@ -34,12 +33,13 @@ use Rattle.gptp_how_soon_laws.proofs.KindLemmas.{loss_lowers}
 use Rattle.gptp_how_soon_laws.proofs.UnmovedLemmas.{AreWell, chooses_at, clock_over, none_joined_there, same_system}
 
 -- a link that touches a place ends there
-joined_by : (links : List Ends) (place i : ℕ) → Touches links place i → is_joined links place ≡ true
-joined_by links place i (inl member) =
-    passes_at (ends_at place) links (record { a = place; b = i }) member
+joined_by : (n : NetworkState) (events : List Timed) (place i : ℕ) → Touches (used_ends n events) place i
+    → is_joined (used_ends n events) place ≡ true
+joined_by n events place i (inl member) =
+    passes_at (ends_at place) (used_ends n events) (record { a = place; b = i }) member
     (ap (λ b. b || (i == place)) (eq-eqb place place refl))
-joined_by links place i (inr member) =
-    passes_at (ends_at place) links (record { a = i; b = place }) member
+joined_by n events place i (inr member) =
+    passes_at (ends_at place) (used_ends n events) (record { a = i; b = place }) member
     (ap (λ b. (i == place) || b) (eq-eqb place place refl) ∙ or_true (i == place))
   where
     or_true : (b : Bool) → (b || true) ≡ true
@@ -125,7 +125,7 @@ module _ (n : NetworkState) (network : IsNetwork n) (made : List Timed) (event :
       cut_off none u adjacent =
           let (i, at) = at_v in
           let (j, at_u) = at_clock n network later h stands' well_h u (Adjacent-clock h v u well_h adjacent) in
-          let joined = joined_by (used_ends n later) i j
+          let joined = joined_by n later i j
           (touched n network later h stands' well_h v u i j adjacent at at_u) in
           let no : true ≡ false = sym joined ∙ none in
           cc

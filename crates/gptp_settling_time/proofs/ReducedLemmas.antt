@@ -1,6 +1,6 @@
 -- A state of which links or systems are gone, and nothing else, where no system is moved but such as are cut off: what
--- is held and in flight fits as it did, each link that is left stays at its stage, and each system that is unmoved holds
--- as much at its other ports.
+-- is held and in flight fits as it did, each link that is left stays at its stage, and each unmoved system holds as much
+-- at its other ports.
 use Rattle.std.proofs.Common.{◌≡◌, ◌≢◌, ◌⊎◌, ◌<◌, ◌≤◌, ℕ, zero, suc, true, false, List, [], Some, slice_get, refl, sym, ap, subst, ◌∙◌, inl, inr, arith}
 use Rattle.gptp_lists.specs.Members.{In}
 use Rattle.gptp_graph.specs.Distance.{IsDistance}
@@ -199,12 +199,14 @@ module _ (says : Spelling) (n : Network) (net : IsSettlingNetwork n) (w : Machin
             (subst (λ j. Joins g (port_of s.clock j) (port_of y k)) is_p joins) in
             let was : Joins n.graph (port_of s.clock (suc p)) (port_of y (suc q)) =
             left.links (port_of s.clock (suc p)) (port_of y (suc q)) over in
+            let back = Joins-sym g (port_of s.clock (suc p)) (port_of y (suc q)) over in
+            let stays : IsUnmoved n.graph g y =
+            joined_stays n.graph g net.graph well left (port_of y (suc q)) (port_of s.clock (suc p)) back in
             let best = far.best in
             let leads : LeadsFarther n.graph e best y q s.clock p =
             record {
               is_best = IsBest-neighbour n.graph s.clock y best net.graph (suc p, suc q, was) far.is_best;
-              here = was_far y e (joined_stays n.graph g net.graph well left (port_of y (suc q)) (port_of s.clock (suc p))
-                  (Joins-sym g (port_of s.clock (suc p)) (port_of y (suc q)) over)) nearer;
+              here = was_far y e stays nearer;
               joins = Joins-sym n.graph (port_of s.clock (suc p)) (port_of y (suc q)) was;
               far = suc e;
               there = far;
