@@ -83,3 +83,6 @@ pub mod LoweredLemmas
 pub mod FailedAloneLemmas
 pub mod LeftToLemmas
 pub mod WellFormedLemmas
+pub mod ClaimLemmas
+pub mod TurnLemmas
+pub mod BesideLemmas
