@@ -86,3 +86,5 @@ pub mod WellFormedLemmas
 pub mod ClaimLemmas
 pub mod TurnLemmas
 pub mod BesideLemmas
+pub mod TurnedLemmas
+pub mod OldLemmas
