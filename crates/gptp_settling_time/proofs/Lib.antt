@@ -88,3 +88,4 @@ pub mod TurnLemmas
 pub mod BesideLemmas
 pub mod TurnedLemmas
 pub mod OldLemmas
+pub mod MovedLemmas

@@ -58,12 +58,13 @@ pub record IsBeside (g : Snapshot) (n : Network) (x d e : ℕ) (best : System) (
   pub nearer : (far < e) ⊎ ((far ≡ e) × (y < x))
   pub close : far < 255
 
--- an Announce that names the best names the system only if that sent it, or it has as many steps
-abbrev pub NamesLate : ℕ → ℕ → System → Announce → Type 0
-NamesLate x e best a = a.root ≡ best.identity → In x a.path → (a.source.clock ≡ x) ⊎ (e ≤ a.steps)
+-- an Announce of the component that names the best names the system only if that sent it, or it has as many steps
+abbrev pub NamesLate : Snapshot → ℕ → ℕ → System → Announce → Type 0
+NamesLate g x e best a = a.root ≡ best.identity → IsBest g a.source.clock best → In x a.path
+    → (a.source.clock ≡ x) ⊎ (e ≤ a.steps)
 
 module _ (says : Spelling) (g : Snapshot) (n : Network) (x d e : ℕ) (best : System) (t : TurnsOne g n x d e best) where
-  unmoved_by : (v : ℕ) → In v (clocks n.graph) → v ≢ x → Unmoved g n v
+  pub unmoved_by : (v : ℕ) → In v (clocks n.graph) → v ≢ x → Unmoved g n v
   unmoved_by v known apart =
       let u = t.others v known apart in record { live = known; best = u.best; far = u.far }
 
@@ -226,11 +227,29 @@ module _ (says : Spelling) (g : Snapshot) (n : Network) (x d e : ℕ) (best : Sy
                   received r (subst (λ (z : Port). z.held ≡ Received r) port holds.2)
             ]
 
+    -- what a system of the component received came from another
+    pub source_best : (i : ℕ) (s : Station) (place : ℕ) (r : Reception) → slice_get w.stations i ≡ Some s
+        → s.live ≡ true → HoldsAt s place r → IsBest g s.clock best → IsBest g r.said.source.clock best
+    source_best i s place r at live holds is = elim (IsLinked-dec n.graph (port_of s.clock (suc place))) [
+      | no none ↦
+          let off : holds.0.held ≡ Disabled = dark i s place holds.0 at live holds.1 none in
+          absurd (let both : Received r ≡ Disabled = sym holds.2 ∙ off in cc)
+      | yes (u, joined) ↦
+          let came = (all.stations i s place r at live holds).over
+          (u, t.left.links (port_of s.clock (suc place)) u joined) in
+          subst (λ c. IsBest g c best) (sym (ap (λ (k : PortIdentity). k.clock) came.source))
+          (IsBest-neighbour g s.clock came.from.clock best t.left.graph
+          (suc place, came.from.port, Joins-sym g came.from (port_of s.clock (suc place)) came.joins) is)
+    ]
+
     -- so what a system says that holds only such names it late
     pub own_names : (i : ℕ) (s : Station) (p : ℕ) (a : Announce) → slice_get w.stations i ≡ Some s → s.live ≡ true
-        → HoldsOnly (NamesLate x e best) s → IsOwn s p a → IsMasterAt s p → NamesLate x e best a
-    own_names i s p a at live held own master root names = by (kept.calm.facts.stations i s at live).follows
+        → HoldsOnly (NamesLate g x e best) s → IsOwn s p a → IsMasterAt s p → NamesLate g x e best a
+    own_names i s p a at live held own master root is names = by (kept.calm.facts.stations i s at live).follows
       where
+        own_best : IsBest g s.clock best
+        own_best = subst (λ c. IsBest g c best) (ap (λ (k : PortIdentity). k.clock) own.source) is
+
         own_source : x ≡ s.clock → (a.source.clock ≡ x) ⊎ (e ≤ a.steps)
         own_source same = inl (ap (λ (p : PortIdentity). p.clock) own.source ∙ sym same)
 
@@ -251,7 +270,9 @@ module _ (says : Spelling) (g : Snapshot) (n : Network) (x d e : ℕ) (best : Sy
             elim (In-parts x port.r.said.path (s.clock ∷ []) (subst (In x) (own.path ∙ port.trace) names)) [
               | inl among ↦
                   let root_r : port.r.said.root ≡ best.identity = sym port.root ∙ sym own.root ∙ root in
-                  follows port (held port.place port.r port.holds root_r among) root_r
+                  follows port
+                  (held port.place port.r port.holds root_r
+                  (source_best i s port.place port.r at live port.holds own_best) among) root_r
               | inr (inl same) ↦ own_source same
               | inr (inr none) ↦ absurd none
             ]
