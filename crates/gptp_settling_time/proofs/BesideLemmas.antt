@@ -26,7 +26,7 @@ use Rattle.gptp_bmca_machine.proofs.PlaceLemmas.{same_there}
 use Rattle.gptp_bmca_machine.proofs.RestLemmas.{Chooses, IsClear, own_best, root_above}
 use Rattle.gptp_settling_time.proofs.ClaimLemmas.{EachAnnounce}
 use Rattle.gptp_bmca_machine.proofs.StillLemmas.{StillSettles, capable_at, chooses_still, clear_at, is_station, stands, still}
-use Rattle.gptp_settling_time.proofs.TurnLemmas.{IsBeside, NamesLate, TurnsOne, beside, source_best}
+use Rattle.gptp_settling_time.proofs.TurnLemmas.{ComesLate, IsBeside, NamesLate, TurnsOne, beside, source_best}
 
 -- a port of a live system that no link is at is disabled
 abbrev pub IsDark : Network → MachineState → Type 0
@@ -42,7 +42,7 @@ pub record IsMoving (says : Spelling) (g : Snapshot) (n : Network) (x e : ℕ) (
   pub fits : EverythingFits says g n w
   pub levels : (f : ℕ) → StillSettles says g n f w
   pub dark : IsDark n w
-  pub names : EachAnnounce says n (NamesLate g x e best) w
+  pub names : EachAnnounce says n (ComesLate g x e best) (NamesLate g x e best) w
 
 -- the link tells from the first on, what is sent has come, and those that it leads to have settled by this time
 abbrev pub towards : Network → ℕ → ℕ → System → ℕ → ℕ → ℕ → ℕ → Wiring

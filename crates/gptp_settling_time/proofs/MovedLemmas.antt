@@ -32,7 +32,7 @@ use Rattle.gptp_settling_time.proofs.BesideLemmas.{IsDark, IsMoving, b, chooses_
 use Rattle.gptp_settling_time.proofs.ClaimLemmas.{each_kept}
 use Rattle.gptp_settling_time.proofs.OldLemmas.{Turning, turned_then, turning_kept}
 use Rattle.gptp_bmca_machine.proofs.StillLemmas.{LeadsOn, StillSettles, chooses_still, clear_at, levels_below, live_before, still}
-use Rattle.gptp_settling_time.proofs.TurnLemmas.{IsBeside, NamesLate, TurnsOne, beside, own_names, source_best, unmoved_by}
+use Rattle.gptp_settling_time.proofs.TurnLemmas.{ComesLate, IsBeside, NamesLate, TurnsOne, beside, own_names, source_best, taken_late, unmoved_by}
 use Rattle.gptp_settling_time.proofs.TurnedLemmas.{HasTurned}
 
 module _ (says : Spelling) (g : Snapshot) (n : Network) (x d e : ℕ) (best : System) (t : TurnsOne g n x d e best) where
@@ -46,8 +46,9 @@ module _ (says : Spelling) (g : Snapshot) (n : Network) (x d e : ℕ) (best : Sy
         fits = fits';
         levels = levels';
         dark = dark';
-        names = each_kept says n (NamesLate g x e best) w w' m.kept.calm kept'.calm
-            (own_names says g n x d e best t w' kept' fits' levels' dark') step m.names;
+        names = each_kept says n (ComesLate g x e best) (NamesLate g x e best) (λ from to a late. inl late) w w'
+            m.kept.calm kept'.calm (own_names says g n x d e best t w' kept' fits' levels' dark')
+            (taken_late says g n x d e best t w m.kept m.fits m.levels m.dark) step m.names;
       }
     where
       fits' : EverythingFits says g n w'

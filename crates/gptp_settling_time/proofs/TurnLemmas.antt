@@ -14,18 +14,23 @@ use Rattle.gptp_graph.proofs.LinkDecisions.{IsLinked-dec}
 use Rattle.gptp_graph.proofs.LinkLemmas.{Adjacent-clock, Adjacent-sym, Joins-clock, Joins-sym}
 use Rattle.gptp_bmca_machine.specs.Calm.{Calm}
 use Rattle.gptp_bmca_machine.specs.Facts.{FollowsItself, FollowsPort, station_system}
-use Rattle.gptp_bmca_machine.specs.Frame.{Announce, Spelling}
-use Rattle.gptp_bmca_machine.specs.LossLaws.{EverythingFits, IsAfterLoss, IsWhatIsLeft, Unmoved}
+use Rattle.gptp_bmca_machine.specs.Frame.{Announce, AnnounceFrame, Lane, Spelling}
+use Rattle.gptp_bmca_machine.specs.LossLaws.{EverythingFits, FlightFits, IsAfterLoss, IsWhatIsLeft, Unmoved}
 use Rattle.gptp_bmca_machine.specs.Network.{Network}
 use Rattle.gptp_bmca_machine.specs.Reacts.{IsMasterAt, IsOwn}
 use Rattle.gptp_bmca_machine.specs.Sound.{ReceivedFits}
 use Rattle.gptp_bmca_machine.specs.SoundLaws.{AllAreNear}
+use Rattle.gptp_bmca_machine.specs.Touch.{IsUsable, Replaces}
+use Rattle.gptp_bmca_machine.specs.Vectors.{master, message}
+use Rattle.gptp_bmca_machine.proofs.RestLemmas.{Chooses, is_master}
+use Rattle.gptp_graph.proofs.SystemLemmas.{In-clocks}
+use Rattle.gptp_graph.specs.Order.{IsLower}
 use Rattle.gptp_bmca_machine.specs.Station.{Disabled, HoldsAt, MachineState, Mine, Port, Received, Reception, Station}
 use Rattle.gptp_bmca_machine.proofs.LevelLemmas.{places_of}
 use Rattle.gptp_bmca_machine.proofs.PlaceLemmas.{same_there}
 use Rattle.gptp_settling_time.specs.Losses.{IsFarEnd, IsUnmoved}
 use Rattle.gptp_settling_time.proofs.ClaimLemmas.{HoldsOnly}
-use Rattle.gptp_bmca_machine.proofs.StillLemmas.{LeadsOn, StillSettles, chooses_still, live_before, still, told}
+use Rattle.gptp_bmca_machine.proofs.StillLemmas.{LeadsOn, StillSettles, chooses_still, clear_at, live_before, still, told}
 
 -- Of what is left of a snapshot one system is moved, from one distance of its best to another. It has one link at most
 -- with each other, and is the far end of each. Where it is farther by more than one, so was each neighbour that it has.
@@ -62,6 +67,12 @@ pub record IsBeside (g : Snapshot) (n : Network) (x d e : ℕ) (best : System) (
 abbrev pub NamesLate : Snapshot → ℕ → ℕ → System → Announce → Type 0
 NamesLate g x e best a = a.root ≡ best.identity → IsBest g a.source.clock best → In x a.path
     → (a.source.clock ≡ x) ⊎ (e ≤ a.steps)
+
+-- in flight it does, or it comes to a system that is nearer to the best than its sender, or as near with the lower clock
+abbrev pub ComesLate : Snapshot → ℕ → ℕ → System → PortIdentity → PortIdentity → Announce → Type 0
+ComesLate g x e best from to a = NamesLate g x e best a
+    ⊎ ((near far : ℕ) → IsDistance g to.clock near → IsDistance g from.clock far
+    → (near < far) ⊎ ((near ≡ far) × (to.clock < from.clock)))
 
 module _ (says : Spelling) (g : Snapshot) (n : Network) (x d e : ℕ) (best : System) (t : TurnsOne g n x d e best) where
   pub unmoved_by : (v : ℕ) → In v (clocks n.graph) → v ≢ x → Unmoved g n v
@@ -275,4 +286,95 @@ module _ (says : Spelling) (g : Snapshot) (n : Network) (x d e : ℕ) (best : Sy
                   (source_best i s port.place port.r at live port.holds own_best) among) root_r
               | inr (inl same) ↦ own_source same
               | inr (inr none) ↦ absurd none
+            ]
+
+    -- ---- what is taken
+
+    -- what a system can use and takes names the moved one late
+    pub taken_late : (j : ℕ) (l : Lane) (f : AnnounceFrame) (a : Announce) (i : ℕ) (s : Station) (place : ℕ) (q : Port)
+        → slice_get w.lanes j ≡ Some l → In f l.frames → says f.octets a → slice_get w.stations i ≡ Some s
+        → s.live ≡ true → l.to ≡ port_of s.clock (suc place) → slice_get s.ports place ≡ Some q → IsUsable s.clock a
+        → Replaces s.clock (suc place) a q.held → ComesLate g x e best l.from l.to a → NamesLate g x e best a
+    taken_late j l f a i s place q at among said here live to there usable replaces (inl late) root is names =
+        late root is names
+    taken_late j l f a i s place q at among said here live to there usable replaces (inr nearer) root is names =
+        absurd (by (ℕ_discrete s.clock x) (distance_exists g s.clock t.left.graph was_s)
+        (distance_exists g l.from.clock t.left.graph was_from))
+      where
+        known_s : In s.clock (clocks n.graph)
+        known_s = In-clocks n.graph (station_system s) (kept.calm.facts.stations i s here live).known
+
+        was_s : In s.clock (clocks g)
+        was_s = live_before g n t.well t.left s.clock known_s
+
+        fit : FlightFits g l a
+        fit =
+            all.lanes j l f a at among said
+            (subst (λ (k : PortIdentity). In k.clock (clocks n.graph)) (sym to) known_s)
+
+        joins : Joins g l.from (port_of s.clock (suc place))
+        joins = subst (Joins g l.from) to fit.joins
+
+        was_from : In l.from.clock (clocks g)
+        was_from = Joins-clock g l.from (port_of s.clock (suc place)) t.left.graph joins
+
+        best_s : IsBest g s.clock best
+        best_s =
+            IsBest-neighbour g a.source.clock s.clock best t.left.graph
+            (subst (λ (k : PortIdentity). Adjacent g k.clock s.clock) (sym fit.source)
+            (l.from.port, suc place, joins)) is
+
+        at_place : slice_get w.stations (n.place s.clock) ≡ Some s
+        at_place = subst (λ k. slice_get w.stations k ≡ Some s) (kept.calm.placed i s here) here
+
+        by : Dec (s.clock ≡ x) → ((near : ℕ) × IsDistance g s.clock near)
+            → ((far : ℕ) × IsDistance g l.from.clock far) → ⊥
+        by (yes same) near far = usable.no_loop (subst (λ c. In c a.path) (sym same) names)
+        by (no apart) (near, s_near) (far, from_far) =
+            not_lower (subst (Replaces s.clock (suc place) a) mine replaces)
+          where
+            beyond : (near < far) ⊎ ((near ≡ far) × (s.clock < l.from.clock))
+            beyond =
+                subst (λ (k : PortIdentity). (near < far) ⊎ ((near ≡ far) × (k.clock < l.from.clock))) to
+                (nearer near far (subst (λ (k : PortIdentity). IsDistance g k.clock near) (sym to) s_near) from_far)
+
+            close : near < 255
+            close =
+                let u = t.others s.clock known_s apart in
+                let (f, there, less) = t.near s.clock known_s in
+                let same = IsDistance-unique n.graph s.clock near f t.well (u.far near s_near) there in
+                omega (arith, same, less)
+
+            chosen : Chooses s best near
+            chosen =
+                chooses_still says g n t.well t.left w kept all.stations near (λ k less. levels k) close s.clock best s
+                at_place (unmoved_by s.clock known_s apart) best_s s_near
+
+            on : q.held ≢ Disabled
+            on off = subst (Replaces s.clock (suc place) a) off replaces
+
+            mine : q.held ≡ Mine best.identity near
+            mine =
+                is_master g t.left.graph s (clear_at g n t.well t.left w kept all.stations i s here live) best best_s near
+                far place q l.from chosen there on (Joins-sym g l.from (port_of s.clock (suc place)) joins) from_far
+                beyond
+
+            many : far ≤ a.steps
+            many =
+                fit.sender best far (subst (λ (k : PortIdentity). IsBest g k.clock best) (sym to) best_s) root from_far
+
+            not_lower : IsLower (message a (suc place)) (master best.identity near s.clock (suc place)) → ⊥
+            not_lower (inl less) = omega (arith, less, root)
+            not_lower (inr (same, inl fewer)) = elim beyond [
+              | inl below ↦ omega (arith, many, fewer, below)
+              | inr (equal, lower) ↦ omega (arith, many, fewer, equal)
+            ]
+            not_lower (inr (same, inr (steps, rest))) = elim beyond [
+              | inl below ↦ omega (arith, many, steps, below)
+              | inr (equal, lower) ↦
+                  let clock_is : a.source.clock ≡ l.from.clock = ap (λ (k : PortIdentity). k.clock) fit.source in
+                  elim rest [
+                    | inl less ↦ omega (arith, less, lower, clock_is)
+                    | inr (also, ports) ↦ omega (arith, also, lower, clock_is)
+                  ]
             ]
