@@ -89,3 +89,4 @@ pub mod BesideLemmas
 pub mod TurnedLemmas
 pub mod OldLemmas
 pub mod MovedLemmas
+pub mod RestNamesLemmas

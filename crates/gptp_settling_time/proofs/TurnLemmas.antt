@@ -32,8 +32,9 @@ use Rattle.gptp_settling_time.specs.Losses.{IsFarEnd, IsUnmoved}
 use Rattle.gptp_settling_time.proofs.ClaimLemmas.{HoldsOnly}
 use Rattle.gptp_bmca_machine.proofs.StillLemmas.{LeadsOn, StillSettles, chooses_still, clear_at, live_before, still, told}
 
--- Of what is left of a snapshot one system is moved, from one distance of its best to another. It has one link at most
--- with each other, and is the far end of each. Where it is farther by more than one, so was each neighbour that it has.
+-- Of what is left of a snapshot one system is moved, from one distance of its best to another. What it isn't joined to
+-- any more was nearer than it. It has one link at most with each other system, and is the far end of each. Where it is
+-- farther by more than one, so was each neighbour that it has of its own links.
 pub record TurnsOne (g : Snapshot) (n : Network) (x d e : ℕ) (best : System) : Type 0 where
   pub well : IsWellFormed n.graph
   pub left : IsWhatIsLeft g n
@@ -44,6 +45,7 @@ pub record TurnsOne (g : Snapshot) (n : Network) (x d e : ℕ) (best : System) :
   pub was : IsDistance g x d
   pub is : IsDistance n.graph x e
   pub more : d < e
+  pub lost : (u far : ℕ) → Adjacent g x u → IsDistance g u far → Adjacent n.graph x u ⊎ (far < d)
   pub far : IsFarEnd n.graph x
   pub single : (p q p' q' y : ℕ) → Joins n.graph (port_of x p) (port_of y q)
       → Joins n.graph (port_of x p') (port_of y q') → q ≡ q'
