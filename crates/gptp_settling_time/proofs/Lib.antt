@@ -90,3 +90,4 @@ pub mod TurnedLemmas
 pub mod OldLemmas
 pub mod MovedLemmas
 pub mod RestNamesLemmas
+pub mod TurnsAwayLemmas

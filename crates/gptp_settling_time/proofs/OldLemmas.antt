@@ -26,14 +26,23 @@ use Rattle.gptp_bmca_machine.proofs.StillLemmas.{port_there, station_of, still}
 use Rattle.gptp_settling_time.proofs.TurnLemmas.{IsBeside, TurnsOne}
 use Rattle.gptp_settling_time.proofs.TurnedLemmas.{AllFresh, HasTurned, PortThen, ends_new, heard_over, joins_back, news_fresh, port_then, turned_kept}
 
--- The frames are what was told before, until one that is due by a time and says an Announce that the hearer can use;
--- from that one on all Announces are fresh.
+-- The frames are what was told before, until one from which on all Announces are fresh, and which the hearer can use if
+-- it says one; and one such that is due by a time says one.
 abbrev pub TurnTail : Spelling → Wiring → PortIdentity → ℕ → System → ℕ → List AnnounceFrame → Type 0
 TurnTail says k from e best last [] = ⊥
 TurnTail says k from e best last (f ∷ fs) =
     ((f.due ≤ last) × FrameSaysAnnounce says f × ((a : Announce) → says f.octets a → IsUsable k.hearer a)
     × AllFresh says from e best (f ∷ fs))
-    ⊎ (((a : Announce) → says f.octets a → IsFinal k a) × TurnTail says k from e best last fs)
+    ⊎ (((a : Announce) → says f.octets a
+    → IsFinal k a ⊎ (IsUsable k.hearer a × AllFresh says from e best (f ∷ fs)))
+    × TurnTail says k from e best last fs)
+
+fresh_more : (says : Spelling) (from : PortIdentity) (e : ℕ) (best : System) (fs news : List AnnounceFrame)
+    → AllFresh says from e best fs → AllFresh says from e best news → AllFresh says from e best (fs ++ news)
+fresh_more says from e best fs news old new h a at is = elim (In-parts h fs news at) [
+  | inl among ↦ old h a among is
+  | inr late ↦ new h a late is
+]
 
 -- fresh frames may enter behind it
 tail_more : (says : Spelling) (k : Wiring) (from : PortIdentity) (e : ℕ) (best : System) (last : ℕ)
@@ -41,12 +50,15 @@ tail_more : (says : Spelling) (k : Wiring) (from : PortIdentity) (e : ℕ) (best
     → TurnTail says k from e best last (fs ++ news)
 tail_more says k from e best last [] news new tail = absurd tail
 tail_more says k from e best last (f ∷ fs) news new (inl (due, said, usable, fresh)) =
-    inl (due, said, usable, λ h a at is. elim (In-parts h (f ∷ fs) news at) [
-      | inl old ↦ fresh h a old is
-      | inr late ↦ new h a late is
-    ])
+    inl (due, said, usable, fresh_more says from e best (f ∷ fs) news fresh new)
 tail_more says k from e best last (f ∷ fs) news new (inr (old, tail)) =
-    inr (old, tail_more says k from e best last fs news new tail)
+    inr (
+      (λ a said. elim (old a said) [
+        | inl final ↦ inl final
+        | inr (usable, fresh) ↦ inr (usable, fresh_more says from e best (f ∷ fs) news fresh new)
+      ]),
+      tail_more says k from e best last fs news new tail,
+    )
 
 -- one of its frames is due by then
 tail_due : (says : Spelling) (k : Wiring) (from : PortIdentity) (e : ℕ) (best : System) (last : ℕ)
@@ -485,27 +497,41 @@ module _ (says : Spelling) (g : Snapshot) (n : Network) (x d e : ℕ) (best : Sy
         came = by (port_there g n t.well t.left w m.kept m.fits.stations y q from act.call.s call_at
             (joins_back says g n x d e best t p y q joins))
           where
-            by_tail : TurnTail says k from e best last (act.f ∷ act.fs) → Turning w'
-            by_tail (inl (due, said, usable, fresh)) =
-                let (c, touched, says_c) = hears said in
-                let now = act.pops.due in
-                inr (turns act.touch act.mid act.call act.pops.stations c touched place act.pops.time
-                (usable c says_c) (fresh act.f c (inl refl) says_c) (omega (arith, due, now))
+            turned : (c : Announce) → act.touch ≡ Hear (suc q) c → IsUsable y c → w.time ≤ last
+                → AllFresh says from e best (act.f ∷ act.fs) → says act.f.octets c
+                → HasTurned says g n x d e best t p y q joins before w'
+            turned c touched usable soon fresh says_c =
+                turns act.touch act.mid act.call act.pops.stations c touched place act.pops.time usable
+                (fresh act.f c (inl refl) says_c) soon
                 (λ s pu at there.
                 let o = was_old s pu at there in
                 (o.r, o.holds, o.final.source))
                 (λ l at. let (from_is, frames) = in_mid l at in (
                   from_is,
                   (λ h b among says_b. fresh h b (inr (subst (In h) frames among)) says_b),
-                )) stood_back)
+                )) stood_back
+
+            by_tail : TurnTail says k from e best last (act.f ∷ act.fs) → Turning w'
+            by_tail (inl (due, said, usable, fresh)) =
+                let (c, touched, says_c) = hears said in
+                let now = act.pops.due in
+                inr (turned c touched (usable c says_c) (omega (arith, due, now)) fresh says_c)
             by_tail (inr (finals, tail)) = elim (is_hear act.touch) [
               | inl (j, a, touched) ↦
                   let (number, said) = act.heard j a touched in
                   let port : j ≡ suc q = number ∙ ap (λ (v : PortIdentity). v.port) to_is in
-                  inl (heard_old act.touch act.mid act.call act.pops.stations a (finals a said)
-                  (touched ∙ (λ i. Hear (port i) a)) place act.pops.time
-                  (λ l at. let (from_is, frames) = in_mid l at in
-                  (from_is, subst (TurnTail says k from e best last) (sym frames) tail)))
+                  let touches = touched ∙ (λ i. Hear (port i) a) in
+                  elim (finals a said) [
+                    | inl final ↦
+                        inl (heard_old act.touch act.mid act.call act.pops.stations a final touches place act.pops.time
+                        (λ l at. let (from_is, frames) = in_mid l at in
+                        (from_is, subst (TurnTail says k from e best last) (sym frames) tail)))
+                    | inr (usable, fresh) ↦
+                        let (h, behind, due) = tail_due says k from e best last act.fs tail in
+                        let left = m.kept.calm.left lane act.l h lane_at (subst (In h) (sym act.pops.frames) (inr behind))
+                        in
+                        inr (turned a touches usable (omega (arith, due, left)) fresh said)
+                  ]
               | inr deaf ↦ inl (deaf_old act.touch act.mid act.call act.pops.stations
                   (λ s pu l at there at_l. let (from_is, frames) = in_mid l at_l in (
                     from_is,

@@ -82,6 +82,18 @@ module _ (g : Snapshot) (well : IsWellFormed g) (x d : ℕ) (best : System) (her
 
 -- ---- at rest
 
+-- What is received came from who is nearer than this, or as near with the lower clock, and is what that told at last.
+pub record HeldDown (g : Snapshot) (c place : ℕ) (r : Reception) (near : ℕ) : Type 0 where
+  pub from : PortIdentity
+  pub joins : Joins g from (port_of c (suc place))
+  pub source : r.said.source ≡ from
+  pub sound : IsWorse g from.clock r.said ⊎ Whole g from.clock r.said
+  pub far : ℕ
+  pub from_far : IsDistance g from.clock far
+  pub down : (far < near) ⊎ ((far ≡ near) × (from.clock < c))
+  pub root : r.said.root ≡ from_far.best.identity
+  pub steps : r.said.steps ≡ far
+
 module _ (says : Spelling) (n0 n : Network) (x d e : ℕ) (best : System) (t : TurnsOne n0.graph n x d e best)
     (net0 : IsSettlingNetwork n0) (w : MachineState) (calm0 : Calm n0 w) (invariant0 : Invariant says n0 w)
     (late0 : settled_from n0 ≤ w.time) (near0 : AllAreNear n0.graph) where
@@ -89,7 +101,7 @@ module _ (says : Spelling) (n0 n : Network) (x d e : ℕ) (best : System) (t : T
   g = n0.graph
 
   -- a link that leads farther, as it stands
-  record LinkAtRest (f : ℕ) (c : System) (v p u q : ℕ) : Type 0 where
+  pub record LinkAtRest (f : ℕ) (c : System) (v p u q : ℕ) : Type 0 where
     s : Station
     at : slice_get w.stations (n0.place u) ≡ Some s
     port : Port
@@ -99,7 +111,7 @@ module _ (says : Spelling) (n0 n : Network) (x d e : ℕ) (best : System) (t : T
     lane_at : slice_get w.lanes (n0.lane (port_of v (suc p))) ≡ Some lane
     stays : FinalAnnounceStays says (wiring n0 f c v p u q) announce port.held lane.frames
 
-  at_rest : (f : ℕ) (c : System) (v p u q : ℕ) → f < 255 → LeadsFarther g f c v p u q → LinkAtRest f c v p u q
+  pub at_rest : (f : ℕ) (c : System) (v p u q : ℕ) → f < 255 → LeadsFarther g f c v p u q → LinkAtRest f c v p u q
   at_rest f c v p u q close leads =
       let known_v = Joins-clock g (port_of v (suc p)) (port_of u (suc q)) net0.graph leads.joins in
       let back = Joins-sym g (port_of v (suc p)) (port_of u (suc q)) leads.joins in
@@ -232,7 +244,7 @@ module _ (says : Spelling) (n0 n : Network) (x d e : ℕ) (best : System) (t : T
                   ]
 
   -- how far each system is
-  close_to : (v far : ℕ) → IsDistance g v far → far < 255
+  pub close_to : (v far : ℕ) → IsDistance g v far → far < 255
   close_to v far is =
       let (f, there, less) = near0 v (is.is_best.reached.1.begins) in
       let same = IsDistance-unique g v far f net0.graph is there in
@@ -273,59 +285,90 @@ module _ (says : Spelling) (n0 n : Network) (x d e : ℕ) (best : System) (t : T
           (subst (λ i. slice_get w.lanes i ≡ Some l) one_place at) link.lane_at in
           (link.stays.flight f a (subst (λ (k : Lane). In f k.frames) one among) said).steps
 
-  -- what is held
-  pub held_late : (i : ℕ) (s : Station) (place : ℕ) (r : Reception) → slice_get w.stations i ≡ Some s
-      → s.live ≡ true → HoldsAt s place r → CameSound g s.clock (suc place) r → NamesLate g x e best r.said
-  held_late i s place r at live (q, there, holds) came =
-      elim (comes came.from to r.said came.joins came.source came.sound (λ near far to_near from_far down.
-          by near far to_near from_far down
-          (places_of g came.from.clock came.from.port s.clock (suc place) net0.graph came.joins))) [
-            | inl late ↦ late
-            | inr up ↦ (λ root is names. absurd (none up))
-          ]
+  -- ---- what is held
+
+  pub held_down : (i : ℕ) (s : Station) (place : ℕ) (r : Reception) (near : ℕ) → slice_get w.stations i ≡ Some s
+      → s.live ≡ true → HoldsAt s place r → CameSound g s.clock (suc place) r → IsDistance g s.clock near
+      → HeldDown g s.clock place r near
+  held_down i s place r near at live (q, there, holds) came to_near =
+      by (distance_exists g came.from.clock net0.graph (Joins-clock g came.from to net0.graph came.joins))
+      (places_of g came.from.clock came.from.port s.clock (suc place) net0.graph came.joins)
     where
       to : PortIdentity
       to = port_of s.clock (suc place)
 
-      known_to : In s.clock (clocks g)
-      known_to = Joins-clock g to came.from net0.graph (Joins-sym g came.from to came.joins)
-
       at_place : slice_get w.stations (n0.place s.clock) ≡ Some s
       at_place = subst (λ k. slice_get w.stations k ≡ Some s) (calm0.placed i s at) at
 
-      none : ((near far : ℕ) → IsDistance g s.clock near → IsDistance g came.from.clock far
-          → Upward came.from to near far) → ⊥
-      none up =
-          let (near, to_near) = distance_exists g s.clock net0.graph known_to in
-          let (far, from_far) =
-          distance_exists g came.from.clock net0.graph (Joins-clock g came.from to net0.graph came.joins) in
-          far_holds_none says n0 net0 w calm0 invariant0 late0 i s place r came.from near far at live (q, there, holds)
-          (Joins-sym g came.from to came.joins) to_near (close_to s.clock near to_near) from_far
-          (up near far to_near from_far)
+      by : ((far : ℕ) × IsDistance g came.from.clock far)
+          → ((p : ℕ) × (k : ℕ) × (came.from.port ≡ suc p) × (suc place ≡ suc k)) → HeldDown g s.clock place r near
+      by (far, from_far) (p, k, is_p, is_k) =
+          elim (either came.from to near far (net0.graph.apart came.from to came.joins)) [
+            | inl up ↦ absurd (far_holds_none says n0 net0 w calm0 invariant0 late0 i s place r came.from near far at live
+                (q, there, holds) (Joins-sym g came.from to came.joins) to_near (close_to s.clock near to_near) from_far
+                up)
+            | inr down ↦ final down
+          ]
+        where
+          final : Downward came.from to near far → HeldDown g s.clock place r near
+          final down =
+              let from_is : came.from ≡ port_of came.from.clock (suc p) = λ i. port_of came.from.clock (is_p i) in
+              let over : Joins g (port_of came.from.clock (suc p)) to =
+              subst (λ z. Joins g z to) from_is came.joins in
+              let leads : LeadsFarther g far from_far.best came.from.clock p s.clock place =
+              record {
+                is_best = from_far.is_best;
+                here = from_far;
+                joins = over;
+                far = near;
+                there = to_near;
+                farther = down;
+              } in
+              let link = at_rest far from_far.best came.from.clock p s.clock place
+              (close_to came.from.clock far from_far) leads in
+              let one : link.s ≡ s = same_there w.stations (n0.place s.clock) link.s s link.at at_place in
+              let port : link.port ≡ q =
+              same_there s.ports place link.port q
+              (subst (λ (z : Station). slice_get z.ports place ≡ Some link.port) one link.there) there in
+              let same : link.stays.what ≡ r =
+              received_injective link.stays.what r
+              (sym link.stays.holds ∙ ap (λ (z : Port). z.held) port ∙ holds) in
+              record {
+                from = came.from;
+                joins = came.joins;
+                source = came.source;
+                sound = came.sound;
+                far = far;
+                from_far = from_far;
+                down = down;
+                root = sym (ap (λ (z : Reception). z.said.root) same) ∙ link.stays.final.root;
+                steps = sym (ap (λ (z : Reception). z.said.steps) same) ∙ link.stays.final.steps;
+              }
 
-      by : (near far : ℕ) → IsDistance g s.clock near → IsDistance g came.from.clock far
-          → Downward came.from to near far
-          → ((p : ℕ) × (k : ℕ) × (came.from.port ≡ suc p) × (suc place ≡ suc k)) → r.said.steps ≡ far
-      by near far to_near from_far down (p, k, is_p, is_k) =
-          let from_is : came.from ≡ port_of came.from.clock (suc p) = λ i. port_of came.from.clock (is_p i) in
-          let over : Joins g (port_of came.from.clock (suc p)) to =
-          subst (λ z. Joins g z to) from_is came.joins in
-          let leads : LeadsFarther g far from_far.best came.from.clock p s.clock place =
-          record {
-            is_best = from_far.is_best;
-            here = from_far;
-            joins = over;
-            far = near;
-            there = to_near;
-            farther = down;
-          } in
-          let link = at_rest far from_far.best came.from.clock p s.clock place
-          (close_to came.from.clock far from_far) leads in
-          let one : link.s ≡ s = same_there w.stations (n0.place s.clock) link.s s link.at at_place in
-          let port : link.port ≡ q =
-          same_there s.ports place link.port q
-          (subst (λ (z : Station). slice_get z.ports place ≡ Some link.port) one link.there) there in
-          let same : link.stays.what ≡ r =
-          received_injective link.stays.what r
-          (sym link.stays.holds ∙ ap (λ (z : Port). z.held) port ∙ holds) in
-          sym (ap (λ (z : Reception). z.said.steps) same) ∙ link.stays.final.steps
+  pub held_late : (i : ℕ) (s : Station) (place : ℕ) (r : Reception) → slice_get w.stations i ≡ Some s
+      → s.live ≡ true → HoldsAt s place r → CameSound g s.clock (suc place) r → NamesLate g x e best r.said
+  held_late i s place r at live holds came =
+      by (distance_exists g s.clock net0.graph
+      (Joins-clock g to came.from net0.graph (Joins-sym g came.from to came.joins)))
+    where
+      to : PortIdentity
+      to = port_of s.clock (suc place)
+
+      by : ((near : ℕ) × IsDistance g s.clock near) → NamesLate g x e best r.said
+      by (near, to_near) =
+          let is = held_down i s place r near at live holds came to_near in
+          elim (comes is.from to r.said is.joins is.source is.sound (λ near' far' is_near is_far down.
+          is.steps ∙ IsDistance-unique g is.from.clock is.far far' net0.graph is.from_far is_far)) [
+            | inl late ↦ late
+            | inr up ↦ (λ root names_best names. absurd (none is (up near is.far to_near is.from_far)))
+          ]
+        where
+          none : (is : HeldDown g s.clock place r near) → Upward is.from to near is.far → ⊥
+          none is (inl less) = elim is.down [
+            | inl more ↦ omega (arith, less, more)
+            | inr (equal, lower) ↦ omega (arith, less, equal)
+          ]
+          none is (inr (equal, below)) = elim is.down [
+            | inl more ↦ omega (arith, equal, more)
+            | inr (also, lower) ↦ omega (arith, below, lower)
+          ]
