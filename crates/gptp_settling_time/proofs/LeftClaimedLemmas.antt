@@ -55,7 +55,7 @@ use Rattle.gptp_settling_time.proofs.UnlinkedLemmas.{IsLeftSeen, LostAreFarther,
 
 -- ---- what holds of a world whose ports are capable from a start on
 
-standing_later : (p : SettlingParams) (start time : ℕ) (w : WorldState) → w.time ≤ time
+pub standing_later : (p : SettlingParams) (start time : ℕ) (w : WorldState) → w.time ≤ time
     → NothingBefore time w.net.pending → IsStanding p start w → IsStanding p start (at_time time w)
 standing_later p start time w later first is = record {
   pace = is.pace;
@@ -64,7 +64,7 @@ standing_later p start time w later first is = record {
   silent = silent_later p start time w is.silent;
 }
 
-standing_acts : (p : SettlingParams) (start : ℕ) (act : Act) (w : WorldState) (draws : List Draw) (done : Done)
+pub standing_acts : (p : SettlingParams) (start : ℕ) (act : Act) (w : WorldState) (draws : List Draw) (done : Done)
     (w' : WorldState) → IsNoChange act → SetsAnOctet act → Acts act w draws done w' → IsStanding p start w
     → IsStanding p start w'
 standing_acts p start act w draws done w' none octet k is =
@@ -111,7 +111,7 @@ left_net p silent w is =
       link = λ d port linked. inl (refl, refl);
     }))
 
-same_left : (p : SettlingParams) (silent : ℕ) (w w' : WorldState) → KeepsNetwork w w'
+pub same_left : (p : SettlingParams) (silent : ℕ) (w w' : WorldState) → KeepsNetwork w w'
     → left_network p silent w' ≡ left_network p silent w
 same_left p silent w w' keeps =
     ap (λ (n : Network). record n { bare = 0; off = silent })

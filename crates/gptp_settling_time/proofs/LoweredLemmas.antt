@@ -111,7 +111,7 @@ reduced live i a b sends quiet = record {
         ≡ ports_view (span_at a) (without i a.held) (change_at silenced i a.ports)
     same = λ k. ports_view (spans k) (quiet.held k) (quiet.ports k)
 
-reduced_on : (a b c : SeenStation) → IsReducedStation a b → IsReducedStation b c → IsReducedStation a c
+pub reduced_on : (a b c : SeenStation) → IsReducedStation a b → IsReducedStation b c → IsReducedStation a c
 reduced_on a b c first second = record {
   live = second.live ∙ first.live;
   clock = second.clock ∙ first.clock;
@@ -124,26 +124,26 @@ reduced_on a b c first second = record {
 -- ---- a call
 
 -- without its port at this place something else is as good as what it follows
-record HasAnother (s : SystemState) (place : ℕ) : Type 0 where
-  left : Vector
-  among : IsIn left (system_vector s.identity ∷ path_vectors (without place s.held))
-  root : left.root ≡ s.root
-  steps : left.steps ≡ s.steps
+pub record HasAnother (s : SystemState) (place : ℕ) : Type 0 where
+  pub left : Vector
+  pub among : IsIn left (system_vector s.identity ∷ path_vectors (without place s.held))
+  pub root : left.root ≡ s.root
+  pub steps : left.steps ≡ s.steps
 
 -- what is known of a system whose port goes down: so it is of it, or no other port takes part
-record CanLose (station : Station) (port : ℕ) : Type 0 where
-  held : AreHeld station.system
-  rest : IsAtRest station.system
-  place : ℕ
-  number : port ≡ suc place
-  others : HasAnother station.system place ⊎ AreDisabled (without place station.system.held)
+pub record CanLose (station : Station) (port : ℕ) : Type 0 where
+  pub held : AreHeld station.system
+  pub rest : IsAtRest station.system
+  pub place : ℕ
+  pub number : port ≡ suc place
+  pub others : HasAnother station.system place ⊎ AreDisabled (without place station.system.held)
 
 -- systems are reduced at most, and links are as they were
-record StandsReduced (w w' : WorldState) : Type 0 where
-  time : w'.time ≡ w.time
-  stations : (i : ℕ) (s : SeenStation) → slice_get (view w').stations i ≡ Some s
+pub record StandsReduced (w w' : WorldState) : Type 0 where
+  pub time : w'.time ≡ w.time
+  pub stations : (i : ℕ) (s : SeenStation) → slice_get (view w').stations i ≡ Some s
       → (old : SeenStation) × (slice_get (view w).stations i ≡ Some old) × IsReducedStation old s
-  channels : w'.net.channels ≡ w.net.channels
+  pub channels : w'.net.channels ≡ w.net.channels
 
 set_reduced : (stations : List Station) (place : ℕ) (old new : Station) → slice_get stations place ≡ Some old
     → IsReducedStation (station_view old) (station_view new) → (i : ℕ) (s : SeenStation)
@@ -170,7 +170,7 @@ set_reduced stations place old new here less i s there =
           )
     ]
 
-goes_down_reduced : (place port : ℕ) (w : WorldState) (draws : List Draw) (w' : WorldState)
+pub goes_down_reduced : (place port : ℕ) (w : WorldState) (draws : List Draw) (w' : WorldState)
     → ((station : Station) → slice_get w.stations place ≡ Some station → station.live ≡ true → CanLose station port)
     → CallsIfLive place (PortDown port) w draws w' → StandsReduced w w'
 goes_down_reduced place port w draws w' can (inr (failed, none, same)) =
