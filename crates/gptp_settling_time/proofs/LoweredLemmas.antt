@@ -9,7 +9,7 @@ use Rattle.gptp_lists.proofs.PlaceLemmas.{get-set_other, get-set_same, same_plac
 use Rattle.gptp_graph.specs.PathBound.{path_bound}
 use Rattle.gptp_graph.specs.Snapshot.{IsLinked, IsWellFormed, Joins, PortIdentity, Snapshot, System, clocks, port_of}
 use Rattle.gptp_graph.proofs.ExistenceLemmas.{distance_exists}
-use Rattle.gptp_graph.proofs.LinkLemmas.{Joins-clock}
+use Rattle.gptp_graph.proofs.LinkLemmas.{Joins-clock, Joins-sym}
 use Rattle.gptp_graph.proofs.SystemLemmas.{In-clocks}
 use Rattle.gptp_vector.specs.Vector.{path_of, system_vector}
 use Rattle.gptp_vector.specs.declared.port.PortId.{PortId}
@@ -70,12 +70,12 @@ use Rattle.gptp_invariants.proofs.WorldSystemLemmas.{live_there}
 use Rattle.gptp_invariants.proofs.WorldWayLemmas.{one_way, used_joins, way_of}
 use Rattle.gptp_settling_time.specs.Losses.{IsCutOff, IsUnmoved, IsUnmovedOrCutOff}
 use Rattle.gptp_settling_time.proofs.AlwaysClaimedLemmas.{AreHeard, IsStanding, same_start, start_calm, start_network}
-use Rattle.gptp_settling_time.proofs.FitsLemmas.{IsLeftUnmoved, UnlinkedHoldNothing, at_zero, everything_fits, lived, received_still}
+use Rattle.gptp_settling_time.proofs.FitsLemmas.{IsLeftUnmoved, UnlinkedHoldNothing, at_zero, everything_fits, joined_stays, lived, received_still}
 use Rattle.gptp_settling_time.proofs.GoesDownLemmas.{AreDisabled, GoesDownQuietly, goes_down_alone, goes_down_quietly, held_among, others_disabled, without}
 use Rattle.gptp_settling_time.proofs.LeftClaimedLemmas.{HaveAskedLong, IsLeftAlways, asked_heard, left_calm, left_net, left_network}
 use Rattle.gptp_settling_time.proofs.LinkStoodLemmas.{second_still}
 use Rattle.gptp_settling_time.proofs.LinkUpLemmas.{lane_set}
-use Rattle.gptp_settling_time.proofs.ReducedLemmas.{HoldsAsMuch, IsReduced, IsReducedStation, fits_reduced, holds_as_much, levels_reduced, reduced_itself}
+use Rattle.gptp_settling_time.proofs.ReducedLemmas.{HoldsAsMuch, IsLess, IsReduced, IsReducedStation, NearerStay, fits_reduced, holds_as_much, levels_reduced, reduced_itself}
 use Rattle.gptp_settling_time.proofs.SettledSeenLemmas.{IsSettledSeen, wired_as}
 use Rattle.gptp_settling_time.proofs.TakenDownLemmas.{silent_down, stood_down, told_keeps, up_apart}
 use Rattle.gptp_settling_time.proofs.UnlinkedLemmas.{LostAreFarther}
@@ -242,7 +242,7 @@ module _ (p : SettlingParams) (w : WorldState) (is : IsWorld p w) (place : ℕ) 
     (here : slice_get w.net.channels place ≡ Some channel) (draws : List Draw) (w' : WorldState) (is' : IsWorld p w')
     (k : TellsEnds PortDown channel (record w { net = taken_down place channel w.net; last_change = w.time }) draws w')
     (seen : IsSettledSeen p w) (near : AllAreNear (snapshot_of w)) (dark : UnlinkedAreOff (snapshot_of w) (view w))
-    (unmoved : (v : ℕ) → In v (clocks (snapshot_of w')) → IsUnmovedOrCutOff (snapshot_of w) (snapshot_of w') v) where
+    where
   abbrev taken : WorldState
   taken = record w { net = taken_down place channel w.net; last_change = w.time }
 
@@ -286,17 +286,14 @@ module _ (p : SettlingParams) (w : WorldState) (is : IsWorld p w) (place : ℕ) 
     }
   ]
 
-  left : IsLeftUnmoved g g'
-  left = record {
+  -- what is left was there
+  less_then : IsLess g g'
+  less_then = record {
     systems = λ s member. subst (In s) keeps.systems member;
     links = λ a b joins.
         links_more taken w (same_systems (live_stations w.stations)) were_there a b
         (subst (λ h. Joins h a b) (same_snapshot taken w' keeps) joins);
-    unmoved = unmoved;
   }
-
-  left_seen : IsLeftUnmoved seen.n.graph g'
-  left_seen = subst (λ h. IsLeftUnmoved h g') (sym seen.graph) left
 
   -- no link is at its ends any more
   unlinked : (way : Direction) → IsLinked g' (port_identity_number (sender way channel)) → ⊥
@@ -338,19 +335,23 @@ module _ (p : SettlingParams) (w : WorldState) (is : IsWorld p w) (place : ℕ) 
     among : In (standing_system station) (live_stations w.stations)
     among = live_there w.stations at station stands live
 
-    known : In (clock station.system) (clocks g')
+    pub known : In (clock station.system) (clocks g')
     known = In-clocks g' (standing_system station) (subst (In (standing_system station)) (sym keeps.systems) among)
 
-    as_much : IsUnmoved g g' (clock station.system) → HoldsAsMuch g' (station_view station)
-    as_much stays =
+    as_much : IsUnmoved g g' (clock station.system) → NearerStay g g' (clock station.system)
+        → HoldsAsMuch g' (station_view station)
+    as_much stays beside =
         let x = clock station.system in
         let (d, far, close) = near x (In-clocks g (standing_system station) among) in
-        holds_as_much says_announce seen.n seen.net (view w) seen.calm seen.invariant seen.late g' well' left_seen at
-        (station_view station) (station_there w.stations at station stands) live
-        (subst (λ h. IsUnmoved h g' x) (sym seen.graph) stays) d close (stays.far d far)
+        holds_as_much says_announce seen.n seen.net (view w) seen.calm seen.invariant seen.late g' well'
+        (subst (λ h. IsLess h g') (sym seen.graph) less_then) at (station_view station)
+        (station_there w.stations at station stands) live (subst (λ h. IsUnmoved h g' x) (sym seen.graph) stays)
+        (subst (λ h. NearerStay h g' x) (sym seen.graph) beside) d close (stays.far d far)
 
-    can_lose : CanLose station (sender way channel).port
-    can_lose = by (sender way channel).port refl (is.sound.wired.ports place at way channel station here stands named)
+    pub can_lose : (IsUnmoved g g' (clock station.system) × NearerStay g g' (clock station.system))
+        ⊎ IsCutOff g' (clock station.system)
+        → CanLose station (sender way channel).port
+    can_lose one = by (sender way channel).port refl (is.sound.wired.ports place at way channel station here stands named)
       where
         another : (i : ℕ) → (sender way channel).port ≡ suc i → HoldsAsMuch g' (station_view station)
             → HasAnother station.system i
@@ -410,158 +411,186 @@ module _ (p : SettlingParams) (w : WorldState) (is : IsWorld p w) (place : ℕ) 
               rest = steady.rest;
               place = i;
               number = refl;
-              others = elim (unmoved (clock station.system) known) [
-                | inl stays ↦ inl (another i is_n (as_much stays))
+              others = elim one [
+                | inl (stays, beside) ↦ inl (another i is_n (as_much stays beside))
                 | inr cut ↦ inr (off i is_n cut steady.shown)
               ];
             }
 
-  still_b : slice_get k.between.stations k.place_b ≡ Some k.station_b
+  pub still_b : slice_get k.between.stations k.place_b ≡ Some k.station_b
   still_b = second_still PortDown channel taken draws w' k (is.between place channel here).apart
 
-  told : StandsReduced taken w'
-  told =
-      stands_on taken k.between w'
-      (goes_down_reduced k.place_a channel.a.port taken k.first k.between (λ station stands live.
-      let one = same_there w.stations k.place_a station k.station_a stands k.is_a.here in
-      can_lose FromA k.place_a station stands (ap (λ (x : Station). clock x.system) one ∙ k.is_a.named) live) k.at_a)
-      (goes_down_reduced k.place_b channel.b.port k.between k.second w' (λ station stands live.
-      let one = same_there k.between.stations k.place_b station k.station_b stands still_b in
-      can_lose FromB k.place_b station (k.is_b.here ∙ ap (λ x. Some x) (sym one))
-      (ap (λ (x : Station). clock x.system) one ∙ k.is_b.named) live) k.at_b)
+  module _ (unmoved : (v : ℕ) → In v (clocks (snapshot_of w'))
+      → IsUnmovedOrCutOff (snapshot_of w) (snapshot_of w') v) where
+    left : IsLeftUnmoved g g'
+    left = record {
+      systems = less_then.systems;
+      links = less_then.links;
+      unmoved = unmoved;
+    }
 
-  none_lost : (direction : Direction) → (lane_view direction (lost channel)).frames ≡ []
-  none_lost FromA = refl
-  none_lost FromB = refl
+    left_seen : IsLeftUnmoved seen.n.graph g'
+    left_seen = subst (λ h. IsLeftUnmoved h g') (sym seen.graph) left
 
-  lanes : (j : ℕ) (l : Lane) → slice_get (view w').lanes j ≡ Some l
-      → (slice_get (view w).lanes j ≡ Some l) ⊎ ((l.frames ≡ []) × (l.is_up ≡ false))
-  lanes j l there =
-      let x = lane_from w'.net.channels j l there in
-      elim (same_place x.link place) [
-        | inl same ↦
-            let one : x.channel ≡ lost channel =
-            same_Some x.channel (lost channel)
-            (sym x.here ∙ ap (λ cs. slice_get cs x.link) told.channels
-            ∙ ap (slice_get (slice_set w.net.channels place (lost channel))) same
-            ∙ get-set_same w.net.channels place channel (lost channel) here) in
-            let lane = x.is ∙ ap (lane_view x.direction) one in
-            inr (ap (λ (m : Lane). m.frames) lane ∙ none_lost x.direction, ap (λ (m : Lane). m.is_up) lane)
-        | inr apart ↦
-            let stood : slice_get w.net.channels x.link ≡ Some x.channel =
-            sym (get-set_other w.net.channels place x.link (lost channel) apart)
-            ∙ ap (λ cs. slice_get cs x.link) (sym told.channels) ∙ x.here in
-            inl (ap (slice_get (view w).lanes) x.at
-            ∙ lane_there w.net.channels x.link x.direction x.channel stood ∙ ap (λ m. Some m) (sym x.is))
-      ]
+    -- so are those beside it
+    joined_too : (v : ℕ) → In v (clocks g') → (IsUnmoved g g' v × NearerStay g g' v) ⊎ IsCutOff g' v
+    joined_too v known_v = elim (unmoved v known_v) [
+      | inr cut ↦ inr cut
+      | inl stays ↦ inl (
+        stays,
+        (λ y e joined nearer here_far.
+        let (m, j, joins) = joined in
+        joined_stays g g' well well' left (port_of y j) (port_of v m) (Joins-sym g' (port_of v m) (port_of y j) joins)),
+      )
+    ]
 
-  less : IsReduced (view w) (view w')
-  less = record { time = told.time; stations = λ i s there live. told.stations i s there; lanes = lanes }
+    told : StandsReduced taken w'
+    told =
+        stands_on taken k.between w'
+        (goes_down_reduced k.place_a channel.a.port taken k.first k.between (λ station stands live.
+        let one = same_there w.stations k.place_a station k.station_a stands k.is_a.here in
+        let named = ap (λ (x : Station). clock x.system) one ∙ k.is_a.named in
+        can_lose FromA k.place_a station stands named live
+        (joined_too (clock station.system) (known FromA k.place_a station stands named live))) k.at_a)
+        (goes_down_reduced k.place_b channel.b.port k.between k.second w' (λ station stands live.
+        let one = same_there k.between.stations k.place_b station k.station_b stands still_b in
+        let stands = k.is_b.here ∙ ap (λ x. Some x) (sym one) in
+        let named = ap (λ (x : Station). clock x.system) one ∙ k.is_b.named in
+        can_lose FromB k.place_b station stands named live
+        (joined_too (clock station.system) (known FromB k.place_b station stands named live))) k.at_b)
 
-  -- a network of the world then has the wiring of one that it had
-  wires : (n : Network) → delay_in w' ≡ delay_in w → n ≡ wired_as n (start_network p 0 0 w') → SameWiring seen.n n
-  wires n delay wired =
-      let started = same_start p 0 0 taken w' keeps in
-      let most = seen.most in
-      let delays : n.most ≡ delay_in w' = ap (λ (x : Network). x.most) wired in
-      record {
-        place = λ v. ap (λ (x : Network). x.place v) wired ∙ keeps.places v ∙ seen.same.place v;
-        lane = λ q.
-            ap (λ (x : Network). x.lane q) wired ∙ ap (λ (x : Network). x.lane q) started
-            ∙ lane_set w.net.channels place channel (lost channel) q here refl refl ∙ seen.same.lane q;
-        log = λ q.
-            ap (λ (x : Network). x.log_of q) wired ∙ ap (λ (x : Network). x.log_of q) started ∙ seen.same.log q;
-        interval = λ q.
-            ap (λ (x : Network). x.interval_of q) wired ∙ ap (λ (x : Network). x.interval_of q) started
-            ∙ seen.same.interval q;
-        most = omega (arith, delay, delays, most);
+    none_lost : (direction : Direction) → (lane_view direction (lost channel)).frames ≡ []
+    none_lost FromA = refl
+    none_lost FromB = refl
+
+    lanes : (j : ℕ) (l : Lane) → slice_get (view w').lanes j ≡ Some l
+        → (slice_get (view w).lanes j ≡ Some l) ⊎ ((l.frames ≡ []) × (l.is_up ≡ false))
+    lanes j l there =
+        let x = lane_from w'.net.channels j l there in
+        elim (same_place x.link place) [
+          | inl same ↦
+              let one : x.channel ≡ lost channel =
+              same_Some x.channel (lost channel)
+              (sym x.here ∙ ap (λ cs. slice_get cs x.link) told.channels
+              ∙ ap (slice_get (slice_set w.net.channels place (lost channel))) same
+              ∙ get-set_same w.net.channels place channel (lost channel) here) in
+              let lane = x.is ∙ ap (lane_view x.direction) one in
+              inr (ap (λ (m : Lane). m.frames) lane ∙ none_lost x.direction, ap (λ (m : Lane). m.is_up) lane)
+          | inr apart ↦
+              let stood : slice_get w.net.channels x.link ≡ Some x.channel =
+              sym (get-set_other w.net.channels place x.link (lost channel) apart)
+              ∙ ap (λ cs. slice_get cs x.link) (sym told.channels) ∙ x.here in
+              inl (ap (slice_get (view w).lanes) x.at
+              ∙ lane_there w.net.channels x.link x.direction x.channel stood ∙ ap (λ m. Some m) (sym x.is))
+        ]
+
+    less : IsReduced (view w) (view w')
+    less = record { time = told.time; stations = λ i s there live. told.stations i s there; lanes = lanes }
+
+    -- a network of the world then has the wiring of one that it had
+    wires : (n : Network) → delay_in w' ≡ delay_in w → n ≡ wired_as n (start_network p 0 0 w') → SameWiring seen.n n
+    wires n delay wired =
+        let started = same_start p 0 0 taken w' keeps in
+        let most = seen.most in
+        let delays : n.most ≡ delay_in w' = ap (λ (x : Network). x.most) wired in
+        record {
+          place = λ v. ap (λ (x : Network). x.place v) wired ∙ keeps.places v ∙ seen.same.place v;
+          lane = λ q.
+              ap (λ (x : Network). x.lane q) wired ∙ ap (λ (x : Network). x.lane q) started
+              ∙ lane_set w.net.channels place channel (lost channel) q here refl refl ∙ seen.same.lane q;
+          log = λ q.
+              ap (λ (x : Network). x.log_of q) wired ∙ ap (λ (x : Network). x.log_of q) started ∙ seen.same.log q;
+          interval = λ q.
+              ap (λ (x : Network). x.interval_of q) wired ∙ ap (λ (x : Network). x.interval_of q) started
+              ∙ seen.same.interval q;
+          most = omega (arith, delay, delays, most);
+        }
+
+    -- ---- the claims
+
+    near_then : AllAreNear g'
+    near_then v known = elim (unmoved v known) [
+      | inl stays ↦
+          let (d, far, close) = near v (lived g g' well well' left v known) in (d, stays.far d far, close)
+      | inr cut ↦
+          let (e, here_far) = distance_exists g' v well' known in
+          let zero_is = at_zero g' v e well' cut here_far in (e, here_far, omega (arith, zero_is))
+    ]
+
+    -- all systems live that did
+    farther_then : LostAreFarther g g'
+    farther_then p q joins known gone =
+        absurd (gone (subst (λ (systems : List System). In p.clock (map (λ (s : System). s.clock) systems))
+        (sym keeps.systems) (Joins-clock g p q well joins)))
+
+    module _ (next : ℕ) (pace : KeepPace p) (measured' : LinkIsMeasured w') (past : next ≤ w.time)
+        (delay : delay_in w' ≡ delay_in w) (way : pred (path_bound g') * delay_in w' ≤ w'.time)
+        (sound : IsSoundWorld w) (ready' : AreReadyBy p next w') (silent : AreSilentBy p next w) where
+      by_now : next ≤ w'.time
+      by_now = let time = told.time in omega (arith, past, time)
+
+      standing_then : IsStanding p next w'
+      standing_then = record {
+        pace = pace;
+        world = is';
+        measured = measured';
+        silent = silent_down p w is place channel here draws w' is' k next silent;
       }
 
-  -- ---- the claims
+      asked_then : HaveAskedLong w'
+      asked_then at stands =
+          let (first, by) = ready_first p next w' is' by_now at (ready' at stands) in
+          let change = keeps.change in
+          (first, next, omega (arith, past, change), record { is = by; late = by_now })
 
-  near_then : AllAreNear g'
-  near_then v known = elim (unmoved v known) [
-    | inl stays ↦
-        let (d, far, close) = near v (lived g g' well well' left v known) in (d, stays.far d far, close)
-    | inr cut ↦
-        let (e, here_far) = distance_exists g' v well' known in
-        let zero_is = at_zero g' v e well' cut here_far in (e, here_far, omega (arith, zero_is))
-  ]
+      fits_then : EverythingFits says_announce g (left_network p next w') (view w')
+      fits_then =
+          subst (λ h. EverythingFits says_announce h (left_network p next w') (view w')) seen.graph
+          (fits_reduced says_announce seen.n (left_network p next w') seen.net.graph well' left_seen (view w) (view w')
+          less
+          (everything_fits says_announce seen.n (view w) seen.net.graph seen.calm.facts
+          (subst (λ h. IsSoundEverywhere says_announce h (view w)) (sym seen.graph) sound)))
 
-  -- all systems live that did
-  farther_then : LostAreFarther g g'
-  farther_then p q joins known gone =
-      absurd (gone (subst (λ (systems : List System). In p.clock (map (λ (s : System). s.clock) systems))
-      (sym keeps.systems) (Joins-clock g p q well joins)))
+      module _ (quiet' : HaveQuietLinks p.params w') where
+        -- ports that no link is at are off
+        unlinked_then : UnlinkedHoldNothing g' (view w')
+        unlinked_then i s place r there live none (q, at, holds) =
+            let calm : Calm (start_network p 0 next w') (view w') =
+            start_calm p next w' standing_then (asked_heard p next w' asked_then) quiet' 0 in
+            let off : q.held ≡ Disabled = ((calm.stations i s there live).ports place q at).unlinked by_now none in
+            absurd (let both : Received r ≡ Disabled = sym holds ∙ off in cc)
 
-  module _ (next : ℕ) (pace : KeepPace p) (measured' : LinkIsMeasured w') (past : next ≤ w.time)
-      (delay : delay_in w' ≡ delay_in w) (way : pred (path_bound g') * delay_in w' ≤ w'.time)
-      (sound : IsSoundWorld w) (ready' : AreReadyBy p next w') (silent : AreSilentBy p next w) where
-    by_now : next ≤ w'.time
-    by_now = let time = told.time in omega (arith, past, time)
+        calm_then : Calm (left_network p next w') (view w')
+        calm_then = left_calm p next w' standing_then asked_then quiet' unlinked_then
 
-    standing_then : IsStanding p next w'
-    standing_then = record {
-      pace = pace;
-      world = is';
-      measured = measured';
-      silent = silent_down p w is place channel here draws w' is' k told.channels next silent;
-    }
+        settling_then : Invariant says_announce (left_network p next w') (view w')
+        settling_then =
+            let n = left_network p next w' in
+            let sound' : RunIsSound n (view w') =
+            λ late. received_still g n (view w') well well' left calm_then unlinked_then fits_then.stations in
+            record {
+              sound = sound';
+              levels = levels_reduced says_announce seen.n n seen.net (left_net p next w' is') (wires n delay refl)
+                  left_seen (view w) (view w') less seen.calm
+                  calm_then seen.invariant seen.late sound'
+                  (λ q linked. omega arith);
+            }
 
-    asked_then : HaveAskedLong w'
-    asked_then at stands =
-        let (first, by) = ready_first p next w' is' by_now at (ready' at stands) in
-        let change = keeps.change in
-        (first, next, omega (arith, past, change), record { is = by; late = by_now })
-
-    fits_then : EverythingFits says_announce g (left_network p next w') (view w')
-    fits_then =
-        subst (λ h. EverythingFits says_announce h (left_network p next w') (view w')) seen.graph
-        (fits_reduced says_announce seen.n (left_network p next w') seen.net.graph well' left_seen (view w) (view w')
-        less
-        (everything_fits says_announce seen.n (view w) seen.net.graph seen.calm.facts
-        (subst (λ h. IsSoundEverywhere says_announce h (view w)) (sym seen.graph) sound)))
-
-    module _ (quiet' : HaveQuietLinks p.params w') where
-      -- ports that no link is at are off
-      unlinked_then : UnlinkedHoldNothing g' (view w')
-      unlinked_then i s place r there live none (q, at, holds) =
-          let calm : Calm (start_network p 0 next w') (view w') =
-          start_calm p next w' standing_then (asked_heard p next w' asked_then) quiet' 0 in
-          let off : q.held ≡ Disabled = ((calm.stations i s there live).ports place q at).unlinked by_now none in
-          absurd (let both : Received r ≡ Disabled = sym holds ∙ off in cc)
-
-      calm_then : Calm (left_network p next w') (view w')
-      calm_then = left_calm p next w' standing_then asked_then quiet' unlinked_then
-
-      settling_then : Invariant says_announce (left_network p next w') (view w')
-      settling_then =
-          let n = left_network p next w' in
-          let sound' : RunIsSound n (view w') =
-          λ late. received_still g n (view w') well well' left calm_then unlinked_then fits_then.stations in
-          record {
-            sound = sound';
-            levels = levels_reduced says_announce seen.n n seen.net (left_net p next w' is') (wires n delay refl)
-                left_seen (view w) (view w') less seen.calm
-                calm_then seen.invariant seen.late sound'
-                (λ q linked. omega arith);
-          }
-
-    pub lowered_left : IsLeftAlways p g next w'
-    lowered_left = record {
-      standing = standing_then;
-      asked = asked_then;
-      well = well;
-      left = left;
-      near = near_then;
-      farther = farther_then;
-      late = way;
-      seen = λ quiet' off. record {
-        unlinked = unlinked_then quiet';
-        fits = fits_then;
-        invariant = settling_then quiet';
-      };
-    }
+      pub lowered_left : IsLeftAlways p g next w'
+      lowered_left = record {
+        standing = standing_then;
+        asked = asked_then;
+        well = well;
+        left = left;
+        near = near_then;
+        farther = farther_then;
+        late = way;
+        seen = λ quiet' off. record {
+          unlinked = unlinked_then quiet';
+          fits = fits_then;
+          invariant = settling_then quiet';
+        };
+      }
 
 -- ---- the act
 
@@ -609,7 +638,7 @@ module _ (p : SettlingParams) (next owner port : ℕ) (w : WorldState) (draws : 
         let one : place ≡ at_link.place =
         is.sound.wired.apart place at_link.place way direction channel at_link.channel at_port.here at_link.is.here
         (begins ∙ sym starts) in
-        up_apart p w is at_link.place at_link.channel at_link.is.here draws w' is' ends stands.channels at.link
+        up_apart p w is at_link.place at_link.channel at_link.is.here draws w' is' ends at.link
         s.channel s.here s.up (sym same ∙ one)
 
     pub act_left : delay_in w' ≡ delay_in w → pred (path_bound (snapshot_of w')) * delay_in w' ≤ w'.time
@@ -620,5 +649,5 @@ module _ (p : SettlingParams) (next owner port : ℕ) (w : WorldState) (draws : 
         (λ at s.
         ready_goes_through p next at (Changing (LinkDown owner port)) w w' draws done is.sound measured (other at s)
         acts (ready at
-        (stood_down p w is at_link.place at_link.channel at_link.is.here draws w' is' ends stands.channels at s)))
+        (stood_down p w is at_link.place at_link.channel at_link.is.here draws w' is' ends at s)))
         silent

@@ -6,6 +6,7 @@ use Rattle.gptp_lists.proofs.MappedLemmas.{alike, same_there}
 use Rattle.gptp_lists.proofs.PlaceLemmas.{get-set_other, get-set_same, map-set_same}
 use Rattle.gptp_vector.specs.declared.port.PortId.{PortId}
 use Rattle.gptp_links.specs.declared.link.Direction.{Direction}
+use Rattle.gptp_links.specs.declared.link.Direction.TheVariants.{FromA, FromB}
 use Rattle.gptp_links.specs.Fate.{Draw}
 use Rattle.gptp_setup.specs.Intervals.{interval_of}
 use Rattle.gptp_setup.specs.SettlingParams.{SettlingParams, largest_interval}
@@ -20,6 +21,7 @@ use Rattle.gptp_model.specs.declared.station.Station.{Station}
 use Rattle.gptp_model.specs.Sound.{HaveOwnClocks}
 use Rattle.gptp_model.specs.World.{Channel, WorldState, receiver, sender}
 use Rattle.gptp_model.proofs.ActsByLemmas.{join_among}
+use Rattle.gptp_model.proofs.BareLemmas.{bare}
 use Rattle.gptp_model.proofs.EndLemmas.{each_end_told}
 use Rattle.gptp_model.proofs.StayLemmas.{JoinTheSame, begins_same, join_on, set_join, stays_clocks}
 use Rattle.gptp_model.proofs.SteadyLemmas.{same_clock}
@@ -38,6 +40,15 @@ use Rattle.gptp_settling_time.proofs.ReactsLemmas.{lives_as}
 use Rattle.gptp_settling_time.proofs.SamePartsLemmas.{of_down}
 
 -- ---- the network
+
+-- its ends don't depend on what is in flight
+sender_bare : (direction : Direction) (a b : Channel) → bare a ≡ bare b → sender direction a ≡ sender direction b
+sender_bare FromA a b same = ap (λ (c : Channel). c.a) same
+sender_bare FromB a b same = ap (λ (c : Channel). c.b) same
+
+receiver_bare : (direction : Direction) (a b : Channel) → bare a ≡ bare b → receiver direction a ≡ receiver direction b
+receiver_bare FromA a b same = ap (λ (c : Channel). c.b) same
+receiver_bare FromB a b same = ap (λ (c : Channel). c.a) same
 
 if_live_keeps : (place port : ℕ) (w : WorldState) (draws : List Draw) (w' : WorldState)
     → CallsIfLive place (PortDown port) w draws w' → KeepsNetwork w w'
@@ -108,28 +119,40 @@ module _ (gone : ℕ) (at : LinkPlace) (place : ℕ) (port : PortId) (w : WorldS
 module _ (p : SettlingParams) (w : WorldState) (is : IsWorld p w) (place : ℕ) (channel : Channel)
     (here : slice_get w.net.channels place ≡ Some channel) (draws : List Draw) (w' : WorldState) (is' : IsWorld p w')
     (k : TellsEnds PortDown channel (record w { net = taken_down place channel w.net; last_change = w.time }) draws w')
-    (channels_now : w'.net.channels ≡ slice_set w.net.channels place (lost channel)) where
+    where
   abbrev taken : WorldState
   taken = record w { net = taken_down place channel w.net; last_change = w.time }
 
-  -- what is up is another link
-  pub up_apart : (link : ℕ) (other : Channel) → slice_get w'.net.channels link ≡ Some other → other.up ≡ true
+  keeps : KeepsNetwork taken w'
+  keeps = told_keeps channel taken draws w' k
+
+  -- the link that is taken is down
+  taken_apart : (link : ℕ) (other : Channel) → slice_get taken.net.channels link ≡ Some other → other.up ≡ true
       → link ≢ place
-  up_apart link other there is_up same =
+  taken_apart link other there is_up same =
       let one : other ≡ lost channel =
       same_Some other (lost channel)
-      (sym there ∙ ap (λ cs. slice_get cs link) channels_now
-      ∙ ap (slice_get (slice_set w.net.channels place (lost channel))) same
+      (sym there ∙ ap (slice_get (slice_set w.net.channels place (lost channel))) same
       ∙ get-set_same w.net.channels place channel (lost channel) here) in
       let both : true ≡ false = sym is_up ∙ ap (λ (c : Channel). c.up) one in
       cc
 
+  -- what stands is as it was but for what is in flight
+  stood_so : (link : ℕ) (other : Channel) → slice_get w'.net.channels link ≡ Some other
+      → (old : Channel) × (slice_get taken.net.channels link ≡ Some old) × (bare old ≡ bare other)
+  stood_so link other there = alike bare bare taken.net.channels w'.net.channels (sym keeps.links) link other there
+
+  -- what is up is another link
+  pub up_apart : (link : ℕ) (other : Channel) → slice_get w'.net.channels link ≡ Some other → other.up ≡ true
+      → link ≢ place
+  up_apart link other there is_up =
+      let (old, old_there, same) = stood_so link other there in
+      taken_apart link old old_there (ap (λ (c : Channel). c.up) same ∙ is_up)
+
   pub stood_down : (at : LinkPlace) → LinkStandsAt at w' → LinkStandsAt at w
   stood_down at s =
-      let old = stood_untold p w (taken_down place channel w.net) w' is is'
-      (told_keeps channel taken draws w' k) at s in
-      let apart = up_apart at.link old.channel
-      (ap (λ cs. slice_get cs at.link) channels_now ∙ old.here) old.up in
+      let old = stood_untold p w (taken_down place channel w.net) w' is is' keeps at s in
+      let apart = taken_apart at.link old.channel old.here old.up in
       stood_in at taken w old refl (sym (get-set_other w.net.channels place at.link (lost channel) apart) ∙ old.here)
 
   -- ---- ports beside failed systems
@@ -162,14 +185,19 @@ module _ (p : SettlingParams) (w : WorldState) (is : IsWorld p w) (place : ℕ) 
     apart = up_apart at.link s.channel s.here s.up
 
     before : StandsUnanswered at w
-    before = record {
-      channel = s.channel;
-      here = sym (get-set_other w.net.channels place at.link (lost channel) apart)
-          ∙ ap (λ cs. slice_get cs at.link) (sym channels_now) ∙ s.here;
-      up = s.up;
-      asking = lived at.asking (sender at.direction s.channel).clock s.asking;
-      answering = had_failed at.answering (receiver at.direction s.channel).clock s.answering;
-    }
+    before =
+        let (old, old_there, same) = stood_so at.link s.channel s.here in
+        record {
+          channel = old;
+          here = sym (get-set_other w.net.channels place at.link (lost channel) apart) ∙ old_there;
+          up = ap (λ (c : Channel). c.up) same ∙ s.up;
+          asking = lived at.asking (sender at.direction old).clock
+              (subst (λ (e : PortId). StationIsLiveAt at.asking e.clock w')
+              (sym (sender_bare at.direction old s.channel same)) s.asking);
+          answering = had_failed at.answering (receiver at.direction old).clock
+              (subst (λ (e : PortId). IsFailedAmong at.answering e.clock w'.stations)
+              (sym (receiver_bare at.direction old s.channel same)) s.answering);
+        }
 
     joins : JoinTheSame w.net.channels taken.net.channels
     joins = set_join w.net.channels place channel (lost channel) here refl refl
