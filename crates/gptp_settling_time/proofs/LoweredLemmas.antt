@@ -420,6 +420,25 @@ module _ (p : SettlingParams) (w : WorldState) (is : IsWorld p w) (place : ℕ) 
   pub still_b : slice_get k.between.stations k.place_b ≡ Some k.station_b
   still_b = second_still PortDown channel taken draws w' k (is.between place channel here).apart
 
+  -- a network of the world then has the wiring of one that it had
+  pub wires : (n : Network) → delay_in w' ≡ delay_in w → n ≡ wired_as n (start_network p 0 0 w') → SameWiring seen.n n
+  wires n delay wired =
+      let started = same_start p 0 0 taken w' keeps in
+      let most = seen.most in
+      let delays : n.most ≡ delay_in w' = ap (λ (x : Network). x.most) wired in
+      record {
+        place = λ v. ap (λ (x : Network). x.place v) wired ∙ keeps.places v ∙ seen.same.place v;
+        lane = λ q.
+            ap (λ (x : Network). x.lane q) wired ∙ ap (λ (x : Network). x.lane q) started
+            ∙ lane_set w.net.channels place channel (lost channel) q here refl refl ∙ seen.same.lane q;
+        log = λ q.
+            ap (λ (x : Network). x.log_of q) wired ∙ ap (λ (x : Network). x.log_of q) started ∙ seen.same.log q;
+        interval = λ q.
+            ap (λ (x : Network). x.interval_of q) wired ∙ ap (λ (x : Network). x.interval_of q) started
+            ∙ seen.same.interval q;
+        most = omega (arith, delay, delays, most);
+      }
+
   module _ (unmoved : (v : ℕ) → In v (clocks (snapshot_of w'))
       → IsUnmovedOrCutOff (snapshot_of w) (snapshot_of w') v) where
     left : IsLeftUnmoved g g'
@@ -486,25 +505,6 @@ module _ (p : SettlingParams) (w : WorldState) (is : IsWorld p w) (place : ℕ) 
 
     less : IsReduced (view w) (view w')
     less = record { time = told.time; stations = λ i s there live. told.stations i s there; lanes = lanes }
-
-    -- a network of the world then has the wiring of one that it had
-    wires : (n : Network) → delay_in w' ≡ delay_in w → n ≡ wired_as n (start_network p 0 0 w') → SameWiring seen.n n
-    wires n delay wired =
-        let started = same_start p 0 0 taken w' keeps in
-        let most = seen.most in
-        let delays : n.most ≡ delay_in w' = ap (λ (x : Network). x.most) wired in
-        record {
-          place = λ v. ap (λ (x : Network). x.place v) wired ∙ keeps.places v ∙ seen.same.place v;
-          lane = λ q.
-              ap (λ (x : Network). x.lane q) wired ∙ ap (λ (x : Network). x.lane q) started
-              ∙ lane_set w.net.channels place channel (lost channel) q here refl refl ∙ seen.same.lane q;
-          log = λ q.
-              ap (λ (x : Network). x.log_of q) wired ∙ ap (λ (x : Network). x.log_of q) started ∙ seen.same.log q;
-          interval = λ q.
-              ap (λ (x : Network). x.interval_of q) wired ∙ ap (λ (x : Network). x.interval_of q) started
-              ∙ seen.same.interval q;
-          most = omega (arith, delay, delays, most);
-        }
 
     -- ---- the claims
 

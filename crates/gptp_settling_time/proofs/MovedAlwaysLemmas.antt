@@ -51,7 +51,7 @@ use Rattle.gptp_settling_time.proofs.SeenSettledLemmas.{seen_settles}
 use Rattle.gptp_settling_time.proofs.TurnLemmas.{TurnsOne}
 
 -- the system that is moved isn't the best
-starts_far : (g : Snapshot) (n : Network) (x d e : ℕ) (best : System) → TurnsOne g n x d e best → 0 < d
+pub starts_far : (g : Snapshot) (n : Network) (x d e : ℕ) (best : System) → TurnsOne g n x d e best → 0 < d
 starts_far g n x zero e best t =
     let clock : best.clock ≡ x = best_at_zero g x best t.left.graph t.was_best t.was in
     let there : IsDistance n.graph x 0 =
@@ -100,7 +100,7 @@ module _ (p : SettlingParams) (silent : ℕ) (w : WorldState) (standing : IsStan
 -- ---- the claim
 
 -- by this time a neighbour of that distance has turned away, and what it tells has come
-abbrev turned_by : Network → ℕ → ℕ → ℕ
+abbrev pub turned_by : Network → ℕ → ℕ → ℕ
 turned_by n start far = start + 1 + suc far * n.most
 
 -- What is claimed of a world since a link went down at a time by which one system is moved: each of its neighbours that
@@ -202,7 +202,7 @@ moved_acts p g silent start act w draws done w' none octet acts is =
 
 -- ---- it settles
 
-at_least : (r m e : ℕ) → 0 < e → e < r → m ≤ pred r * m
+pub at_least : (r m e : ℕ) → 0 < e → e < r → m ≤ pred r * m
 at_least zero m e more less = absurd (omega (arith, less))
 at_least (suc zero) m e more less = absurd (omega (arith, more, less))
 at_least (suc (suc r)) m e more less = omega arith
