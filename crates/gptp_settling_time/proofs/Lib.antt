@@ -91,3 +91,6 @@ pub mod OldLemmas
 pub mod MovedLemmas
 pub mod RestNamesLemmas
 pub mod TurnsAwayLemmas
+pub mod MovedAlwaysLemmas
+pub mod TurnsBeginLemmas
+pub mod TurnsDownLemmas

@@ -242,355 +242,355 @@ module _ (p : SettlingParams) (w : WorldState) (is : IsWorld p w) (place : ℕ) 
     (here : slice_get w.net.channels place ≡ Some channel) (draws : List Draw) (w' : WorldState) (is' : IsWorld p w')
     (k : TellsEnds PortDown channel (record w { net = taken_down place channel w.net; last_change = w.time }) draws w')
     (seen : IsSettledSeen p w) (near : AllAreNear (snapshot_of w)) (dark : UnlinkedAreOff (snapshot_of w) (view w))
-    where
-  abbrev taken : WorldState
-  taken = record w { net = taken_down place channel w.net; last_change = w.time }
+  where
+    abbrev taken : WorldState
+    taken = record w { net = taken_down place channel w.net; last_change = w.time }
 
-  abbrev g : Snapshot
-  g = snapshot_of w
+    abbrev g : Snapshot
+    g = snapshot_of w
 
-  abbrev g' : Snapshot
-  g' = snapshot_of w'
+    abbrev g' : Snapshot
+    g' = snapshot_of w'
 
-  well : IsWellFormed g
-  well = stands_well w is.sound is.between is.encodable
+    well : IsWellFormed g
+    well = stands_well w is.sound is.between is.encodable
 
-  well' : IsWellFormed g'
-  well' = stands_well w' is'.sound is'.between is'.encodable
+    well' : IsWellFormed g'
+    well' = stands_well w' is'.sound is'.between is'.encodable
 
-  keeps : KeepsNetwork taken w'
-  keeps = told_keeps channel taken draws w' k
+    keeps : KeepsNetwork taken w'
+    keeps = told_keeps channel taken draws w' k
 
-  -- no link is there that wasn't
-  were_there : (link : ℕ) (other : Channel) → slice_get taken.net.channels link ≡ Some other
-      → IsThereToo w.net.channels link other
-  were_there link other there = elim (same_place link place) [
-    | inl same ↦
-        let one : other ≡ lost channel =
-        same_Some other (lost channel)
-        (sym there ∙ ap (slice_get (slice_set w.net.channels place (lost channel))) same
-        ∙ get-set_same w.net.channels place channel (lost channel) here) in
-        record {
-          new = channel;
-          here = ap (slice_get w.net.channels) same ∙ here;
-          a = ap (λ (c : Channel). c.a) (sym one);
-          b = ap (λ (c : Channel). c.b) (sym one);
-          up = λ on. absurd (let both : true ≡ false = sym on ∙ ap (λ (c : Channel). c.up) one in cc);
-        }
-    | inr apart ↦ record {
-      new = other;
-      here = sym (get-set_other w.net.channels place link (lost channel) apart) ∙ there;
-      a = refl;
-      b = refl;
-      up = λ on. on;
-    }
-  ]
-
-  -- what is left was there
-  less_then : IsLess g g'
-  less_then = record {
-    systems = λ s member. subst (In s) keeps.systems member;
-    links = λ a b joins.
-        links_more taken w (same_systems (live_stations w.stations)) were_there a b
-        (subst (λ h. Joins h a b) (same_snapshot taken w' keeps) joins);
-  }
-
-  -- no link is at its ends any more
-  unlinked : (way : Direction) → IsLinked g' (port_identity_number (sender way channel)) → ⊥
-  unlinked way (q, joins) =
-      let from = port_identity_number (sender way channel) in
-      let x = way_of taken from q (subst (λ h. Joins h from q) (same_snapshot taken w' keeps) joins) in
-      let apart : x.link ≢ place =
-      λ same. (let one : x.channel ≡ lost channel =
-      same_Some x.channel (lost channel)
-      (sym x.here ∙ ap (slice_get (slice_set w.net.channels place (lost channel))) same
-      ∙ get-set_same w.net.channels place channel (lost channel) here) in
-      let both : true ≡ false = sym x.used ∙ ap (channel_is_used (live_stations w.stations)) one in
-      cc) in
-      let was : slice_get w.net.channels x.link ≡ Some x.channel =
-      sym (get-set_other w.net.channels place x.link (lost channel) apart) ∙ x.here in
-      apart (one_way w is.sound is.encodable x.link place x.direction way x.channel channel was here x.from).same_link
-
-  -- any other link is there still
-  still_joins : (p q : PortIdentity) → Joins g p q
-      → Joins g' p q ⊎ ((direction : Direction) × (p ≡ port_identity_number (sender direction channel)))
-  still_joins p q joins =
-      let x = way_of w p q joins in
-      elim (same_place x.link place) [
-        | inl same ↦
-            let one : x.channel ≡ channel =
-            same_Some x.channel channel (sym x.here ∙ ap (slice_get w.net.channels) same ∙ here) in
-            inr (x.direction, sym x.from ∙ ap (λ c. port_identity_number (sender x.direction c)) one)
-        | inr apart ↦
-            let there = used_joins taken x.link x.direction x.channel
-            (get-set_other w.net.channels place x.link (lost channel) apart ∙ x.here) x.used in
-            inl (subst (λ h. Joins h p q) (sym (same_snapshot taken w' keeps))
-            (subst (λ a. Joins (snapshot_of taken) a q) x.from
-            (subst (λ b. Joins (snapshot_of taken) (port_identity_number (sender x.direction x.channel)) b) x.to there)))
-      ]
-
-  -- an end of it
-  module _ (way : Direction) (at : ℕ) (station : Station) (stands : slice_get w.stations at ≡ Some station)
-      (named : clock station.system ≡ (sender way channel).clock) (live : station.live ≡ true) where
-    among : In (standing_system station) (live_stations w.stations)
-    among = live_there w.stations at station stands live
-
-    pub known : In (clock station.system) (clocks g')
-    known = In-clocks g' (standing_system station) (subst (In (standing_system station)) (sym keeps.systems) among)
-
-    as_much : IsUnmoved g g' (clock station.system) → NearerStay g g' (clock station.system)
-        → HoldsAsMuch g' (station_view station)
-    as_much stays beside =
-        let x = clock station.system in
-        let (d, far, close) = near x (In-clocks g (standing_system station) among) in
-        holds_as_much says_announce seen.n seen.net (view w) seen.calm seen.invariant seen.late g' well'
-        (subst (λ h. IsLess h g') (sym seen.graph) less_then) at (station_view station)
-        (station_there w.stations at station stands) live (subst (λ h. IsUnmoved h g' x) (sym seen.graph) stays)
-        (subst (λ h. NearerStay h g' x) (sym seen.graph) beside) d close (stays.far d far)
-
-    pub can_lose : (IsUnmoved g g' (clock station.system) × NearerStay g g' (clock station.system))
-        ⊎ IsCutOff g' (clock station.system)
-        → CanLose station (sender way channel).port
-    can_lose one = by (sender way channel).port refl (is.sound.wired.ports place at way channel station here stands named)
-      where
-        another : (i : ℕ) → (sender way channel).port ≡ suc i → HoldsAsMuch g' (station_view station)
-            → HasAnother station.system i
-        another i is_n (inl (root, steps)) = record {
-          left = system_vector station.system.identity;
-          among = inl refl;
-          root = sym root;
-          steps = sym steps;
-        }
-        another i is_n (inr (q, r, linked, (port, at_port, holds), root, steps)) =
-            let x = port_from (span_at station.system) station.system.held station.system.ports q port at_port in
-            let (y, is_y, seen_y) =
-            received_from (span_at station.system) x.held r
-            (sym (ap (λ (z : SeenPort). z.held) x.is) ∙ holds) in
-            let same_steps = ap (λ (z : SeenReception). z.said.steps) seen_y in
-            record {
-              left = path_of y.vector;
-              among = inr (held_among i q station.system.held y (x.held_there ∙ ap (λ h. Some h) is_y) (λ same.
-                  unlinked way
-                  (subst (IsLinked g') (λ j. port_of (named j) ((ap suc same ∙ sym is_n) j)) linked)));
-              root = ap (λ (z : SeenReception). z.said.root) seen_y ∙ root;
-              steps = omega (arith, same_steps, steps);
-            }
-
-        -- no link was at another port of a system that is cut off then
-        alone : (i : ℕ) → (sender way channel).port ≡ suc i → IsCutOff g' (clock station.system) → (j : ℕ) → j ≢ i
-            → IsLinked g (port_of (clock station.system) (suc j)) → ⊥
-        alone i is_n cut j apart (q, joins) = elim (still_joins (port_of (clock station.system) (suc j)) q joins) [
-          | inl there ↦ cut q.clock (suc j, q.port, there)
-          | inr (direction, is_end) ↦
-              let clocks_are : (sender direction channel).clock ≡ (sender way channel).clock =
-              ap (λ (x : PortIdentity). x.clock) (sym is_end) ∙ named in
-              let one = same_end channel way direction (is.between place channel here).apart clocks_are in
-              let number : suc j ≡ suc i =
-              ap (λ (x : PortIdentity). x.port) is_end ∙ ap (λ (x : PortId). x.port) one ∙ is_n in
-              apart (omega (arith, number))
-        ]
-
-        off : (i : ℕ) → (sender way channel).port ≡ suc i → IsCutOff g' (clock station.system) → AreShown station.system
-            → AreDisabled (without i station.system.held)
-        off i is_n cut shown =
-            others_disabled i station.system.held (λ j h there apart.
-            let keep = span_at station.system in
-            let places = shown.places in
-            let within = place_within j station.system.held h there in
-            let (q, at_q) = there_within station.system.ports j (omega (arith, places, within)) in
-            disabled_from keep h
-            (dark at (station_view station) j (port_view keep h q) (station_there w.stations at station stands) live
-            (port_there keep station.system.held station.system.ports j h q there at_q) (alone i is_n cut j apart)))
-
-        by : (n : ℕ) → (sender way channel).port ≡ n → HasPortNumber station.system n → CanLose station n
-        by zero is_n of = let least = of.least in absurd (omega (arith, least))
-        by (suc i) is_n of =
-            let steady = (is.sound.on_time.stations at station stands).steady in
-            record {
-              held = steady.held;
-              rest = steady.rest;
-              place = i;
-              number = refl;
-              others = elim one [
-                | inl (stays, beside) ↦ inl (another i is_n (as_much stays beside))
-                | inr cut ↦ inr (off i is_n cut steady.shown)
-              ];
-            }
-
-  pub still_b : slice_get k.between.stations k.place_b ≡ Some k.station_b
-  still_b = second_still PortDown channel taken draws w' k (is.between place channel here).apart
-
-  -- a network of the world then has the wiring of one that it had
-  pub wires : (n : Network) → delay_in w' ≡ delay_in w → n ≡ wired_as n (start_network p 0 0 w') → SameWiring seen.n n
-  wires n delay wired =
-      let started = same_start p 0 0 taken w' keeps in
-      let most = seen.most in
-      let delays : n.most ≡ delay_in w' = ap (λ (x : Network). x.most) wired in
-      record {
-        place = λ v. ap (λ (x : Network). x.place v) wired ∙ keeps.places v ∙ seen.same.place v;
-        lane = λ q.
-            ap (λ (x : Network). x.lane q) wired ∙ ap (λ (x : Network). x.lane q) started
-            ∙ lane_set w.net.channels place channel (lost channel) q here refl refl ∙ seen.same.lane q;
-        log = λ q.
-            ap (λ (x : Network). x.log_of q) wired ∙ ap (λ (x : Network). x.log_of q) started ∙ seen.same.log q;
-        interval = λ q.
-            ap (λ (x : Network). x.interval_of q) wired ∙ ap (λ (x : Network). x.interval_of q) started
-            ∙ seen.same.interval q;
-        most = omega (arith, delay, delays, most);
+    -- no link is there that wasn't
+    were_there : (link : ℕ) (other : Channel) → slice_get taken.net.channels link ≡ Some other
+        → IsThereToo w.net.channels link other
+    were_there link other there = elim (same_place link place) [
+      | inl same ↦
+          let one : other ≡ lost channel =
+          same_Some other (lost channel)
+          (sym there ∙ ap (slice_get (slice_set w.net.channels place (lost channel))) same
+          ∙ get-set_same w.net.channels place channel (lost channel) here) in
+          record {
+            new = channel;
+            here = ap (slice_get w.net.channels) same ∙ here;
+            a = ap (λ (c : Channel). c.a) (sym one);
+            b = ap (λ (c : Channel). c.b) (sym one);
+            up = λ on. absurd (let both : true ≡ false = sym on ∙ ap (λ (c : Channel). c.up) one in cc);
+          }
+      | inr apart ↦ record {
+        new = other;
+        here = sym (get-set_other w.net.channels place link (lost channel) apart) ∙ there;
+        a = refl;
+        b = refl;
+        up = λ on. on;
       }
-
-  module _ (unmoved : (v : ℕ) → In v (clocks (snapshot_of w'))
-      → IsUnmovedOrCutOff (snapshot_of w) (snapshot_of w') v) where
-    left : IsLeftUnmoved g g'
-    left = record {
-      systems = less_then.systems;
-      links = less_then.links;
-      unmoved = unmoved;
-    }
-
-    left_seen : IsLeftUnmoved seen.n.graph g'
-    left_seen = subst (λ h. IsLeftUnmoved h g') (sym seen.graph) left
-
-    -- so are those beside it
-    joined_too : (v : ℕ) → In v (clocks g') → (IsUnmoved g g' v × NearerStay g g' v) ⊎ IsCutOff g' v
-    joined_too v known_v = elim (unmoved v known_v) [
-      | inr cut ↦ inr cut
-      | inl stays ↦ inl (
-        stays,
-        (λ y e joined nearer here_far.
-        let (m, j, joins) = joined in
-        joined_stays g g' well well' left (port_of y j) (port_of v m) (Joins-sym g' (port_of v m) (port_of y j) joins)),
-      )
     ]
 
-    told : StandsReduced taken w'
-    told =
-        stands_on taken k.between w'
-        (goes_down_reduced k.place_a channel.a.port taken k.first k.between (λ station stands live.
-        let one = same_there w.stations k.place_a station k.station_a stands k.is_a.here in
-        let named = ap (λ (x : Station). clock x.system) one ∙ k.is_a.named in
-        can_lose FromA k.place_a station stands named live
-        (joined_too (clock station.system) (known FromA k.place_a station stands named live))) k.at_a)
-        (goes_down_reduced k.place_b channel.b.port k.between k.second w' (λ station stands live.
-        let one = same_there k.between.stations k.place_b station k.station_b stands still_b in
-        let stands = k.is_b.here ∙ ap (λ x. Some x) (sym one) in
-        let named = ap (λ (x : Station). clock x.system) one ∙ k.is_b.named in
-        can_lose FromB k.place_b station stands named live
-        (joined_too (clock station.system) (known FromB k.place_b station stands named live))) k.at_b)
+    -- what is left was there
+    less_then : IsLess g g'
+    less_then = record {
+      systems = λ s member. subst (In s) keeps.systems member;
+      links = λ a b joins.
+          links_more taken w (same_systems (live_stations w.stations)) were_there a b
+          (subst (λ h. Joins h a b) (same_snapshot taken w' keeps) joins);
+    }
 
-    none_lost : (direction : Direction) → (lane_view direction (lost channel)).frames ≡ []
-    none_lost FromA = refl
-    none_lost FromB = refl
+    -- no link is at its ends any more
+    unlinked : (way : Direction) → IsLinked g' (port_identity_number (sender way channel)) → ⊥
+    unlinked way (q, joins) =
+        let from = port_identity_number (sender way channel) in
+        let x = way_of taken from q (subst (λ h. Joins h from q) (same_snapshot taken w' keeps) joins) in
+        let apart : x.link ≢ place =
+        λ same. (let one : x.channel ≡ lost channel =
+        same_Some x.channel (lost channel)
+        (sym x.here ∙ ap (slice_get (slice_set w.net.channels place (lost channel))) same
+        ∙ get-set_same w.net.channels place channel (lost channel) here) in
+        let both : true ≡ false = sym x.used ∙ ap (channel_is_used (live_stations w.stations)) one in
+        cc) in
+        let was : slice_get w.net.channels x.link ≡ Some x.channel =
+        sym (get-set_other w.net.channels place x.link (lost channel) apart) ∙ x.here in
+        apart (one_way w is.sound is.encodable x.link place x.direction way x.channel channel was here x.from).same_link
 
-    lanes : (j : ℕ) (l : Lane) → slice_get (view w').lanes j ≡ Some l
-        → (slice_get (view w).lanes j ≡ Some l) ⊎ ((l.frames ≡ []) × (l.is_up ≡ false))
-    lanes j l there =
-        let x = lane_from w'.net.channels j l there in
+    -- any other link is there still
+    still_joins : (p q : PortIdentity) → Joins g p q
+        → Joins g' p q ⊎ ((direction : Direction) × (p ≡ port_identity_number (sender direction channel)))
+    still_joins p q joins =
+        let x = way_of w p q joins in
         elim (same_place x.link place) [
           | inl same ↦
-              let one : x.channel ≡ lost channel =
-              same_Some x.channel (lost channel)
-              (sym x.here ∙ ap (λ cs. slice_get cs x.link) told.channels
-              ∙ ap (slice_get (slice_set w.net.channels place (lost channel))) same
-              ∙ get-set_same w.net.channels place channel (lost channel) here) in
-              let lane = x.is ∙ ap (lane_view x.direction) one in
-              inr (ap (λ (m : Lane). m.frames) lane ∙ none_lost x.direction, ap (λ (m : Lane). m.is_up) lane)
+              let one : x.channel ≡ channel =
+              same_Some x.channel channel (sym x.here ∙ ap (slice_get w.net.channels) same ∙ here) in
+              inr (x.direction, sym x.from ∙ ap (λ c. port_identity_number (sender x.direction c)) one)
           | inr apart ↦
-              let stood : slice_get w.net.channels x.link ≡ Some x.channel =
-              sym (get-set_other w.net.channels place x.link (lost channel) apart)
-              ∙ ap (λ cs. slice_get cs x.link) (sym told.channels) ∙ x.here in
-              inl (ap (slice_get (view w).lanes) x.at
-              ∙ lane_there w.net.channels x.link x.direction x.channel stood ∙ ap (λ m. Some m) (sym x.is))
+              let there = used_joins taken x.link x.direction x.channel
+              (get-set_other w.net.channels place x.link (lost channel) apart ∙ x.here) x.used in
+              inl (subst (λ h. Joins h p q) (sym (same_snapshot taken w' keeps))
+              (subst (λ a. Joins (snapshot_of taken) a q) x.from
+              (subst (λ b. Joins (snapshot_of taken) (port_identity_number (sender x.direction x.channel)) b) x.to there)))
         ]
 
-    less : IsReduced (view w) (view w')
-    less = record { time = told.time; stations = λ i s there live. told.stations i s there; lanes = lanes }
+    -- an end of it
+    module _ (way : Direction) (at : ℕ) (station : Station) (stands : slice_get w.stations at ≡ Some station)
+        (named : clock station.system ≡ (sender way channel).clock) (live : station.live ≡ true) where
+      among : In (standing_system station) (live_stations w.stations)
+      among = live_there w.stations at station stands live
 
-    -- ---- the claims
+      pub known : In (clock station.system) (clocks g')
+      known = In-clocks g' (standing_system station) (subst (In (standing_system station)) (sym keeps.systems) among)
 
-    near_then : AllAreNear g'
-    near_then v known = elim (unmoved v known) [
-      | inl stays ↦
-          let (d, far, close) = near v (lived g g' well well' left v known) in (d, stays.far d far, close)
-      | inr cut ↦
-          let (e, here_far) = distance_exists g' v well' known in
-          let zero_is = at_zero g' v e well' cut here_far in (e, here_far, omega (arith, zero_is))
-    ]
+      as_much : IsUnmoved g g' (clock station.system) → NearerStay g g' (clock station.system)
+          → HoldsAsMuch g' (station_view station)
+      as_much stays beside =
+          let x = clock station.system in
+          let (d, far, close) = near x (In-clocks g (standing_system station) among) in
+          holds_as_much says_announce seen.n seen.net (view w) seen.calm seen.invariant seen.late g' well'
+          (subst (λ h. IsLess h g') (sym seen.graph) less_then) at (station_view station)
+          (station_there w.stations at station stands) live (subst (λ h. IsUnmoved h g' x) (sym seen.graph) stays)
+          (subst (λ h. NearerStay h g' x) (sym seen.graph) beside) d close (stays.far d far)
 
-    -- all systems live that did
-    farther_then : LostAreFarther g g'
-    farther_then p q joins known gone =
-        absurd (gone (subst (λ (systems : List System). In p.clock (map (λ (s : System). s.clock) systems))
-        (sym keeps.systems) (Joins-clock g p q well joins)))
+      pub can_lose : (IsUnmoved g g' (clock station.system) × NearerStay g g' (clock station.system))
+          ⊎ IsCutOff g' (clock station.system)
+          → CanLose station (sender way channel).port
+      can_lose one = by (sender way channel).port refl (is.sound.wired.ports place at way channel station here stands named)
+        where
+          another : (i : ℕ) → (sender way channel).port ≡ suc i → HoldsAsMuch g' (station_view station)
+              → HasAnother station.system i
+          another i is_n (inl (root, steps)) = record {
+            left = system_vector station.system.identity;
+            among = inl refl;
+            root = sym root;
+            steps = sym steps;
+          }
+          another i is_n (inr (q, r, linked, (port, at_port, holds), root, steps)) =
+              let x = port_from (span_at station.system) station.system.held station.system.ports q port at_port in
+              let (y, is_y, seen_y) =
+              received_from (span_at station.system) x.held r
+              (sym (ap (λ (z : SeenPort). z.held) x.is) ∙ holds) in
+              let same_steps = ap (λ (z : SeenReception). z.said.steps) seen_y in
+              record {
+                left = path_of y.vector;
+                among = inr (held_among i q station.system.held y (x.held_there ∙ ap (λ h. Some h) is_y) (λ same.
+                    unlinked way
+                    (subst (IsLinked g') (λ j. port_of (named j) ((ap suc same ∙ sym is_n) j)) linked)));
+                root = ap (λ (z : SeenReception). z.said.root) seen_y ∙ root;
+                steps = omega (arith, same_steps, steps);
+              }
 
-    module _ (next : ℕ) (pace : KeepPace p) (measured' : LinkIsMeasured w') (past : next ≤ w.time)
-        (delay : delay_in w' ≡ delay_in w) (way : pred (path_bound g') * delay_in w' ≤ w'.time)
-        (sound : IsSoundWorld w) (ready' : AreReadyBy p next w') (silent : AreSilentBy p next w) where
-      by_now : next ≤ w'.time
-      by_now = let time = told.time in omega (arith, past, time)
+          -- no link was at another port of a system that is cut off then
+          alone : (i : ℕ) → (sender way channel).port ≡ suc i → IsCutOff g' (clock station.system) → (j : ℕ) → j ≢ i
+              → IsLinked g (port_of (clock station.system) (suc j)) → ⊥
+          alone i is_n cut j apart (q, joins) = elim (still_joins (port_of (clock station.system) (suc j)) q joins) [
+            | inl there ↦ cut q.clock (suc j, q.port, there)
+            | inr (direction, is_end) ↦
+                let clocks_are : (sender direction channel).clock ≡ (sender way channel).clock =
+                ap (λ (x : PortIdentity). x.clock) (sym is_end) ∙ named in
+                let one = same_end channel way direction (is.between place channel here).apart clocks_are in
+                let number : suc j ≡ suc i =
+                ap (λ (x : PortIdentity). x.port) is_end ∙ ap (λ (x : PortId). x.port) one ∙ is_n in
+                apart (omega (arith, number))
+          ]
 
-      standing_then : IsStanding p next w'
-      standing_then = record {
-        pace = pace;
-        world = is';
-        measured = measured';
-        silent = silent_down p w is place channel here draws w' is' k next silent;
+          off : (i : ℕ) → (sender way channel).port ≡ suc i → IsCutOff g' (clock station.system) → AreShown station.system
+              → AreDisabled (without i station.system.held)
+          off i is_n cut shown =
+              others_disabled i station.system.held (λ j h there apart.
+              let keep = span_at station.system in
+              let places = shown.places in
+              let within = place_within j station.system.held h there in
+              let (q, at_q) = there_within station.system.ports j (omega (arith, places, within)) in
+              disabled_from keep h
+              (dark at (station_view station) j (port_view keep h q) (station_there w.stations at station stands) live
+              (port_there keep station.system.held station.system.ports j h q there at_q) (alone i is_n cut j apart)))
+
+          by : (n : ℕ) → (sender way channel).port ≡ n → HasPortNumber station.system n → CanLose station n
+          by zero is_n of = let least = of.least in absurd (omega (arith, least))
+          by (suc i) is_n of =
+              let steady = (is.sound.on_time.stations at station stands).steady in
+              record {
+                held = steady.held;
+                rest = steady.rest;
+                place = i;
+                number = refl;
+                others = elim one [
+                  | inl (stays, beside) ↦ inl (another i is_n (as_much stays beside))
+                  | inr cut ↦ inr (off i is_n cut steady.shown)
+                ];
+              }
+
+    pub still_b : slice_get k.between.stations k.place_b ≡ Some k.station_b
+    still_b = second_still PortDown channel taken draws w' k (is.between place channel here).apart
+
+    -- a network of the world then has the wiring of one that it had
+    pub wires : (n : Network) → delay_in w' ≡ delay_in w → n ≡ wired_as n (start_network p 0 0 w') → SameWiring seen.n n
+    wires n delay wired =
+        let started = same_start p 0 0 taken w' keeps in
+        let most = seen.most in
+        let delays : n.most ≡ delay_in w' = ap (λ (x : Network). x.most) wired in
+        record {
+          place = λ v. ap (λ (x : Network). x.place v) wired ∙ keeps.places v ∙ seen.same.place v;
+          lane = λ q.
+              ap (λ (x : Network). x.lane q) wired ∙ ap (λ (x : Network). x.lane q) started
+              ∙ lane_set w.net.channels place channel (lost channel) q here refl refl ∙ seen.same.lane q;
+          log = λ q.
+              ap (λ (x : Network). x.log_of q) wired ∙ ap (λ (x : Network). x.log_of q) started ∙ seen.same.log q;
+          interval = λ q.
+              ap (λ (x : Network). x.interval_of q) wired ∙ ap (λ (x : Network). x.interval_of q) started
+              ∙ seen.same.interval q;
+          most = omega (arith, delay, delays, most);
+        }
+
+    module _ (unmoved : (v : ℕ) → In v (clocks (snapshot_of w'))
+        → IsUnmovedOrCutOff (snapshot_of w) (snapshot_of w') v) where
+      left : IsLeftUnmoved g g'
+      left = record {
+        systems = less_then.systems;
+        links = less_then.links;
+        unmoved = unmoved;
       }
 
-      asked_then : HaveAskedLong w'
-      asked_then at stands =
-          let (first, by) = ready_first p next w' is' by_now at (ready' at stands) in
-          let change = keeps.change in
-          (first, next, omega (arith, past, change), record { is = by; late = by_now })
+      left_seen : IsLeftUnmoved seen.n.graph g'
+      left_seen = subst (λ h. IsLeftUnmoved h g') (sym seen.graph) left
 
-      fits_then : EverythingFits says_announce g (left_network p next w') (view w')
-      fits_then =
-          subst (λ h. EverythingFits says_announce h (left_network p next w') (view w')) seen.graph
-          (fits_reduced says_announce seen.n (left_network p next w') seen.net.graph well' left_seen (view w) (view w')
-          less
-          (everything_fits says_announce seen.n (view w) seen.net.graph seen.calm.facts
-          (subst (λ h. IsSoundEverywhere says_announce h (view w)) (sym seen.graph) sound)))
+      -- so are those beside it
+      joined_too : (v : ℕ) → In v (clocks g') → (IsUnmoved g g' v × NearerStay g g' v) ⊎ IsCutOff g' v
+      joined_too v known_v = elim (unmoved v known_v) [
+        | inr cut ↦ inr cut
+        | inl stays ↦ inl (
+          stays,
+          (λ y e joined nearer here_far.
+              let (m, j, joins) = joined in
+              joined_stays g g' well well' left (port_of y j) (port_of v m) (Joins-sym g' (port_of v m) (port_of y j) joins)),
+        )
+      ]
 
-      module _ (quiet' : HaveQuietLinks p.params w') where
-        -- ports that no link is at are off
-        unlinked_then : UnlinkedHoldNothing g' (view w')
-        unlinked_then i s place r there live none (q, at, holds) =
-            let calm : Calm (start_network p 0 next w') (view w') =
-            start_calm p next w' standing_then (asked_heard p next w' asked_then) quiet' 0 in
-            let off : q.held ≡ Disabled = ((calm.stations i s there live).ports place q at).unlinked by_now none in
-            absurd (let both : Received r ≡ Disabled = sym holds ∙ off in cc)
+      told : StandsReduced taken w'
+      told =
+          stands_on taken k.between w'
+          (goes_down_reduced k.place_a channel.a.port taken k.first k.between (λ station stands live.
+          let one = same_there w.stations k.place_a station k.station_a stands k.is_a.here in
+          let named = ap (λ (x : Station). clock x.system) one ∙ k.is_a.named in
+          can_lose FromA k.place_a station stands named live
+          (joined_too (clock station.system) (known FromA k.place_a station stands named live))) k.at_a)
+          (goes_down_reduced k.place_b channel.b.port k.between k.second w' (λ station stands live.
+          let one = same_there k.between.stations k.place_b station k.station_b stands still_b in
+          let stands = k.is_b.here ∙ ap (λ x. Some x) (sym one) in
+          let named = ap (λ (x : Station). clock x.system) one ∙ k.is_b.named in
+          can_lose FromB k.place_b station stands named live
+          (joined_too (clock station.system) (known FromB k.place_b station stands named live))) k.at_b)
 
-        calm_then : Calm (left_network p next w') (view w')
-        calm_then = left_calm p next w' standing_then asked_then quiet' unlinked_then
+      none_lost : (direction : Direction) → (lane_view direction (lost channel)).frames ≡ []
+      none_lost FromA = refl
+      none_lost FromB = refl
 
-        settling_then : Invariant says_announce (left_network p next w') (view w')
-        settling_then =
-            let n = left_network p next w' in
-            let sound' : RunIsSound n (view w') =
-            λ late. received_still g n (view w') well well' left calm_then unlinked_then fits_then.stations in
-            record {
-              sound = sound';
-              levels = levels_reduced says_announce seen.n n seen.net (left_net p next w' is') (wires n delay refl)
-                  left_seen (view w) (view w') less seen.calm
-                  calm_then seen.invariant seen.late sound'
-                  (λ q linked. omega arith);
-            }
+      lanes : (j : ℕ) (l : Lane) → slice_get (view w').lanes j ≡ Some l
+          → (slice_get (view w).lanes j ≡ Some l) ⊎ ((l.frames ≡ []) × (l.is_up ≡ false))
+      lanes j l there =
+          let x = lane_from w'.net.channels j l there in
+          elim (same_place x.link place) [
+            | inl same ↦
+                let one : x.channel ≡ lost channel =
+                same_Some x.channel (lost channel)
+                (sym x.here ∙ ap (λ cs. slice_get cs x.link) told.channels
+                ∙ ap (slice_get (slice_set w.net.channels place (lost channel))) same
+                ∙ get-set_same w.net.channels place channel (lost channel) here) in
+                let lane = x.is ∙ ap (lane_view x.direction) one in
+                inr (ap (λ (m : Lane). m.frames) lane ∙ none_lost x.direction, ap (λ (m : Lane). m.is_up) lane)
+            | inr apart ↦
+                let stood : slice_get w.net.channels x.link ≡ Some x.channel =
+                sym (get-set_other w.net.channels place x.link (lost channel) apart)
+                ∙ ap (λ cs. slice_get cs x.link) (sym told.channels) ∙ x.here in
+                inl (ap (slice_get (view w).lanes) x.at
+                ∙ lane_there w.net.channels x.link x.direction x.channel stood ∙ ap (λ m. Some m) (sym x.is))
+          ]
 
-      pub lowered_left : IsLeftAlways p g next w'
-      lowered_left = record {
-        standing = standing_then;
-        asked = asked_then;
-        well = well;
-        left = left;
-        near = near_then;
-        farther = farther_then;
-        late = way;
-        seen = λ quiet' off. record {
-          unlinked = unlinked_then quiet';
-          fits = fits_then;
-          invariant = settling_then quiet';
-        };
-      }
+      less : IsReduced (view w) (view w')
+      less = record { time = told.time; stations = λ i s there live. told.stations i s there; lanes = lanes }
+
+      -- ---- the claims
+
+      near_then : AllAreNear g'
+      near_then v known = elim (unmoved v known) [
+        | inl stays ↦
+            let (d, far, close) = near v (lived g g' well well' left v known) in (d, stays.far d far, close)
+        | inr cut ↦
+            let (e, here_far) = distance_exists g' v well' known in
+            let zero_is = at_zero g' v e well' cut here_far in (e, here_far, omega (arith, zero_is))
+      ]
+
+      -- all systems live that did
+      farther_then : LostAreFarther g g'
+      farther_then p q joins known gone =
+          absurd (gone (subst (λ (systems : List System). In p.clock (map (λ (s : System). s.clock) systems))
+          (sym keeps.systems) (Joins-clock g p q well joins)))
+
+      module _ (next : ℕ) (pace : KeepPace p) (measured' : LinkIsMeasured w') (past : next ≤ w.time)
+          (delay : delay_in w' ≡ delay_in w) (way : pred (path_bound g') * delay_in w' ≤ w'.time)
+          (sound : IsSoundWorld w) (ready' : AreReadyBy p next w') (silent : AreSilentBy p next w) where
+        by_now : next ≤ w'.time
+        by_now = let time = told.time in omega (arith, past, time)
+
+        standing_then : IsStanding p next w'
+        standing_then = record {
+          pace = pace;
+          world = is';
+          measured = measured';
+          silent = silent_down p w is place channel here draws w' is' k next silent;
+        }
+
+        asked_then : HaveAskedLong w'
+        asked_then at stands =
+            let (first, by) = ready_first p next w' is' by_now at (ready' at stands) in
+            let change = keeps.change in
+            (first, next, omega (arith, past, change), record { is = by; late = by_now })
+
+        fits_then : EverythingFits says_announce g (left_network p next w') (view w')
+        fits_then =
+            subst (λ h. EverythingFits says_announce h (left_network p next w') (view w')) seen.graph
+            (fits_reduced says_announce seen.n (left_network p next w') seen.net.graph well' left_seen (view w) (view w')
+            less
+            (everything_fits says_announce seen.n (view w) seen.net.graph seen.calm.facts
+            (subst (λ h. IsSoundEverywhere says_announce h (view w)) (sym seen.graph) sound)))
+
+        module _ (quiet' : HaveQuietLinks p.params w') where
+          -- ports that no link is at are off
+          unlinked_then : UnlinkedHoldNothing g' (view w')
+          unlinked_then i s place r there live none (q, at, holds) =
+              let calm : Calm (start_network p 0 next w') (view w') =
+              start_calm p next w' standing_then (asked_heard p next w' asked_then) quiet' 0 in
+              let off : q.held ≡ Disabled = ((calm.stations i s there live).ports place q at).unlinked by_now none in
+              absurd (let both : Received r ≡ Disabled = sym holds ∙ off in cc)
+
+          calm_then : Calm (left_network p next w') (view w')
+          calm_then = left_calm p next w' standing_then asked_then quiet' unlinked_then
+
+          settling_then : Invariant says_announce (left_network p next w') (view w')
+          settling_then =
+              let n = left_network p next w' in
+              let sound' : RunIsSound n (view w') =
+              λ late. received_still g n (view w') well well' left calm_then unlinked_then fits_then.stations in
+              record {
+                sound = sound';
+                levels = levels_reduced says_announce seen.n n seen.net (left_net p next w' is') (wires n delay refl)
+                    left_seen (view w) (view w') less seen.calm
+                    calm_then seen.invariant seen.late sound'
+                    (λ q linked. omega arith);
+              }
+
+        pub lowered_left : IsLeftAlways p g next w'
+        lowered_left = record {
+          standing = standing_then;
+          asked = asked_then;
+          well = well;
+          left = left;
+          near = near_then;
+          farther = farther_then;
+          late = way;
+          seen = λ quiet' off. record {
+            unlinked = unlinked_then quiet';
+            fits = fits_then;
+            invariant = settling_then quiet';
+          };
+        }
 
 -- ---- the act
 
@@ -608,11 +608,10 @@ module _ (p : SettlingParams) (next owner port : ℕ) (w : WorldState) (draws : 
 
   module _ (up : at_link.channel.up ≡ true) (quiet : HaveQuietLinks p.params w) (past : next ≤ w.time)
       (ready : AreReadyBy p next w) (silent : AreSilentBy p next w) (seen : IsSettledSeen p w)
-      (near : AllAreNear (snapshot_of w))
-      (unmoved : (v : ℕ) → In v (clocks (snapshot_of w')) → IsUnmovedOrCutOff (snapshot_of w) (snapshot_of w') v) where
+      (near : AllAreNear (snapshot_of w)) where
     -- ports that no link was at were off
-    dark : UnlinkedAreOff (snapshot_of w) (view w)
-    dark i s place q there live at unlinked =
+    pub off_before : UnlinkedAreOff (snapshot_of w) (view w)
+    off_before i s place q there live at unlinked =
         let heard : AreHeard p next w =
         (λ at stands.
         let (first, by) = ready_first p next w is past at (ready at stands) in
@@ -621,14 +620,11 @@ module _ (p : SettlingParams) (next owner port : ℕ) (w : WorldState) (draws : 
         start_calm p next w (record { pace = pace; world = is; measured = measured; silent = silent }) heard quiet 0 in
         ((calm.stations i s there live).ports place q at).unlinked past unlinked
 
-    ends : TellsEnds PortDown at_link.channel
+    pub ends : TellsEnds PortDown at_link.channel
         (record w { net = taken_down at_link.place at_link.channel w.net; last_change = w.time }) draws w'
     ends =
         subst (λ b. GoesDownIf b at_link.place at_link.channel (record w { last_change = w.time }) draws w') up
         at_link.so
-
-    stands : StandsReduced (record w { net = taken_down at_link.place at_link.channel w.net; last_change = w.time }) w'
-    stands = told p w is at_link.place at_link.channel at_link.is.here draws w' is' ends seen near dark unmoved
 
     -- a link that stands then is another
     other : (at : LinkPlace) → LinkStandsAt at w' → IsOtherLink at (port_id owner port) w
@@ -641,13 +637,17 @@ module _ (p : SettlingParams) (next owner port : ℕ) (w : WorldState) (draws : 
         up_apart p w is at_link.place at_link.channel at_link.is.here draws w' is' ends at.link
         s.channel s.here s.up (sym same ∙ one)
 
-    pub act_left : delay_in w' ≡ delay_in w → pred (path_bound (snapshot_of w')) * delay_in w' ≤ w'.time
-        → IsSoundWorld w → IsLeftAlways p (snapshot_of w) next w'
-    act_left delay way sound =
-        lowered_left p w is at_link.place at_link.channel at_link.is.here draws w' is' ends seen near dark unmoved next
-        pace measured' past delay way sound
-        (λ at s.
+    -- ports at links that are left are ready as they were
+    pub ready_on : AreReadyBy p next w'
+    ready_on at s =
         ready_goes_through p next at (Changing (LinkDown owner port)) w w' draws done is.sound measured (other at s)
         acts (ready at
-        (stood_down p w is at_link.place at_link.channel at_link.is.here draws w' is' ends at s)))
-        silent
+        (stood_down p w is at_link.place at_link.channel at_link.is.here draws w' is' ends at s))
+
+    pub act_left : ((v : ℕ) → In v (clocks (snapshot_of w'))
+        → IsUnmovedOrCutOff (snapshot_of w) (snapshot_of w') v)
+        → delay_in w' ≡ delay_in w → pred (path_bound (snapshot_of w')) * delay_in w' ≤ w'.time
+        → IsSoundWorld w → IsLeftAlways p (snapshot_of w) next w'
+    act_left unmoved delay way sound =
+        lowered_left p w is at_link.place at_link.channel at_link.is.here draws w' is' ends seen near off_before unmoved next
+        pace measured' past delay way sound ready_on silent

@@ -152,9 +152,11 @@ module _ (p : SettlingParams) (g : Snapshot) (silent start : ℕ) (w w' : WorldS
       (after_loss p silent w' standing' asked' quiet' past' off late') in
       let dark' = subst (λ z. IsDark z (view w')) same' (dark_now p silent w' standing' asked' quiet' past') in
       let m' = moving_kept says_announce g is.n is.x is.d is.e is.best is.turns (view w) (view w') m kept' dark' step in
-      let begun = is.begun in
-      (m', each_turns says_announce g is.n is.x is.d is.e is.best is.turns (start + is.n.most) (turned_by is.n start)
-      room (view w) (view w') m m' (omega (arith, begun)) step each)
+      let begun = is.begun in (
+        m',
+        each_turns says_announce g is.n is.x is.d is.e is.best is.turns (start + is.n.most) (turned_by is.n start)
+            room (view w) (view w') m m' (omega (arith, begun)) step each,
+      )
 
   moved_step : IsMovedAlways p g silent start w'
   moved_step = record {

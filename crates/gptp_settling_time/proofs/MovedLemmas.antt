@@ -261,12 +261,12 @@ module _ (says : Spelling) (g : Snapshot) (n : Network) (x d e : ℕ) (best : Sy
                 let far_is = IsDistance-unique n.graph x far e t.well
                 (subst (λ u. IsDistance n.graph u far) same there) t.is in
                 elim (m.names.stations i s at live place r holds (root ∙ ap (λ (z : System). z.identity) (sym one))
-                    (source_best says g n x d e best t w m.kept m.fits m.levels m.dark i s place r at live holds
-                    (subst (IsBest g s.clock) (sym one) (best_before s.clock c is)))
-                    (subst (λ u. In u r.said.path) same among)) [
-                      | inl from_x ↦ absurd (foreign from_x)
-                      | inr many ↦ omega (arith, many, far_is)
-                    ]
+                (source_best says g n x d e best t w m.kept m.fits m.levels m.dark i s place r at live holds
+                (subst (IsBest g s.clock) (sym one) (best_before s.clock c is)))
+                (subst (λ u. In u r.said.path) same among)) [
+                  | inl from_x ↦ absurd (foreign from_x)
+                  | inr many ↦ omega (arith, many, far_is)
+                ]
 
     -- ---- each link is at its stage
 

@@ -119,134 +119,134 @@ module _ (gone : ℕ) (at : LinkPlace) (place : ℕ) (port : PortId) (w : WorldS
 module _ (p : SettlingParams) (w : WorldState) (is : IsWorld p w) (place : ℕ) (channel : Channel)
     (here : slice_get w.net.channels place ≡ Some channel) (draws : List Draw) (w' : WorldState) (is' : IsWorld p w')
     (k : TellsEnds PortDown channel (record w { net = taken_down place channel w.net; last_change = w.time }) draws w')
-    where
-  abbrev taken : WorldState
-  taken = record w { net = taken_down place channel w.net; last_change = w.time }
+  where
+    abbrev taken : WorldState
+    taken = record w { net = taken_down place channel w.net; last_change = w.time }
 
-  keeps : KeepsNetwork taken w'
-  keeps = told_keeps channel taken draws w' k
+    keeps : KeepsNetwork taken w'
+    keeps = told_keeps channel taken draws w' k
 
-  -- the link that is taken is down
-  taken_apart : (link : ℕ) (other : Channel) → slice_get taken.net.channels link ≡ Some other → other.up ≡ true
-      → link ≢ place
-  taken_apart link other there is_up same =
-      let one : other ≡ lost channel =
-      same_Some other (lost channel)
-      (sym there ∙ ap (slice_get (slice_set w.net.channels place (lost channel))) same
-      ∙ get-set_same w.net.channels place channel (lost channel) here) in
-      let both : true ≡ false = sym is_up ∙ ap (λ (c : Channel). c.up) one in
-      cc
+    -- the link that is taken is down
+    taken_apart : (link : ℕ) (other : Channel) → slice_get taken.net.channels link ≡ Some other → other.up ≡ true
+        → link ≢ place
+    taken_apart link other there is_up same =
+        let one : other ≡ lost channel =
+        same_Some other (lost channel)
+        (sym there ∙ ap (slice_get (slice_set w.net.channels place (lost channel))) same
+        ∙ get-set_same w.net.channels place channel (lost channel) here) in
+        let both : true ≡ false = sym is_up ∙ ap (λ (c : Channel). c.up) one in
+        cc
 
-  -- what stands is as it was but for what is in flight
-  stood_so : (link : ℕ) (other : Channel) → slice_get w'.net.channels link ≡ Some other
-      → (old : Channel) × (slice_get taken.net.channels link ≡ Some old) × (bare old ≡ bare other)
-  stood_so link other there = alike bare bare taken.net.channels w'.net.channels (sym keeps.links) link other there
+    -- what stands is as it was but for what is in flight
+    stood_so : (link : ℕ) (other : Channel) → slice_get w'.net.channels link ≡ Some other
+        → (old : Channel) × (slice_get taken.net.channels link ≡ Some old) × (bare old ≡ bare other)
+    stood_so link other there = alike bare bare taken.net.channels w'.net.channels (sym keeps.links) link other there
 
-  -- what is up is another link
-  pub up_apart : (link : ℕ) (other : Channel) → slice_get w'.net.channels link ≡ Some other → other.up ≡ true
-      → link ≢ place
-  up_apart link other there is_up =
-      let (old, old_there, same) = stood_so link other there in
-      taken_apart link old old_there (ap (λ (c : Channel). c.up) same ∙ is_up)
+    -- what is up is another link
+    pub up_apart : (link : ℕ) (other : Channel) → slice_get w'.net.channels link ≡ Some other → other.up ≡ true
+        → link ≢ place
+    up_apart link other there is_up =
+        let (old, old_there, same) = stood_so link other there in
+        taken_apart link old old_there (ap (λ (c : Channel). c.up) same ∙ is_up)
 
-  pub stood_down : (at : LinkPlace) → LinkStandsAt at w' → LinkStandsAt at w
-  stood_down at s =
-      let old = stood_untold p w (taken_down place channel w.net) w' is is' keeps at s in
-      let apart = taken_apart at.link old.channel old.here old.up in
-      stood_in at taken w old refl (sym (get-set_other w.net.channels place at.link (lost channel) apart) ∙ old.here)
+    pub stood_down : (at : LinkPlace) → LinkStandsAt at w' → LinkStandsAt at w
+    stood_down at s =
+        let old = stood_untold p w (taken_down place channel w.net) w' is is' keeps at s in
+        let apart = taken_apart at.link old.channel old.here old.up in
+        stood_in at taken w old refl (sym (get-set_other w.net.channels place at.link (lost channel) apart) ∙ old.here)
 
-  -- ---- ports beside failed systems
+    -- ---- ports beside failed systems
 
-  stand : map lives_as w'.stations ≡ map lives_as w.stations
-  stand = told_stand channel taken draws w' k
+    stand : map lives_as w'.stations ≡ map lives_as w.stations
+    stand = told_stand channel taken draws w' k
 
-  lived : (at number : ℕ) → StationIsLiveAt at number w' → StationIsLiveAt at number w
-  lived at number x =
-      let (old, old_here, same) = alike lives_as lives_as w.stations w'.stations (sym stand) at x.station x.here in
-      record {
-        station = old;
-        here = old_here;
-        live = ap (λ (y : Bool × ℕ). y.0) same ∙ x.live;
-        named = ap (λ (y : Bool × ℕ). y.1) same ∙ x.named;
-      }
-
-  had_failed : (at number : ℕ) → IsFailedAmong at number w'.stations → IsFailedAmong at number w.stations
-  had_failed at number x =
-      let (old, old_here, same) = alike lives_as lives_as w.stations w'.stations (sym stand) at x.station x.here in
-      record {
-        station = old;
-        here = old_here;
-        failed = ap (λ (y : Bool × ℕ). y.0) same ∙ x.failed;
-        named = ap (λ (y : Bool × ℕ). y.1) same ∙ x.named;
-      }
-
-  module _ (at : LinkPlace) (s : StandsUnanswered at w') where
-    apart : at.link ≢ place
-    apart = up_apart at.link s.channel s.here s.up
-
-    before : StandsUnanswered at w
-    before =
-        let (old, old_there, same) = stood_so at.link s.channel s.here in
+    lived : (at number : ℕ) → StationIsLiveAt at number w' → StationIsLiveAt at number w
+    lived at number x =
+        let (old, old_here, same) = alike lives_as lives_as w.stations w'.stations (sym stand) at x.station x.here in
         record {
-          channel = old;
-          here = sym (get-set_other w.net.channels place at.link (lost channel) apart) ∙ old_there;
-          up = ap (λ (c : Channel). c.up) same ∙ s.up;
-          asking = lived at.asking (sender at.direction old).clock
-              (subst (λ (e : PortId). StationIsLiveAt at.asking e.clock w')
-              (sym (sender_bare at.direction old s.channel same)) s.asking);
-          answering = had_failed at.answering (receiver at.direction old).clock
-              (subst (λ (e : PortId). IsFailedAmong at.answering e.clock w'.stations)
-              (sym (receiver_bare at.direction old s.channel same)) s.answering);
+          station = old;
+          here = old_here;
+          live = ap (λ (y : Bool × ℕ). y.0) same ∙ x.live;
+          named = ap (λ (y : Bool × ℕ). y.1) same ∙ x.named;
         }
 
-    joins : JoinTheSame w.net.channels taken.net.channels
-    joins = set_join w.net.channels place channel (lost channel) here refl refl
+    had_failed : (at number : ℕ) → IsFailedAmong at number w'.stations → IsFailedAmong at number w.stations
+    had_failed at number x =
+        let (old, old_here, same) = alike lives_as lives_as w.stations w'.stations (sym stand) at x.station x.here in
+        record {
+          station = old;
+          here = old_here;
+          failed = ap (λ (y : Bool × ℕ). y.0) same ∙ x.failed;
+          named = ap (λ (y : Bool × ℕ). y.1) same ∙ x.named;
+        }
 
-    -- its port is none of the link that goes down
-    no_end : (v : WorldState) → JoinTheSame w.net.channels v.net.channels → (l : IsUnansweredAt at v)
-        (way : Direction) → sender at.direction l.channel ≢ sender way channel
-    no_end v on l way same =
-        let was = on at.link l.channel l.here in
-        apart (is.sound.wired.apart at.link place at.direction way was.old channel was.here here
-        (sym (begins_same w.net.channels at.link at.direction l.channel was) ∙ same))
+    module _ (at : LinkPlace) (s : StandsUnanswered at w') where
+      apart : at.link ≢ place
+      apart = up_apart at.link s.channel s.here s.up
 
-    ports : (direction : Direction) → IsPortAmong (sender direction channel) taken.stations
-    ports = join_among w place channel is.sound.wired.ports here
+      before : StandsUnanswered at w
+      before =
+          let (old, old_there, same) = stood_so at.link s.channel s.here in
+          record {
+            channel = old;
+            here = sym (get-set_other w.net.channels place at.link (lost channel) apart) ∙ old_there;
+            up = ap (λ (c : Channel). c.up) same ∙ s.up;
+            asking = lived at.asking (sender at.direction old).clock
+                (subst (λ (e : PortId). StationIsLiveAt at.asking e.clock w')
+                (sym (sender_bare at.direction old s.channel same)) s.asking);
+            answering = had_failed at.answering (receiver at.direction old).clock
+                (subst (λ (e : PortId). IsFailedAmong at.answering e.clock w'.stations)
+                (sym (receiver_bare at.direction old s.channel same)) s.answering);
+          }
 
-    link_taken : (l : IsUnansweredAt at w) → IsUnansweredAt at taken
-    link_taken l = record {
-      channel = l.channel;
-      here = get-set_other w.net.channels place at.link (lost channel) apart ∙ l.here;
-      up = l.up;
-      asking = l.asking;
-      answering = l.answering;
-    }
+      joins : JoinTheSame w.net.channels taken.net.channels
+      joins = set_join w.net.channels place channel (lost channel) here refl refl
 
-    silent_at : (gone : ℕ) → IsSilent gone at w → IsSilent gone at w'
-    unfolding link_taken
-    silent_at gone one =
-        each_end_told PortDown channel taken (IsSilent gone at)
-        (λ direction q v ds answer v' c stays named number so.
-        called_silent gone at q (sender direction channel) v ds v'
-        (λ station there.
-        ap (λ (x : Station). clock x.system) (same_there v.stations q station c.station there c.here) ∙ named)
-        (stays_clocks taken v stays is.sound.wired.clocks) so
-        (no_end v (join_on w.net.channels taken.net.channels v.net.channels joins stays.links) so.link direction)
-        answer c) is.sound.wired.setups ports draws w' k
-        (record { link = link_taken one.link; old = one.old; inv = one.inv })
+      -- its port is none of the link that goes down
+      no_end : (v : WorldState) → JoinTheSame w.net.channels v.net.channels → (l : IsUnansweredAt at v)
+          (way : Direction) → sender at.direction l.channel ≢ sender way channel
+      no_end v on l way same =
+          let was = on at.link l.channel l.here in
+          apart (is.sound.wired.apart at.link place at.direction way was.old channel was.here here
+          (sym (begins_same w.net.channels at.link at.direction l.channel was) ∙ same))
 
-    never_at : IsNeverAnswered at w → IsNeverAnswered at w'
-    unfolding link_taken
-    never_at one =
-        each_end_told PortDown channel taken (IsNeverAnswered at)
-        (λ direction q v ds answer v' c stays named number so.
-        never_called at q (PortDown (sender direction channel).port) v ds answer v' c
-        (stays_clocks taken v stays is.sound.wired.clocks) so (λ same. tt) (λ same. tt)) is.sound.wired.setups ports
-        draws w' k
-        (record { link = link_taken one.link; mute = one.mute; unmeasured = one.unmeasured })
+      ports : (direction : Direction) → IsPortAmong (sender direction channel) taken.stations
+      ports = join_among w place channel is.sound.wired.ports here
 
-  pub silent_down : (start : ℕ) → AreSilentBy p start w → AreSilentBy p start w'
-  silent_down start silent at s = elim (silent at (before at s)) [
-    | inl never ↦ inl (never_at at s never)
-    | inr (change, one, soon) ↦ inr (change, silent_at at s (change + largest_interval p) one, soon)
-  ]
+      link_taken : (l : IsUnansweredAt at w) → IsUnansweredAt at taken
+      link_taken l = record {
+        channel = l.channel;
+        here = get-set_other w.net.channels place at.link (lost channel) apart ∙ l.here;
+        up = l.up;
+        asking = l.asking;
+        answering = l.answering;
+      }
+
+      silent_at : (gone : ℕ) → IsSilent gone at w → IsSilent gone at w'
+      unfolding link_taken
+      silent_at gone one =
+          each_end_told PortDown channel taken (IsSilent gone at)
+          (λ direction q v ds answer v' c stays named number so.
+          called_silent gone at q (sender direction channel) v ds v'
+          (λ station there.
+          ap (λ (x : Station). clock x.system) (same_there v.stations q station c.station there c.here) ∙ named)
+          (stays_clocks taken v stays is.sound.wired.clocks) so
+          (no_end v (join_on w.net.channels taken.net.channels v.net.channels joins stays.links) so.link direction)
+          answer c) is.sound.wired.setups ports draws w' k
+          (record { link = link_taken one.link; old = one.old; inv = one.inv })
+
+      never_at : IsNeverAnswered at w → IsNeverAnswered at w'
+      unfolding link_taken
+      never_at one =
+          each_end_told PortDown channel taken (IsNeverAnswered at)
+          (λ direction q v ds answer v' c stays named number so.
+          never_called at q (PortDown (sender direction channel).port) v ds answer v' c
+          (stays_clocks taken v stays is.sound.wired.clocks) so (λ same. tt) (λ same. tt)) is.sound.wired.setups ports
+          draws w' k
+          (record { link = link_taken one.link; mute = one.mute; unmeasured = one.unmeasured })
+
+    pub silent_down : (start : ℕ) → AreSilentBy p start w → AreSilentBy p start w'
+    silent_down start silent at s = elim (silent at (before at s)) [
+      | inl never ↦ inl (never_at at s never)
+      | inr (change, one, soon) ↦ inr (change, silent_at at s (change + largest_interval p) one, soon)
+    ]

@@ -123,122 +123,122 @@ module _ (says : Spelling) (g : Snapshot) (n : Network) (x d e : ℕ) (best : Sy
     module _ (i : ℕ) (s : Station) (at : slice_get w.stations i ≡ Some s) (live : s.live ≡ true) (place : ℕ)
         (r : Reception) (holds : HoldsAt s place r) (from_x : r.said.source.clock ≡ x)
         (root : r.said.root ≡ best.identity) (own_root : s.root ≡ r.said.root) (own_steps : s.steps ≡ suc r.said.steps)
-        where
-      at_place : slice_get w.stations (n.place s.clock) ≡ Some s
-      at_place = subst (λ k. slice_get w.stations k ≡ Some s) (kept.calm.placed i s at) at
+      where
+        at_place : slice_get w.stations (n.place s.clock) ≡ Some s
+        at_place = subst (λ k. slice_get w.stations k ≡ Some s) (kept.calm.placed i s at) at
 
-      linked : IsLinked n.graph (port_of s.clock (suc place))
-      linked = elim (IsLinked-dec n.graph (port_of s.clock (suc place))) [
-        | yes is ↦ is
-        | no none ↦
-            let off : holds.0.held ≡ Disabled = dark i s place holds.0 at live holds.1 none in
-            absurd (let both : Received r ≡ Disabled = sym holds.2 ∙ off in cc)
-      ]
-
-      before : Joins g (port_of s.clock (suc place)) linked.0
-      before = t.left.links (port_of s.clock (suc place)) linked.0 linked.1
-
-      -- the link is that of the system
-      other_end : linked.0.clock ≡ x
-      other_end =
-          let over = (all.stations i s place r at live holds).over (linked.0, before) in
-          let one : over.from ≡ linked.0 =
-          t.left.graph.one_link (port_of s.clock (suc place)) over.from linked.0
-          (Joins-sym g over.from (port_of s.clock (suc place)) over.joins) before in
-          ap (λ (p : PortIdentity). p.clock) (sym one ∙ sym over.source) ∙ from_x
-
-      joins_x : Joins n.graph (port_of x linked.0.port) (port_of s.clock (suc place))
-      joins_x =
-          subst (λ c. Joins n.graph (port_of c linked.0.port) (port_of s.clock (suc place))) other_end
-          (Joins-sym n.graph (port_of s.clock (suc place)) linked.0 linked.1)
-
-      b : IsBeside g n x d e best s.clock
-      b = beside s.clock (linked.0.port, suc place, joins_x)
-
-      chooses : s.steps ≡ b.far
-      chooses =
-          (chooses_still says g n t.well t.left w kept all.stations b.far (λ f less. levels f) b.close s.clock best s
-          at_place b.unmoved b.is_best b.there).steps
-
-      sent : d ≤ r.said.steps
-      sent =
-          let over = (all.stations i s place r at live holds).over (linked.0, before) in
-          let one : over.from.clock ≡ x =
-          ap (λ (p : PortIdentity). p.clock) (sym over.source) ∙ from_x in
-          let known : IsBest g s.clock best = b.is_best in
-          over.sender best d known root (subst (λ c. IsDistance g c d) (sym one) t.was)
-
-      -- it is the far end of its other links too
-      module _ (few : s.steps < e) where
-        is_far : IsFarEnd g s.clock
-        is_far = elim t.tells [
-          | inl next ↦ absurd (omega (arith, next, few, own_steps, sent))
-          | inr far ↦ far s.clock (linked.0.port, suc place, joins_x)
-        ]
-
-        holds_there : (j : ℕ) (u : PortIdentity) (q : Port) → Joins n.graph (port_of s.clock (suc j)) u → u.clock ≢ x
-            → slice_get s.ports j ≡ Some q → (z : Reception) × (q.held ≡ Received z)
-        holds_there j u q joins other at_q =
-            by (places_of n.graph s.clock (suc j) u.clock u.port t.well joins)
-            (distance_exists g u.clock t.left.graph (live_before g n t.well t.left u.clock known_u))
-          where
-            back : Joins n.graph u (port_of s.clock (suc j))
-            back = Joins-sym n.graph (port_of s.clock (suc j)) u joins
-
-            known_u : In u.clock (clocks n.graph)
-            known_u = Joins-clock n.graph u (port_of s.clock (suc j)) t.well back
-
-            by : ((p : ℕ) × (k : ℕ) × (suc j ≡ suc p) × (u.port ≡ suc k)) → ((near : ℕ) × IsDistance g u.clock near)
-                → (z : Reception) × (q.held ≡ Received z)
-            by (p, k, is_p, is_k) (near, u_near) =
-                let over : Joins n.graph (port_of u.clock (suc k)) (port_of s.clock (suc j)) =
-                subst (λ m. Joins n.graph (port_of u.clock m) (port_of s.clock (suc j))) is_k back in
-                let joined : Adjacent g s.clock u.clock =
-                (suc j, u.port, t.left.links (port_of s.clock (suc j)) u joins) in
-                let nearer = is_far u.clock b.far near joined b.there u_near in
-                let least = b.close in
-                let close : near < 255 =
-                elim nearer [ inl less ↦ omega (arith, less, least) | inr (same, lower) ↦ omega (arith, same, least) ]
-                in
-                let leads : LeadsOn g n near best u.clock k s.clock j =
-                record {
-                  unmoved = unmoved_by u.clock known_u other;
-                  is_best = IsBest-neighbour g s.clock u.clock best t.left.graph joined b.is_best;
-                  here = u_near;
-                  joins = over;
-                  far = b.far;
-                  there = b.there;
-                  farther = nearer;
-                } in
-                let (z, (q', at_q', is_z), final) =
-                told says g n t.well t.left w kept all.stations near best u.clock k s.clock j close leads
-                (chooses_still says g n t.well t.left w kept all.stations near (λ f less. levels f) close)
-                (levels near best u.clock k s.clock j close leads) s at_place in
-                (z, subst (λ (p : Port). p.held ≡ Received z) (same_there s.ports j q' q at_q' at_q) is_z)
-
-        pub tells_nobody : (p : ℕ) → IsMasterAt s p → ⊥
-        tells_nobody p (j, q, number, at_q, mine) = elim (IsLinked-dec n.graph (port_of s.clock (suc j))) [
+        linked : IsLinked n.graph (port_of s.clock (suc place))
+        linked = elim (IsLinked-dec n.graph (port_of s.clock (suc place))) [
+          | yes is ↦ is
           | no none ↦
-              let off : q.held ≡ Disabled = dark i s j q at live at_q none in
-              absurd (let both : Disabled ≡ Mine s.root s.steps = sym off ∙ mine in cc)
-          | yes (u, joins) ↦ by u joins
+              let off : holds.0.held ≡ Disabled = dark i s place holds.0 at live holds.1 none in
+              absurd (let both : Received r ≡ Disabled = sym holds.2 ∙ off in cc)
         ]
-          where
-            received : (z : Reception) → q.held ≡ Received z → ⊥
-            received z is = absurd (let both : Received z ≡ Mine s.root s.steps = sym is ∙ mine in cc)
 
-            by : (u : PortIdentity) → Joins n.graph (port_of s.clock (suc j)) u → ⊥
-            by u joins = elim (ℕ_discrete u.clock x) [
-              | no other ↦ let (z, is) = holds_there j u q joins other at_q in received z is
-              | yes same ↦
-                  let back = subst (λ c. Joins n.graph (port_of c u.port) (port_of s.clock (suc j))) same
-                  (Joins-sym n.graph (port_of s.clock (suc j)) u joins) in
-                  let number_is = t.single linked.0.port (suc place) u.port (suc j) s.clock joins_x back in
-                  let one : place ≡ j = omega (arith, number_is) in
-                  let port : holds.0 ≡ q =
-                  same_there s.ports j holds.0 q (subst (λ k. slice_get s.ports k ≡ Some holds.0) one holds.1) at_q in
-                  received r (subst (λ (z : Port). z.held ≡ Received r) port holds.2)
-            ]
+        before : Joins g (port_of s.clock (suc place)) linked.0
+        before = t.left.links (port_of s.clock (suc place)) linked.0 linked.1
+
+        -- the link is that of the system
+        other_end : linked.0.clock ≡ x
+        other_end =
+            let over = (all.stations i s place r at live holds).over (linked.0, before) in
+            let one : over.from ≡ linked.0 =
+            t.left.graph.one_link (port_of s.clock (suc place)) over.from linked.0
+            (Joins-sym g over.from (port_of s.clock (suc place)) over.joins) before in
+            ap (λ (p : PortIdentity). p.clock) (sym one ∙ sym over.source) ∙ from_x
+
+        joins_x : Joins n.graph (port_of x linked.0.port) (port_of s.clock (suc place))
+        joins_x =
+            subst (λ c. Joins n.graph (port_of c linked.0.port) (port_of s.clock (suc place))) other_end
+            (Joins-sym n.graph (port_of s.clock (suc place)) linked.0 linked.1)
+
+        b : IsBeside g n x d e best s.clock
+        b = beside s.clock (linked.0.port, suc place, joins_x)
+
+        chooses : s.steps ≡ b.far
+        chooses =
+            (chooses_still says g n t.well t.left w kept all.stations b.far (λ f less. levels f) b.close s.clock best s
+            at_place b.unmoved b.is_best b.there).steps
+
+        sent : d ≤ r.said.steps
+        sent =
+            let over = (all.stations i s place r at live holds).over (linked.0, before) in
+            let one : over.from.clock ≡ x =
+            ap (λ (p : PortIdentity). p.clock) (sym over.source) ∙ from_x in
+            let known : IsBest g s.clock best = b.is_best in
+            over.sender best d known root (subst (λ c. IsDistance g c d) (sym one) t.was)
+
+        -- it is the far end of its other links too
+        module _ (few : s.steps < e) where
+          is_far : IsFarEnd g s.clock
+          is_far = elim t.tells [
+            | inl next ↦ absurd (omega (arith, next, few, own_steps, sent))
+            | inr far ↦ far s.clock (linked.0.port, suc place, joins_x)
+          ]
+
+          holds_there : (j : ℕ) (u : PortIdentity) (q : Port) → Joins n.graph (port_of s.clock (suc j)) u → u.clock ≢ x
+              → slice_get s.ports j ≡ Some q → (z : Reception) × (q.held ≡ Received z)
+          holds_there j u q joins other at_q =
+              by (places_of n.graph s.clock (suc j) u.clock u.port t.well joins)
+              (distance_exists g u.clock t.left.graph (live_before g n t.well t.left u.clock known_u))
+            where
+              back : Joins n.graph u (port_of s.clock (suc j))
+              back = Joins-sym n.graph (port_of s.clock (suc j)) u joins
+
+              known_u : In u.clock (clocks n.graph)
+              known_u = Joins-clock n.graph u (port_of s.clock (suc j)) t.well back
+
+              by : ((p : ℕ) × (k : ℕ) × (suc j ≡ suc p) × (u.port ≡ suc k)) → ((near : ℕ) × IsDistance g u.clock near)
+                  → (z : Reception) × (q.held ≡ Received z)
+              by (p, k, is_p, is_k) (near, u_near) =
+                  let over : Joins n.graph (port_of u.clock (suc k)) (port_of s.clock (suc j)) =
+                  subst (λ m. Joins n.graph (port_of u.clock m) (port_of s.clock (suc j))) is_k back in
+                  let joined : Adjacent g s.clock u.clock =
+                  (suc j, u.port, t.left.links (port_of s.clock (suc j)) u joins) in
+                  let nearer = is_far u.clock b.far near joined b.there u_near in
+                  let least = b.close in
+                  let close : near < 255 =
+                  elim nearer [ inl less ↦ omega (arith, less, least) | inr (same, lower) ↦ omega (arith, same, least) ]
+                  in
+                  let leads : LeadsOn g n near best u.clock k s.clock j =
+                  record {
+                    unmoved = unmoved_by u.clock known_u other;
+                    is_best = IsBest-neighbour g s.clock u.clock best t.left.graph joined b.is_best;
+                    here = u_near;
+                    joins = over;
+                    far = b.far;
+                    there = b.there;
+                    farther = nearer;
+                  } in
+                  let (z, (q', at_q', is_z), final) =
+                  told says g n t.well t.left w kept all.stations near best u.clock k s.clock j close leads
+                  (chooses_still says g n t.well t.left w kept all.stations near (λ f less. levels f) close)
+                  (levels near best u.clock k s.clock j close leads) s at_place in
+                  (z, subst (λ (p : Port). p.held ≡ Received z) (same_there s.ports j q' q at_q' at_q) is_z)
+
+          pub tells_nobody : (p : ℕ) → IsMasterAt s p → ⊥
+          tells_nobody p (j, q, number, at_q, mine) = elim (IsLinked-dec n.graph (port_of s.clock (suc j))) [
+            | no none ↦
+                let off : q.held ≡ Disabled = dark i s j q at live at_q none in
+                absurd (let both : Disabled ≡ Mine s.root s.steps = sym off ∙ mine in cc)
+            | yes (u, joins) ↦ by u joins
+          ]
+            where
+              received : (z : Reception) → q.held ≡ Received z → ⊥
+              received z is = absurd (let both : Received z ≡ Mine s.root s.steps = sym is ∙ mine in cc)
+
+              by : (u : PortIdentity) → Joins n.graph (port_of s.clock (suc j)) u → ⊥
+              by u joins = elim (ℕ_discrete u.clock x) [
+                | no other ↦ let (z, is) = holds_there j u q joins other at_q in received z is
+                | yes same ↦
+                    let back = subst (λ c. Joins n.graph (port_of c u.port) (port_of s.clock (suc j))) same
+                    (Joins-sym n.graph (port_of s.clock (suc j)) u joins) in
+                    let number_is = t.single linked.0.port (suc place) u.port (suc j) s.clock joins_x back in
+                    let one : place ≡ j = omega (arith, number_is) in
+                    let port : holds.0 ≡ q =
+                    same_there s.ports j holds.0 q (subst (λ k. slice_get s.ports k ≡ Some holds.0) one holds.1) at_q in
+                    received r (subst (λ (z : Port). z.held ≡ Received r) port holds.2)
+              ]
 
     -- what a system of the component received came from another
     pub source_best : (i : ℕ) (s : Station) (place : ℕ) (r : Reception) → slice_get w.stations i ≡ Some s

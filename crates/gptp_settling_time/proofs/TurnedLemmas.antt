@@ -290,8 +290,8 @@ module _ (says : Spelling) (g : Snapshot) (n : Network) (x d e : ℕ) (best : Sy
           let stood = subst (λ i. slice_get w.lanes i ≡ Some l) (sym same) pops.here in (
             ap (λ (y : Lane). y.from) one ∙ lane_from l stood,
             (λ h a flies said.
-            is.fresh l stood h a
-            (subst (In h) (sym pops.frames) (inr (subst (λ (y : Lane). In h y.frames) one flies))) said),
+                is.fresh l stood h a
+                (subst (In h) (sym pops.frames) (inr (subst (λ (y : Lane). In h y.frames) one flies))) said),
           )
       | inr (other, stood) ↦ (lane_from k stood, is.fresh k stood)
     ]

@@ -323,9 +323,12 @@ module _ (says : Spelling) (n0 n : Network) (x d e : ℕ) (best : System) (t : T
               sym (ap (λ (k : Lane). k.is_up) (sym one) ∙ has.is_up) ∙ off in cc)
           | inl (old, stood, step) ↦
               let from : old.from ≡ port_of v (suc p) =
-              sym step.from ∙ ap (λ (k : Lane). k.from) (sym one) ∙ has.from in
-              (old, stood, no_news old l
-              (λ same. apart_v (ap (λ (k : PortIdentity). k.clock) (sym from) ∙ same)) step)
+              sym step.from ∙ ap (λ (k : Lane). k.from) (sym one) ∙ has.from in (
+                old,
+                stood,
+                no_news old l
+                    (λ same. apart_v (ap (λ (k : PortIdentity). k.clock) (sym from) ∙ same)) step,
+              )
         ]
 
     -- so is the port that hears, or it holds what it held of this

@@ -1,5 +1,5 @@
 -- A link goes down by which one system is moved: from then on its neighbours turn away.
-use Rattle.std.proofs.Common.{◌≡◌, ◌≢◌, ◌⊎◌, ◌≤◌, ◌+◌, ◌*◌, ℕ, suc, pred, true, false, List, Some, slice_get, refl, sym, ap, subst, ◌∙◌, inl, inr, arith}
+use Rattle.std.proofs.Common.{◌≡◌, ◌≢◌, ◌⊎◌, ◌≤◌, ◌+◌, ◌*◌, ℕ, zero, suc, pred, true, false, List, Some, slice_get, refl, sym, ap, subst, ◌∙◌, inl, inr, arith}
 use native.Mathlib.Decide.{ℕ_discrete}
 use Rattle.gptp_lists.proofs.MappedLemmas.{same_there}
 use Rattle.gptp_graph.specs.Distance.{IsDistance}
@@ -12,14 +12,18 @@ use Rattle.gptp_links.specs.declared.link.Direction.TheVariants.{FromA, FromB}
 use Rattle.gptp_links.specs.Fate.{Draw}
 use Rattle.gptp_scenario.specs.Calm.{NothingLapses}
 use Rattle.gptp_scenario.specs.Params.{KeepPace}
+use Rattle.gptp_scenario.specs.declared.change.Act.TheVariants.{Change as Changing}
+use Rattle.gptp_scenario.specs.declared.change.Change.TheVariants.{LinkDown}
 use Rattle.gptp_setup.specs.SettlingParams.{SettlingParams}
 use Rattle.gptp_system.specs.declared.answer.Answer.{Answer}
 use Rattle.gptp_system.specs.Input.{PortDown}
 use Rattle.gptp_system.specs.State.{clock}
 use Rattle.gptp_system.specs.Steps.{HasPortNumber}
 use Rattle.gptp_model.specs.Act.{Calls}
+use Rattle.gptp_model.specs.Acts.{Acts}
 use Rattle.gptp_model.specs.Changing.{CallsIfLive, TellsEnds, taken_down}
 use Rattle.gptp_model.specs.World.{Channel, WorldState, sender}
+use Rattle.gptp_model.specs.declared.done.Done.{Done}
 use Rattle.gptp_model.specs.declared.station.Station.{Station}
 use Rattle.gptp_model.proofs.StayLemmas.{stays_apart, taken_down_stays}
 use Rattle.gptp_bmca_machine.specs.LossLaws.{IsAfterLoss}
@@ -45,7 +49,7 @@ use Rattle.gptp_settling_time.proofs.AlwaysClaimedLemmas.{IsStanding}
 use Rattle.gptp_settling_time.proofs.BesideLemmas.{IsDark, IsMoving}
 use Rattle.gptp_settling_time.proofs.LeftClaimedLemmas.{HaveAskedLong, left_network}
 use Rattle.gptp_settling_time.proofs.LinkStoodLemmas.{ends_apart, second_still}
-use Rattle.gptp_settling_time.proofs.LoweredLemmas.{CanLose, can_lose, known, wires}
+use Rattle.gptp_settling_time.proofs.LoweredLemmas.{CanLose, can_lose, ends, known, off_before, ready_on, wires}
 use Rattle.gptp_settling_time.proofs.MovedAlwaysLemmas.{IsMovedAlways, after_loss, at_least, dark_now, starts_far, turned_by}
 use Rattle.gptp_settling_time.proofs.MovedLemmas.{EachTurns}
 use Rattle.gptp_settling_time.proofs.ReducedLemmas.{NearerStay}
@@ -83,10 +87,10 @@ module _ (p : SettlingParams) (w : WorldState) (is : IsWorld p w) (place : ℕ) 
     | yes same ↦
         let back = Adjacent-sym n.graph v y joined in
         absurd (elim (turns.far v near_y (suc near_y) (subst (λ c. Adjacent n.graph c v) same back)
-            (subst (λ c. IsDistance n.graph c near_y) same nearer) far_v) [
-              | inl less ↦ omega (arith, less)
-              | inr (equal, lower) ↦ omega (arith, equal)
-            ])
+        (subst (λ c. IsDistance n.graph c near_y) same nearer) far_v) [
+          | inl less ↦ omega (arith, less)
+          | inr (equal, lower) ↦ omega (arith, equal)
+        ])
   ]
 
   loses : (way : Direction) (at : ℕ) (station : Station) → slice_get w.stations at ≡ Some station
@@ -276,3 +280,78 @@ module _ (p : SettlingParams) (w : WorldState) (is : IsWorld p w) (place : ℕ) 
       late = late;
       seen = begins;
     }
+
+-- ---- the act
+
+module _ (p : SettlingParams) (next owner port : ℕ) (w : WorldState) (draws : List Draw) (done : Done)
+    (w' : WorldState) (pace : KeepPace p) (is : IsWorld p w) (is' : IsWorld p w') (measured : LinkIsMeasured w)
+    (measured' : LinkIsMeasured w') (acts : Acts (Changing (LinkDown owner port)) w draws done w')
+    (up : acts.1.channel.up ≡ true) (quiet : HaveQuietLinks p.params w) (past : next ≤ w.time)
+    (ready : AreReadyBy p next w) (silent : AreSilentBy p next w) (seen : IsSettledSeen p w)
+    (near : AllAreNear (snapshot_of w)) where
+  abbrev place : ℕ
+  place = acts.1.place
+
+  abbrev channel : Channel
+  channel = acts.1.channel
+
+  abbrev here : slice_get w.net.channels acts.1.place ≡ Some acts.1.channel
+  here = acts.1.is.here
+
+  off : UnlinkedAreOff (snapshot_of w) (view w)
+  off =
+      off_before p next owner port w draws done w' pace is is' measured measured' acts up quiet past ready silent seen near
+
+  told : TellsEnds PortDown acts.1.channel
+      (record w { net = taken_down acts.1.place acts.1.channel w.net; last_change = w.time }) draws w'
+  told = ends p next owner port w draws done w' pace is is' measured measured' acts up quiet past ready silent seen near
+
+  still_ready : AreReadyBy p next w'
+  still_ready =
+      ready_on p next owner port w draws done w' pace is is' measured measured' acts up quiet past ready silent seen near
+
+  -- both ends live, and one of them is moved
+  module _ (live : (direction : Direction) (at : ℕ) (station : Station) → slice_get w.stations at ≡ Some station
+      → clock station.system ≡ (sender direction acts.1.channel).clock → station.live ≡ true)
+      (x d e : ℕ) (best : System) (turns : TurnsOne (snapshot_of w) (left_network p next w') x d e best)
+      (moved : (direction : Direction) × ((sender direction acts.1.channel).clock ≡ x)) (delay : delay_in w' ≡ delay_in w)
+      (way : pred (path_bound (snapshot_of w')) * delay_in w' ≤ w'.time) (sound : IsSoundWorld w) where
+    live_a : told.station_a.live ≡ true
+    live_a = live FromA told.place_a told.station_a told.is_a.here told.is_a.named
+
+    live_b : told.station_b.live ≡ true
+    live_b = live FromB told.place_b told.station_b told.is_b.here told.is_b.named
+
+    begins_so : (lost : ℕ) → TurnsAway says_announce (left_network p next w') x lost (view w) (view w')
+        → IsMovedAlways p (snapshot_of w) next w.time w'
+    begins_so lost a =
+        turned_begins p w is place channel here draws w' is' told seen near off next x d e best turns delay lost a
+        pace measured' past way sound still_ready silent
+
+    by_a : channel.a.clock ≡ x → (n : ℕ) → channel.a.port ≡ n → HasPortNumber told.station_a.system n
+        → IsMovedAlways p (snapshot_of w) next w.time w'
+    by_a is_a zero number of = absurd (let least = of.least in omega (arith, least))
+    by_a is_a (suc i) number of =
+        begins_so i
+        (turns_a p w is place channel here draws w' is' told seen near off next x d e best turns delay live_a
+        live_b is_a i number)
+
+    by_b : channel.b.clock ≡ x → (n : ℕ) → channel.b.port ≡ n → HasPortNumber told.station_b.system n
+        → IsMovedAlways p (snapshot_of w) next w.time w'
+    by_b is_b zero number of = absurd (let least = of.least in omega (arith, least))
+    by_b is_b (suc i) number of =
+        begins_so i
+        (turns_b p w is place channel here draws w' is' told seen near off next x d e best turns delay live_a
+        live_b is_b i number)
+
+    by_end : (direction : Direction) → (sender direction channel).clock ≡ x
+        → IsMovedAlways p (snapshot_of w) next w.time w'
+    by_end FromA is_a =
+        by_a is_a channel.a.port refl
+        (is.sound.wired.ports place told.place_a FromA channel told.station_a here told.is_a.here told.is_a.named)
+    by_end FromB is_b =
+        by_b is_b channel.b.port refl
+        (is.sound.wired.ports place told.place_b FromB channel told.station_b here told.is_b.here told.is_b.named)
+
+    pub act_turned : IsMovedAlways p (snapshot_of w) next w.time w'
+    act_turned = by_end moved.0 moved.1
