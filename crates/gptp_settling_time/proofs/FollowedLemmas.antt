@@ -18,7 +18,7 @@ use Rattle.gptp_network.specs.Document.{DocumentState}
 use Rattle.gptp_network.specs.Events.{AreInOrder}
 use Rattle.gptp_network.specs.Snapshot.{events_by}
 use Rattle.gptp_settling_time.specs.HowSoon.{AfterIdleEvents, AreGainEvents, AreHeardEvents, AreReadyAtStart, AreStartEvents, BoundsEvents, BoundsStart, EachEvent, FailsOneEnd, IsChoiceAloneBound, IsChoiceBound, IsChoiceBoundAfter, IsGainEvent, IsGainToo, IsHeardEvent, IsHeardToo, IsIdleEvent, IsLossBoundAfter, IsStillEvent, LowersOneLink, TurnsUnused, events_at, way_span, AreWiderEvents}
-use Rattle.gptp_settling_time.specs.InTurn.{AnyPast, AreCapableSoon, BeginsBy, ChoosesAfter, ChoosesByEvents, ComesByEvents, EventLeads, FailsCalm, Gained, HasSettledAnyhow, HasSettledHeard, HasSettledSince, Heard, LeadOn, LeavesSettled, Left, LowersCalm, MakesNothing, Past, SettlesAfter, SettlesByEvents, Starting, StartsWith, TellsNothing, TurnsInVain, UsedVaryLittle, WidensLink}
+use Rattle.gptp_settling_time.specs.InTurn.{AnyPast, AreCapableSoon, BeginsBy, ChoosesAfter, ChoosesByEvents, ComesByEvents, EventLeads, FailsCalm, Gained, HasSettledAnyhow, HasSettledHeard, HasSettledSince, Heard, LeadOn, LeavesSettled, Left, LowersCalm, MakesNothing, Past, SettlesAfter, SettlesByEvents, Starting, StartsWith, TellsNothing, TurnsInVain, UsedVaryLittle, WidensLink, Turned}
 use Rattle.gptp_settling_time.specs.Losses.{LeavesChoice}
 use Rattle.gptp_settling_time.proofs.CutLemmas.{IsBy, all_by}
 use Rattle.gptp_settling_time.proofs.MadeLemmas.{adds_later}
@@ -53,6 +53,7 @@ HasSettled n events Starting time = ⊥
 HasSettled n events (Gained start) time = HasSettledSince n events start time
 HasSettled n events (Heard start) time = HasSettledHeard n events start time
 HasSettled n events (Left start) time = ⊥
+HasSettled n events (Turned silent now) time = ⊥
 
 settled_later : (n : NetworkState) (events : List Timed) (past : Past) (time later : ℕ) → time ≤ later
     → HasSettled n events past time → HasSettled n events past later
@@ -62,6 +63,7 @@ settled_later n events Starting time later less is = absurd is
 settled_later n events (Gained start) time later less is = omega (arith, is, less)
 settled_later n events (Heard start) time later less is = omega (arith, is, less)
 settled_later n events (Left start) time later less is = absurd is
+settled_later n events (Turned silent now) time later less is = absurd is
 
 settled_so : (n : NetworkState) (events : List Timed) (past : Past) (time : ℕ) → NothingLapses n.params
     → HasSettled n events past time → SettlesAfter n events past time
@@ -70,6 +72,7 @@ settled_so n events Starting time off is = absurd is
 settled_so n events (Gained start) time off is = inl (off, is)
 settled_so n events (Heard start) time off is = (off, is)
 settled_so n events (Left start) time off is = absurd is
+settled_so n events (Turned silent now) time off is = absurd is
 
 -- ---- an event leads from a network that has settled
 
@@ -103,6 +106,7 @@ module _ (n : NetworkState) (made : List Timed) (event : Timed) where
   gain_leads (Heard start) next settled less (takes, leaves) =
       inl (takes, inl (inr (omega (arith, settled, less), leaves)))
   gain_leads (Left start) next settled less gain = absurd settled
+  gain_leads (Turned silent now) next settled less gain = absurd settled
 
   heard_leads : (past : Past) (next : ℕ) → HasSettled n made past event.at → IsHeardEvent n next made event
       → EventLeads n made past event (Heard next)
@@ -115,6 +119,7 @@ module _ (n : NetworkState) (made : List Timed) (event : Timed) where
       let later = adds_later n made event next adds in inl (omega (arith, settled, later), adds)
   heard_leads (Heard start) next settled (inr better) = inr (inl (settled, inl better))
   heard_leads (Left start) next settled heard = absurd settled
+  heard_leads (Turned silent now) next settled heard = absurd settled
 
   -- what makes nothing of what stands leads from a network that has settled to one that has settled by then, as if its
   -- ports had been capable from a time on
@@ -134,6 +139,7 @@ module _ (n : NetworkState) (made : List Timed) (event : Timed) where
     way_over (Gained start) settled = omega (arith, settled)
     way_over (Heard start) settled = omega (arith, settled)
     way_over (Left start) settled = absurd settled
+    way_over (Turned silent now) settled = absurd settled
 
     same_paths : IsStillEvent n made event → sync_paths n more ≡ sync_paths n made
     same_paths (inl (inl nothing)) = idle_paths n network made event nothing
@@ -169,6 +175,7 @@ module _ (n : NetworkState) (made : List Timed) (event : Timed) where
       idle_leads (Gained start) settled = (settled, inr (inr (inl (leaves_so (way_over (Gained start) settled)))))
       idle_leads (Heard start) settled = inr (inl (settled, inr (inl (leaves_so (way_over (Heard start) settled)))))
       idle_leads (Left start) settled = absurd settled
+      idle_leads (Turned silent now) settled = absurd settled
 
       pub idle_settled : (past : Past) → HasSettled n made past event.at → HasSettled n more (Heard since) event.at
       idle_settled past settled =
@@ -300,6 +307,7 @@ module _ (n : NetworkState) (network : IsNetwork n) where
       omega (arith, is, soon),
     )
     widens_leads made event (Left start) settled by here calm is late widens soon = absurd is
+    widens_leads made event (Turned silent now) settled by here calm is late widens soon = absurd is
 
     wider_led : (made now : List Timed) (past : Past) (settled : ℕ) → AllNow now → IsCalm n made
         → HasSettled n made past (suc settled) → settled < time → AreWiderEvents n settled time made now
@@ -581,6 +589,7 @@ module _ (n : NetworkState) (made : List Timed) (event : Timed) (roles : ℕ) wh
     over = omega (arith, is);
   }
   loss_leads (Left silent) settled loses = absurd settled
+  loss_leads (Turned silent now) settled loses = absurd settled
 
 -- what settles has its choice
 settles_chooses : (n : NetworkState) (events : List Timed) (past : Past) (settled : ℕ)
@@ -590,6 +599,7 @@ settles_chooses n events Starting settled is = is
 settles_chooses n events (Gained start) settled is = is
 settles_chooses n events (Heard start) settled is = is
 settles_chooses n events (Left silent) settled (off, late) = off
+settles_chooses n events (Turned silent now) settled so = so
 
 -- The times of a document up to this one lead to a loss, after which roles stand so much later.
 module _ (d : DocumentState) (network : IsNetwork d.network) (order : AreInOrder d.events) (time choice roles : ℕ)

@@ -3,7 +3,7 @@ use Rattle.std.proofs.Common.{◌≡◌, ◌⊎◌, inl, inr, ◌<◌, ◌≤◌
 use Rattle.std.specs.List.{AllByRecursion}
 use Rattle.gptp_lists.specs.Members.{In}
 use Rattle.gptp_graph.specs.PathBound.{BoundsPaths, path_bound}
-use Rattle.gptp_graph.specs.Snapshot.{Link, Snapshot, clocks, port_of}
+use Rattle.gptp_graph.specs.Snapshot.{Link, Snapshot, clocks, port_of, Adjacent, Joins, PortIdentity, System}
 use Rattle.gptp_graph.proofs.ExistenceLemmas.{distance_exists}
 use Rattle.gptp_graph.proofs.PathBoundLemmas.{IsDistance-within, paths_within}
 use Rattle.gptp_bmca_machine.specs.SoundLaws.{AllAreNear}
@@ -11,8 +11,8 @@ use Rattle.gptp_invariants.specs.WorldEncodableLaws.{SetsAnOctet}
 use Rattle.gptp_links.specs.declared.bounds.Bounds.{Bounds}
 use Rattle.gptp_setup.specs.Intervals.{interval_of}
 use Rattle.gptp_setup.specs.SettlingParams.{SettlingParams, largest_interval}
-use Rattle.gptp_scenario.specs.Calm.{IsCalm, NothingLapses, last_change}
-use Rattle.gptp_scenario.specs.Network.{NetworkState, pace_of}
+use Rattle.gptp_scenario.specs.Calm.{IsCalm, NothingLapses, last_change, IsUsed}
+use Rattle.gptp_scenario.specs.Network.{NetworkState, pace_of, IsEnd}
 use Rattle.gptp_scenario.specs.SettlingAtOnce.{settling_span_at_once}
 use Rattle.gptp_scenario.specs.SettlingTime.{capability_span, settling_span_with}
 use Rattle.gptp_scenario.specs.SyncWait.{sync_paths}
@@ -26,7 +26,7 @@ use Rattle.gptp_model.specs.Course.{WasDone}
 use Rattle.gptp_model.specs.declared.done.Done.{Done}
 use Rattle.gptp_model.specs.Pending.{NothingBefore}
 use Rattle.gptp_model.specs.Views.{IsNextAct}
-use Rattle.gptp_model.specs.World.{WorldState, port_id}
+use Rattle.gptp_model.specs.World.{WorldState, port_id, Channel, sender}
 use Rattle.gptp_world.specs.Transitions.{ActTrace}
 use Rattle.gptp_network.specs.Document.{DocumentState}
 use Rattle.gptp_network.specs.Snapshot.{StandsAfter, events_by}
@@ -47,6 +47,7 @@ use Rattle.gptp_invariants.proofs.WorldSoundLemmas.{sound_later}
 use Rattle.gptp_invariants.proofs.WorldStandsLemmas.{stands_well}
 use Rattle.gptp_theorem.specs.PlayedLaws.{IsMade, IsPlayable}
 use Rattle.gptp_theorem.specs.AlikeLaws.{AreAlike}
+use Rattle.gptp_theorem.specs.Reached.{channel_wire}
 use Rattle.gptp_theorem.proofs.AlikeLemmas.{clock_among, turned}
 use Rattle.gptp_theorem.proofs.AlikeLemmas.{best as alike_best, distance as alike_distance}
 use Rattle.gptp_theorem.proofs.CalmLemmas.{pace_stands, quiet_stands}
@@ -57,8 +58,8 @@ use Rattle.gptp_theorem.proofs.SyncPathLemmas.{paths_stand}
 use Rattle.gptp_settling_time.specs.ChoiceAlone.{ChoiceStands}
 use Rattle.gptp_settling_time.specs.Exactly.{SettlesBy}
 use Rattle.gptp_settling_time.specs.Gains.{ChangesNothing, IsIdleAfter, LeavesCapable, TakesNothing}
-use Rattle.gptp_settling_time.specs.InTurn.{ActsFindChoiceInTurn, ActsFindSettledInTurn, AddsHeard, AnyPast, BeginsBy, BettersClock, BringsUp, ChoosesAfter, ComesByEvents, EventLeads, FailsCalm, Gained, Heard, LeadOn, LeavesSettled, LeavesStanding, Left, LowersCalm, MakesNothing, Past, RecoversAlone, SettlesAfter, Starting, TurnsInVain, WidensFrom}
-use Rattle.gptp_settling_time.specs.Losses.{IsFarEnd, IsUnmoved, IsUnmovedOrCutOff, MovesNone, MovesNoneJoined}
+use Rattle.gptp_settling_time.specs.InTurn.{ActsFindChoiceInTurn, ActsFindSettledInTurn, AddsHeard, AnyPast, BeginsBy, BettersClock, BringsUp, ChoosesAfter, ComesByEvents, EventLeads, FailsCalm, Gained, Heard, LeadOn, LeavesSettled, LeavesStanding, Left, LowersCalm, MakesNothing, Past, RecoversAlone, SettlesAfter, Starting, TurnsInVain, WidensFrom, Turned, TurnsCalm, TurnsNow}
+use Rattle.gptp_settling_time.specs.Losses.{IsFarEnd, IsUnmoved, IsUnmovedOrCutOff, MovesNone, MovesNoneJoined, IsTurned, TurnsSystem}
 use Rattle.gptp_settling_time.proofs.AlwaysClaimedLemmas.{IsClaimedAlways, since_later}
 use Rattle.gptp_settling_time.proofs.BegunLemmas.{begun_keeps, begun_last, rested_sound}
 use Rattle.gptp_settling_time.proofs.ClaimedToLemmas.{IsClaimedTo, claimed_act, claimed_later, claimed_settled}
@@ -83,6 +84,15 @@ use Rattle.gptp_settling_time.proofs.RestClaimedLemmas.{AreOn, rest_claimed, res
 use Rattle.gptp_settling_time.proofs.SettledClaimedLemmas.{settled_claimed}
 use Rattle.gptp_settling_time.proofs.SettledSeenLemmas.{HasSettledSeen, IsSettledSeen, always_settled}
 use Rattle.gptp_settling_time.proofs.BetterClockLemmas.{better_claimed}
+use Rattle.gptp_settling_time.proofs.TurnedToLemmas.{IsTurnedTo, turned_to_act, turned_to_later, turned_to_settled}
+use Rattle.gptp_settling_time.proofs.TurnsBeginLemmas.{act_turned}
+use Rattle.gptp_lists.proofs.MappedLemmas.{alike}
+use Rattle.gptp_links.specs.declared.link.Direction.{Direction}
+use Rattle.gptp_links.specs.declared.link.Direction.TheVariants.{FromA, FromB}
+use Rattle.gptp_scenario.specs.Change.{link_after}
+use Rattle.gptp_scenario.specs.declared.network.LinkSpec.{LinkSpec}
+use Rattle.gptp_system.specs.State.{clock}
+use Rattle.gptp_model.specs.declared.station.Station.{Station}
 use Rattle.gptp_settling_time.proofs.UnmovedLemmas.{unmoved_claimed}
 use Rattle.gptp_settling_time.proofs.WidenedLemmas.{widened_claimed}
 use Rattle.gptp_settling_time.proofs.StandsStillLemmas.{StandsStill, claims_stand, from_stands}
@@ -97,6 +107,7 @@ IsAfter d events Starting w = IsStartingTo d events w
 IsAfter d events (Gained start) w = IsNewsTo d start events w
 IsAfter d events (Heard start) w = IsClaimedTo d events start w
 IsAfter d events (Left start) w = IsLeftTo d events start w
+IsAfter d events (Turned silent now) w = IsTurnedTo d events silent now w
 
 module _ (d : DocumentState) (events : List Timed) where
   pub after_keeps : (past : Past) (w : WorldState) → IsAfter d events past w → KeepsTo d events w
@@ -105,6 +116,7 @@ module _ (d : DocumentState) (events : List Timed) where
   after_keeps (Gained start) w so = so.keeps
   after_keeps (Heard start) w so = so.keeps
   after_keeps (Left start) w so = so.keeps
+  after_keeps (Turned silent now) w so = so.keeps
 
   pub after_later : (past : Past) (w : WorldState) (time : ℕ) → w.time ≤ time → NothingBefore time w.net.pending
       → IsAfter d events past w → IsAfter d events past (at time w)
@@ -113,6 +125,7 @@ module _ (d : DocumentState) (events : List Timed) where
   after_later (Gained start) w time later first so = news_later_to d events start w time later first so
   after_later (Heard start) w time later first so = claimed_later d events start w time later first so
   after_later (Left start) w time later first so = left_to_later d events start w time later first so
+  after_later (Turned silent now) w time later first so = turned_to_later d events silent now w time later first so
 
   pub after_act : {F : Type 0} (answers : Bounds → ℕ → F → Option ℕ → F → Type 0) (past : Past) (t : ActTrace)
       (fate drawn : F) (w : WorldState) → IsNextAct w t.told.timed
@@ -126,6 +139,8 @@ module _ (d : DocumentState) (events : List Timed) where
       was so
   after_act answers (Left start) t fate drawn w next was so = left_to_act d events start answers t fate drawn w next was
       so
+  after_act answers (Turned silent now) t fate drawn w next was so =
+      turned_to_act d events silent now answers t fate drawn w next was so
 
 -- ---- an event is made
 
@@ -138,6 +153,45 @@ unmoved_alike g h g' h' before now v unmoved =
       best = λ b was. alike_best h' g' back v b (unmoved.best b (alike_best g h before v b was));
       far = λ far was. alike_distance h' g' back v far (unmoved.far far (alike_distance g h before v far was));
     }
+
+-- so are links
+joins_alike : (g h : Snapshot) → AreAlike g h → (p q : PortIdentity) → Joins g p q → Joins h p q
+joins_alike g h alike_is p q =
+    subst (λ (ls : List Link). In (record { a = p; b = q }) ls ⊎ In (record { a = q; b = p }) ls) alike_is.links
+
+adjacent_alike : (g h : Snapshot) → AreAlike g h → (v u : ℕ) → Adjacent g v u → Adjacent h v u
+adjacent_alike g h alike_is v u (m, q, joins) =
+    (m, q, joins_alike g h alike_is (port_of v m) (port_of u q) joins)
+
+far_alike : (g h : Snapshot) → AreAlike g h → (v : ℕ) → IsFarEnd h v → IsFarEnd g v
+far_alike g h alike_is v is_far u far near joined away close =
+    is_far u far near (adjacent_alike g h alike_is v u joined) (alike_distance g h alike_is v far away)
+    (alike_distance g h alike_is u near close)
+
+-- and a system that is moved
+turned_alike : (g h g' h' : Snapshot) → AreAlike g h → AreAlike g' h' → (x d e : ℕ) (best : System)
+    → IsTurned h h' x d e best → IsTurned g g' x d e best
+turned_alike g h g' h' before now x d e best t = record {
+  others = λ v known apart. unmoved_alike g h g' h' before now v (t.others v (clock_among g' h' now v known) apart);
+  was_best = alike_best h g (turned g h before) x best t.was_best;
+  is_best = alike_best h' g' (turned g' h' now) x best t.is_best;
+  was = alike_distance h g (turned g h before) x d t.was;
+  is = alike_distance h' g' (turned g' h' now) x e t.is;
+  more = t.more;
+  lost = λ u far joined there.
+      elim (t.lost u far (adjacent_alike g h before x u joined) (alike_distance g h before u far there)) [
+        | inl still ↦ inl (adjacent_alike h' g' (turned g' h' now) x u still)
+        | inr nearer ↦ inr nearer
+      ];
+  far = far_alike g' h' now x t.far;
+  single = λ p q p' q' y one other.
+      t.single p q p' q' y (joins_alike g' h' now (port_of x p) (port_of y q) one)
+      (joins_alike g' h' now (port_of x p') (port_of y q') other);
+  tells = elim t.tells [
+    | inl next ↦ inl next
+    | inr fars ↦ inr (λ y joined. far_alike g h before y (fars y (adjacent_alike g' h' now x y joined)))
+  ];
+}
 
 module _ {F : Type 0} (answers : Bounds → ℕ → F → Option ℕ → F → Type 0) (d : DocumentState)
     (playable : IsPlayable d) (made : List Timed) (event : Timed) (fate fate_after : F) (w w' : WorldState)
@@ -371,6 +425,22 @@ module _ {F : Type 0} (answers : Bounds → ℕ → F → Option ℕ → F → T
         ))
       ]
 
+  -- a system that is so moved is so in the world
+  world_turns : (x : ℕ) → TurnsSystem n made event x
+      → (was : ℕ) × (then_far : ℕ) × (best : System) × IsTurned (snapshot_of then) (snapshot_of w') x was then_far best
+  world_turns x turns =
+      let (g, stands) = stands_after n made playable.network in
+      let (g', stands') = stands_after n more playable.network in
+      let (systems, links) = snapshots_stand n made then g keeps_then.stands keeps_then.claim.world.sound stands in
+      let (systems', links') = snapshots_stand n more w' g' after.stands after.claim.world.sound stands' in
+      let (was, then_far, best, is_turned) = turns g g' stands stands' in (
+        was,
+        then_far,
+        best,
+        turned_alike (snapshot_of then) g (snapshot_of w') g' (record { systems = systems; links = links })
+            (record { systems = systems'; links = links' }) x was then_far best is_turned,
+      )
+
   -- what is the far end of its links in the network is so in the world
   far_end : (number : ℕ) → ((g : Snapshot) → StandsAfter n made g → IsFarEnd g number)
       → IsFarEnd (snapshot_of then) number
@@ -464,6 +534,17 @@ module _ {F : Type 0} (answers : Bounds → ℕ → F → Option ℕ → F → T
         let time = made_time answers d playable made event fate fate_after w w' done is fit k in
         omega (arith, over, less, time)
 
+    near_after : (sync_paths n more).systems ≤ 255 → AllAreNear (snapshot_of w')
+    near_after few v known =
+        let world = after.claim.world in
+        let wf = stands_well w' world.sound world.between world.encodable in
+        let (far, there) = distance_exists (snapshot_of w') v wf known in
+        let less = IsDistance-within (snapshot_of w') (path_bound (snapshot_of w')) v far
+        (paths_within (snapshot_of w') wf) there in
+        let systems : (sync_paths n more).systems ≡ path_bound (snapshot_of w') =
+        ap (λ (x : SyncPaths). x.systems) paths_after in
+        (far, there, omega (arith, few, less, systems))
+
     -- a link goes down, and no system is moved but such as are cut off
     lowered_to : LowersCalm n made event → IsLeftTo d more start w'
     lowered_to lowers =
@@ -501,6 +582,60 @@ module _ {F : Type 0} (answers : Bounds → ℕ → F → Option ℕ → F → T
               (same_delay x.delay) (way_over x.delay x.paths) ready
               (unanswered_silent p next w' after.claim.silent (omega (arith, last, time, same)));
         }
+
+    -- a link goes down that so moves one system
+    turned_to : TurnsCalm n made event → IsTurnedTo d more start event.at w'
+    turned_to calm =
+        let x = calm.turns in
+        let came : Acts (Changing (LinkDown x.clock x.port)) then k.draws done w' =
+        subst (λ act. Acts act then k.draws done w') x.act k.acts in
+        let end = port_id x.clock x.port in
+        let channel = came.1.channel in
+        let (v, there, same) = alike link_wired channel_wire n.links then.net.channels
+        (sym keeps_then.stands.links) came.1.place channel came.1.is.here in
+        let is_end = subst (IsEnd end) (sym same) came.1.is.joined in
+        let used = subst (IsUsed n.systems made) same (x.used came.1.place v there is_end) in
+        let moved = subst (λ (u : LinkSpec). (u.a.clock ≡ x.moved) ⊎ (u.b.clock ≡ x.moved)) same
+        (x.moved_end came.1.place v there is_end) in
+        let (d_was, d_is, best, turns) = world_turns x.moved x.turns in
+        let near = near_then x.few in
+        let few = x.few in
+        let fewer = x.paths in
+        record {
+          keeps = after;
+          before = snapshot_of then;
+          since = act_turned p start x.clock x.port then k.draws done w' keeps_then.claim.pace world_then
+              after.claim.world keeps_then.claim.measured after.claim.measured came
+              (up_so n made then keeps_then.stands end (λ place u u_there u_end. (x.used place u u_there u_end).up)
+              came.1.place channel came.1.is)
+              (quiet_stands n made then playable.network keeps_then.stands world_then.sound calm.calm).links
+              (omega (arith, over)) ready silent (seen_then calm.calm calm.off) near
+              (live_ends channel used) x.moved d_was d_is best turns (near_after (omega (arith, few, fewer)))
+              (end_of channel x.moved moved) (same_delay x.delay) (way_over x.delay x.paths) sound;
+        }
+      where
+        link_wired : LinkSpec → LinkSpec
+        link_wired = link_after made
+
+        live_ends : (channel : Channel) → IsUsed n.systems made (channel_wire channel) → (direction : Direction) (at_place : ℕ)
+            (station : Station) → slice_get then.stations at_place ≡ Some station
+            → clock station.system ≡ (sender direction channel).clock → station.live ≡ true
+        live_ends channel used FromA at_place station stands named =
+            lives_so n made then keeps_then.stands world_then.sound channel.a.clock used.a at_place station
+            (record { here = stands; named = named })
+        live_ends channel used FromB at_place station stands named =
+            lives_so n made then keeps_then.stands world_then.sound channel.b.clock used.b at_place station
+            (record { here = stands; named = named })
+
+        end_of : (channel : Channel) (x : ℕ) → ((channel_wire channel).a.clock ≡ x) ⊎ ((channel_wire channel).b.clock ≡ x)
+            → (direction : Direction) × ((sender direction channel).clock ≡ x)
+        end_of channel x (inl a) = (FromA, a)
+        end_of channel x (inr b) = (FromB, b)
+
+    turned_so : (silent_by now : ℕ) → TurnsNow n made event start silent_by now → IsTurnedTo d more silent_by now w'
+    turned_so silent_by now (turns, by, time) =
+        subst (λ t. IsTurnedTo d more silent_by t w') (sym time)
+        (subst (λ t. IsTurnedTo d more t event.at w') (sym by) (turned_to turns))
 
     left_to : LeavesStanding n made event start next → IsLeftTo d more next w'
     left_to (inl (lowers, same)) = subst (λ time. IsLeftTo d more time w') (sym same) (lowered_to lowers)
@@ -594,6 +729,7 @@ module _ {F : Type 0} (answers : Bounds → ℕ → F → Option ℕ → F → T
         subst (λ time. IsClaimedTo d more time w') (sym same)
         (left_so start (since_later p start event.at w k.ready.timely.now k.ready.timely.first so.since) nothing)
     leads_to_heard (Left start) next none so = absurd none
+    leads_to_heard (Turned silent now) next none so = absurd none
 
     leads_to_left : (past : Past) (next : ℕ) → EventLeads n made past event (Left next) → IsAfter d made past w
         → IsLeftTo d more next w'
@@ -626,6 +762,40 @@ module _ {F : Type 0} (answers : Bounds → ℕ → F → Option ℕ → F → T
         left_to start next claim.news.sound claim.news.ready claim.news.silent (always_settled p start then claim late)
         late loses
     leads_to_left (Left start) next none so = absurd none
+    leads_to_left (Turned silent now) next none so = absurd none
+
+    leads_to_turned : (past : Past) (silent now : ℕ) → EventLeads n made past event (Turned silent now)
+        → IsAfter d made past w → IsTurnedTo d more silent now w'
+    leads_to_turned AnyPast silent now (settled, turns) so =
+        let passed = settled.passed in
+        let last = keeps_then.stands.last in
+        let capable : ℕ = last_change made + capability_span p in
+        let sound = sound_later w event.at
+        (rested_sound d made event.at w playable (record { calm = settled.calm; passed = omega (arith, passed) })
+        (omega (arith, moment)) keeps) in
+        let late : w.last_change + settling_span_at_once p (sync_paths_of then) ≤ event.at =
+        subst (λ paths. w.last_change + settling_span_at_once p paths ≤ event.at) paths_then (rw last passed) in
+        let (ready, unanswered) = anyway_ready d made capable then keeps_then (inr (omega arith)) in
+        let over : capable + pred (path_bound (snapshot_of then)) * delay_in then ≤ event.at =
+        subst (λ (x : SyncPaths). capable + pred x.systems * x.delay ≤ event.at) paths_then (omega (arith, passed)) in
+        turned_so capable capable sound ready unanswered (rest_settled p then keeps_then.claim sound late) over silent now turns
+    leads_to_turned Starting silent now none so = absurd none
+    leads_to_turned (Gained start) silent now (settled, turns) so =
+        let late : start + largest_interval p + pred (path_bound (snapshot_of then)) * delay_in then ≤ event.at =
+        subst (λ (x : SyncPaths). start + largest_interval p + pred x.systems * x.delay ≤ event.at) paths_then
+        settled in
+        let news = news_now p start then (omega (arith, late))
+        (from_later p start event.at w k.ready.timely.now k.ready.timely.first so.news) in
+        turned_so start start news.sound news.ready news.silent (news_settled p start then news late) (omega (arith, late))
+        silent now turns
+    leads_to_turned (Heard start) silent now (settled, turns) so =
+        let claim = since_later p start event.at w k.ready.timely.now k.ready.timely.first so.since in
+        let late : start + pred (path_bound (snapshot_of then)) * delay_in then ≤ event.at =
+        subst (λ (x : SyncPaths). start + pred x.systems * x.delay ≤ event.at) paths_then settled in
+        turned_so start start claim.news.sound claim.news.ready claim.news.silent (always_settled p start then claim late)
+        late silent now turns
+    leads_to_turned (Left start) silent now none so = absurd none
+    leads_to_turned (Turned start was) silent now none so = absurd none
 
     leads_to_gain : (past : Past) (next : ℕ) → EventLeads n made past event (Gained next) → IsAfter d made past w
         → IsNewsFrom p next w'
@@ -639,10 +809,12 @@ module _ {F : Type 0} (answers : Bounds → ℕ → F → Option ℕ → F → T
         news_news answers d playable made event fate fate_after w w' done is fit k start next
         (record { keeps = keeps; news = inl so.since.news }) nothing capable
     leads_to_gain (Left start) next (inl (nothing, none)) so = absurd none
+    leads_to_gain (Turned silent now) next (inl (nothing, none)) so = absurd none
     leads_to_gain Starting next (inl (nothing, none)) so = absurd none
     leads_to_gain AnyPast next (inr (inl (nothing, stays))) so = absurd stays
     leads_to_gain Starting next (inr (inl (nothing, stays))) so = absurd stays
     leads_to_gain (Left start) next (inr (inl (nothing, stays))) so = absurd stays
+    leads_to_gain (Turned silent now) next (inr (inl (nothing, stays))) so = absurd stays
     leads_to_gain (Gained start) next (inr (inl (nothing, same))) so = left_news start next nothing same so.news
     leads_to_gain (Heard start) next (inr (inl (nothing, same))) so =
         left_news start next nothing same (inl so.since.news)
@@ -653,6 +825,7 @@ module _ {F : Type 0} (answers : Bounds → ℕ → F → Option ℕ → F → T
     leads_to_gain (Gained start) next (inr (inr none)) so = absurd none
     leads_to_gain (Heard start) next (inr (inr none)) so = absurd none
     leads_to_gain (Left start) next (inr (inr none)) so = absurd none
+    leads_to_gain (Turned silent now) next (inr (inr none)) so = absurd none
 
     leads_to_start : (past : Past) → EventLeads n made past event Starting → IsAfter d made past w
         → IsStartingTo d more w'
@@ -663,6 +836,7 @@ module _ {F : Type 0} (answers : Bounds → ℕ → F → Option ℕ → F → T
     leads_to_start (Gained start) none so = absurd none
     leads_to_start (Heard start) none so = absurd none
     leads_to_start (Left start) none so = absurd none
+    leads_to_start (Turned silent now) none so = absurd none
 
     pub leads_to : (past next : Past) → EventLeads n made past event next → IsAfter d made past w
         → IsAfter d more next w'
@@ -671,6 +845,7 @@ module _ {F : Type 0} (answers : Bounds → ℕ → F → Option ℕ → F → T
     leads_to past (Gained next) leads so = record { keeps = after; news = leads_to_gain past next leads so }
     leads_to past (Heard next) leads so = leads_to_heard past next leads so
     leads_to past (Left next) leads so = leads_to_left past next leads so
+    leads_to past (Turned silent now) leads so = leads_to_turned past silent now leads so
 
 -- ---- a document
 
@@ -789,6 +964,10 @@ module _ (d : DocumentState) (playable : IsPlayable d) (all : List Timed) (calm 
       claimed_settled d all start w so playable calm off (omega (arith, passed, on))
   after_settles (Left silent) so (off, passed) =
       left_to_settled d all silent w so playable calm off (omega (arith, passed, on))
+  after_settles (Turned silent now) so (off, passed) =
+      turned_to_settled d all silent now w so playable calm off
+      (subst (λ (x : SyncPaths). now + 1 + pred x.systems * x.delay ≤ w.time) (paths so.keeps)
+      (omega (arith, passed, on)))
 
   -- a settled system has its settled choice
   chooses_so : Settled w → ChoiceStands w
@@ -802,6 +981,7 @@ module _ (d : DocumentState) (playable : IsPlayable d) (all : List Timed) (calm 
   after_chooses (Gained start) so settles = chooses_so (after_settles (Gained start) so settles).0
   after_chooses (Heard start) so settles = chooses_so (after_settles (Heard start) so settles).0
   after_chooses (Left silent) so off = left_to_chooses d all silent w so playable calm off
+  after_chooses (Turned silent now) so settles = chooses_so (after_settles (Turned silent now) so settles).0
 
 -- ---- the law
 
@@ -821,6 +1001,7 @@ begins_after answers d playable fate until first w ts k (Heard start) (little, b
   since = begun_soon_claimed answers d playable fate k.started first k.begun start begins little;
 }
 begins_after answers d playable fate until first w ts k (Left start) none = absurd none
+begins_after answers d playable fate until first w ts k (Turned silent now) none = absurd none
 
 -- each act of a run that is later than all events is done in such worlds
 pub passed_in_turn : {F : Type 0} (answers : Bounds → ℕ → F → Option ℕ → F → Type 0)

@@ -85,7 +85,7 @@ pub asked_heard : (p : SettlingParams) (start : ℕ) (w : WorldState) → HaveAs
 asked_heard p start w asked at stands =
     let (first, by, before, x) = asked at stands in inr (inr (inr (first, by, x)))
 
-asked_ready : (p : SettlingParams) (w : WorldState) → HaveAskedLong w → AreReadyBy p w.last_change w
+pub asked_ready : (p : SettlingParams) (w : WorldState) → HaveAskedLong w → AreReadyBy p w.last_change w
 asked_ready p w asked at stands =
     let (first, by, before, x) = asked at stands in
     let soon = x.is.1 in

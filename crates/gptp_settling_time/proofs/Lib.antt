@@ -94,3 +94,4 @@ pub mod TurnsAwayLemmas
 pub mod MovedAlwaysLemmas
 pub mod TurnsBeginLemmas
 pub mod TurnsDownLemmas
+pub mod TurnedToLemmas

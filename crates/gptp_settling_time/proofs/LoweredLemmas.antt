@@ -287,7 +287,7 @@ module _ (p : SettlingParams) (w : WorldState) (is : IsWorld p w) (place : ℕ) 
     ]
 
     -- what is left was there
-    less_then : IsLess g g'
+    pub less_then : IsLess g g'
     less_then = record {
       systems = λ s member. subst (In s) keeps.systems member;
       links = λ a b joins.

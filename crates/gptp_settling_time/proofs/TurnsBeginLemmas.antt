@@ -44,12 +44,13 @@ use Rattle.gptp_invariants.proofs.ChoiceSettlesAsMachineLemmas.{paths_bound}
 use Rattle.gptp_invariants.proofs.ChoiceTakeUpLemmas.{BeginApart}
 use Rattle.gptp_invariants.proofs.WorldActEncodableLemmas.{answering_kept}
 use Rattle.gptp_invariants.proofs.WorldAnsweringLemmas.{IsAnswering, calls_answering, sound_answers}
-use Rattle.gptp_settling_time.specs.Losses.{IsUnmoved}
+use Rattle.gptp_invariants.proofs.WorldStandsLemmas.{stands_well}
+use Rattle.gptp_settling_time.specs.Losses.{IsTurned}
 use Rattle.gptp_settling_time.proofs.AlwaysClaimedLemmas.{IsStanding}
 use Rattle.gptp_settling_time.proofs.BesideLemmas.{IsDark, IsMoving}
 use Rattle.gptp_settling_time.proofs.LeftClaimedLemmas.{HaveAskedLong, left_network}
 use Rattle.gptp_settling_time.proofs.LinkStoodLemmas.{ends_apart, second_still}
-use Rattle.gptp_settling_time.proofs.LoweredLemmas.{CanLose, can_lose, ends, known, off_before, ready_on, wires}
+use Rattle.gptp_settling_time.proofs.LoweredLemmas.{CanLose, can_lose, ends, known, less_then, off_before, ready_on, wires}
 use Rattle.gptp_settling_time.proofs.MovedAlwaysLemmas.{IsMovedAlways, after_loss, at_least, dark_now, starts_far, turned_by}
 use Rattle.gptp_settling_time.proofs.MovedLemmas.{EachTurns}
 use Rattle.gptp_settling_time.proofs.ReducedLemmas.{NearerStay}
@@ -313,9 +314,33 @@ module _ (p : SettlingParams) (next owner port : ℕ) (w : WorldState) (draws : 
   -- both ends live, and one of them is moved
   module _ (live : (direction : Direction) (at : ℕ) (station : Station) → slice_get w.stations at ≡ Some station
       → clock station.system ≡ (sender direction acts.1.channel).clock → station.live ≡ true)
-      (x d e : ℕ) (best : System) (turns : TurnsOne (snapshot_of w) (left_network p next w') x d e best)
+      (x d e : ℕ) (best : System) (so : IsTurned (snapshot_of w) (snapshot_of w') x d e best)
+      (near_then : AllAreNear (snapshot_of w'))
       (moved : (direction : Direction) × ((sender direction acts.1.channel).clock ≡ x)) (delay : delay_in w' ≡ delay_in w)
       (way : pred (path_bound (snapshot_of w')) * delay_in w' ≤ w'.time) (sound : IsSoundWorld w) where
+    turns : TurnsOne (snapshot_of w) (left_network p next w') x d e best
+    turns =
+        let less = less_then p w is place channel here draws w' is' told seen near off in
+        record {
+          well = stands_well w' is'.sound is'.between is'.encodable;
+          left = record {
+            graph = stands_well w is.sound is.between is.encodable;
+            systems = less.systems;
+            links = less.links;
+          };
+          near = near_then;
+          others = so.others;
+          was_best = so.was_best;
+          is_best = so.is_best;
+          was = so.was;
+          is = so.is;
+          more = so.more;
+          lost = so.lost;
+          far = so.far;
+          single = so.single;
+          tells = so.tells;
+        }
+
     live_a : told.station_a.live ≡ true
     live_a = live FromA told.place_a told.station_a told.is_a.here told.is_a.named
 

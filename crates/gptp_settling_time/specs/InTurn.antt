@@ -14,6 +14,8 @@
 -- all. Nor does a link that goes down by which no system is moved but such as are cut off, in a network that had
 -- settled. That network is *left*: its choice stands, but what is held may name links that are gone. So it is where a
 -- system fails that is the far end of each of its links: roles stand once the ports beside it aren't capable any more.
+-- Where a link goes down that so moves one system alone, it has *turned*, and the network settles 1 ns and the greatest
+-- delay for each system of a path but one later.
 use Rattle.std.specs.Prelude.{◌≡◌, ◌<◌, ◌≤◌, ◌⊎◌, ◌+◌, ◌*◌, ℕ, ⊤, pred, List, [], ◌∷◌, ◌++◌, Option, Some, slice_get}
 use Rattle.gptp_lists.specs.Members.{In}
 use Rattle.gptp_vector.specs.declared.port.PortId.{PortId}
@@ -39,16 +41,17 @@ use Rattle.gptp_settling_time.specs.ChoiceAlone.{ChoiceStandsAs}
 use Rattle.gptp_settling_time.specs.Documents.{IsSettledAs}
 use Rattle.gptp_settling_time.specs.Exactly.{SettlesBy}
 use Rattle.gptp_settling_time.specs.Gains.{AreCapableAnyway, AreCapableNext, AreCapableStill, ChangesNothing, EndHasFailed, HasRested, IsDownAfter, IsNoWorse, JoinsLive, LeavesCapable, TakesNothing, UsesNoLink, exchanged_from}
-use Rattle.gptp_settling_time.specs.Losses.{FailsFarEnd, LeavesChoice, LowersLink}
+use Rattle.gptp_settling_time.specs.Losses.{FailsFarEnd, LeavesChoice, LowersLink, TurnsLink}
 
 -- what a network came from, and from when on its ports are capable; of one that is left, from when on ports without a
--- link aren't
+-- link aren't; of one in which a system has turned, from when on they aren't, and when it did
 pub data Past : Type 0 where
   AnyPast : Past
   Starting : Past
   Gained : ℕ → Past
   Heard : ℕ → Past
   Left : ℕ → Past
+  Turned : ℕ → ℕ → Past
 
 -- ---- events at time 0
 
@@ -180,6 +183,12 @@ pub record LowersCalm (n : NetworkState) (before : List Timed) (event : Timed) :
   pub calm : IsCalm n before
   pub off : NothingLapses n.params
 
+-- a link goes down that so moves one system, in such a network
+pub record TurnsCalm (n : NetworkState) (before : List Timed) (event : Timed) : Type 0 where
+  pub turns : TurnsLink n before event
+  pub calm : IsCalm n before
+  pub off : NothingLapses n.params
+
 -- a system fails that is the far end of each of its links, in such a network
 pub record FailsCalm (n : NetworkState) (before : List Timed) (event : Timed) : Type 0 where
   pub fails : FailsFarEnd n before event
@@ -219,6 +228,7 @@ LeadsToGain n before Starting event next = ⊥
 LeadsToGain n before (Gained start) event next = AreCapableStill n before start event next
 LeadsToGain n before (Heard start) event next = AreCapableStill n before start event next
 LeadsToGain n before (Left silent) event next = ⊥
+LeadsToGain n before (Turned silent time) event next = ⊥
 
 abbrev pub LeadsToHeard : NetworkState → List Timed → Past → Timed → ℕ → Type 0
 LeadsToHeard n before AnyPast event next =
@@ -239,6 +249,7 @@ LeadsToHeard n before (Heard start) event next =
     × (BettersClock n before event next ⊎ (LeavesSettled n before event next ⊎ WidensFrom n before event start next)))
     ⊎ (MakesNothing n before event start × (next ≡ start)))
 LeadsToHeard n before (Left silent) event next = ⊥
+LeadsToHeard n before (Turned silent time) event next = ⊥
 
 -- a network that had settled is left so
 abbrev pub LeadsToLeft : NetworkState → List Timed → Past → Timed → ℕ → Type 0
@@ -251,6 +262,23 @@ LeadsToLeft n before (Gained start) event next =
 LeadsToLeft n before (Heard start) event next =
     HasSettledHeard n before start event.at × LeavesStanding n before event start next
 LeadsToLeft n before (Left silent) event next = ⊥
+LeadsToLeft n before (Turned silent time) event next = ⊥
+
+-- in a network that had settled a system turns by it now
+abbrev pub TurnsNow : NetworkState → List Timed → Timed → ℕ → ℕ → ℕ → Type 0
+TurnsNow n before event start silent time = TurnsCalm n before event × (silent ≡ start) × (time ≡ event.at)
+
+abbrev pub LeadsToTurned : NetworkState → List Timed → Past → Timed → ℕ → ℕ → Type 0
+LeadsToTurned n before AnyPast event silent time =
+    HasSettledAnyhow n before event.at
+    × TurnsNow n before event (last_change before + capability_span (pace_of n)) silent time
+LeadsToTurned n before Starting event silent time = ⊥
+LeadsToTurned n before (Gained start) event silent time =
+    HasSettledSince n before start event.at × TurnsNow n before event start silent time
+LeadsToTurned n before (Heard start) event silent time =
+    HasSettledHeard n before start event.at × TurnsNow n before event start silent time
+LeadsToTurned n before (Left start) event silent time = ⊥
+LeadsToTurned n before (Turned start now) event silent time = ⊥
 
 -- a gain, and what is heard, stays so from the start that it had
 abbrev pub StaysFrom : Past → ℕ → Type 0
@@ -259,6 +287,7 @@ StaysFrom Starting next = ⊥
 StaysFrom (Gained start) next = next ≡ start
 StaysFrom (Heard start) next = next ≡ start
 StaysFrom (Left silent) next = ⊥
+StaysFrom (Turned silent time) next = ⊥
 
 -- nothing is told as the network starts, and this is the last event then
 abbrev pub StartsFrom : NetworkState → List Timed → Past → Timed → ℕ → Type 0
@@ -267,6 +296,7 @@ StartsFrom n before Starting event next = StartsWith n before event next
 StartsFrom n before (Gained start) event next = ⊥
 StartsFrom n before (Heard start) event next = ⊥
 StartsFrom n before (Left silent) event next = ⊥
+StartsFrom n before (Turned silent time) event next = ⊥
 
 -- nothing is told as the network starts, nor after this event
 abbrev pub StartsStill : Past → Timed → Type 0
@@ -275,6 +305,7 @@ StartsStill Starting event = (event.at ≡ 0) × TellsNothing event.act
 StartsStill (Gained start) event = ⊥
 StartsStill (Heard start) event = ⊥
 StartsStill (Left silent) event = ⊥
+StartsStill (Turned silent time) event = ⊥
 
 abbrev pub EventLeads : NetworkState → List Timed → Past → Timed → Past → Type 0
 EventLeads n before past event AnyPast = ⊤
@@ -284,6 +315,7 @@ EventLeads n before past event (Gained next) =
     ⊎ ((MakesNothing n before event next × StaysFrom past next) ⊎ StartsFrom n before past event next)
 EventLeads n before past event (Heard next) = LeadsToHeard n before past event next
 EventLeads n before past event (Left next) = LeadsToLeft n before past event next
+EventLeads n before past event (Turned silent time) = LeadsToTurned n before past event silent time
 
 -- each event leads from one to the next
 abbrev pub LeadOn : NetworkState → List Timed → Past → List Timed → Past → Type 0
@@ -301,6 +333,7 @@ BeginsBy n Starting = ⊤
 BeginsBy n (Gained start) = AreCapableSoon n [] start
 BeginsBy n (Heard start) = UsedVaryLittle n [] × AreCapableSoon n [] start
 BeginsBy n (Left silent) = ⊥
+BeginsBy n (Turned silent time) = ⊥
 
 -- By this time a calm network has settled after these events. From any past the span has to pass, the sharper one where
 -- nothing lapses. Else ports become capable; then an announce interval passes where something may not be heard; and
@@ -318,6 +351,9 @@ SettlesAfter n events (Heard start) settled =
     NothingLapses n.params
     × (start + pred (sync_paths n events).systems * (sync_paths n events).delay ≤ settled)
 SettlesAfter n events (Left silent) settled = NothingLapses n.params × (silent ≤ settled)
+SettlesAfter n events (Turned silent time) settled =
+    NothingLapses n.params
+    × (time + 1 + pred (sync_paths n events).systems * (sync_paths n events).delay ≤ settled)
 
 -- By this time the choice stands after these events: as soon as it has settled, and at once in a network that is left.
 abbrev pub ChoosesAfter : NetworkState → List Timed → Past → ℕ → Type 0
@@ -326,6 +362,7 @@ ChoosesAfter n events Starting settled = ⊥
 ChoosesAfter n events (Gained start) settled = SettlesAfter n events (Gained start) settled
 ChoosesAfter n events (Heard start) settled = SettlesAfter n events (Heard start) settled
 ChoosesAfter n events (Left silent) settled = NothingLapses n.params
+ChoosesAfter n events (Turned silent time) settled = SettlesAfter n events (Turned silent time) settled
 
 -- A document comes by a time to what so comes after its events up to another, one after another.
 pub record ComesByEvents (So : NetworkState → List Timed → Past → ℕ → Type 0) (d : DocumentState)
