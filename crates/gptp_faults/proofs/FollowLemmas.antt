@@ -16,7 +16,7 @@ use Rattle.gptp_network.specs.Document.{DocumentState, seeded_document}
 use Rattle.gptp_scenario.specs.Network.{seeded}
 use Rattle.gptp_network.specs.Snapshot.{events_by, IsSnapshot, StandsAfter}
 use Rattle.gptp_scenario.specs.Calm.{last_change}
-use Rattle.gptp_settling_time.specs.HowSoon.{IsChoiceBound}
+use Rattle.gptp_settling_time.specs.HowSoon.{IsChoiceAloneBound}
 use Rattle.gptp_theorem.specs.PlayedLaws.{IsPlayable}
 use Rattle.gptp_theorem.proofs.OctetLemmas.{seeded_playable}
 use Rattle.gptp_timeline.specs.Aside.{AsideState}
@@ -159,8 +159,8 @@ module _ (options : FaultsOptions) (d : DocumentState) (t : Times) (e : EventsSt
       let events = by_fault 0 e has t.from d hold past (omega (arith, stays)) in
       λ i. record { network = seeded seed (network i); events = events i }
 
-  -- so what is told of the fault there is a choice bound of it
-  bounded : IsPlayable whole → IsChoiceBound (shortened down whole) down s.choice
+  -- so what is told of the fault there is a bound of its choice
+  bounded : IsPlayable whole → IsChoiceAloneBound (shortened down whole) down s.choice
   bounded can = told_bound (shortened down whole) down s (playable_by down whole can)
       (ap (λ x. settling_of x down) short_is ∙ settling_same failed seed down ∙ told)
 
@@ -184,8 +184,8 @@ module _ (options : FaultsOptions) (d : DocumentState) (t : Times) (e : EventsSt
       (are_last 0 e has t.from d hold past until (omega arith) (omega (arith, stays))) ends.pass
       (sym (ap (λ (x : LastStretches). x.before) ends.are) ∙ before) in
       let from = k.from_is in let to = k.to_is in
-      let bound : IsChoiceBound (shortened k.passage.from whole) k.passage.from s.choice =
-      subst (λ at. IsChoiceBound (shortened at whole) at s.choice) (sym from) (bounded can) in
+      let bound : IsChoiceAloneBound (shortened k.passage.from whole) k.passage.from s.choice =
+      subst (λ at. IsChoiceAloneBound (shortened at whole) at s.choice) (sym from) (bounded can) in
       let there : IsSnapshot whole down g =
       subst (λ es. StandsAfter whole.network es g) (by_sooner down down whole.events (omega arith))
       (subst (λ x. IsSnapshot x down g) (sym short_is)

@@ -86,22 +86,22 @@ module _ (n : NetworkState) (network : IsNetwork n) (events : List Timed) (g : S
   one_place : (i j v : ℕ) → IsAt n i v → IsAt n j v → i ≡ j
   one_place i j v a b = network.clocks i j a.system b.system a.there b.there (a.clock ∙ sym b.clock)
 
-  once : Once firsts
-  once i j o p at there same =
-      let (m, m_there, m_is) = mapped (system_then []) n.systems i o at in
-      let (k, k_there, k_is) = mapped (system_then []) n.systems j p there in
+  once : (made : List Timed) → Once (systems_after n made)
+  once made i j o p at there same =
+      let (m, m_there, m_is) = mapped (system_then made) n.systems i o at in
+      let (k, k_there, k_is) = mapped (system_then made) n.systems j p there in
       network.clocks i j m k m_there k_there
       (ap (λ (q : ours.System). q.clock) m_is ∙ same ∙ sym (ap (λ (q : ours.System). q.clock) k_is))
 
-  place_is : (i v : ℕ) → IsAt n i v → place_of firsts v ≡ i
-  place_is i v a =
-      is_place v firsts once i (system_then [] a.system) (mapped_there (system_then []) n.systems i a.system a.there)
-      a.clock
+  pub place_is : (made : List Timed) (i v : ℕ) → IsAt n i v → place_of (systems_after n made) v ≡ i
+  place_is made i v a =
+      is_place v (systems_after n made) (once made) i (system_then made a.system)
+      (mapped_there (system_then made) n.systems i a.system a.there) a.clock
 
   at_port : (p : PortId) → IsPort n.systems p → IsAt n (place_of firsts p.clock) p.clock
   at_port p port =
       let at : IsAt n port.place p.clock = record { system = port.system; there = port.there; clock = port.clock } in
-      subst (λ i. IsAt n i p.clock) (sym (place_is port.place p.clock at)) at
+      subst (λ i. IsAt n i p.clock) (sym (place_is [] port.place p.clock at)) at
 
   -- a system of the snapshot stands at a place
   pub at_clock : (v : ℕ) → In v (clocks g) → (i : ℕ) × IsAt n i v
@@ -189,13 +189,13 @@ module _ (n : NetworkState) (network : IsNetwork n) (events : List Timed) (g : S
       let r = runs n network events g stands l member in
       let a : r.wire.a.clock ≡ l.a.clock = ap (λ (k : Link). k.a.clock) r.is in
       let b : r.wire.b.clock ≡ l.b.clock = ap (λ (k : Link). k.b.clock) r.is in
-      let first : (ends_of n r.wire).a ≡ i = ap (place_of firsts) a ∙ place_is i l.a.clock at_a in
-      let second : (ends_of n r.wire).b ≡ j = ap (place_of firsts) b ∙ place_is j l.b.clock at_b in
+      let first : (ends_of n r.wire).a ≡ i = ap (place_of firsts) a ∙ place_is [] i l.a.clock at_a in
+      let second : (ends_of n r.wire).b ≡ j = ap (place_of firsts) b ∙ place_is [] j l.b.clock at_b in
       subst (λ e. In e links) (λ k. record { a = first k; b = second k })
       (In-map (ends_of n) r.wire (filter (is_used_then n events) n.links)
       (kept (is_used_then n events) r.wire n.links r.member (used_then r.wire r.used)))
 
-  touched : (v w i j : ℕ) → Adjacent g v w → IsAt n i v → IsAt n j w → Touches links i j
+  pub touched : (v w i j : ℕ) → Adjacent g v w → IsAt n i v → IsAt n j w → Touches links i j
   touched v w i j (p, q, inl member) at_v at_w =
       inl (link_touches (record { a = port_of v p; b = port_of w q }) member i j at_v at_w)
   touched v w i j (p, q, inr member) at_v at_w =

@@ -16,7 +16,7 @@ use Rattle.gptp_scenario.specs.Calm.{last_change}
 use Rattle.gptp_scenario.specs.InUse.{count_live, path_systems}
 use Rattle.gptp_scenario.specs.Network.{IsNetwork, NetworkState, pace_of}
 use Rattle.gptp_scenario.specs.SettlingAtOnce.{settling_span_at_once}
-use Rattle.gptp_scenario.specs.SettlingTime.{settling_span_with}
+use Rattle.gptp_scenario.specs.SettlingTime.{capability_span, settling_span_with}
 use Rattle.gptp_scenario.specs.SyncWait.{sync_paths}
 use Rattle.gptp_scenario.specs.declared.change.Timed.{Timed}
 use Rattle.gptp_scenario.specs.declared.network.LinkSpec.{LinkSpec}
@@ -32,11 +32,11 @@ use Rattle.gptp_setup.specs.SettlingParams.{largest_interval, longest_span}
 use Rattle.gptp_setup.proofs.IntervalLemmas.{interval_most}
 use Rattle.gptp_topology.specs.Times.{times_from, times_of}
 use Rattle.gptp_topology.specs.declared.course.Cable.{Cable}
-use Rattle.gptp_how_soon.specs.Bounds.{asked_again, choice_by, choice_of_row, exact_span, is_again, needed_watch, ready, set_span, settling_by, sound_row, two_exchanges, watch, way_span}
+use Rattle.gptp_how_soon.specs.Bounds.{asked_again, choice_by, choice_of_row, exact_span, is_again, needed_watch, ready, roles_by, roles_of_row, set_span, settling_by, sound_row, two_exchanges, watch, way_span}
 use Rattle.gptp_how_soon.specs.Kinds.{sets_bounds, sets_link}
 use Rattle.gptp_how_soon.specs.Times.{IsWatchedShortly, View, events_at, events_before, gained_at, heard_at, last_set, row_at, settling_time, settling_times, settling_times_from, time_at, view_at}
 use Rattle.gptp_how_soon.specs.declared.bounds.Row.{Row}
-use Rattle.gptp_how_soon.specs.declared.bounds.Row.TheVariants.{AnyPast, Unchanged, Lowered, Gained}
+use Rattle.gptp_how_soon.specs.declared.bounds.Row.TheVariants.{AnyPast, Unchanged, Lowered, FailedEnd, Gained}
 use Rattle.gptp_how_soon.specs.declared.bounds.SettlingTime.{SettlingTime}
 use Rattle.gptp_how_soon.specs.declared.kinds.Told.{Told}
 
@@ -77,13 +77,16 @@ module _ (n : NetworkState) (network : IsNetwork n) (paths : SyncPaths) (few : p
       (either_most (list_any (is_again told) new) (asked_again n.params paths) (two_exchanges n.params paths)
       65000000000 again (omega (arith, e)))
 
+  capable_most : capability_span (pace_of n) ≤ 4160000000000
+  capable_most =
+      let lost = network.params.ranges.params.lost in
+      mul-le (n.params.lost + 5) (largest_interval (pace_of n)) 260 16000000000 (omega (arith, lost)) largest
+
   at_once : settling_span_at_once (pace_of n) paths ≤ 195000000000000
   at_once =
       let l = largest in let w = way in
       let ranges = network.params.ranges.params in
-      let lost = ranges.lost in
-      let capable : (n.params.lost + 5) * largest_interval (pace_of n) ≤ 4160000000000 =
-      mul-le (n.params.lost + 5) (largest_interval (pace_of n)) 260 16000000000 (omega (arith, lost)) l in
+      let capable = capable_most in
       let turn : n.params.timeout * largest_interval (pace_of n) ≤ 160000000000 =
       few_spans n.params.timeout (largest_interval (pace_of n)) ranges.timeout l in
       let clean : paths.systems * (longest_span (pace_of n) + paths.delay) ≤ 90112000000000 =
@@ -93,6 +96,17 @@ module _ (n : NetworkState) (network : IsNetwork n) (paths : SyncPaths) (few : p
   span : settling_span_with (pace_of n) paths paths.systems ≤ 195000000000000
   span = short_time (pace_of n) paths paths.systems network.params (largest_log n network) few short
 
+  roles_most : (row : Row) (gained : ℕ) → gained ≤ 195000000000000 → roles_by n paths row gained ≤ 195000000000000
+  roles_most row gained early =
+      either_most (not (n.params.sync_timeout == 0)) _ _ 195000000000000 span (by row)
+    where
+      by : (r : Row) → roles_of_row n paths r gained ≤ 195000000000000
+      by AnyPast = at_once
+      by Unchanged = omega arith
+      by Lowered = omega arith
+      by FailedEnd = let most = capable_most in omega (arith, most)
+      by Gained = early
+
   choice_most : (row : Row) (gained : ℕ) → gained ≤ 195000000000000 → choice_by n paths row gained ≤ 195000000000000
   choice_most row gained early =
       either_most (not (n.params.sync_timeout == 0)) _ _ 195000000000000 span (by row)
@@ -101,6 +115,7 @@ module _ (n : NetworkState) (network : IsNetwork n) (paths : SyncPaths) (few : p
       by AnyPast = at_once
       by Unchanged = omega arith
       by Lowered = omega arith
+      by FailedEnd = omega arith
       by Gained = early
 
   set_most : (sets : Bool) → set_span n.params paths sets ≤ 65000000000
@@ -120,8 +135,8 @@ module _ (n : NetworkState) (network : IsNetwork n) (paths : SyncPaths) (few : p
       → needed_watch n at paths (settling_by n at set paths calm sets row gained) ≤ 197000000000000
   needed_most at set false sets row gained soon early = let s = span in let e = exact_most in omega (arith, s, e)
   needed_most at set true sets row gained soon early =
-      let c = choice_most row gained early in let h = choice_most (sound_row row) gained early in
-      let s = set_most sets in let l = largest in let e = exact_most in omega (arith, soon, c, h, s, l, e, short)
+      let r = roles_most row gained early in let h = choice_most (sound_row row) gained early in
+      let s = set_most sets in let l = largest in let e = exact_most in omega (arith, soon, r, h, s, l, e, short)
 
   watch_most : (at set : ℕ) (calm sets : Bool) (row : Row) (gained : ℕ) → set ≤ at → gained ≤ 195000000000000
       → watch n at paths (settling_by n at set paths calm sets row gained) ≤ 200000000000000

@@ -16,10 +16,11 @@ use Rattle.gptp_topology.specs.declared.course.Standing.{Standing}
 use Rattle.gptp_topology.proofs.BoundLemmas.{calm_is, crossed_is}
 use Rattle.gptp_topology.proofs.StandingLemmas.{maps_twice, stand_more, systems_are}
 use Rattle.gptp_how_soon.specs.Chosen.{ends_among, ends_in_use, ends_of, moves_some, used_ends}
+use Rattle.gptp_how_soon.specs.Far.{are_far_after}
 use Rattle.gptp_how_soon.specs.Kinds.{sets_bounds, told_by}
 use Rattle.gptp_how_soon.specs.Links.{delay_set, longest_delay, longest_set, new_among}
 use Rattle.gptp_how_soon.specs.Times.{last_set, told_at, told_of, view_at}
-use Rattle.gptp_how_soon.specs.Walk.{IsFirstWalk, WalkGoesOn, WalkPasses, moves_seen, view_seen}
+use Rattle.gptp_how_soon.specs.Walk.{IsFirstWalk, WalkGoesOn, WalkPasses, far_seen, moves_seen, view_seen}
 use Rattle.gptp_how_soon.specs.declared.bounds.SettlingTime.{SettlingTime}
 use Rattle.gptp_how_soon.specs.declared.chosen.Ends.{Ends}
 use Rattle.gptp_how_soon.specs.declared.walk.Walk.{Walk}
@@ -107,6 +108,15 @@ module _ (n : NetworkState) (network : IsNetwork n) where
       let standings = so.tables.standings in
       rw (used, ends, systems, systems_before, standings, used_are n made, used_are n (made ++ now)) refl
 
+  far_are : (made now : List Timed) (w : Walk) → WalkStands n made now w
+      → far_seen w ≡ are_far_after n made (told_of n made now)
+  far_are made now w so =
+      let used = so.used in
+      let ends = so.ends in
+      let told = so.told in
+      let systems_before = so.systems_before in
+      rw (used, ends, told, systems_before, used_are n made) refl
+
   pub view_is : (made now : List Timed) (w : Walk) (at : ℕ) → WalkStands n made now w
       → view_seen n w at ≡ view_at n made now w.before at
   view_is made now w at so =
@@ -121,6 +131,7 @@ module _ (n : NetworkState) (network : IsNetwork n) where
         new = new i;
         told = so.told i;
         moved = moves_are made now w so i;
+        far = far_are made now w so i;
         paths = crossed_is n network (made ++ now) w.tables so.tables i;
         calm = calm_is n network (made ++ now) w.tables so.tables i;
       }

@@ -6,13 +6,13 @@ use Rattle.gptp_setup.specs.SettlingParams.{largest_interval}
 use Rattle.gptp_setup.specs.declared.setup.Params.{Params}
 use Rattle.gptp_scenario.specs.Network.{NetworkState, pace_of}
 use Rattle.gptp_scenario.specs.SettlingAtOnce.{settling_span_at_once}
-use Rattle.gptp_scenario.specs.SettlingTime.{settling_span_with}
+use Rattle.gptp_scenario.specs.SettlingTime.{capability_span, settling_span_with}
 use Rattle.gptp_scenario.specs.declared.sync_wait.SyncPaths.{SyncPaths}
 use Rattle.gptp_topology.specs.declared.course.Cable.{Cable}
 use Rattle.gptp_how_soon.specs.Kinds.{recovers}
 use Rattle.gptp_how_soon.specs.Links.{varies}
 use Rattle.gptp_how_soon.specs.declared.bounds.Row.{Row}
-use Rattle.gptp_how_soon.specs.declared.bounds.Row.TheVariants.{AnyPast, Unchanged, Lowered, Gained}
+use Rattle.gptp_how_soon.specs.declared.bounds.Row.TheVariants.{AnyPast, Unchanged, Lowered, FailedEnd, Gained}
 use Rattle.gptp_how_soon.specs.declared.bounds.Settling.{Settling}
 use Rattle.gptp_how_soon.specs.declared.bounds.SettlingTime.{SettlingTime}
 use Rattle.gptp_how_soon.specs.declared.kinds.Told.{Told}
@@ -60,6 +60,7 @@ abbrev pub choice_of_row : NetworkState → SyncPaths → Row → ℕ → ℕ
 choice_of_row n paths AnyPast gained = settling_span_at_once (pace_of n) paths
 choice_of_row n paths Unchanged gained = 0
 choice_of_row n paths Lowered gained = 0
+choice_of_row n paths FailedEnd gained = 0
 choice_of_row n paths Gained gained = gained
 
 abbrev pub choice_by : NetworkState → SyncPaths → Row → ℕ → ℕ
@@ -67,12 +68,27 @@ choice_by n paths row gained =
     if not (n.params.sync_timeout == 0) then settling_span_with (pace_of n) paths paths.systems
     else choice_of_row n paths row gained
 
--- All that is held is sound as soon as the choice stands. But after a link went down it may name that link, and then it
--- is sound as soon as the choice stands from any past.
+-- Roles stand as soon as the choice does. But where a system fails they do once the ports beside it aren't capable any
+-- more.
+abbrev pub roles_of_row : NetworkState → SyncPaths → Row → ℕ → ℕ
+roles_of_row n paths AnyPast gained = choice_of_row n paths AnyPast gained
+roles_of_row n paths Unchanged gained = 0
+roles_of_row n paths Lowered gained = 0
+roles_of_row n paths FailedEnd gained = capability_span (pace_of n)
+roles_of_row n paths Gained gained = gained
+
+abbrev pub roles_by : NetworkState → SyncPaths → Row → ℕ → ℕ
+roles_by n paths row gained =
+    if not (n.params.sync_timeout == 0) then settling_span_with (pace_of n) paths paths.systems
+    else roles_of_row n paths row gained
+
+-- All that is held is sound as soon as the choice stands. But after a loss it may name what is gone, and then it is
+-- sound as soon as the choice stands from any past.
 abbrev pub sound_row : Row → Row
 sound_row AnyPast = AnyPast
 sound_row Unchanged = Unchanged
 sound_row Lowered = AnyPast
+sound_row FailedEnd = AnyPast
 sound_row Gained = Gained
 
 -- a port at a link whose bounds are set measures it anew
@@ -88,21 +104,21 @@ rest_by p paths sets sound = max (sound + paths.delay) (set_span p paths sets)
 abbrev pub exact_span : Params → SyncPaths → ℕ
 exact_span p paths = (p.window - 1) * interval_of p.pdelay + paths.systems * (p.threshold + p.residence)
 
--- From when on offsets are exact: the choice stands, links are measured, and an announce interval has passed since the
+-- From when on offsets are exact: the roles stand, links are measured, and an announce interval has passed since the
 -- network began and since a link was last set; then what each system uses comes down the tree.
 abbrev pub exact_from : NetworkState → ℕ → ℕ → SyncPaths → Bool → ℕ → ℕ
-exact_from n at last_set paths sets choice =
-    max (at + max choice (set_span n.params paths sets)) (last_set + largest_interval (pace_of n))
+exact_from n at last_set paths sets roles =
+    max (at + max roles (set_span n.params paths sets)) (last_set + largest_interval (pace_of n))
     + exact_span n.params paths
 
--- roles stand as soon as the choice does
-abbrev pub settled : NetworkState → ℕ → ℕ → SyncPaths → Bool → ℕ → ℕ → Settling
-settled n at last_set paths sets choice sound = record {
+-- the bounds at a time
+abbrev pub settled : NetworkState → ℕ → ℕ → SyncPaths → Bool → ℕ → ℕ → ℕ → Settling
+settled n at last_set paths sets choice roles sound = record {
   choice = choice;
-  roles = choice;
+  roles = roles;
   sound = sound;
   rest = rest_by n.params paths sets sound;
-  exact_from = exact_from n at last_set paths sets choice;
+  exact_from = exact_from n at last_set paths sets roles;
 }
 
 -- A time is watched until the network rests and offsets are exact, and for eight Syncs more; where it isn't calm, for
@@ -118,7 +134,7 @@ watch n at paths settling = needed_watch n at paths settling + 8 * interval_of n
 abbrev pub settling_by : NetworkState → ℕ → ℕ → SyncPaths → Bool → Bool → Row → ℕ → Option Settling
 settling_by n at last_set paths calm sets row gained =
     if calm
-    then Some (settled n at last_set paths sets (choice_by n paths row gained)
+    then Some (settled n at last_set paths sets (choice_by n paths row gained) (roles_by n paths row gained)
     (choice_by n paths (sound_row row) gained))
     else None
 

@@ -153,6 +153,10 @@ makes_nothing e = is_idle e || is_unused e
 abbrev pub is_lowering : Told → Bool
 is_lowering e = is_loss e && is_link_down e
 
+-- a live system fails
+abbrev pub is_failing : Told → Bool
+is_failing e = is_loss e && is_fail e
+
 -- it makes nothing of what stands, or a live system worse
 abbrev pub leaves_links : Told → Bool
 leaves_links e = makes_nothing e || (is_loss e && is_priority1 e)
@@ -184,6 +188,12 @@ abbrev pub lowers_one : List Told → Bool
 lowers_one [] = false
 lowers_one (e ∷ []) = is_lowering e
 lowers_one (e ∷ f ∷ es) = false
+
+-- one event comes, by which a live system fails
+abbrev pub fails_one : List Told → Bool
+fails_one [] = false
+fails_one (e ∷ []) = is_failing e
+fails_one (e ∷ f ∷ es) = false
 
 -- the system with this clock recovers
 abbrev pub recovers : List Told → ℕ → Bool

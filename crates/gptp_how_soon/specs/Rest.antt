@@ -6,9 +6,9 @@ use Rattle.std.specs.Prelude.{ℕ, ◌+◌, ◌*◌, ◌==◌, ◌&&◌, ◌||�
 use Rattle.std.specs.List.{list_all, list_any}
 use Rattle.gptp_scenario.specs.declared.sync_wait.SyncPaths.{SyncPaths}
 use Rattle.gptp_how_soon.specs.Bounds.{way_span}
-use Rattle.gptp_how_soon.specs.Kinds.{are_heard, begins_wider, fails_and_recovers, first_wider_by, is_better, is_gain, is_loss, is_other, is_recovery, is_wider, leaves_links, lowers_one, lowers_unused, makes_nothing, tells_nothing}
+use Rattle.gptp_how_soon.specs.Kinds.{are_heard, begins_wider, fails_and_recovers, fails_one, first_wider_by, is_better, is_gain, is_loss, is_other, is_recovery, is_wider, leaves_links, lowers_one, lowers_unused, makes_nothing, tells_nothing}
 use Rattle.gptp_how_soon.specs.declared.bounds.Row.{Row}
-use Rattle.gptp_how_soon.specs.declared.bounds.Row.TheVariants.{AnyPast, Unchanged, Lowered, Gained}
+use Rattle.gptp_how_soon.specs.declared.bounds.Row.TheVariants.{AnyPast, Unchanged, Lowered, FailedEnd, Gained}
 use Rattle.gptp_how_soon.specs.declared.bounds.Settling.{Settling}
 use Rattle.gptp_how_soon.specs.declared.bounds.SettlingTime.{SettlingTime}
 use Rattle.gptp_how_soon.specs.declared.kinds.Told.{Told}
@@ -52,14 +52,20 @@ is_wider_followed b at paths_before paths told =
 abbrev pub are_losses_followed : SyncPaths → List Told → Bool
 are_losses_followed paths_before told = nat_le paths_before.systems 255 && list_all leaves_links told
 
--- So is a link that goes down by the one event of a time, where the greatest delay of a link in use stays, no path gets
--- longer, and none had more than 255 systems before.
-abbrev pub is_lowering_followed : SyncPaths → SyncPaths → List Told → Bool
-is_lowering_followed paths_before paths told =
-    nat_le paths_before.systems 255
-    && (paths.delay == paths_before.delay)
+-- Other losses leave paths as they are: the greatest delay of a link in use stays, no path gets longer, and none had
+-- more than 255 systems before.
+abbrev pub keeps_paths : SyncPaths → SyncPaths → Bool
+keeps_paths paths_before paths =
+    nat_le paths_before.systems 255 && (paths.delay == paths_before.delay)
     && nat_le paths.systems paths_before.systems
-    && lowers_one told
+
+-- Then a link that goes down by the one event of a time is followed; and so is a system that fails so and was the far
+-- end of each of its links.
+abbrev pub is_lowering_followed : SyncPaths → SyncPaths → List Told → Bool
+is_lowering_followed paths_before paths told = keeps_paths paths_before paths && lowers_one told
+
+abbrev pub is_failing_followed : SyncPaths → SyncPaths → List Told → Bool
+is_failing_followed paths_before paths told = keeps_paths paths_before paths && fails_one told
 
 -- Time 0 is from rest where its events, if any, leave it so that nothing is told.
 abbrev pub is_from_rest : ℕ → ℕ → SyncPaths → SyncPaths → List Told → Option SettlingTime → Bool
@@ -74,21 +80,28 @@ is_from_rest longest at paths_before paths told (Some b) =
 -- ---- rows
 
 -- Not from rest, or after a loss, the network may come from any past. Events that make nothing of what stands leave it
--- as it was. So does a link that gets wider, and so do losses that are followed, where no system is moved. At the start
--- nothing was, and so nothing is lost.
-abbrev pub row_of : Bool → Bool → SyncPaths → SyncPaths → List Told → Bool → Row
-row_of from_rest first paths_before paths told moved =
+-- as it was. So does a link that gets wider, and so do losses that are followed, where no system is moved. It counts
+-- whether a system that fails was a far end. At the start nothing was, and so nothing is lost.
+abbrev pub row_of : Bool → Bool → SyncPaths → SyncPaths → List Told → Bool → Bool → Row
+row_of from_rest first paths_before paths told moved far =
     if not from_rest then AnyPast
     else if first then Gained
     else if list_all makes_nothing told || begins_wider told then Unchanged
     else if are_losses_followed paths_before told && not moved then Unchanged
     else if is_lowering_followed paths_before paths told && not moved then Lowered
+    else if is_failing_followed paths_before paths told && not moved && far then FailedEnd
     else if list_any is_loss told then AnyPast else Gained
 
 -- it counts whether a system is moved
 abbrev pub asks_who_is_moved : Bool → SyncPaths → SyncPaths → List Told → Bool
 asks_who_is_moved from_rest paths_before paths told =
-    from_rest && (are_losses_followed paths_before told || is_lowering_followed paths_before paths told)
+    from_rest
+    && (are_losses_followed paths_before told || is_lowering_followed paths_before paths told
+    || is_failing_followed paths_before paths told)
+
+-- and whether a system was a far end
+abbrev pub asks_who_is_far : Bool → SyncPaths → SyncPaths → List Told → Bool
+asks_who_is_far from_rest paths_before paths told = from_rest && is_failing_followed paths_before paths told
 
 -- It is followed that all is heard at once at the start, and later where it is so of each event. Who gets better is
 -- heard so where no path had more than 255 systems before.

@@ -9,6 +9,7 @@ use Rattle.gptp_topology.specs.Course.{cable_is_used, named}
 use Rattle.gptp_topology.specs.Tables.{TablesActed, are_calm, cables_of, has_clock, link_named, marked_paths, neighbours_at, systems_in}
 use Rattle.gptp_topology.specs.declared.nodes.System.{System}
 use Rattle.gptp_how_soon.specs.Chosen.{any_moved, chosen_over, ends_among, ends_in_use}
+use Rattle.gptp_how_soon.specs.Far.{are_far}
 use Rattle.gptp_how_soon.specs.Kinds.{sets_bounds, told_by}
 use Rattle.gptp_how_soon.specs.Links.{delay_set, longest_among, new_among}
 use Rattle.gptp_how_soon.specs.Times.{View, settling_time}
@@ -66,6 +67,12 @@ moves_seen w =
     any_moved (systems_in w.tables.nodes.items) (chosen_in w w.systems_before.items w.used_before.items)
     (chosen_in w (systems_in w.tables.nodes.items) (map cable_is_used w.tables.standings.items))
 
+-- whether those that its events name were far ends
+abbrev pub far_seen : Walk → Bool
+far_seen w =
+    are_far w.systems_before.items (chosen_in w w.systems_before.items w.used_before.items)
+    (ends_in_use w.ends.items w.used_before.items) w.told.items
+
 -- what is seen of this time
 abbrev pub view_seen : NetworkState → Walk → ℕ → View
 view_seen n w at = record {
@@ -77,6 +84,7 @@ view_seen n w at = record {
   new = new_among (not (is_some w.before)) w.tables.standings.items w.used_before.items;
   told = w.told.items;
   moved = moves_seen w;
+  far = far_seen w;
   paths = marked_paths w.tables.marks.items w.tables.nodes.items;
   calm = are_calm n.params (marked_paths w.tables.marks.items w.tables.nodes.items) w.tables.marks.items;
 }

@@ -5,7 +5,8 @@ ghost use Rattle.std.specs.List.{list_any};
 ghost use Rattle.gptp_network.specs.declared.keys.TheConstants.{LATEST_EVENT};
 ghost use Rattle.gptp_scenario.specs.Network.{pace_of};
 ghost use Rattle.gptp_scenario.specs.SettlingAtOnce.{settling_span_at_once};
-ghost use Rattle.gptp_how_soon.specs.Bounds.{asked_again, choice_by, exact_from, exact_span, heard_by, is_again, is_hard_to_hear, ready, rest_by, set_span, settled, settling_by, sound_row, times_by, two_exchanges, watch, way_span};
+ghost use Rattle.gptp_scenario.specs.SettlingTime.{capability_span};
+ghost use Rattle.gptp_how_soon.specs.Bounds.{asked_again, choice_by, exact_from, exact_span, heard_by, is_again, is_hard_to_hear, ready, rest_by, roles_by, set_span, settled, settling_by, sound_row, times_by, two_exchanges, watch, way_span};
 
 use crate::kinds::{Told, recovers};
 use crate::links::varies;
@@ -48,6 +49,9 @@ pub enum Row {
     Unchanged,
     /// It is from rest, and a link goes down by its one event that changes no choice.
     Lowered,
+    /// It is from rest, and by its one event a system fails that was the far end of its links and whose failure changes
+    /// no choice.
+    FailedEnd,
     /// It is from rest, and none of its events is a loss.
     Gained,
 }
@@ -139,6 +143,15 @@ pub(crate) fn heard(network: &Network, followed: bool, told: &[Told], new: &[Cab
     }
 }
 
+/// By how much later than a system fails the ports beside it aren't capable any more, in ns.
+fn capability_span(network: &Network) -> u64
+    ensures is { result ≡ capability_span (pace_of network.now) }
+    ensures bound { result ≤ 4160000000000 }
+{
+    network.well_formed();
+    (u64::from(network.params().lost) + 5) * interval_of(network.largest())
+}
+
 /// How long the network takes at most to settle from any past where nothing lapses for want of Sync, in ns.
 #[tactic(auto, using(gptp_scenario::proofs::SpanLemmas::few_spans, gptp_scenario::proofs::SpanLemmas::few_steps))]
 fn settling_span_at_once(network: &Network, paths: SyncPaths) -> u64
@@ -150,7 +163,7 @@ fn settling_span_at_once(network: &Network, paths: SyncPaths) -> u64
     network.well_formed();
     let params = network.params();
     let interval = interval_of(network.largest());
-    let capable = (u64::from(params.lost) + 5) * interval;
+    let capable = capability_span(network);
     let turn = u64::from(params.timeout) * interval + paths.delay;
     let clean = 2 * interval + paths.systems as u64 * turn;
     let further = paths.systems.saturating_sub(1) as u64;
@@ -170,7 +183,26 @@ fn choice_by(network: &Network, paths: SyncPaths, row: Row, gained: u64) -> u64
     }
     match row {
         Row::AnyPast => settling_span_at_once(network, paths),
+        Row::Unchanged | Row::Lowered | Row::FailedEnd => 0,
+        Row::Gained => gained,
+    }
+}
+
+/// The bound of the roles, in ns.
+fn roles_by(network: &Network, paths: SyncPaths, row: Row, gained: u64) -> u64
+    requires few { paths.systems ≤ 512 }
+    requires short { paths.delay ≤ 16000000000 }
+    requires gained { gained ≤ 195000000000000 }
+    ensures is { result ≡ roles_by network.now paths row gained }
+    ensures bound { result ≤ 195000000000000 }
+{
+    if network.params().sync_timeout != 0 {
+        return network.settling_span_with(paths);
+    }
+    match row {
+        Row::AnyPast => settling_span_at_once(network, paths),
         Row::Unchanged | Row::Lowered => 0,
+        Row::FailedEnd => capability_span(network),
         Row::Gained => gained,
     }
 }
@@ -180,7 +212,7 @@ fn sound_row(row: Row) -> Row
     ensures { result ≡ sound_row row }
 {
     match row {
-        Row::AnyPast | Row::Lowered => Row::AnyPast,
+        Row::AnyPast | Row::Lowered | Row::FailedEnd => Row::AnyPast,
         Row::Unchanged => Row::Unchanged,
         Row::Gained => Row::Gained,
     }
@@ -207,7 +239,7 @@ fn exact_span(network: &Network, paths: SyncPaths) -> u64
     window + paths.systems as u64 * (params.threshold + params.residence)
 }
 
-/// The bounds at a time, by those of the choice and of what is held, where a link was last set at another.
+/// The bounds at a time, by those of the choice, the roles and what is held, where a link was last set at another.
 fn settled(
     network: &Network,
     at: u64,
@@ -215,15 +247,16 @@ fn settled(
     paths: SyncPaths,
     sets: bool,
     choice: u64,
+    roles: u64,
     sound: u64,
 ) -> Settling
     requires few { paths.systems ≤ 512 }
     requires short { paths.delay ≤ 16000000000 }
     requires early { at ≤ LATEST_EVENT }
     requires set { last_set ≤ at }
-    requires choice { choice ≤ 195000000000000 }
+    requires roles { roles ≤ 195000000000000 }
     requires sound { sound ≤ 195000000000000 }
-    ensures is { result ≡ settled network.now at last_set paths sets choice sound }
+    ensures is { result ≡ settled network.now at last_set paths sets choice roles sound }
     ensures rest { result.rest ≤ 195016000000000 }
     ensures exact { result.exact_from ≤ at + 196264000000000 }
 {
@@ -232,10 +265,10 @@ fn settled(
     let interval = interval_of(network.largest());
     Settling {
         choice,
-        roles: choice,
+        roles,
         sound,
         rest: (sound + paths.delay).max(set),
-        exact_from: (at + choice.max(set)).max(last_set + interval) + exact_span(network, paths),
+        exact_from: (at + roles.max(set)).max(last_set + interval) + exact_span(network, paths),
     }
 }
 
@@ -277,8 +310,9 @@ pub(crate) fn times_by(
 {
     let settling = if calm {
         let choice = choice_by(network, paths, row, gained);
+        let roles = roles_by(network, paths, row, gained);
         let sound = choice_by(network, paths, sound_row(row), gained);
-        Some(settled(network, at, last_set, paths, sets, choice, sound))
+        Some(settled(network, at, last_set, paths, sets, choice, roles, sound))
     } else {
         None
     };

@@ -36,7 +36,7 @@ pub(crate) fn copy_systems(systems: &mut Vec<System>, nodes: &[Node]) -> Result<
 }
 
 /// The place of the system with a clock; how many there are if there is none.
-fn place_of(systems: &[System], clock: ClockId) -> usize
+pub(crate) fn place_of(systems: &[System], clock: ClockId) -> usize
     ensures { result ≡ place_of systems.now clock }
 {
     let mut place = 0;

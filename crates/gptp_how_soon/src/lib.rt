@@ -6,6 +6,7 @@
 
 mod bounds;
 mod chosen;
+mod far;
 mod kinds;
 mod links;
 mod rest;

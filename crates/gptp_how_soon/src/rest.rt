@@ -2,13 +2,13 @@
 
 ghost use Rattle.std.specs.Prelude.{◌≡◌, ◌≤◌, ◌+◌, ◌*◌, nat_lt};
 ghost use Rattle.gptp_how_soon.specs.Bounds.{way_span};
-ghost use Rattle.gptp_how_soon.specs.Rest.{are_events_followed, are_losses_followed, are_recoveries_followed, are_turns_followed, asks_who_is_moved, heard_at_once, is_from_rest, is_lowering_followed, is_wider_followed, rested, row_of, settles_wider_by};
+ghost use Rattle.gptp_how_soon.specs.Rest.{are_events_followed, are_losses_followed, are_recoveries_followed, are_turns_followed, asks_who_is_far, asks_who_is_moved, heard_at_once, is_failing_followed, is_from_rest, is_lowering_followed, is_wider_followed, keeps_paths, rested, row_of, settles_wider_by};
 
 use crate::bounds::{Row, SettlingTime, way_span};
 use crate::kinds::{
     Told, all_leave_links, all_make_nothing, all_tell_nothing, any_better, any_gain, any_loss,
     any_lowers_unused, any_other, any_recovery, any_wider, are_heard, begins_wider,
-    fails_and_recovers, first_wider_by, lowers_one,
+    fails_and_recovers, fails_one, first_wider_by, lowers_one,
 };
 use gptp_scenario::SyncPaths;
 
@@ -135,14 +135,27 @@ fn are_losses_followed(paths_before: SyncPaths, told: &[Told]) -> bool
     paths_before.systems <= 255 && all_leave_links(told)
 }
 
-/// Whether a link that goes down is followed.
-fn is_lowering_followed(paths_before: SyncPaths, paths: SyncPaths, told: &[Told]) -> bool
-    ensures { result ≡ is_lowering_followed paths_before paths told.now }
+/// Whether no path had more than 255 systems, none gets longer, and the greatest delay of a link in use stays.
+fn keeps_paths(paths_before: SyncPaths, paths: SyncPaths) -> bool
+    ensures { result ≡ keeps_paths paths_before paths }
 {
     paths_before.systems <= 255
         && paths.delay == paths_before.delay
         && paths.systems <= paths_before.systems
-        && lowers_one(told)
+}
+
+/// Whether a link that goes down is followed.
+fn is_lowering_followed(paths_before: SyncPaths, paths: SyncPaths, told: &[Told]) -> bool
+    ensures { result ≡ is_lowering_followed paths_before paths told.now }
+{
+    keeps_paths(paths_before, paths) && lowers_one(told)
+}
+
+/// Whether a system that fails is followed, where it was a far end.
+fn is_failing_followed(paths_before: SyncPaths, paths: SyncPaths, told: &[Told]) -> bool
+    ensures { result ≡ is_failing_followed paths_before paths told.now }
+{
+    keeps_paths(paths_before, paths) && fails_one(told)
 }
 
 /// Whether it counts if its events move a system.
@@ -156,10 +169,24 @@ pub(crate) fn asks_who_is_moved(
 {
     from_rest
         && (are_losses_followed(paths_before, told)
-            || is_lowering_followed(paths_before, paths, told))
+            || is_lowering_followed(paths_before, paths, told)
+            || is_failing_followed(paths_before, paths, told))
 }
 
-/// What is known of a time, where it is from rest or isn't, and its events move a system or don't.
+/// Whether it counts if the system that its events name was a far end.
+pub(crate) fn asks_who_is_far(
+    from_rest: bool,
+    paths_before: SyncPaths,
+    paths: SyncPaths,
+    told: &[Told],
+) -> bool
+    ensures { result ≡ asks_who_is_far from_rest paths_before paths told.now }
+{
+    from_rest && is_failing_followed(paths_before, paths, told)
+}
+
+/// What is known of a time, where it is from rest or isn't, its events move a system or don't, and the one that they
+/// name was a far end or wasn't.
 pub(crate) fn row_of(
     from_rest: bool,
     first: bool,
@@ -167,8 +194,9 @@ pub(crate) fn row_of(
     paths: SyncPaths,
     told: &[Told],
     moved: bool,
+    far: bool,
 ) -> Row
-    ensures { result ≡ row_of from_rest first paths_before paths told.now moved }
+    ensures { result ≡ row_of from_rest first paths_before paths told.now moved far }
 {
     if !from_rest {
         Row::AnyPast
@@ -180,6 +208,8 @@ pub(crate) fn row_of(
         Row::Unchanged
     } else if is_lowering_followed(paths_before, paths, told) && !moved {
         Row::Lowered
+    } else if is_failing_followed(paths_before, paths, told) && !moved && far {
+        Row::FailedEnd
     } else if any_loss(told) {
         Row::AnyPast
     } else {

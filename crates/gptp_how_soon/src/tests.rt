@@ -240,6 +240,38 @@ fn a_link_that_goes_down_and_moves_no_system_costs_nothing(rt: HostRuntime) -> R
 }
 
 #[test]
+fn a_far_end_that_fails_costs_the_choice_nothing(rt: HostRuntime) -> Result<(), Fail> {
+    // Both neighbours of c are nearer to the root than it is; c is farther from it than d is.
+    let far = ring(
+        rt.alloc(),
+        "[[event]]\nat = 30000000000\nkind = \"fail\"\nclock = \"000000000000000c\"\n",
+    )?;
+    assert_eq!(rt;
+        settling_at(&far, 30_000_000_000),
+        Some(SettlingTime {
+            at: 30_000_000_000,
+            settling: Some(Settling {
+                choice: 0,
+                roles: 14_000_000_000,
+                sound: 15_000_000_820,
+                rest: 15_000_001_230,
+                exact_from: 44_000_005_400,
+            }),
+            watch: 16_000_001_231,
+        })
+    );
+    let near = ring(
+        rt.alloc(),
+        "[[event]]\nat = 30000000000\nkind = \"fail\"\nclock = \"000000000000000d\"\n",
+    )?;
+    assert_eq!(rt;
+        soon(&near, 30_000_000_000),
+        Some((15_000_000_820, 45_000_006_220))
+    );
+    Ok(())
+}
+
+#[test]
 fn a_system_recovers_behind_its_links(rt: HostRuntime) -> Result<(), Fail> {
     let times = ring(
         rt.alloc(),

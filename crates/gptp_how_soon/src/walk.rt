@@ -4,13 +4,14 @@ ghost use Rattle.std.specs.Prelude.{◌≡◌, ◌≤◌, ◌&&◌, IfOk, OnOk};
 ghost use Rattle.gptp_network.specs.declared.keys.TheConstants.{LATEST_EVENT};
 ghost use Rattle.gptp_topology.specs.Tables.{AreMarked, marked_paths};
 ghost use Rattle.gptp_how_soon.specs.Times.{settling_time};
-ghost use Rattle.gptp_how_soon.specs.Walk.{IsFirstWalk, WalkGoesOn, WalkPasses, chosen_in, moves_seen, view_seen};
+ghost use Rattle.gptp_how_soon.specs.Walk.{IsFirstWalk, WalkGoesOn, WalkPasses, chosen_in, far_seen, moves_seen, view_seen};
 
 use crate::bounds::{SettlingTime, heard, ready, times_by, way_span};
 use crate::chosen::{Chosen, Ends, any_moved, choose, copy_systems, ends_in_use, ends_of};
+use crate::far::are_far;
 use crate::kinds::{Told, sets_bounds, sets_link, tell};
 use crate::links::{delay_set, longest_among, mark_used, new_links};
-use crate::rest::{asks_who_is_moved, heard_at_once, is_from_rest, row_of};
+use crate::rest::{asks_who_is_far, asks_who_is_moved, heard_at_once, is_from_rest, row_of};
 use gptp_scenario::{Act, Network, SyncPaths};
 use gptp_topology::{System, Tables, cables_of};
 use std::alloc::{AllocError, Global};
@@ -124,6 +125,22 @@ impl Walk {
         if asked { self.moves(alloc) } else { Ok(false) }
     }
 
+    /// Whether those that the events of this time name were far ends, where that is asked.
+    fn far_if(&self, alloc: Global, asked: bool) -> Result<bool, AllocError>
+        ensures { IfOk result (λ far. far ≡ (asked && far_seen self.now)) }
+    {
+        if asked { self.far(alloc) } else { Ok(false) }
+    }
+
+    /// Whether those that the events of this time name were far ends.
+    fn far(&self, alloc: Global) -> Result<bool, AllocError>
+        ensures { IfOk result (λ far. far ≡ far_seen self.now) }
+    {
+        let links = ends_in_use(alloc, &self.ends, &self.used_before)?;
+        let before = choose(alloc, &self.systems_before, &links)?;
+        Ok(are_far(&self.systems_before, &before, &links, &self.told))
+    }
+
     /// What is told of this time, where this is what Sync has to cross at it.
     pub(crate) fn settle(
         &self,
@@ -153,6 +170,8 @@ impl Walk {
         let from_rest = is_from_rest(self.longest, at, paths_before, paths, told, self.before);
         let asked = asks_who_is_moved(from_rest, paths_before, paths, told);
         let moved = self.moves_if(alloc, asked)?;
+        let asked_far = asks_who_is_far(from_rest, paths_before, paths, told);
+        let far = self.far_if(alloc, asked_far)?;
         Ok(times_by(
             network,
             at,
@@ -160,7 +179,7 @@ impl Walk {
             paths,
             self.tables.is_calm(network, paths),
             sets_link(told),
-            row_of(from_rest, first, paths_before, paths, told, moved),
+            row_of(from_rest, first, paths_before, paths, told, moved, far),
             gained,
         ))
     }

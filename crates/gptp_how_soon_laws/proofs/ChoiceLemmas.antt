@@ -1,5 +1,5 @@
--- What is told of each time of a document is so: its choice is a choice bound or a loss bound, and roles stand as soon.
--- All that is held is sound by another choice bound.
+-- What is told of each time of a document is so: its choice and roles are choice bounds or loss bounds. All that is held
+-- is sound by another choice bound.
 use Rattle.std.proofs.Common.{◌≡◌, ◌<◌, ◌≤◌, ◌⊎◌, inl, inr, ◌+◌, ◌*◌, max, ℕ, Bool, true, false, cond, List, [], ◌∷◌, ◌++◌, Some, None, refl, sym, ap, subst, ◌∙◌, arith}
 use Rattle.std.specs.Prelude.{◌==◌, nat_le}
 use Rattle.std.proofs.lemmas.Bool.{eqb-false, eqb-true}
@@ -7,23 +7,25 @@ use Rattle.std.proofs.lemmas.Bool.Decides.{nat_tests}
 use Rattle.gptp_lists.specs.Members.{In}
 use Rattle.gptp_lists.proofs.SystemSpecLemmas.{In-left, In-parts}
 use Rattle.gptp_setup.specs.SettlingParams.{largest_interval}
-use Rattle.gptp_scenario.specs.SettlingTime.{window_span}
+use Rattle.gptp_scenario.specs.Calm.{NothingLapses}
 use Rattle.gptp_scenario.specs.Network.{NetworkState, pace_of}
+use Rattle.gptp_scenario.specs.SettlingTime.{capability_span, window_span}
 use Rattle.gptp_scenario.specs.SyncWait.{sync_paths}
 use Rattle.gptp_scenario.specs.declared.change.Timed.{Timed}
 use Rattle.gptp_network.specs.Document.{DocumentState}
 use Rattle.gptp_network.specs.Snapshot.{events_by}
 use Rattle.gptp_network.proofs.SnapshotLemmas.{from_filter}
 use Rattle.gptp_theorem.specs.PlayedLaws.{IsPlayable}
-use Rattle.gptp_how_soon.specs.Bounds.{choice_by}
+use Rattle.gptp_how_soon.specs.Bounds.{choice_by, roles_by}
 use Rattle.gptp_how_soon.specs.Times.{View, events_at, gained_at, last_set, ready_at, row_at, settling_time, settling_times, settling_times_from, time_at, view_at}
+use Rattle.gptp_how_soon.specs.declared.bounds.Row.TheVariants.{FailedEnd, Lowered}
 use Rattle.gptp_how_soon.specs.declared.bounds.Settling.{Settling}
 use Rattle.gptp_how_soon.specs.declared.bounds.SettlingTime.{SettlingTime}
-use Rattle.gptp_settling_time.specs.HowSoon.{BoundsChoice, BoundsEvents, BoundsStart, IsChoiceBoundAfter, IsLossBoundAfter, NoneBetween}
+use Rattle.gptp_settling_time.specs.HowSoon.{BoundsChoice, BoundsEvents, BoundsStart, FailsOneEnd, IsChoiceBoundAfter, IsLossBoundAfter, LowersOneLink, NoneBetween}
 use Rattle.gptp_settling_time.proofs.MomentLemmas.{parted}
 use Rattle.gptp_settling_time.proofs.WellFormedLemmas.{after_well}
 use Rattle.gptp_how_soon_laws.specs.Choice.{SettlingsAreChoiceBounds}
-use Rattle.gptp_how_soon_laws.proofs.RowLemmas.{HasComeToRest, bounds_choice, choice_or_none, first_sound, gained, lowered, never_unchanged, started, tells, unchanged}
+use Rattle.gptp_how_soon_laws.proofs.RowLemmas.{HasComeToRest, IsTelling, bounds_choice, choice_or_none, failed, first_roles, first_sound, gained, lowered, never_unchanged, started, tells, unchanged}
 use Rattle.gptp_how_soon_laws.proofs.UnmovedLemmas.{AreWell}
 use Rattle.gptp_how_soon_laws.proofs.TimesLemmas.{AreTimes, later_times, times_after, times_parts}
 
@@ -55,11 +57,13 @@ module _ (d : DocumentState) (playable : IsPlayable d) where
 
   -- what is told of a time is so, by the times before it
   pub record IsSo (earlier : List ℕ) (at : ℕ) (s : Settling) : Type 0 where
-    pub choice : IsChoiceBoundAfter n all earlier at s.choice ⊎ IsLossBoundAfter n all earlier at s.choice
+    pub bounds : IsChoiceBoundAfter n all earlier at s.roles ⊎ IsLossBoundAfter n all earlier at 0 s.roles
+    pub choice : IsChoiceBoundAfter n all earlier at s.choice
+        ⊎ ((roles : ℕ) × IsLossBoundAfter n all earlier at s.choice roles)
+    pub sooner : s.choice ≤ s.roles
     pub sound : IsChoiceBoundAfter n all earlier at s.sound
-    pub roles : s.roles ≡ s.choice
     pub rest : s.sound ≤ s.rest
-    pub exact : max (at + s.choice) (last_set (events_by at all) + largest_interval (pace_of n)) + window_span n.params
+    pub exact : max (at + s.roles) (last_set (events_by at all) + largest_interval (pace_of n)) + window_span n.params
         + (sync_paths n (events_by at all)).systems * (n.params.threshold + n.params.residence)
         ≤ s.exact_from
 
@@ -81,12 +85,15 @@ module _ (d : DocumentState) (playable : IsPlayable d) where
       ) in
       let same : s.sound ≡ s.choice =
       it.sound ∙ ap (λ row. choice_by n v.paths row (gained_at n v)) (sym (first_sound n now)) ∙ sym it.choice in
+      let roles_same : s.choice ≡ s.roles =
+      it.choice ∙ sym (first_roles n now v.paths (gained_at n v)) ∙ sym it.roles in
       record {
+        bounds = inl (subst (IsChoiceBoundAfter n all [] 0) (same ∙ roles_same) sound);
         choice = inl (subst (IsChoiceBoundAfter n all [] 0) same sound);
+        sooner = omega (arith, roles_same);
         sound = sound;
-        roles = it.roles;
         rest = it.rest;
-        exact = subst (λ es. max (0 + s.choice) (last_set es + largest_interval (pace_of n)) + window_span n.params
+        exact = subst (λ es. max (0 + s.roles) (last_set es + largest_interval (pace_of n)) + window_span n.params
             + (sync_paths n es).systems * (n.params.threshold + n.params.residence)
             ≤ s.exact_from) (sym (begin_at all)) it.exact;
       }
@@ -148,36 +155,71 @@ module _ (d : DocumentState) (playable : IsPlayable d) where
               (subst (λ choice. BoundsChoice n (Sharp choice) (made ++ now) choice) (sym it.sound) bound),
         )
 
-    choice_so : (s : Settling) → (settling_time n v).settling ≡ Some s
-        → IsChoiceBoundAfter n all (b.at ∷ earlier) at s.choice ⊎ IsLossBoundAfter n all (b.at ∷ earlier) at s.choice
-    choice_so s is =
-        let it = tells n v s is in
-        let sound = sound_so s is in
-        elim (choice_or_none n v.paths (row_at v) (gained_at n v)) [
-          | inl same ↦ inl (subst (IsChoiceBoundAfter n all (b.at ∷ earlier) at)
-              (it.sound ∙ sym same ∙ sym it.choice) sound)
-          | inr (row, off, none) ↦
-              let (rest, lowers) = lowered n playable.network all b at late well row in
-              let (bound, past) = sound_before rest in inr (
-                late,
-                between,
-                sound.2.0,
-                off,
-                (rest.settling.sound, bound, past),
-                lowers,
-                it.choice ∙ none,
-              )
-        ]
+    -- the choice and the roles stand as soon as all that is held is sound, or sooner after a loss
+    record IsSooner (s : Settling) : Type 0 where
+      bounds : IsChoiceBoundAfter n all (b.at ∷ earlier) at s.roles
+          ⊎ IsLossBoundAfter n all (b.at ∷ earlier) at 0 s.roles
+      choice : IsChoiceBoundAfter n all (b.at ∷ earlier) at s.choice
+          ⊎ ((roles : ℕ) × IsLossBoundAfter n all (b.at ∷ earlier) at s.choice roles)
+      sooner : s.choice ≤ s.roles
+
+    lost : (s : Settling) (roles : ℕ) → IsTelling n v s → IsChoiceBoundAfter n all (b.at ∷ earlier) at s.sound
+        → NothingLapses n.params → HasComeToRest b at
+        → ((LowersOneLink n made now × (roles ≡ 0)) ⊎ (FailsOneEnd n made now × (roles ≡ capability_span (pace_of n))))
+        → IsLossBoundAfter n all (b.at ∷ earlier) at 0 roles
+    lost s roles it sound off rest loses =
+        let (bound, past) = sound_before rest in
+        (late, between, sound.2.0, off, (rest.settling.sound, bound, past), refl, loses)
+
+    sooner_so : (s : Settling) → IsTelling n v s → IsChoiceBoundAfter n all (b.at ∷ earlier) at s.sound → IsSooner s
+    sooner_so s it sound = elim (choice_or_none n v.paths (row_at v) (gained_at n v)) [
+      | inl (choice_same, roles_same) ↦
+          let choice : s.sound ≡ s.choice = it.sound ∙ sym choice_same ∙ sym it.choice in
+          let roles : s.sound ≡ s.roles = it.sound ∙ sym roles_same ∙ sym it.roles in
+          record {
+            bounds = inl (subst (IsChoiceBoundAfter n all (b.at ∷ earlier) at) roles sound);
+            choice = inl (subst (IsChoiceBoundAfter n all (b.at ∷ earlier) at) choice sound);
+            sooner = omega (arith, choice, roles);
+          }
+      | inr (off, none, which) ↦
+          let zero_is : s.choice ≡ 0 = it.choice ∙ none in
+          let (rest, loses) = by off which in
+          let bound = lost s s.roles it sound off rest loses in
+          record {
+            bounds = inr bound;
+            choice = inr (
+              s.roles,
+              subst (λ choice. IsLossBoundAfter n all (b.at ∷ earlier) at choice s.roles) (sym zero_is) bound,
+            );
+            sooner = omega (arith, zero_is);
+          }
+    ]
+      where
+        by : NothingLapses n.params → (((row_at v ≡ Lowered) × (roles_by n v.paths (row_at v) (gained_at n v) ≡ 0))
+            ⊎ ((row_at v ≡ FailedEnd)
+            × (roles_by n v.paths (row_at v) (gained_at n v) ≡ capability_span (pace_of n))))
+            → HasComeToRest b at
+            × ((LowersOneLink n made now × (s.roles ≡ 0))
+            ⊎ (FailsOneEnd n made now × (s.roles ≡ capability_span (pace_of n))))
+        by off (inl (row, none)) =
+            let (rest, lowers) = lowered n playable.network all b at late well row in
+            (rest, inl (lowers, it.roles ∙ none))
+        by off (inr (row, is)) =
+            let (rest, fails) = failed n playable.network all b at late well row in
+            (rest, inr (fails, it.roles ∙ is))
 
     later_so : TellsSo (b.at ∷ earlier) (time_at d (Some b) at)
     later_so s is =
         let it = tells n v s is in
+        let sound = sound_so s is in
+        let x = sooner_so s it sound in
         record {
-          choice = choice_so s is;
-          sound = sound_so s is;
-          roles = it.roles;
+          bounds = x.bounds;
+          choice = x.choice;
+          sooner = x.sooner;
+          sound = sound;
           rest = it.rest;
-          exact = subst (λ es. max (at + s.choice) (last_set es + largest_interval (pace_of n)) + window_span n.params
+          exact = subst (λ es. max (at + s.roles) (last_set es + largest_interval (pace_of n)) + window_span n.params
               + (sync_paths n es).systems * (n.params.threshold + n.params.residence)
               ≤ s.exact_from) (sym (parted all b.at at playable.events.in_order late between)) it.exact;
         }
@@ -208,4 +250,5 @@ module _ (d : DocumentState) (playable : IsPlayable d) where
 
 pub settlings_are_choice_bounds : SettlingsAreChoiceBounds
 settlings_are_choice_bounds d t s playable member is =
-    let (before, so) = time_so d playable t s member is in ((before, so.choice), so.roles)
+    let (before, so) = time_so d playable t s member is in
+    ((before, so.bounds), (before, so.choice), so.sooner)

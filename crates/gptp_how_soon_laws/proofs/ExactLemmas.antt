@@ -116,9 +116,9 @@ come_from d time choice =
 
 -- offsets are exact no sooner by what is told of a time
 pub told_later : (d : DocumentState) (playable : IsPlayable d) (earlier : List ℕ) (time : ℕ) (s : Settling)
-    → IsSo d playable earlier time s → come_from d time s.choice ≤ s.exact_from
+    → IsSo d playable earlier time s → come_from d time s.roles ≤ s.exact_from
 told_later d playable earlier time s so =
-    subst (λ last. max (time + s.choice) (last + largest_interval (pace_of d.network)) + window_span d.network.params
+    subst (λ last. max (time + s.roles) (last + largest_interval (pace_of d.network)) + window_span d.network.params
     + (sync_paths d.network (events_by time d.events)).systems
     * (d.network.params.threshold + d.network.params.residence)
     ≤ s.exact_from) (same_set (events_by time d.events)) so.exact
@@ -170,5 +170,5 @@ module _ {F : Type 0} (answers : Bounds → ℕ → F → Option ℕ → F → T
 pub exact_soon : {F : Type 0} (answers : Bounds → ℕ → F → Option ℕ → F → Type 0) → IsExactSoon answers
 exact_soon answers d time s next until fate first w ts t playable k member shown told is none behind on early =
     let (before, so) = time_so d playable time s told is in
-    exact_then answers d time.at s.choice s.exact_from next until fate first w ts t playable k member
-    (before, so.choice) none (told_later d playable before time.at s so) behind on early shown
+    exact_then answers d time.at s.roles s.exact_from next until fate first w ts t playable k member
+    (before, so.bounds) none (told_later d playable before time.at s so) behind on early shown

@@ -285,6 +285,15 @@ module _ (clock : ℕ) (what : What) where
       by true is = absurd cc
       by false is = refl
 
+  loss_failure : (o : Option System) → is_loss (told clock what (kind_of_failure o)) ≡ true
+      → (x : System) × (o ≡ Some x) × (x.lives ≡ true)
+  loss_failure None is = absurd cc
+  loss_failure (Some x) is = (x, refl, by x.lives is)
+    where
+      by : (live : Bool) → is_loss (told clock what (if live then Loss else Idle)) ≡ true → live ≡ true
+      by true is = refl
+      by false is = absurd cc
+
   never_failure : (o : Option System) → is_gain (told clock what (kind_of_failure o)) ≡ true → ⊥
   never_failure None is = absurd cc
   never_failure (Some x) is = by x.lives is
@@ -505,6 +514,19 @@ module _ (n : NetworkState) (network : IsNetwork n) (made : List Timed) where
       subst (λ (w : LinkSpec). IsUsed n.systems made (link_after made w))
       (sym (one.only place v there (end_first made (port_id clock port) v end)))
       (cable_used n made one.link (ap cable_is_used one.is ∙ used))
+
+  -- a live system fails
+  pub loss_fails : (number : ℕ) → is_loss (told_at n made (failing number)) ≡ true → IsLive n.systems made number
+  loss_fails number is =
+      let (x, found_is, live) = loss_failure number (what_of (failing number)) (system_at number) is in
+      let one = named_system n network made number x found_is in
+      record {
+        place = one.place;
+        system = one.system;
+        there = one.there;
+        clock = one.clock;
+        live = ap (λ (o : System). o.lives) one.is ∙ live;
+      }
 
   -- a live system gets worse
   pub record Worsens (number value : ℕ) : Type 0 where

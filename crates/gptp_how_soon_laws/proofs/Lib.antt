@@ -5,6 +5,7 @@ mod MoreLemmas
 mod GainedLemmas
 mod UnmovedLemmas
 mod LoweredLemmas
+mod FailedLemmas
 mod RowLemmas
 pub mod ChoiceLemmas
 pub mod StepLemmas

@@ -13,7 +13,7 @@ use Rattle.gptp_scenario.specs.Change.{link_after}
 use Rattle.gptp_scenario.specs.Network.{IsNetwork, NetworkState, pace_of}
 use Rattle.gptp_scenario.specs.Prompt.{DelayFitsInterval}
 use Rattle.gptp_scenario.specs.SettlingAtOnce.{settling_span_at_once}
-use Rattle.gptp_scenario.specs.SettlingTime.{settling_span_with, window_span}
+use Rattle.gptp_scenario.specs.SettlingTime.{capability_span, settling_span_with, window_span}
 use Rattle.gptp_scenario.specs.SyncWait.{sync_paths}
 use Rattle.gptp_scenario.specs.declared.change.Act.{Act}
 use Rattle.gptp_scenario.specs.declared.change.Act.TheVariants as acts
@@ -26,13 +26,13 @@ use Rattle.gptp_network.proofs.PassLemmas.{kept}
 use Rattle.gptp_topology.specs.After.{is_calm}
 use Rattle.gptp_topology.specs.Course.{cable_of}
 use Rattle.gptp_topology.specs.declared.course.Cable.{Cable}
-use Rattle.gptp_how_soon.specs.Bounds.{asked_again, choice_by, choice_of_row, is_again, is_hard_to_hear, ready, settled, sound_row, two_exchanges}
-use Rattle.gptp_how_soon.specs.Kinds.{are_heard, fails_and_recovers, is_better, is_gain, is_idle, is_loss, is_other, is_recover, is_recovery, is_recovery_of, leaves_links, lowers_one, lowers_unused, makes_nothing, recovers, sets_link, tells_nothing, begins_wider, first_wider_by, is_wider}
+use Rattle.gptp_how_soon.specs.Bounds.{asked_again, choice_by, choice_of_row, is_again, is_hard_to_hear, ready, roles_by, settled, sound_row, two_exchanges}
+use Rattle.gptp_how_soon.specs.Kinds.{are_heard, fails_and_recovers, fails_one, is_better, is_gain, is_idle, is_loss, is_other, is_recover, is_recovery, is_recovery_of, leaves_links, lowers_one, lowers_unused, makes_nothing, recovers, sets_link, tells_nothing, begins_wider, first_wider_by, is_wider}
 use Rattle.gptp_how_soon.specs.Links.{delay_set, is_new, longest_among, longest_delay, longest_set, new_links, varies}
-use Rattle.gptp_how_soon.specs.Rest.{are_events_followed, are_losses_followed, are_recoveries_followed, are_turns_followed, heard_at_once, is_from_rest, is_lowering_followed, rested, rested_by, is_wider_followed, settles_wider_by}
+use Rattle.gptp_how_soon.specs.Rest.{are_events_followed, are_losses_followed, are_recoveries_followed, are_turns_followed, heard_at_once, is_failing_followed, is_from_rest, is_lowering_followed, keeps_paths, rested, rested_by, is_wider_followed, settles_wider_by}
 use Rattle.gptp_how_soon.specs.Times.{View, events_at, gained_at, ready_at, row_at, settling_time, told_at, told_of, view_at}
 use Rattle.gptp_how_soon.specs.declared.bounds.Row.{Row}
-use Rattle.gptp_how_soon.specs.declared.bounds.Row.TheVariants.{AnyPast, Unchanged, Lowered, Gained}
+use Rattle.gptp_how_soon.specs.declared.bounds.Row.TheVariants.{AnyPast, Unchanged, Lowered, FailedEnd, Gained}
 use Rattle.gptp_how_soon.specs.declared.bounds.Settling.{Settling}
 use Rattle.gptp_how_soon.specs.declared.bounds.SettlingTime.{SettlingTime}
 use Rattle.gptp_how_soon.specs.declared.kinds.Kind.{Kind}
@@ -40,7 +40,7 @@ use Rattle.gptp_how_soon.specs.declared.kinds.Told.{Told}
 use Rattle.gptp_how_soon.specs.declared.kinds.What.{What}
 use Rattle.gptp_how_soon.specs.declared.kinds.What.TheVariants as whats
 use Rattle.gptp_settling_time.specs.Gains.{HasDelaysWithin}
-use Rattle.gptp_settling_time.specs.HowSoon.{AreReadyAtStart, AreStartEvents, BoundsChoice, BoundsGains, BoundsStart, EachEvent, IsStillEvent, LowersOneLink, way_span, AreWiderEvents}
+use Rattle.gptp_settling_time.specs.HowSoon.{AreReadyAtStart, AreStartEvents, BoundsChoice, BoundsGains, BoundsStart, EachEvent, FailsOneEnd, IsStillEvent, LowersOneLink, way_span, AreWiderEvents}
 use Rattle.gptp_settling_time.specs.InTurn.{NoneUsed, TellsNothing, UsedVaryLittle}
 use Rattle.gptp_settling_time.proofs.CutLemmas.{IsBy, all_by}
 use Rattle.gptp_settling_time.proofs.FollowedLemmas.{all_still}
@@ -48,6 +48,7 @@ use Rattle.gptp_settling_time.proofs.MomentLemmas.{all_at}
 use Rattle.gptp_topology.proofs.RestLemmas.{calm_from, used_cable}
 use Rattle.gptp_how_soon_laws.proofs.GainedLemmas.{AreFollowed, AreTurnsFollowed, all_gained, all_heard, all_idle, all_wider, none_any, not_none}
 use Rattle.gptp_how_soon_laws.proofs.KindLemmas.{told}
+use Rattle.gptp_how_soon_laws.proofs.FailedLemmas.{fails_one_end}
 use Rattle.gptp_how_soon_laws.proofs.LoweredLemmas.{lowers_one_link}
 use Rattle.gptp_how_soon_laws.proofs.UnmovedLemmas.{AreWell, all_still_unmoved}
 
@@ -70,6 +71,7 @@ bounds_choice n Sharp events row gained calm unchanged is_gained =
         ⊎ Sharp (choice_of_row n (sync_paths n events) (sound_row r) gained)
     by_row off AnyPast is = inl refl
     by_row off Lowered is = inl refl
+    by_row off FailedEnd is = inl refl
     by_row off Unchanged is = inr (unchanged is)
     by_row off Gained is = inr (is_gained is off)
 
@@ -83,32 +85,58 @@ bounds_choice n Sharp events row gained calm unchanged is_gained =
     by true is = let off = eqb-true n.params.sync_timeout 0 is in inr (off, by_row off row refl)
     by false is = inl (eqb-false n.params.sync_timeout 0 is, refl)
 
--- the choice stands by the same bound, or at once after a link went down where nothing lapses
+-- The choice and the roles stand by the same bound. Or nothing lapses, and the choice stands at once: after a link went
+-- down, as the roles do, or after a system failed.
+abbrev pub AreSooner : NetworkState → SyncPaths → Row → ℕ → Type 0
+AreSooner n paths row gained =
+    NothingLapses n.params × (choice_by n paths row gained ≡ 0)
+    × (((row ≡ Lowered) × (roles_by n paths row gained ≡ 0))
+    ⊎ ((row ≡ FailedEnd) × (roles_by n paths row gained ≡ capability_span (pace_of n))))
+
 pub choice_or_none : (n : NetworkState) (paths : SyncPaths) (row : Row) (gained : ℕ)
-    → (choice_by n paths row gained ≡ choice_by n paths (sound_row row) gained)
-    ⊎ ((row ≡ Lowered) × NothingLapses n.params × (choice_by n paths row gained ≡ 0))
-choice_or_none n paths AnyPast gained = inl refl
-choice_or_none n paths Unchanged gained = inl refl
-choice_or_none n paths Gained gained = inl refl
+    → ((choice_by n paths row gained ≡ choice_by n paths (sound_row row) gained)
+    × (roles_by n paths row gained ≡ choice_by n paths (sound_row row) gained))
+    ⊎ AreSooner n paths row gained
+choice_or_none n paths AnyPast gained = inl (refl, refl)
+choice_or_none n paths Unchanged gained = inl (refl, refl)
+choice_or_none n paths Gained gained = inl (refl, refl)
 choice_or_none n paths Lowered gained = by (n.params.sync_timeout == 0) refl
   where
     span : ℕ
     span = settling_span_with (pace_of n) paths paths.systems
 
     by : (off : Bool) → (n.params.sync_timeout == 0) ≡ off
-        → (cond (not off) span 0 ≡ cond (not off) span (settling_span_at_once (pace_of n) paths))
-        ⊎ ((Lowered ≡ Lowered) × NothingLapses n.params × (cond (not off) span 0 ≡ 0))
-    by true is = inr (refl, eqb-true n.params.sync_timeout 0 is, refl)
-    by false is = inl refl
+        → ((cond (not off) span 0 ≡ cond (not off) span (settling_span_at_once (pace_of n) paths))
+        × (cond (not off) span 0 ≡ cond (not off) span (settling_span_at_once (pace_of n) paths)))
+        ⊎ (NothingLapses n.params × (cond (not off) span 0 ≡ 0)
+        × (((Lowered ≡ Lowered) × (cond (not off) span 0 ≡ 0))
+        ⊎ ((Lowered ≡ FailedEnd) × (cond (not off) span 0 ≡ capability_span (pace_of n)))))
+    by true is = inr (eqb-true n.params.sync_timeout 0 is, refl, inl (refl, refl))
+    by false is = inl (refl, refl)
+choice_or_none n paths FailedEnd gained = by (n.params.sync_timeout == 0) refl
+  where
+    span : ℕ
+    span = settling_span_with (pace_of n) paths paths.systems
+
+    by : (off : Bool) → (n.params.sync_timeout == 0) ≡ off
+        → ((cond (not off) span 0 ≡ cond (not off) span (settling_span_at_once (pace_of n) paths))
+        × (cond (not off) span (capability_span (pace_of n))
+        ≡ cond (not off) span (settling_span_at_once (pace_of n) paths)))
+        ⊎ (NothingLapses n.params × (cond (not off) span 0 ≡ 0)
+        × (((FailedEnd ≡ Lowered) × (cond (not off) span (capability_span (pace_of n)) ≡ 0))
+        ⊎ ((FailedEnd ≡ FailedEnd)
+        × (cond (not off) span (capability_span (pace_of n)) ≡ capability_span (pace_of n)))))
+    by true is = inr (eqb-true n.params.sync_timeout 0 is, refl, inr (refl, refl))
+    by false is = inl (refl, refl)
 
 -- what is told of a calm network
 pub record IsTelling (n : NetworkState) (v : View) (s : Settling) : Type 0 where
   pub calm : v.calm ≡ true
   pub choice : s.choice ≡ choice_by n v.paths (row_at v) (gained_at n v)
   pub sound : s.sound ≡ choice_by n v.paths (sound_row (row_at v)) (gained_at n v)
-  pub roles : s.roles ≡ s.choice
+  pub roles : s.roles ≡ roles_by n v.paths (row_at v) (gained_at n v)
   pub rest : s.sound ≤ s.rest
-  pub exact : max (v.at + s.choice) (v.last_set + largest_interval (pace_of n)) + window_span n.params
+  pub exact : max (v.at + s.roles) (v.last_set + largest_interval (pace_of n)) + window_span n.params
       + v.paths.systems * (n.params.threshold + n.params.residence)
       ≤ s.exact_from
 
@@ -118,7 +146,7 @@ tells n v s is = by v.calm refl is
     it : Settling
     it =
         settled n v.at v.last_set v.paths (sets_link v.told) (choice_by n v.paths (row_at v) (gained_at n v))
-        (choice_by n v.paths (sound_row (row_at v)) (gained_at n v))
+        (roles_by n v.paths (row_at v) (gained_at n v)) (choice_by n v.paths (sound_row (row_at v)) (gained_at n v))
 
     by : (calm : Bool) → v.calm ≡ calm → (if calm then Some it else None) ≡ Some s → IsTelling n v s
     by true calm told =
@@ -127,9 +155,9 @@ tells n v s is = by v.calm refl is
           calm = calm;
           choice = ap (λ (x : Settling). x.choice) (sym same);
           sound = ap (λ (x : Settling). x.sound) (sym same);
-          roles = subst (λ (x : Settling). x.roles ≡ x.choice) same refl;
+          roles = ap (λ (x : Settling). x.roles) (sym same);
           rest = subst (λ (x : Settling). x.sound ≤ x.rest) same (omega arith);
-          exact = subst (λ (x : Settling). max (v.at + x.choice) (v.last_set + largest_interval (pace_of n))
+          exact = subst (λ (x : Settling). max (v.at + x.roles) (v.last_set + largest_interval (pace_of n))
               + window_span n.params + v.paths.systems * (n.params.threshold + n.params.residence)
               ≤ x.exact_from) same (omega arith);
         }
@@ -137,38 +165,53 @@ tells n v s is = by v.calm refl is
 
 -- ---- rows
 
-unchanged_from : (rest idle left lowers loss : Bool)
+unchanged_from : (rest idle left lowers fails loss : Bool)
     → (if not rest then AnyPast else if idle then Unchanged else if left then Unchanged else if lowers then Lowered
-    else if loss then AnyPast else Gained) ≡ Unchanged
+    else if fails then FailedEnd else if loss then AnyPast else Gained) ≡ Unchanged
     → (rest ≡ true) × ((idle ≡ true) ⊎ (left ≡ true))
-unchanged_from false idle left lowers loss is = absurd cc
-unchanged_from true true left lowers loss is = (refl, inl refl)
-unchanged_from true false true lowers loss is = (refl, inr refl)
-unchanged_from true false false true loss is = absurd cc
-unchanged_from true false false false true is = absurd cc
-unchanged_from true false false false false is = absurd cc
+unchanged_from false idle left lowers fails loss is = absurd cc
+unchanged_from true true left lowers fails loss is = (refl, inl refl)
+unchanged_from true false true lowers fails loss is = (refl, inr refl)
+unchanged_from true false false true fails loss is = absurd cc
+unchanged_from true false false false true loss is = absurd cc
+unchanged_from true false false false false true is = absurd cc
+unchanged_from true false false false false false is = absurd cc
 
-lowered_from : (rest idle left lowers loss : Bool)
+lowered_from : (rest idle left lowers fails loss : Bool)
     → (if not rest then AnyPast else if idle then Unchanged else if left then Unchanged else if lowers then Lowered
-    else if loss then AnyPast else Gained) ≡ Lowered
+    else if fails then FailedEnd else if loss then AnyPast else Gained) ≡ Lowered
     → (rest ≡ true) × (lowers ≡ true)
-lowered_from false idle left lowers loss is = absurd cc
-lowered_from true true left lowers loss is = absurd cc
-lowered_from true false true lowers loss is = absurd cc
-lowered_from true false false true loss is = (refl, refl)
-lowered_from true false false false true is = absurd cc
-lowered_from true false false false false is = absurd cc
+lowered_from false idle left lowers fails loss is = absurd cc
+lowered_from true true left lowers fails loss is = absurd cc
+lowered_from true false true lowers fails loss is = absurd cc
+lowered_from true false false true fails loss is = (refl, refl)
+lowered_from true false false false true loss is = absurd cc
+lowered_from true false false false false true is = absurd cc
+lowered_from true false false false false false is = absurd cc
 
-gained_from : (rest idle left lowers loss : Bool)
+failed_from : (rest idle left lowers fails loss : Bool)
     → (if not rest then AnyPast else if idle then Unchanged else if left then Unchanged else if lowers then Lowered
-    else if loss then AnyPast else Gained) ≡ Gained
+    else if fails then FailedEnd else if loss then AnyPast else Gained) ≡ FailedEnd
+    → (rest ≡ true) × (fails ≡ true)
+failed_from false idle left lowers fails loss is = absurd cc
+failed_from true true left lowers fails loss is = absurd cc
+failed_from true false true lowers fails loss is = absurd cc
+failed_from true false false true fails loss is = absurd cc
+failed_from true false false false true loss is = (refl, refl)
+failed_from true false false false false true is = absurd cc
+failed_from true false false false false false is = absurd cc
+
+gained_from : (rest idle left lowers fails loss : Bool)
+    → (if not rest then AnyPast else if idle then Unchanged else if left then Unchanged else if lowers then Lowered
+    else if fails then FailedEnd else if loss then AnyPast else Gained) ≡ Gained
     → (rest ≡ true) × (loss ≡ false) × (idle ≡ false)
-gained_from false idle left lowers loss is = absurd cc
-gained_from true true left lowers loss is = absurd cc
-gained_from true false true lowers loss is = absurd cc
-gained_from true false false true loss is = absurd cc
-gained_from true false false false true is = absurd cc
-gained_from true false false false false is = (refl, refl, refl)
+gained_from false idle left lowers fails loss is = absurd cc
+gained_from true true left lowers fails loss is = absurd cc
+gained_from true false true lowers fails loss is = absurd cc
+gained_from true false false true fails loss is = absurd cc
+gained_from true false false false true loss is = absurd cc
+gained_from true false false false false true is = absurd cc
+gained_from true false false false false false is = (refl, refl, refl)
 
 begun_from : (rest : Bool) → (if not rest then AnyPast else Gained) ≡ Gained → rest ≡ true
 begun_from false is = absurd cc
@@ -317,6 +360,20 @@ pub first_sound : (n : NetworkState) (now : List Timed)
 first_sound n now =
     let v = view_at n [] now None 0 in
     begun_sound (is_from_rest v.longest v.at v.paths_before v.paths v.told v.before)
+
+-- and roles do then
+begun_roles : (n : NetworkState) (paths : SyncPaths) (gained : ℕ) (rest : Bool)
+    → roles_by n paths (if not rest then AnyPast else Gained) gained
+    ≡ choice_by n paths (if not rest then AnyPast else Gained) gained
+begun_roles n paths gained true = refl
+begun_roles n paths gained false = refl
+
+pub first_roles : (n : NetworkState) (now : List Timed) (paths : SyncPaths) (gained : ℕ)
+    → roles_by n paths (row_at (view_at n [] now None 0)) gained
+    ≡ choice_by n paths (row_at (view_at n [] now None 0)) gained
+first_roles n now paths gained =
+    let v = view_at n [] now None 0 in
+    begun_roles n paths gained (is_from_rest v.longest v.at v.paths_before v.paths v.told v.before)
 
 -- ---- later
 
@@ -483,7 +540,8 @@ module _ (n : NetworkState) (network : IsNetwork n) (events : List Timed) (b : S
       let (from, which) =
       unchanged_from (is_from_rest v.longest at v.paths_before v.paths v.told (Some b))
       (list_all makes_nothing v.told || begins_wider v.told) (are_losses_followed v.paths_before v.told && not v.moved)
-      (is_lowering_followed v.paths_before v.paths v.told && not v.moved) (list_any is_loss v.told) row in
+      (is_lowering_followed v.paths_before v.paths v.told && not v.moved)
+      (is_failing_followed v.paths_before v.paths v.told && not v.moved && v.far) (list_any is_loss v.told) row in
       let facts = from_rest from in (
         facts.rested,
         elim which [
@@ -521,7 +579,8 @@ module _ (n : NetworkState) (network : IsNetwork n) (events : List Timed) (b : S
       let (from, none, which) =
       gained_from (is_from_rest v.longest at v.paths_before v.paths v.told (Some b))
       (list_all makes_nothing v.told || begins_wider v.told) (are_losses_followed v.paths_before v.told && not v.moved)
-      (is_lowering_followed v.paths_before v.paths v.told && not v.moved) (list_any is_loss v.told) row in
+      (is_lowering_followed v.paths_before v.paths v.told && not v.moved)
+      (is_failing_followed v.paths_before v.paths v.told && not v.moved && v.far) (list_any is_loss v.told) row in
       let facts = from_rest from in
       let (some, narrow) = or_parts (list_all makes_nothing v.told) (begins_wider v.told) which in (
         facts.rested,
@@ -565,22 +624,49 @@ module _ (n : NetworkState) (network : IsNetwork n) (events : List Timed) (b : S
         refl,
       )
 
-  -- what stands goes on, as a link goes down by the one event and no system is moved
-  pub lowered : AreWell n (made ++ now) → row_at v ≡ Lowered → HasComeToRest b at × LowersOneLink n made now
-  lowered well row =
+  -- what the test of paths says
+  keeps_so : keeps_paths v.paths_before v.paths ≡ true
+      → ((sync_paths n (made ++ now)).delay ≡ (sync_paths n made).delay)
+      × ((sync_paths n (made ++ now)).systems ≤ (sync_paths n made).systems)
+      × ((sync_paths n made).systems ≤ 255)
+  keeps_so keeps =
       let few_test : Bool = nat_le v.paths_before.systems 255 in
       let delay_test : Bool = v.paths.delay == v.paths_before.delay in
       let paths_test : Bool = nat_le v.paths.systems v.paths_before.systems in
+      let (two, paths) = and_parts (few_test && delay_test) paths_test keeps in
+      let (few, delay) = and_parts few_test delay_test two in (
+        eqb-true v.paths.delay v.paths_before.delay delay,
+        at_most v.paths.systems v.paths_before.systems paths,
+        at_most v.paths_before.systems 255 few,
+      )
+
+  -- what stands goes on, as a link goes down by the one event and no system is moved
+  pub lowered : AreWell n (made ++ now) → row_at v ≡ Lowered → HasComeToRest b at × LowersOneLink n made now
+  lowered well row =
       let (from, lowers) =
       lowered_from (is_from_rest v.longest at v.paths_before v.paths v.told (Some b))
       (list_all makes_nothing v.told || begins_wider v.told) (are_losses_followed v.paths_before v.told && not v.moved)
-      (is_lowering_followed v.paths_before v.paths v.told && not v.moved) (list_any is_loss v.told) row in
+      (is_lowering_followed v.paths_before v.paths v.told && not v.moved)
+      (is_failing_followed v.paths_before v.paths v.told && not v.moved && v.far) (list_any is_loss v.told) row in
       let (followed, none) = and_parts (is_lowering_followed v.paths_before v.paths v.told) (not v.moved) lowers in
-      let (three, one) = and_parts (few_test && delay_test && paths_test) (lowers_one v.told) followed in
-      let (two, paths) = and_parts (few_test && delay_test) paths_test three in
-      let (few, delay) = and_parts few_test delay_test two in (
+      let (keeps, one) = and_parts (keeps_paths v.paths_before v.paths) (lowers_one v.told) followed in
+      let (delay, paths, few) = keeps_so keeps in (
         (from_rest from).rested,
-        lowers_one_link n network made now well (not-true v.moved none)
-            (eqb-true v.paths.delay v.paths_before.delay delay)
-            (at_most v.paths.systems v.paths_before.systems paths) (at_most v.paths_before.systems 255 few) one,
+        lowers_one_link n network made now well (not-true v.moved none) delay paths few one,
+      )
+
+  -- or a system fails that is a far end
+  pub failed : AreWell n (made ++ now) → row_at v ≡ FailedEnd → HasComeToRest b at × FailsOneEnd n made now
+  failed well row =
+      let (from, fails) =
+      failed_from (is_from_rest v.longest at v.paths_before v.paths v.told (Some b))
+      (list_all makes_nothing v.told || begins_wider v.told) (are_losses_followed v.paths_before v.told && not v.moved)
+      (is_lowering_followed v.paths_before v.paths v.told && not v.moved)
+      (is_failing_followed v.paths_before v.paths v.told && not v.moved && v.far) (list_any is_loss v.told) row in
+      let (two, far) = and_parts (is_failing_followed v.paths_before v.paths v.told && not v.moved) v.far fails in
+      let (followed, none) = and_parts (is_failing_followed v.paths_before v.paths v.told) (not v.moved) two in
+      let (keeps, one) = and_parts (keeps_paths v.paths_before v.paths) (fails_one v.told) followed in
+      let (delay, paths, few) = keeps_so keeps in (
+        (from_rest from).rested,
+        fails_one_end n network made now well (not-true v.moved none) delay paths few one far,
       )

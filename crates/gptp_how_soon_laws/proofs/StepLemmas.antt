@@ -14,6 +14,7 @@ use Rattle.gptp_invariants.specs.WorldStanding.{snapshot_of}
 use Rattle.gptp_invariants.proofs.ChoiceCalmKeptLemmas.{acts_keep, KeepsNetwork, same_snapshot}
 use Rattle.gptp_theorem.specs.PlayedLaws.{IsPlayable}
 use Rattle.gptp_settling_time.specs.HowSoon.{IsChoiceBound, NoneBetween}
+use Rattle.gptp_settling_time.specs.InTurn.{SettlesAfter}
 use Rattle.gptp_settling_time.proofs.DocumentLemmas.{run_to}
 use Rattle.gptp_settling_time.proofs.FollowedLemmas.{bound_settles}
 use Rattle.gptp_settling_time.proofs.InTurnLemmas.{after_keeps, passed_in_turn}
@@ -49,7 +50,7 @@ module _ {F : Type 0} (answers : Bounds → ℕ → F → Option ℕ → F → T
       let later : last_change events < now =
       subst (λ es. last_change es < now) (sym same) (omega (arith, last, late)) in
       let run = run_to answers d until fate first w ts t playable k member in
-      let steps = passed_in_turn answers d now settled fate first run.w run.ts playable run.unfolds is in
+      let steps = passed_in_turn answers SettlesAfter d now settled fate first run.w run.ts playable run.unfolds is in
       let step = steps.each t run.member later in
       let network =
       acts_keep t.told.timed.act (at now t.before) step.was.draws t.told.done t.after step.none step.was.acts in

@@ -7,4 +7,5 @@ mod BetterLemmas
 mod BackLemmas
 mod EarlyLemmas
 mod RingLemmas
+mod FarLemmas
 mod AgeLemmas

@@ -13,17 +13,17 @@ use Rattle.gptp_scenario.specs.declared.network.LinkSpec.{LinkSpec}
 use Rattle.gptp_scenario.specs.declared.sync_wait.SyncPaths.{SyncPaths}
 use Rattle.gptp_invariants.specs.WorldEncodableLaws.{SetsAnOctet}
 use Rattle.gptp_theorem.specs.PlayedLaws.{IsPlayable}
-use Rattle.gptp_settling_time.specs.HowSoon.{IsChoiceBound, two_exchanges, way_span}
+use Rattle.gptp_settling_time.specs.HowSoon.{BoundsChoice, BoundsStart, IsChoiceBound, two_exchanges, way_span}
 use Rattle.gptp_network_tests.specs.Pair.{pair_pace}
 use Rattle.gptp_network_tests.specs.Ring.{ring_document, ring_network, ring_paths}
 use Rattle.gptp_settling_time.specs.Starts.{LinksVaryLittle}
 use Rattle.gptp_settling_time.proofs.ClaimedToLemmas.{used_vary}
 
-pace_is : pace_of ring_network ≡ pair_pace
+pub pace_is : pace_of ring_network ≡ pair_pace
 unfolding largest_of
 pace_is = refl
 
-paths_are : sync_paths ring_network [] ≡ ring_paths
+pub paths_are : sync_paths ring_network [] ≡ ring_paths
 unfolding path_systems
 paths_are = refl
 
@@ -42,16 +42,11 @@ little v (inr (inr (inr (inl same)))) =
     subst (λ (x : LinkSpec). x.bounds.max < 2 * x.bounds.min) (sym same) (omega arith)
 little v (inr (inr (inr (inr none)))) = absurd none
 
-pub ring_bound : IsChoiceBound ring_document 0 1000003050
-ring_bound = (
-  [],
-  inl (
-    refl,
-    (
-      record { links = links_rest; lapses = inl refl },
-      inr (refl, inr (tt, (1000001820, inl ready, inl (used_vary ring_network [] little, is)))),
-    ),
-  ),
+-- by two exchanges and the delays of three links after it began
+pub ring_begun : BoundsChoice ring_network (BoundsStart ring_network [] 1000003050) [] 1000003050
+ring_begun = (
+  record { links = links_rest; lapses = inl refl },
+  inr (refl, inr (tt, (1000001820, inl ready, inl (used_vary ring_network [] little, is)))),
 )
   where
     ready : 1000001820 ≡ two_exchanges (pace_of ring_network) (sync_paths ring_network [])
@@ -61,6 +56,9 @@ ring_bound = (
 
     is : 1000003050 ≡ 1000001820 + way_span (sync_paths ring_network [])
     is = subst (λ (x : SyncPaths). 1000003050 ≡ 1000001820 + way_span x) (sym paths_are) refl
+
+pub ring_bound : IsChoiceBound ring_document 0 1000003050
+ring_bound = ([], inl (refl, ring_begun))
 
 pub ring_playable : IsNetwork ring_network → IsPlayable ring_document
 ring_playable network = record {

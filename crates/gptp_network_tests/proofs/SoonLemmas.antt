@@ -28,13 +28,13 @@ use Rattle.gptp_theorem.proofs.CalmLemmas.{pace_stands, quiet_stands}
 use Rattle.gptp_theorem.proofs.SyncPathLemmas.{paths_stand}
 use Rattle.gptp_bmca_machine.specs.Settled.{IsSlaveOf}
 use Rattle.gptp_setup.specs.SettlingParams.{SettlingParams}
-use Rattle.gptp_settling_time.specs.ChoiceBounds.{ChoiceBoundsHold}
-use Rattle.gptp_settling_time.specs.HowSoon.{IsChoiceBound, two_exchanges, way_span}
+use Rattle.gptp_settling_time.specs.ChoiceBounds.{ChoiceAloneBoundsHold, ChoiceBoundsHold}
+use Rattle.gptp_settling_time.specs.HowSoon.{IsChoiceAloneBound, IsChoiceBound, two_exchanges, way_span}
 use Rattle.gptp_settling_time.specs.Starts.{DelaysVaryLittle, LinksVaryLittle, StartsSettleAtOnce}
 use Rattle.gptp_settling_time.proofs.ClaimedToLemmas.{used_vary}
 use Rattle.gptp_system.specs.State.{clock}
 use Rattle.gptp_network_tests.specs.Pair.{HasBegun, IsPairAt, first_member, pair_document, pair_network, pair_pace, pair_snapshot, params}
-use Rattle.gptp_network_tests.specs.Soon.{IsPairSoon, SettlesWithin}
+use Rattle.gptp_network_tests.specs.Soon.{ChoosesWithin, IsPairSoon, SettlesWithin}
 use Rattle.gptp_network_tests.proofs.PairLemmas.{bounded, calm as is_calm, comes_to, lives, near, pace_is, paths_are, root_is, slave_is, steps_are}
 
 -- the frames of their link take 500 ns
@@ -138,3 +138,13 @@ settles_within answers theorem d playable time choice bound next until fate star
     let both =
     theorem d time choice next until fate start w ts t (playable network) unfolds member bound none late early in
     both.0.settled
+
+-- and its choice stands within its bound of the choice alone
+pub chooses_within : {F : Type 0} (answers : Bounds → ℕ → F → Option ℕ → F → Type 0) → ChoiceAloneBoundsHold answers
+    → (d : DocumentState) → (IsNetwork d.network → IsPlayable d) → (time choice : ℕ) → IsChoiceAloneBound d time choice
+    → ChoosesWithin answers d time choice
+chooses_within answers theorem d playable time choice bound next until fate start w ts t network unfolds member none
+    late early =
+    let both =
+    theorem d time choice next until fate start w ts t (playable network) unfolds member bound none late early in
+    both.0.choice

@@ -1,9 +1,9 @@
--- The four bridges of examples/ring.toml: a link between two of them goes down at 30 s.
+-- The four bridges of examples/ring.toml: at 30 s a link between two of them goes down, or one fails.
 use Rattle.std.specs.Prelude.{ℕ, ℤ, pos, true, false, [], ◌∷◌}
 use Rattle.arrayvec.specs.ArrayVec.{ArrayVec}
 use Rattle.gptp_scenario.specs.Network.{NetworkState, member, wire}
 use Rattle.gptp_scenario.specs.declared.change.Act.TheVariants.{Change as Changing}
-use Rattle.gptp_scenario.specs.declared.change.Change.TheVariants.{LinkDown}
+use Rattle.gptp_scenario.specs.declared.change.Change.TheVariants.{Fail, LinkDown}
 use Rattle.gptp_scenario.specs.declared.network.LinkSpec.{LinkSpec}
 use Rattle.gptp_scenario.specs.declared.network.SystemSpec.{SystemSpec}
 use Rattle.gptp_scenario.specs.declared.sync_wait.SyncPaths.{SyncPaths}
@@ -44,6 +44,13 @@ abbrev pub ring_document : DocumentState
 ring_document = record {
   network = ring_network;
   events = record { at = 30000000000; act = Changing (LinkDown 0x80e1fffe00000a 1) } ∷ [];
+}
+
+-- the bridge fails that is farthest from the root: it is the far end of both its links
+abbrev pub far_document : DocumentState
+far_document = record {
+  network = ring_network;
+  events = record { at = 30000000000; act = Changing (Fail 0x80e1fffe00000c) } ∷ [];
 }
 
 abbrev pub ring_paths : SyncPaths

@@ -10,6 +10,7 @@ use Rattle.gptp_scenario.specs.declared.change.Change.TheVariants.{LinkDown, Lin
 use Rattle.gptp_network.specs.Document.{DocumentState}
 use Rattle.gptp_theorem.specs.Headline.{IsSettled}
 use Rattle.gptp_report.specs.Transitions.{ActTrace, Unfolds}
+use Rattle.gptp_settling_time.specs.ChoiceAlone.{ChoiceStands}
 use Rattle.gptp_settling_time.specs.HowSoon.{NoneBetween}
 use Rattle.gptp_network_tests.specs.Pair.{IsPairAt, pair_network}
 
@@ -27,6 +28,14 @@ SettlesWithin {F} answers d time span = (next until : ℕ) (fate : F) (start w :
     → IsNetwork d.network → Unfolds answers d until fate start ts w → In t ts → NoneBetween d.events time next
     → time + span < t.told.timed.at → t.told.timed.at < next
     → IsSettled t.after
+
+-- So it leaves one in which the choice stands.
+abbrev pub ChoosesWithin : {F : Type 0} → (Bounds → ℕ → F → Option ℕ → F → Type 0) → DocumentState → ℕ → ℕ → Type 0
+ChoosesWithin {F} answers d time span = (next until : ℕ) (fate : F) (start w : WorldState) (ts : List ActTrace)
+    (t : ActTrace)
+    → IsNetwork d.network → Unfolds answers d until fate start ts w → In t ts → NoneBetween d.events time next
+    → time + span < t.told.timed.at → t.told.timed.at < next
+    → ChoiceStands t.after
 
 -- their document in which the second gets a better priority1 at 2 s, and with it the better identity
 abbrev pub better_document : DocumentState

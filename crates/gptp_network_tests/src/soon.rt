@@ -3,12 +3,14 @@
 
 ghost use Rattle.std.specs.Prelude.{◌≡◌, IfOk, OnOk, Some};
 ghost use Rattle.gptp_network_tests.specs.Pair.{HasBegun, first_member, pair_document};
-ghost use Rattle.gptp_network_tests.specs.Ring.{ring_document};
-ghost use Rattle.gptp_network_tests.specs.Soon.{BetterClocksSettleSoon, IsPairSoon, SettlesWithin, back_document, early_document};
+ghost use Rattle.gptp_network_tests.specs.Ring.{far_document, ring_document};
+ghost use Rattle.gptp_network_tests.specs.Soon.{BetterClocksSettleSoon, ChoosesWithin, IsPairSoon, SettlesWithin, back_document, early_document};
 
 use crate::drawn::begun;
 use gptp_links::Fate;
-use gptp_settling_time::{choice_bounds_hold, documents_settle_in_turn, starts_settle_at_once};
+use gptp_settling_time::{
+    choice_alone_bounds_hold, choice_bounds_hold, documents_settle_in_turn, starts_settle_at_once,
+};
 use gptp_vector::{ClockId, Identity};
 use gptp_world::{NetworkFault, World};
 use std::alloc::Global;
@@ -71,6 +73,16 @@ pub fn early_clocks_settle_soon<F: Fate>()
 pub fn rings_settle_soon<F: Fate>()
     ensures { SettlesWithin F.answers ring_document 0 1000003050 }
 {
+    choice_bounds_hold::<F>();
+}
+
+/// Where the bridge of the ring fails at 30 s that is farthest from the root, the choice stands at once. The roles do 14 s
+/// later: the nine responses that may be lost, and five announce intervals more.
+pub fn far_ends_settle_soon<F: Fate>()
+    ensures choice { ChoosesWithin F.answers far_document 30000000000 0 }
+    ensures roles { SettlesWithin F.answers far_document 30000000000 14000000000 }
+{
+    choice_alone_bounds_hold::<F>();
     choice_bounds_hold::<F>();
 }
 

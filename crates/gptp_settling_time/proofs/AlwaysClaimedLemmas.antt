@@ -4,7 +4,7 @@ use Rattle.gptp_lists.specs.Members.{In}
 use Rattle.gptp_lists.proofs.MappedLemmas.{alike, same_there, some_same}
 use Rattle.gptp_lists.proofs.SystemSpecLemmas.{In-map}
 use Rattle.gptp_graph.specs.PathBound.{BoundsPaths}
-use Rattle.gptp_graph.specs.Snapshot.{Joins, PortIdentity, port_of}
+use Rattle.gptp_graph.specs.Snapshot.{IsLinked, Joins, PortIdentity, port_of}
 use Rattle.gptp_vector.specs.declared.port.PortId.{PortId}
 use Rattle.gptp_links.specs.declared.link.Direction.{Direction}
 use Rattle.gptp_links.specs.declared.link.Direction.TheVariants.{FromA, FromB}
@@ -268,11 +268,8 @@ standing news = record { pace = news.pace; world = news.world; measured = news.m
 abbrev pub AreHeard : SettlingParams → ℕ → WorldState → Type 0
 AreHeard p start w = (at : LinkPlace) → LinkStandsAt at w → IsHeardAt p start at w
 
-module _ (p : SettlingParams) (start : ℕ) (w : WorldState) (news : IsStanding p start w) (heard : AreHeard p start w)
+module _ (p : SettlingParams) (start : ℕ) (w : WorldState) (world : IsWorld p w) (heard : AreHeard p start w)
     (quiet : HaveQuietLinks p.params w) where
-  world : IsWorld p w
-  world = news.world
-
   linked_capable : start ≤ w.time → (place : ℕ) (station : Station) → slice_get w.stations place ≡ Some station
       → (i : ℕ) (q : Port) (to : PortIdentity) → slice_get station.system.ports i ≡ Some q
       → (joins : Joins (snapshot_of w) (port_identity_number (own station.system (suc i))) to)
@@ -300,6 +297,30 @@ module _ (p : SettlingParams) (start : ℕ) (w : WorldState) (news : IsStanding 
       ∙ there in
       ap (λ (y : Port). is_capable y.peer) (sym (some_same asking.state q found)) ∙ heard_on p start at w world x late
 
+  -- so they are on
+  pub linked_on : start ≤ w.time → (place : ℕ) (s : SeenStation) (i : ℕ) (q : SeenPort)
+      → slice_get (view w).stations place ≡ Some s → slice_get s.ports i ≡ Some q
+      → IsLinked (snapshot_of w) (port_of s.clock (suc i)) → q.held ≢ Disabled
+  linked_on late place s i q here there (to, joins) off =
+      let at = station_from w.stations place s here in
+      let state = at.station.system in
+      let port = port_from (span_at state) state.held state.ports i q
+      (subst (λ (x : SeenStation). slice_get x.ports i ≡ Some q) at.is there) in
+      let shown = (world.sound.on_time.stations place at.station at.here).steady.shown.each i port.held port.port
+      port.held_there port.port_there in
+      let over : Joins (snapshot_of w) (port_identity_number (own state (suc i))) to =
+      subst (λ (x : SeenStation). Joins (snapshot_of w) (port_of x.clock (suc i)) to) at.is joins in
+      seen_on (span_at state) port.held
+      (shown.on
+      (linked_capable late place at.station at.here i port.port to port.port_there over
+      (way_of w (port_identity_number (own state (suc i))) to over)))
+      (sym (ap (λ (x : SeenPort). x.held) port.is) ∙ off)
+
+module _ (p : SettlingParams) (start : ℕ) (w : WorldState) (news : IsStanding p start w) (heard : AreHeard p start w)
+    (quiet : HaveQuietLinks p.params w) where
+  world : IsWorld p w
+  world = news.world
+
   are_capable : AreCapableFrom start w
   are_capable late place station here lives i h q stands there =
       let shown = (world.sound.on_time.stations place station here).steady.shown in
@@ -307,7 +328,7 @@ module _ (p : SettlingParams) (start : ℕ) (w : WorldState) (news : IsStanding 
         capable = λ linked.
             let (to, joins) = linked in
             (shown.each i h q stands there).on
-            (linked_capable late place station here i q to there joins
+            (linked_capable p start w world heard quiet late place station here i q to there joins
             (way_of w (port_identity_number (own station.system (suc i))) to joins));
         unlinked = λ none. elim (linked_or_off p w world
             (silent_off p start w news.pace world news.silent late) place station here lives i q there) [

@@ -10,14 +10,14 @@ use Rattle.gptp_network.specs.Document.{DocumentState}
 use Rattle.gptp_network.specs.Snapshot.{events_by}
 use Rattle.gptp_report.specs.Transitions.{ActTrace, Unfolds}
 use Rattle.gptp_theorem.specs.PlayedLaws.{IsPlayable}
-use Rattle.gptp_settling_time.specs.ChoiceBounds.{ChoiceBoundsAreExact, ChoiceBoundsHold}
+use Rattle.gptp_settling_time.specs.ChoiceBounds.{ChoiceAloneBoundsHold, ChoiceBoundsAreExact, ChoiceBoundsHold}
 use Rattle.gptp_settling_time.specs.ExactInTurn.{last_set}
 use Rattle.gptp_settling_time.specs.HowSoon.{IsChoiceBound, NoneBetween}
 use Rattle.gptp_settling_time.proofs.ExactInTurnLemmas.{acts_are_carried_in_turn, acts_are_exact_in_turn, IsCarried}
-use Rattle.gptp_settling_time.proofs.FollowedLemmas.{bound_settles}
-use Rattle.gptp_settling_time.proofs.InTurnLemmas.{acts_find_settled_in_turn}
+use Rattle.gptp_settling_time.proofs.FollowedLemmas.{bound_chooses, bound_settles}
+use Rattle.gptp_settling_time.proofs.InTurnLemmas.{acts_find_choice_in_turn, acts_find_settled_in_turn}
 use Rattle.gptp_settling_time.proofs.MomentLemmas.{last_by, none_later}
-use Rattle.gptp_settling_time.proofs.UnchangedLemmas.{acts_leave_shown}
+use Rattle.gptp_settling_time.proofs.UnchangedLemmas.{acts_leave_choice, acts_leave_shown}
 
 pub choice_bounds_hold : {F : Type 0} (answers : Bounds → ℕ → F → Option ℕ → F → Type 0) → ChoiceBoundsHold answers
 choice_bounds_hold answers d time choice next until fate first w ts t playable k member bound none late early =
@@ -29,6 +29,19 @@ choice_bounds_hold answers d time choice next until fate first w ts t playable k
     subst (λ es. last_change es < at) (sym same) (omega (arith, last, late)) in (
       acts_find_settled_in_turn answers d until at fate first w ts t playable k member settles (omega arith) later,
       acts_leave_shown answers d until fate first w ts t playable k member settles later,
+    )
+
+pub choice_alone_bounds_hold : {F : Type 0} (answers : Bounds → ℕ → F → Option ℕ → F → Type 0)
+    → ChoiceAloneBoundsHold answers
+choice_alone_bounds_hold answers d time choice next until fate first w ts t playable k member bound none late early =
+    let at = t.told.timed.at in
+    let same = none_later d.events time at next (omega (arith, late)) early none in
+    let chooses = bound_chooses d playable.network playable.events.in_order time choice at at same late bound in
+    let last = last_by time d.events in
+    let later : last_change (events_by at d.events) < at =
+    subst (λ es. last_change es < at) (sym same) (omega (arith, last, late)) in (
+      acts_find_choice_in_turn answers d until at fate first w ts t playable k member chooses (omega arith) later,
+      acts_leave_choice answers d until fate first w ts t playable k member chooses later,
     )
 
 pub choice_bounds_are_exact : {F : Type 0} (answers : Bounds → ℕ → F → Option ℕ → F → Type 0)

@@ -86,8 +86,9 @@ module _ (d : DocumentState) (playable : IsPlayable d) (all : List Timed) (calm 
       by (inr (short, late)) = omega (arith, late, on)
   have_measured (Heard start) w so (off, late) links on =
       news_measured p start w so.since.news links (omega (arith, late, on))
-  have_measured (Left start) w so (off, late) links on =
-      left_measured p so.before start w so.since links (omega (arith, late, on))
+  have_measured (Left silent) w so settles links on =
+      let change = (after_keeps d all (Left silent) w so).stands.last in
+      left_measured p so.before silent w so.since links (omega (arith, behind, on, change))
 
   settled_from : (w : WorldState) → IsAfter d all last w → whole ≤ w.time → w.time ≤ 10 ^ 18
       → IsSettledFrom p whole p.params.threshold (seen w)

@@ -1,8 +1,8 @@
 -- A choice bound of a time gives what the network came from then, and when it has settled by that.
-use Rattle.std.proofs.Common.{◌≡◌, ◌⊎◌, inl, inr, ◌<◌, ◌≤◌, ◌+◌, ◌-◌, ◌*◌, ℕ, zero, suc, pred, List, [], ◌∷◌, ◌++◌, refl, sym, subst, ◌∙◌, append_assoc, append-nil, arith}
+use Rattle.std.proofs.Common.{◌≡◌, ◌⊎◌, inl, inr, ◌<◌, ◌≤◌, ◌+◌, ◌-◌, ◌*◌, ℕ, suc, pred, List, [], ◌∷◌, ◌++◌, refl, sym, subst, ◌∙◌, append_assoc, append-nil, arith}
 use Rattle.std.specs.Prelude.{max}
 use Rattle.std.specs.List.{AllByRecursion}
-use Rattle.std.proofs.Math.Nat.{le-max_left, le-max_right, mul-le-mul_right}
+use Rattle.std.proofs.Math.Nat.{le-max_left, le-max_right}
 use Rattle.gptp_setup.specs.SettlingParams.{largest_interval, longest_span}
 use Rattle.gptp_scenario.specs.Calm.{IsCalm, NothingLapses, last_change}
 use Rattle.gptp_scenario.specs.Network.{IsNetwork, NetworkState, pace_of}
@@ -17,8 +17,8 @@ use Rattle.gptp_scenario.specs.declared.sync_wait.SyncPaths.{SyncPaths}
 use Rattle.gptp_network.specs.Document.{DocumentState}
 use Rattle.gptp_network.specs.Events.{AreInOrder}
 use Rattle.gptp_network.specs.Snapshot.{events_by}
-use Rattle.gptp_settling_time.specs.HowSoon.{AfterIdleEvents, AreGainEvents, AreHeardEvents, AreReadyAtStart, AreStartEvents, BoundsEvents, BoundsStart, EachEvent, IsChoiceBound, IsChoiceBoundAfter, IsGainEvent, IsGainToo, IsHeardEvent, IsHeardToo, IsIdleEvent, IsLossBoundAfter, IsStillEvent, LowersOneLink, TurnsUnused, events_at, way_span, AreWiderEvents}
-use Rattle.gptp_settling_time.specs.InTurn.{AnyPast, AreCapableSoon, BeginsBy, EventLeads, Gained, HasSettledAnyhow, HasSettledHeard, HasSettledSince, Heard, LeadOn, LeavesSettled, Left, LowersCalm, MakesNothing, Past, SettlesAfter, SettlesByEvents, Starting, StartsWith, TellsNothing, TurnsInVain, UsedVaryLittle, WidensLink}
+use Rattle.gptp_settling_time.specs.HowSoon.{AfterIdleEvents, AreGainEvents, AreHeardEvents, AreReadyAtStart, AreStartEvents, BoundsEvents, BoundsStart, EachEvent, FailsOneEnd, IsChoiceAloneBound, IsChoiceBound, IsChoiceBoundAfter, IsGainEvent, IsGainToo, IsHeardEvent, IsHeardToo, IsIdleEvent, IsLossBoundAfter, IsStillEvent, LowersOneLink, TurnsUnused, events_at, way_span, AreWiderEvents}
+use Rattle.gptp_settling_time.specs.InTurn.{AnyPast, AreCapableSoon, BeginsBy, ChoosesAfter, ChoosesByEvents, ComesByEvents, EventLeads, FailsCalm, Gained, HasSettledAnyhow, HasSettledHeard, HasSettledSince, Heard, LeadOn, LeavesSettled, Left, LowersCalm, MakesNothing, Past, SettlesAfter, SettlesByEvents, Starting, StartsWith, TellsNothing, TurnsInVain, UsedVaryLittle, WidensLink}
 use Rattle.gptp_settling_time.specs.Losses.{LeavesChoice}
 use Rattle.gptp_settling_time.proofs.CutLemmas.{IsBy, all_by}
 use Rattle.gptp_settling_time.proofs.MadeLemmas.{adds_later}
@@ -539,39 +539,117 @@ module _ (n : NetworkState) (network : IsNetwork n) (off : NothingLapses n.param
 
 -- ---- a loss
 
-module _ (n : NetworkState) (made : List Timed) (event : Timed) where
-  -- a link goes down by which no system is moved: the network is left so that its choice stands
-  record IsLowered (past : Past) : Type 0 where
-    start : ℕ
-    leads : EventLeads n made past event (Left start)
-    over : start + way_span (sync_paths n made) ≤ event.at
+module _ (n : NetworkState) (made : List Timed) (event : Timed) (roles : ℕ) where
+  -- after a loss by which no system is moved the network is left so that its choice stands
+  record IsLeftBy (past : Past) : Type 0 where
+    silent : ℕ
+    leads : EventLeads n made past event (Left silent)
+    over : silent ≤ event.at + roles
 
-  lowers_leads : (past : Past) → HasSettled n made past event.at → LowersCalm n made event → IsLowered past
-  lowers_leads AnyPast settled lowers =
+  abbrev LosesCalm : Type 0
+  LosesCalm = (LowersCalm n made event × (roles ≡ 0))
+      ⊎ (FailsCalm n made event × (roles ≡ capability_span (pace_of n)))
+
+  loss_leads : (past : Past) → HasSettled n made past event.at → LosesCalm → IsLeftBy past
+  loss_leads AnyPast settled (inl (lowers, none)) =
       let passed = settled.passed in
       let over = le-max_left (capability_span (pace_of n)) (2 * largest_interval (pace_of n)
       + (sync_paths n made).systems * (longest_span (pace_of n) + (sync_paths n made).delay)) in
       record {
-        start = last_change made + capability_span (pace_of n);
-        leads = (settled, lowers, refl);
+        silent = last_change made + capability_span (pace_of n);
+        leads = (settled, inl (lowers, refl));
         over = omega (arith, passed, over);
       }
-  lowers_leads Starting settled lowers = absurd settled
-  lowers_leads (Gained start) settled lowers =
-      record { start = start; leads = (settled, lowers, refl); over = omega (arith, settled) }
-  lowers_leads (Heard start) settled lowers =
-      record { start = start; leads = (settled, lowers, refl); over = settled }
-  lowers_leads (Left start) settled lowers = absurd settled
+  loss_leads AnyPast settled (inr (fails, is)) = record {
+    silent = event.at + capability_span (pace_of n);
+    leads = (settled, inr (fails, refl));
+    over = omega (arith, is);
+  }
+  loss_leads Starting settled loses = absurd settled
+  loss_leads (Gained start) settled (inl (lowers, none)) =
+      record { silent = start; leads = (settled, inl (lowers, refl)); over = omega (arith, settled) }
+  loss_leads (Gained start) settled (inr (fails, is)) = record {
+    silent = event.at + capability_span (pace_of n);
+    leads = (settled, inr (fails, refl));
+    over = omega (arith, is);
+  }
+  loss_leads (Heard start) settled (inl (lowers, none)) =
+      record { silent = start; leads = (settled, inl (lowers, refl)); over = omega (arith, settled) }
+  loss_leads (Heard start) settled (inr (fails, is)) = record {
+    silent = event.at + capability_span (pace_of n);
+    leads = (settled, inr (fails, refl));
+    over = omega (arith, is);
+  }
+  loss_leads (Left silent) settled loses = absurd settled
 
--- the way that is left is no longer
-less_way : (systems fewer delay same : ℕ) → fewer ≤ systems → same ≡ delay → pred fewer * same ≤ pred systems * delay
-less_way systems fewer delay same few is =
-    subst (λ d. pred fewer * d ≤ pred systems * delay) (sym is) (mul-le-mul_right delay (by fewer systems few))
+-- what settles has its choice
+settles_chooses : (n : NetworkState) (events : List Timed) (past : Past) (settled : ℕ)
+    → SettlesAfter n events past settled → ChoosesAfter n events past settled
+settles_chooses n events AnyPast settled is = is
+settles_chooses n events Starting settled is = is
+settles_chooses n events (Gained start) settled is = is
+settles_chooses n events (Heard start) settled is = is
+settles_chooses n events (Left silent) settled (off, late) = off
+
+-- The times of a document up to this one lead to a loss, after which roles stand so much later.
+module _ (d : DocumentState) (network : IsNetwork d.network) (order : AreInOrder d.events) (time choice roles : ℕ)
   where
-    by : (a b : ℕ) → a ≤ b → pred a ≤ pred b
-    by zero b less = omega arith
-    by (suc a) zero less = absurd (omega (arith, less))
-    by (suc a) (suc b) less = omega (arith, less)
+    record IsLost : Type 0 where
+      first : Past
+      begins : BeginsBy d.network first
+      silent : ℕ
+      lead : LeadOn d.network [] first (events_by time d.events) (Left silent)
+      over : silent ≤ time + roles
+      calm : IsCalm d.network (events_by time d.events)
+      off : NothingLapses d.network.params
+
+    -- the one event of this time, by which network is left
+    abbrev LosesOne : List Timed → List Timed → Type 0
+    LosesOne made now = (LowersOneLink d.network made now × (roles ≡ 0))
+        ⊎ (FailsOneEnd d.network made now × (roles ≡ capability_span (pace_of d.network)))
+
+    lost_by : (last choice_then : ℕ) (now : List Timed) → NothingLapses d.network.params
+        → events_at time d.events ≡ now → events_by time d.events ≡ events_by last d.events ++ now
+        → IsCalm d.network (events_by last d.events) → IsCalm d.network (events_by time d.events)
+        → IsFollowedTo d.network (events_by last d.events) last choice_then → last + choice_then < time
+        → LosesOne (events_by last d.events) now → IsLost
+    lost_by last choice_then [] off is parts calm_then calm before soon loses =
+        elim loses [ inl none ↦ absurd none.0 | inr none ↦ absurd none.0 ]
+    lost_by last choice_then (event ∷ other ∷ now) off is parts calm_then calm before soon loses =
+        elim loses [ inl none ↦ absurd none.0 | inr none ↦ absurd none.0 ]
+    lost_by last choice_then (event ∷ []) off is parts calm_then calm before soon loses =
+        let n = d.network in
+        let earlier = events_by last d.events in
+        let here : event.at ≡ time =
+        (subst (AllByRecursion (λ (t : Timed). t.at ≡ time)) is (all_at time d.events)).0 in
+        let then = settled_later n earlier before.last (suc (last + choice_then)) event.at (omega (arith, soon, here))
+        before.settles in
+        let x = loss_leads n earlier event roles before.last then (elim loses [
+          | inl (lowers, none) ↦ inl (record { lowers = lowers; calm = calm_then; off = off }, none)
+          | inr (fails, span) ↦ inr (record { fails = fails; calm = calm_then; off = off }, span)
+        ]) in
+        let over = x.over in
+        record {
+          first = before.first;
+          begins = before.begins;
+          silent = x.silent;
+          lead = subst (λ es. LeadOn n [] before.first es (Left x.silent)) (sym parts)
+              (leads_on n [] before.first before.last (Left x.silent) earlier (event ∷ []) before.lead
+              (Left x.silent, x.leads, refl));
+          over = omega (arith, over, here);
+          calm = calm;
+          off = off;
+        }
+
+    lost_after : (earlier : List ℕ) → IsLossBoundAfter d.network d.events earlier time choice roles
+        → IsLost × (choice ≡ 0)
+    lost_after [] none = absurd none
+    lost_after (last ∷ earlier) (less, between, calm, off, (choice_then, bound, soon), none, loses) = (
+      lost_by last choice_then (events_at time d.events) off refl (parted d.events last time order less between)
+          (bound_calm d.network network off d.events order earlier last choice_then bound) calm
+          (followed d.network network off d.events order earlier last choice_then bound) soon loses,
+      none,
+    )
 
 -- A choice bound of a document at a time: by then it settles after all events up to any time before the next.
 module _ (d : DocumentState) (network : IsNetwork d.network) (order : AreInOrder d.events)
@@ -583,27 +661,27 @@ module _ (d : DocumentState) (network : IsNetwork d.network) (order : AreInOrder
   abbrev made : List Timed
   made = events_by time d.events
 
-  settles_so : (first last : Past) → BeginsBy n first → LeadOn n [] first made last → IsCalm n made
-      → SettlesAfter n made last settled → SettlesByEvents d until settled
-  settles_so first last begins lead calm settles = record {
+  comes_so : (So : NetworkState → List Timed → Past → ℕ → Type 0) (first last : Past) → BeginsBy n first
+      → LeadOn n [] first made last → IsCalm n made → So n made last settled → ComesByEvents So d until settled
+  comes_so So first last begins lead calm settles = record {
     calm = subst (IsCalm n) (sym same) calm;
     first = first;
     begins = begins;
     last = last;
     lead = subst (λ es. LeadOn n [] first es last) (sym same) lead;
-    settles = subst (λ es. SettlesAfter n es last settled) (sym same) settles;
+    settles = subst (λ es. So n es last settled) (sym same) settles;
   }
 
   any_settles : IsCalm n made → choice ≡ settling_span_with (pace_of n) (sync_paths n made) (sync_paths n made).systems
       → SettlesByEvents d until settled
   any_settles calm is =
       let last = last_by time d.events in
-      settles_so AnyPast AnyPast tt (any_leads n [] made) calm (inr (omega (arith, last, is, late)))
+      comes_so SettlesAfter AnyPast AnyPast tt (any_leads n [] made) calm (inr (omega (arith, last, is, late)))
 
   follow_settles : IsCalm n made → NothingLapses n.params → IsFollowedTo n made time choice
       → SettlesByEvents d until settled
   follow_settles calm off so =
-      settles_so so.first so.last so.begins so.lead calm
+      comes_so SettlesAfter so.first so.last so.begins so.lead calm
       (settled_so n made so.last settled off
       (settled_later n made so.last (suc (time + choice)) settled late so.settles))
 
@@ -617,39 +695,24 @@ module _ (d : DocumentState) (network : IsNetwork d.network) (order : AreInOrder
       follow_settles calm off
       (followed n network off d.events order (last ∷ earlier) time choice (later, between, (calm, inr (off, rest))))
 
-  -- after a loss
-  loss_settles : (last choice_then : ℕ) (now : List Timed) → NothingLapses n.params
-      → events_at time d.events ≡ now → made ≡ events_by last d.events ++ now → IsCalm n (events_by last d.events)
-      → IsCalm n made → IsFollowedTo n (events_by last d.events) last choice_then → last + choice_then < time
-      → LowersOneLink n (events_by last d.events) now → SettlesByEvents d until settled
-  loss_settles last choice_then [] off is parts calm_then calm before soon none = absurd none
-  loss_settles last choice_then (event ∷ other ∷ now) off is parts calm_then calm before soon none = absurd none
-  loss_settles last choice_then (event ∷ []) off is parts calm_then calm before soon lowers =
-      let earlier = events_by last d.events in
-      let here : event.at ≡ time =
-      (subst (AllByRecursion (λ (t : Timed). t.at ≡ time)) is (all_at time d.events)).0 in
-      let then = settled_later n earlier before.last (suc (last + choice_then)) event.at (omega (arith, soon, here))
-      before.settles in
-      let x = lowers_leads n earlier event before.last then (record { lowers = lowers; calm = calm_then; off = off }) in
-      let way = less_way (sync_paths n earlier).systems (sync_paths n (earlier ++ event ∷ [])).systems
-      (sync_paths n earlier).delay (sync_paths n (earlier ++ event ∷ [])).delay lowers.paths lowers.delay in
-      let over = x.over in
-      settles_so before.first (Left x.start) before.begins
-      (subst (λ es. LeadOn n [] before.first es (Left x.start)) (sym parts)
-      (leads_on n [] before.first before.last (Left x.start) earlier (event ∷ []) before.lead
-      (Left x.start, x.leads, refl))) calm (
-        off,
-        subst (λ es. x.start + way_span (sync_paths n es) ≤ settled) (sym parts)
-            (omega (arith, over, way, here, late)),
-      )
-
-  lost_settles : (earlier : List ℕ) → IsLossBoundAfter n d.events earlier time choice → SettlesByEvents d until settled
-  lost_settles [] none = absurd none
-  lost_settles (last ∷ earlier) (less, between, calm, off, (choice_then, bound, soon), lowers, none) =
-      loss_settles last choice_then (events_at time d.events) off refl
-      (parted d.events last time order less between) (bound_calm n network off d.events order earlier last choice_then
-      bound) calm (followed n network off d.events order earlier last choice_then bound) soon lowers
-
   pub bound_settles : IsChoiceBound d time choice → SettlesByEvents d until settled
   bound_settles (earlier, inl bound) = settles_after earlier bound
-  bound_settles (earlier, inr lost) = lost_settles earlier lost
+  bound_settles (earlier, inr lost) =
+      let (x, none) = lost_after d network order time 0 choice earlier lost in
+      let over = x.over in
+      comes_so SettlesAfter x.first (Left x.silent) x.begins x.lead x.calm (x.off, omega (arith, over, late))
+
+  pub bound_chooses : IsChoiceAloneBound d time choice → ChoosesByEvents d until settled
+  bound_chooses (earlier, inl bound) =
+      let is = settles_after earlier bound in
+      record {
+        calm = is.calm;
+        first = is.first;
+        begins = is.begins;
+        last = is.last;
+        lead = is.lead;
+        settles = settles_chooses n (events_by until d.events) is.last settled is.settles;
+      }
+  bound_chooses (earlier, inr (roles, lost)) =
+      let (x, none) = lost_after d network order time choice roles earlier lost in
+      comes_so ChoosesAfter x.first (Left x.silent) x.begins x.lead x.calm x.off

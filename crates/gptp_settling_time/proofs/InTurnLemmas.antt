@@ -1,9 +1,9 @@
 -- Events lead a document from what its network came from to the next, and it settles by that.
-use Rattle.std.proofs.Common.{◌≡◌, inl, inr, ◌<◌, ◌≤◌, ◌+◌, ◌*◌, ℕ, suc, pred, List, [], ◌∷◌, ◌++◌, Option, refl, sym, ap, subst, ◌∙◌, append_assoc, append-nil, arith}
+use Rattle.std.proofs.Common.{◌≡◌, ◌⊎◌, inl, inr, ◌<◌, ◌≤◌, ◌+◌, ◌*◌, ℕ, suc, pred, List, [], ◌∷◌, ◌++◌, Option, refl, sym, ap, subst, ◌∙◌, append_assoc, append-nil, arith}
 use Rattle.std.specs.List.{AllByRecursion}
 use Rattle.gptp_lists.specs.Members.{In}
 use Rattle.gptp_graph.specs.PathBound.{BoundsPaths, path_bound}
-use Rattle.gptp_graph.specs.Snapshot.{clocks}
+use Rattle.gptp_graph.specs.Snapshot.{Link, Snapshot, clocks, port_of}
 use Rattle.gptp_graph.proofs.ExistenceLemmas.{distance_exists}
 use Rattle.gptp_graph.proofs.PathBoundLemmas.{IsDistance-within, paths_within}
 use Rattle.gptp_bmca_machine.specs.SoundLaws.{AllAreNear}
@@ -29,18 +29,19 @@ use Rattle.gptp_model.specs.Views.{IsNextAct}
 use Rattle.gptp_model.specs.World.{WorldState, port_id}
 use Rattle.gptp_world.specs.Transitions.{ActTrace}
 use Rattle.gptp_network.specs.Document.{DocumentState}
-use Rattle.gptp_network.specs.Snapshot.{events_by}
+use Rattle.gptp_network.specs.Snapshot.{StandsAfter, events_by}
 use Rattle.gptp_network.proofs.ExistenceLemmas.{stands_after}
 use Rattle.gptp_report.specs.Transitions.{Courses, Unfolds}
 use Rattle.gptp_invariants.specs.ChoiceCalm.{delay_in, sync_paths_of}
 use Rattle.gptp_invariants.specs.ChoiceSettled.{Settled}
+use Rattle.gptp_invariants.specs.ChoiceSettlesAsMachine.{IsWorld}
 use Rattle.gptp_invariants.specs.WorldBounded.{IsBoundedWorld}
 use Rattle.gptp_invariants.specs.WorldCalmFor.{IsCalmFor, at_once_span, span_over}
 use Rattle.gptp_invariants.specs.WorldNews.{AreReadyBy, AreSilentBy, IsNews}
 use Rattle.gptp_invariants.specs.WorldSound.{IsSoundWorld}
 use Rattle.gptp_invariants.specs.WorldStanding.{snapshot_of}
 use Rattle.gptp_invariants.proofs.WorldBoundedLemmas.{bounded_at_once, bounded_by_paths}
-use Rattle.gptp_invariants.proofs.WorldNewsActLemmas.{ready_later}
+use Rattle.gptp_invariants.proofs.WorldNewsActLemmas.{ready_later, unanswered_silent}
 use Rattle.gptp_invariants.proofs.WorldSettlingInvariantLemmas.{settled_at_once, settled_by_paths}
 use Rattle.gptp_invariants.proofs.WorldSoundLemmas.{sound_later}
 use Rattle.gptp_invariants.proofs.WorldStandsLemmas.{stands_well}
@@ -53,15 +54,17 @@ use Rattle.gptp_theorem.proofs.HeadlineLemmas.{is_settled}
 use Rattle.gptp_theorem.proofs.SettlingInvariantLemmas.{IsFitEvent, events_fit, events_made, least_of}
 use Rattle.gptp_theorem.proofs.SnapshotLemmas.{snapshots_stand}
 use Rattle.gptp_theorem.proofs.SyncPathLemmas.{paths_stand}
+use Rattle.gptp_settling_time.specs.ChoiceAlone.{ChoiceStands}
 use Rattle.gptp_settling_time.specs.Exactly.{SettlesBy}
 use Rattle.gptp_settling_time.specs.Gains.{ChangesNothing, IsIdleAfter, LeavesCapable, TakesNothing}
-use Rattle.gptp_settling_time.specs.InTurn.{ActsFindSettledInTurn, AddsHeard, AnyPast, BeginsBy, BettersClock, BringsUp, EventLeads, Gained, Heard, LeadOn, LeavesSettled, Left, LowersCalm, MakesNothing, Past, RecoversAlone, SettlesAfter, SettlesByEvents, Starting, TurnsInVain, WidensFrom}
-use Rattle.gptp_settling_time.specs.Losses.{IsUnmoved, MovesNone}
+use Rattle.gptp_settling_time.specs.InTurn.{ActsFindChoiceInTurn, ActsFindSettledInTurn, AddsHeard, AnyPast, BeginsBy, BettersClock, BringsUp, ChoosesAfter, ComesByEvents, EventLeads, FailsCalm, Gained, Heard, LeadOn, LeavesSettled, LeavesStanding, Left, LowersCalm, MakesNothing, Past, RecoversAlone, SettlesAfter, Starting, TurnsInVain, WidensFrom}
+use Rattle.gptp_settling_time.specs.Losses.{IsFarEnd, IsUnmoved, MovesNone}
 use Rattle.gptp_settling_time.proofs.AlwaysClaimedLemmas.{IsClaimedAlways, since_later}
 use Rattle.gptp_settling_time.proofs.BegunLemmas.{begun_keeps, begun_last, rested_sound}
 use Rattle.gptp_settling_time.proofs.ClaimedToLemmas.{IsClaimedTo, claimed_act, claimed_later, claimed_settled}
 use Rattle.gptp_settling_time.proofs.DocumentLemmas.{run_to}
 use Rattle.gptp_settling_time.proofs.GainLemmas.{better_lives, down_so, few_so, gain_so, idle_so, lives_so, unused_so, up_so, used_so, within_so}
+use Rattle.gptp_settling_time.proofs.FailedAloneLemmas.{failed_left}
 use Rattle.gptp_settling_time.proofs.FailedDownLemmas.{lowered_claimed, lowered_news}
 use Rattle.gptp_settling_time.proofs.FailedUpLemmas.{raised_claimed, raised_from}
 use Rattle.gptp_settling_time.proofs.HeardLemmas.{heard_on}
@@ -69,7 +72,7 @@ use Rattle.gptp_settling_time.proofs.IdleLemmas.{idle_still}
 use Rattle.gptp_settling_time.proofs.KeptToLemmas.{IsNewsTo, KeepsTo, keeps_act, keeps_later, news_act_to, news_later_to}
 use Rattle.gptp_settling_time.proofs.LaterLemmas.{AreSteps, steps_more}
 use Rattle.gptp_settling_time.proofs.LinkUpLemmas.{link_up_claimed}
-use Rattle.gptp_settling_time.proofs.LeftToLemmas.{IsLeftTo, left_to_act, left_to_later, left_to_settled}
+use Rattle.gptp_settling_time.proofs.LeftToLemmas.{IsLeftTo, left_to_act, left_to_chooses, left_to_later, left_to_settled, less_way}
 use Rattle.gptp_settling_time.proofs.LoweredLemmas.{act_left}
 use Rattle.gptp_settling_time.proofs.MadeLemmas.{adds_later, anyway_ready, had_failed, made_alone, made_keeps, made_known, made_last, made_time, news_news, rest_news, uses_none}
 use Rattle.gptp_settling_time.proofs.NewsClaimedLemmas.{news_claimed, news_on, news_settled}
@@ -78,7 +81,7 @@ use Rattle.gptp_settling_time.proofs.PassLemmas.{passes_to}
 use Rattle.gptp_settling_time.proofs.RecoverAloneLemmas.{recovered_claimed}
 use Rattle.gptp_settling_time.proofs.RestClaimedLemmas.{AreOn, rest_claimed, rest_on, rest_settled}
 use Rattle.gptp_settling_time.proofs.SettledClaimedLemmas.{settled_claimed}
-use Rattle.gptp_settling_time.proofs.SettledSeenLemmas.{HasSettledSeen, always_settled}
+use Rattle.gptp_settling_time.proofs.SettledSeenLemmas.{HasSettledSeen, IsSettledSeen, always_settled}
 use Rattle.gptp_settling_time.proofs.BetterClockLemmas.{better_claimed}
 use Rattle.gptp_settling_time.proofs.UnmovedLemmas.{unmoved_claimed}
 use Rattle.gptp_settling_time.proofs.WidenedLemmas.{widened_claimed}
@@ -344,6 +347,21 @@ module _ {F : Type 0} (answers : Bounds → ℕ → F → Option ℕ → F → T
             (unmoved.far far (alike_distance (snapshot_of then) g before v far was));
       }
 
+  -- what is the far end of its links in the network is so in the world
+  far_end : (number : ℕ) → ((g : Snapshot) → StandsAfter n made g → IsFarEnd g number)
+      → IsFarEnd (snapshot_of then) number
+  far_end number is_far u far near (m, q, joins) away close =
+      let (g, stands) = stands_after n made playable.network in
+      let (systems, links) = snapshots_stand n made then g keeps_then.stands keeps_then.claim.world.sound stands in
+      let alike : AreAlike (snapshot_of then) g = record { systems = systems; links = links } in
+      is_far g stands u far near (
+        m,
+        q,
+        subst (λ (ls : List Link). In (record { a = port_of number m; b = port_of u q }) ls
+            ⊎ In (record { a = port_of u q; b = port_of number m }) ls) links joins,
+      ) (alike_distance (snapshot_of then) g alike number far away)
+      (alike_distance (snapshot_of then) g alike u near close)
+
   -- what leaves a network as it stands, or its settled choice, leaves it settled
   pub left_settled : (start next : ℕ) (claim : IsClaimedAlways p start then) → AreOn p start then claim.heard
       → HasSettledSeen p then → LeavesSettled n made event next → AreReadyBy p next then → AreSilentBy p next then
@@ -390,29 +408,78 @@ module _ {F : Type 0} (answers : Bounds → ℕ → F → Option ℕ → F → T
             }) wide.later wide.past (sound_later w event.at sound) ready silent settled;
       }
 
-  -- a link goes down by which no system is moved
-  lowered_to : (start : ℕ) → IsSoundWorld then → AreReadyBy p start then → AreSilentBy p start then
-      → HasSettledSeen p then → start ≤ event.at → LowersCalm n made event → IsLeftTo d more start w'
-  lowered_to start sound ready silent settled past lowers =
-      let x = lowers.lowers in
-      let came : Acts (Changing (LinkDown x.clock x.port)) then k.draws done w' =
-      subst (λ act. Acts act then k.draws done w') x.act k.acts in
-      let world = keeps_then.claim.world in
-      let quiet = (quiet_stands n made then playable.network keeps_then.stands world.sound lowers.calm).links in
-      let delay : (sync_paths n more).delay ≡ delay_in w' =
-      ap (λ (y : SyncPaths). y.delay)
-      (paths_stand n more w' playable.network after.stands after.claim.world.sound) in
-      let before : (sync_paths n made).delay ≡ delay_in then = ap (λ (y : SyncPaths). y.delay) paths_then in
-      record {
-        keeps = after;
-        before = snapshot_of then;
-        since = act_left p start x.clock x.port then k.draws done w' keeps_then.claim.pace world after.claim.world
-            keeps_then.claim.measured after.claim.measured came
-            (up_so n made then keeps_then.stands (port_id x.clock x.port) (λ place v there end.
-            (x.used place v there end).up) came.1.place came.1.channel came.1.is)
-            (settled quiet lowers.off) (near_then x.few) (stays_unmoved x.moves) past
-            (sym delay ∙ x.delay ∙ before) sound ready silent;
-      }
+  -- ---- a loss by which no system is moved
+
+  module _ (start next : ℕ) (sound : IsSoundWorld then) (ready : AreReadyBy p start then)
+      (silent : AreSilentBy p start then) (settled : HasSettledSeen p then)
+      (over : start + pred (path_bound (snapshot_of then)) * delay_in then ≤ event.at) where
+    world_then : IsWorld p then
+    world_then = keeps_then.claim.world
+
+    seen_then : IsCalm n made → NothingLapses n.params → IsSettledSeen p then
+    seen_then calm off =
+        settled (quiet_stands n made then playable.network keeps_then.stands world_then.sound calm).links off
+
+    paths_after : sync_paths n more ≡ sync_paths_of w'
+    paths_after = paths_stand n more w' playable.network after.stands after.claim.world.sound
+
+    same_delay : (sync_paths n more).delay ≡ (sync_paths n made).delay → delay_in w' ≡ delay_in then
+    same_delay same =
+        sym (ap (λ (y : SyncPaths). y.delay) paths_after) ∙ same ∙ ap (λ (y : SyncPaths). y.delay) paths_then
+
+    -- the way that is left is no longer
+    way_over : (sync_paths n more).delay ≡ (sync_paths n made).delay
+        → (sync_paths n more).systems ≤ (sync_paths n made).systems
+        → pred (path_bound (snapshot_of w')) * delay_in w' ≤ w'.time
+    way_over same fewer =
+        let shorter : path_bound (snapshot_of w') ≤ path_bound (snapshot_of then) =
+        subst (λ (x : SyncPaths). path_bound (snapshot_of w') ≤ x.systems) paths_then
+        (subst (λ (x : SyncPaths). x.systems ≤ (sync_paths n made).systems) paths_after fewer) in
+        let less = less_way (path_bound (snapshot_of then)) (path_bound (snapshot_of w')) (delay_in then) (delay_in w')
+        shorter (same_delay same) in
+        let time = made_time answers d playable made event fate fate_after w w' done is fit k in
+        omega (arith, over, less, time)
+
+    -- a link goes down
+    lowered_to : LowersCalm n made event → IsLeftTo d more start w'
+    lowered_to lowers =
+        let x = lowers.lowers in
+        let came : Acts (Changing (LinkDown x.clock x.port)) then k.draws done w' =
+        subst (λ act. Acts act then k.draws done w') x.act k.acts in
+        record {
+          keeps = after;
+          before = snapshot_of then;
+          since = act_left p start x.clock x.port then k.draws done w' keeps_then.claim.pace world_then
+              after.claim.world keeps_then.claim.measured after.claim.measured came
+              (up_so n made then keeps_then.stands (port_id x.clock x.port) (λ place v there end.
+              (x.used place v there end).up) came.1.place came.1.channel came.1.is)
+              (seen_then lowers.calm lowers.off) (near_then x.few) (stays_unmoved x.moves) (omega (arith, over))
+              (same_delay x.delay) (way_over x.delay x.paths) sound ready silent;
+        }
+
+    -- a system fails that is the far end of its links
+    failed_to : FailsCalm n made event → next ≡ event.at + capability_span p → IsLeftTo d more next w'
+    failed_to fails same =
+        let x = fails.fails in
+        let came : Acts (Changing (Fail x.clock)) then k.draws done w' =
+        subst (λ act. Acts act then k.draws done w') x.act k.acts in
+        let last = made_last answers d playable made event fate fate_after w w' done is fit k in
+        let time = made_time answers d playable made event fate fate_after w w' done is fit k in
+        record {
+          keeps = after;
+          before = snapshot_of then;
+          since = failed_left p x.clock then k.draws done w' world_then after.claim.world came
+              (lives_so n made then keeps_then.stands world_then.sound x.clock x.live came.1.place came.1.station
+              (record { here = came.1.is.here; named = came.1.is.named }))
+              (seen_then fails.calm fails.off) (near_then x.few) (far_end x.clock x.far) (stays_unmoved x.moves) sound
+              start next keeps_then.claim.pace keeps_then.claim.measured after.claim.measured (omega (arith, over))
+              (same_delay x.delay) (way_over x.delay x.paths) ready
+              (unanswered_silent p next w' after.claim.silent (omega (arith, last, time, same)));
+        }
+
+    left_to : LeavesStanding n made event start next → IsLeftTo d more next w'
+    left_to (inl (lowers, same)) = subst (λ time. IsLeftTo d more time w') (sym same) (lowered_to lowers)
+    left_to (inr (fails, same)) = failed_to fails same
 
   -- as the network starts
   starting_now : IsStartingTo d made w → event.at ≡ 0 → IsStarting then
@@ -505,34 +572,34 @@ module _ {F : Type 0} (answers : Bounds → ℕ → F → Option ℕ → F → T
 
     leads_to_left : (past : Past) (next : ℕ) → EventLeads n made past event (Left next) → IsAfter d made past w
         → IsLeftTo d more next w'
-    leads_to_left AnyPast next (settled, lowers, same) so =
+    leads_to_left AnyPast next (settled, loses) so =
         let passed = settled.passed in
         let last = keeps_then.stands.last in
+        let capable : ℕ = last_change made + capability_span p in
         let sound = sound_later w event.at
         (rested_sound d made event.at w playable (record { calm = settled.calm; passed = omega (arith, passed) })
         (omega (arith, moment)) keeps) in
         let late : w.last_change + settling_span_at_once p (sync_paths_of then) ≤ event.at =
         subst (λ paths. w.last_change + settling_span_at_once p paths ≤ event.at) paths_then (rw last passed) in
-        let (ready, silent) = anyway_ready d made next then keeps_then (inr (omega (arith, same))) in
-        lowered_to next sound ready silent (rest_settled p then keeps_then.claim sound late)
-        (omega (arith, passed, same)) lowers
+        let (ready, silent) = anyway_ready d made capable then keeps_then (inr (omega arith)) in
+        let over : capable + pred (path_bound (snapshot_of then)) * delay_in then ≤ event.at =
+        subst (λ (x : SyncPaths). capable + pred x.systems * x.delay ≤ event.at) paths_then (omega (arith, passed)) in
+        left_to capable next sound ready silent (rest_settled p then keeps_then.claim sound late) over loses
     leads_to_left Starting next none so = absurd none
-    leads_to_left (Gained start) next (settled, lowers, same) so =
+    leads_to_left (Gained start) next (settled, loses) so =
         let late : start + largest_interval p + pred (path_bound (snapshot_of then)) * delay_in then ≤ event.at =
         subst (λ (x : SyncPaths). start + largest_interval p + pred x.systems * x.delay ≤ event.at) paths_then
         settled in
         let news = news_now p start then (omega (arith, late))
         (from_later p start event.at w k.ready.timely.now k.ready.timely.first so.news) in
-        subst (λ time. IsLeftTo d more time w') (sym same)
-        (lowered_to start news.sound news.ready news.silent (news_settled p start then news late)
-        (omega (arith, late)) lowers)
-    leads_to_left (Heard start) next (settled, lowers, same) so =
+        left_to start next news.sound news.ready news.silent (news_settled p start then news late)
+        (omega (arith, late)) loses
+    leads_to_left (Heard start) next (settled, loses) so =
         let claim = since_later p start event.at w k.ready.timely.now k.ready.timely.first so.since in
         let late : start + pred (path_bound (snapshot_of then)) * delay_in then ≤ event.at =
         subst (λ (x : SyncPaths). start + pred x.systems * x.delay ≤ event.at) paths_then settled in
-        subst (λ time. IsLeftTo d more time w') (sym same)
-        (lowered_to start claim.news.sound claim.news.ready claim.news.silent (always_settled p start then claim late)
-        (omega (arith, late)) lowers)
+        left_to start next claim.news.sound claim.news.ready claim.news.silent (always_settled p start then claim late)
+        late loses
     leads_to_left (Left start) next none so = absurd none
 
     leads_to_gain : (past : Past) (next : ℕ) → EventLeads n made past event (Gained next) → IsAfter d made past w
@@ -695,8 +762,21 @@ module _ (d : DocumentState) (playable : IsPlayable d) (all : List Timed) (calm 
       has_settled pace (sync_paths d.network all).systems start settled w so.news (can_settle so.keeps start settles) on
   after_settles (Heard start) so (off, passed) =
       claimed_settled d all start w so playable calm off (omega (arith, passed, on))
-  after_settles (Left start) so (off, passed) =
-      left_to_settled d all start w so playable calm off (omega (arith, passed, on))
+  after_settles (Left silent) so (off, passed) =
+      left_to_settled d all silent w so playable calm off (omega (arith, passed, on))
+
+  -- a settled system has its settled choice
+  chooses_so : Settled w → ChoiceStands w
+  chooses_so so place station here live near =
+      let x = so place station here live near in
+      record { root = x.root; steps = x.steps; slave = x.slave; parent = x.parent }
+
+  pub after_chooses : (past : Past) → IsAfter d all past w → ChoosesAfter d.network all past settled → ChoiceStands w
+  after_chooses AnyPast so settles = chooses_so (after_settles AnyPast so settles).0
+  after_chooses Starting so none = absurd none
+  after_chooses (Gained start) so settles = chooses_so (after_settles (Gained start) so settles).0
+  after_chooses (Heard start) so settles = chooses_so (after_settles (Heard start) so settles).0
+  after_chooses (Left silent) so off = left_to_chooses d all silent w so playable calm off
 
 -- ---- the law
 
@@ -718,12 +798,12 @@ begins_after answers d playable fate until first w ts k (Heard start) (little, b
 begins_after answers d playable fate until first w ts k (Left start) none = absurd none
 
 -- each act of a run that is later than all events is done in such worlds
-pub passed_in_turn : {F : Type 0} (answers : Bounds → ℕ → F → Option ℕ → F → Type 0) (d : DocumentState)
-    (until settled : ℕ)
+pub passed_in_turn : {F : Type 0} (answers : Bounds → ℕ → F → Option ℕ → F → Type 0)
+    (Settles : NetworkState → List Timed → Past → ℕ → Type 0) (d : DocumentState) (until settled : ℕ)
     (fate : F) (first w : WorldState) (ts : List ActTrace) → IsPlayable d → Unfolds answers d until fate first ts w
-    → (is : SettlesByEvents d until settled)
+    → (is : ComesByEvents Settles d until settled)
     → AreSteps answers (IsAfter d (events_by until d.events) is.last) (events_by until d.events) ts first
-passed_in_turn answers d until settled fate first w ts playable k is =
+passed_in_turn answers Settles d until settled fate first w ts playable k is =
     in_turn answers d playable (events_by until d.events) is.last until
     (IsAfter d (events_by until d.events) is.last) (λ v so now. so) (after_later d (events_by until d.events) is.last)
     (λ t one drawn v next was so. after_act d (events_by until d.events) answers is.last t one drawn v next was so) []
@@ -738,8 +818,8 @@ acts_find_settled_in_turn answers d until settled fate first w ts t playable k m
     let run = run_to answers d until fate first w ts t playable k member in
     let now = t.told.timed.at in
     let all = events_by now d.events in
-    let step = (passed_in_turn answers d now settled fate first run.w run.ts playable run.unfolds is).each t run.member
-    later in
+    let step = (passed_in_turn answers SettlesAfter d now settled fate first run.w run.ts playable run.unfolds is).each t
+    run.member later in
     let time = step.time in
     let both = after_settles d playable all is.calm settled t.after (omega (arith, on, time)) is.last step.after
     is.settles
@@ -747,6 +827,25 @@ acts_find_settled_in_turn answers d until settled fate first w ts t playable k m
     let keeps = after_keeps d all is.last t.after step.after in
     record {
       settled = is_settled t.after (record { pace = pace_of d.network; is = keeps.claim }) both.0 both.1;
+      snapshot = λ g stands.
+          let (systems, links) =
+          snapshots_stand d.network all t.after g keeps.stands keeps.claim.world.sound stands in
+          record { systems = systems; links = links };
+    }
+
+pub acts_find_choice_in_turn : {F : Type 0} (answers : Bounds → ℕ → F → Option ℕ → F → Type 0)
+    → ActsFindChoiceInTurn answers
+acts_find_choice_in_turn answers d until settled fate first w ts t playable k member is on later =
+    let run = run_to answers d until fate first w ts t playable k member in
+    let now = t.told.timed.at in
+    let all = events_by now d.events in
+    let step = (passed_in_turn answers ChoosesAfter d now settled fate first run.w run.ts playable run.unfolds is).each t
+    run.member later in
+    let time = step.time in
+    let keeps = after_keeps d all is.last t.after step.after in
+    record {
+      choice = after_chooses d playable all is.calm settled t.after (omega (arith, on, time)) is.last step.after
+          is.settles;
       snapshot = λ g stands.
           let (systems, links) =
           snapshots_stand d.network all t.after g keeps.stands keeps.claim.world.sound stands in

@@ -1,7 +1,7 @@
 -- A world since a loss that moved no system: what it holds fits the snapshot of before. It goes on as one since news
--- does, and settles.
-use Rattle.std.proofs.Common.{◌≤◌, ◌+◌, ◌*◌, ℕ, pred, List, refl, sym, subst, inl, inr, arith}
-use Rattle.gptp_graph.specs.PathBound.{BoundsPaths}
+-- does; its choice stands, and it settles once ports without a link aren't capable.
+use Rattle.std.proofs.Common.{◌≡◌, ◌≤◌, ◌+◌, ◌*◌, ℕ, pred, List, refl, sym, ap, subst, ◌∙◌, inl, inr, arith}
+use Rattle.gptp_graph.specs.PathBound.{path_bound}
 use Rattle.gptp_graph.specs.Snapshot.{IsWellFormed, Snapshot}
 use Rattle.gptp_links.specs.Fate.{Draw}
 use Rattle.gptp_scenario.specs.Calm.{NothingLapses}
@@ -15,14 +15,15 @@ use Rattle.gptp_model.specs.declared.done.Done.{Done}
 use Rattle.gptp_model.proofs.SoundLemmas.{later_sound}
 use Rattle.gptp_bmca_machine.specs.Acts.{MachineSteps}
 use Rattle.gptp_bmca_machine.specs.Calm.{Calm}
-use Rattle.gptp_bmca_machine.specs.EarlyPorts.{EarlyPortsHear}
-use Rattle.gptp_bmca_machine.specs.Levels.{Invariant}
-use Rattle.gptp_bmca_machine.specs.LossLaws.{EverythingFits, IsWhatIsLeft}
-use Rattle.gptp_bmca_machine.proofs.LossLemmas.{fits_kept}
+use Rattle.gptp_bmca_machine.specs.Network.{IsSettlingNetwork, Network, settled_from}
+use Rattle.gptp_bmca_machine.specs.SoundLaws.{AllAreNear}
+use Rattle.gptp_bmca_machine.proofs.SettledLemmas.{systems_bounded}
+use Rattle.gptp_bmca_machine.proofs.TimesLemmas.{times_fit}
 use Rattle.gptp_invariants.specs.ChoiceCalm.{HaveQuietLinks, delay_in}
 use Rattle.gptp_invariants.specs.ChoiceSettled.{Settled}
+use Rattle.gptp_invariants.specs.ChoiceSettlesAsMachine.{IsWorld}
 use Rattle.gptp_invariants.specs.ChoiceSeenLaws.{IsNoChange}
-use Rattle.gptp_invariants.specs.ChoiceView.{says_announce, view}
+use Rattle.gptp_invariants.specs.ChoiceView.{says_announce, station_view, view}
 use Rattle.gptp_invariants.specs.DelayLinkView.{LinkPlace}
 use Rattle.gptp_invariants.specs.DelayMeasured.{LinkStandsAt}
 use Rattle.gptp_invariants.specs.DelayMeasuredLinks.{HaveMeasuredLinks}
@@ -30,21 +31,27 @@ use Rattle.gptp_invariants.specs.WorldBounded.{IsBoundedWorld}
 use Rattle.gptp_invariants.specs.WorldEncodableLaws.{SetsAnOctet}
 use Rattle.gptp_invariants.specs.WorldNews.{AreReadyBy}
 use Rattle.gptp_invariants.specs.WorldStanding.{snapshot_of}
-use Rattle.gptp_invariants.proofs.ChoiceCalmKeptLemmas.{KeepsNetwork, acts_keep, links_quiet, same_snapshot}
+use Rattle.gptp_invariants.proofs.ChoiceCalmKeptLemmas.{KeepsNetwork, acts_keep, delay_kept, links_quiet, same_snapshot}
+use Rattle.gptp_invariants.proofs.ChoiceCalmLemmas.{nothing_lapses}
+use Rattle.gptp_invariants.proofs.ChoicePlaceLemmas.{station_there}
 use Rattle.gptp_invariants.proofs.ChoiceSeenActLemmas.{acts_seen}
-use Rattle.gptp_invariants.proofs.ChoiceSettlesAsMachineLemmas.{kept_back}
+use Rattle.gptp_invariants.proofs.ChoiceSettlesAsMachineLemmas.{kept_back, paths_bound}
 use Rattle.gptp_invariants.proofs.DelayCapableKeptLemmas.{stood}
 use Rattle.gptp_invariants.proofs.DelayChangeKeptLemmas.{acts_measured, later_measured}
+use Rattle.gptp_invariants.proofs.WorldBoundedLemmas.{bounded_by}
 use Rattle.gptp_invariants.proofs.WorldNewsCourseLemmas.{later_keeps}
 use Rattle.gptp_invariants.proofs.WorldNewsLemmas.{acts_silent, silent_later}
+use Rattle.gptp_invariants.proofs.WorldOutlineLemmas.{acts_time}
 use Rattle.gptp_invariants.proofs.WorldSettledLemmas.{still_acts_stay, time_stays}
 use Rattle.gptp_invariants.proofs.WorldStandsLemmas.{stands_well}
-use Rattle.gptp_settling_time.proofs.AlwaysClaimedLemmas.{AreHeard, IsStanding, early_acts, early_later, same_start, start_calm, start_network, steps_settle}
-use Rattle.gptp_settling_time.proofs.FitsLemmas.{IsLeftUnmoved, received_still}
+use Rattle.gptp_settling_time.specs.ChoiceAlone.{ChoiceStands}
+use Rattle.gptp_settling_time.proofs.AlwaysClaimedLemmas.{AreHeard, IsStanding, linked_on, same_start, start_calm, start_network}
+use Rattle.gptp_settling_time.proofs.FitsLemmas.{IsLeftUnmoved}
 use Rattle.gptp_settling_time.proofs.HeardLemmas.{IsFirstLong, first_acted, first_later}
 use Rattle.gptp_settling_time.proofs.LinkStoodLemmas.{stood_in}
 use Rattle.gptp_settling_time.proofs.NewsMeasuredLemmas.{ready_measures}
-use Rattle.gptp_settling_time.proofs.StartLemmas.{standing_settles}
+use Rattle.gptp_settling_time.proofs.SeenSettledLemmas.{seen_chooses, seen_settles}
+use Rattle.gptp_settling_time.proofs.UnlinkedLemmas.{IsLeftSeen, LostAreFarther, UnlinkedHoldNothing, left_kept}
 
 -- ---- what holds of a world whose ports are capable from a start on
 
@@ -68,106 +75,209 @@ standing_acts p start act w draws done w' none octet k is =
       silent = acts_silent p start act w draws done w' none k is.world is.measured is.silent;
     }
 
--- each port at a link first asked long enough before the start
-abbrev pub HaveAskedBy : ℕ → WorldState → Type 0
-HaveAskedBy start w = (at : LinkPlace) → LinkStandsAt at w → (first : ℕ) × IsFirstLong first start at w
+-- each port at a link first asked long enough before the last change
+abbrev pub HaveAskedLong : WorldState → Type 0
+HaveAskedLong w = (at : LinkPlace) → LinkStandsAt at w
+    → (first : ℕ) × (by : ℕ) × (by ≤ w.last_change) × IsFirstLong first by at w
 
 -- so what is told to it is heard, and it has measured the link
-pub asked_heard : (p : SettlingParams) (start : ℕ) (w : WorldState) → HaveAskedBy start w → AreHeard p start w
-asked_heard p start w asked at stands = let (first, x) = asked at stands in inr (inr (inr (first, start, x)))
+pub asked_heard : (p : SettlingParams) (start : ℕ) (w : WorldState) → HaveAskedLong w → AreHeard p start w
+asked_heard p start w asked at stands =
+    let (first, by, before, x) = asked at stands in inr (inr (inr (first, by, x)))
 
-asked_ready : (p : SettlingParams) (start : ℕ) (w : WorldState) → HaveAskedBy start w → AreReadyBy p start w
-asked_ready p start w asked at stands = let (first, x) = asked at stands in inl (first, x.is)
+asked_ready : (p : SettlingParams) (w : WorldState) → HaveAskedLong w → AreReadyBy p w.last_change w
+asked_ready p w asked at stands =
+    let (first, by, before, x) = asked at stands in
+    let soon = x.is.1 in
+    inl (first, (x.is.0, omega (arith, before, soon)))
 
 -- ---- a loss that moved none
 
-pub record IsLeftAlways (p : SettlingParams) (g : Snapshot) (start : ℕ) (w : WorldState) : Type 0 where
-  pub standing : IsStanding p start w
-  pub asked : HaveAskedBy start w
+-- The network that such a world has: claims are made of all links always. At ports without a link nothing is received,
+-- and from a time on they aren't capable.
+abbrev pub left_network : SettlingParams → ℕ → WorldState → Network
+left_network p silent w = record (start_network p (path_bound (snapshot_of w)) 0 w) { bare = 0; off = silent }
+
+pub left_net : (p : SettlingParams) (silent : ℕ) (w : WorldState) → IsWorld p w
+    → IsSettlingNetwork (left_network p silent w)
+left_net p silent w is =
+    times_fit (left_network p silent w) (stands_well w is.sound is.between is.encodable) (paths_bound p w is)
+    (omega arith)
+    (inr (record {
+      begun = refl;
+      sound = refl;
+      step = omega arith;
+      ready = λ port linked. omega arith;
+      link = λ d port linked. inl (refl, refl);
+    }))
+
+same_left : (p : SettlingParams) (silent : ℕ) (w w' : WorldState) → KeepsNetwork w w'
+    → left_network p silent w' ≡ left_network p silent w
+same_left p silent w w' keeps =
+    ap (λ (n : Network). record n { bare = 0; off = silent })
+    (same_start p (path_bound (snapshot_of w')) 0 w w' keeps)
+    ∙ ap (λ g. record (start_network p (path_bound g) 0 w) { bare = 0; off = silent }) (same_snapshot w w' keeps)
+
+-- What is claimed of a world since a loss that moved none: what it holds and what is in flight fits the snapshot of
+-- before. A system that is gone was the far end of its links. Ports at links are capable, and those that no link is at
+-- aren't from a time on.
+pub record IsLeftAlways (p : SettlingParams) (g : Snapshot) (silent : ℕ) (w : WorldState) : Type 0 where
+  pub standing : IsStanding p silent w
+  pub asked : HaveAskedLong w
   pub well : IsWellFormed g
   pub left : IsLeftUnmoved g (snapshot_of w)
-  pub fits : HaveQuietLinks p.params w → EverythingFits says_announce g (start_network p 0 start w) (view w)
-  pub settling : (m : ℕ) → BoundsPaths (snapshot_of w) m → HaveQuietLinks p.params w → NothingLapses p.params
-      → Invariant says_announce (start_network p m start w) (view w)
+  pub near : AllAreNear (snapshot_of w)
+  pub farther : LostAreFarther g (snapshot_of w)
+  pub late : pred (path_bound (snapshot_of w)) * delay_in w ≤ w.time
+  pub seen : HaveQuietLinks p.params w → NothingLapses p.params
+      → IsLeftSeen says_announce g (left_network p silent w) (view w)
 
-module _ (p : SettlingParams) (g : Snapshot) (start : ℕ) (w w' : WorldState) (is : IsLeftAlways p g start w)
-    (standing' : IsStanding p start w') (asked' : HaveAskedBy start w') (keeps : KeepsNetwork w w')
-    (step : MachineSteps says_announce (view w) (view w'))
-    (early : (m : ℕ) → HaveQuietLinks p.params w
-    → EarlyPortsHear says_announce (start_network p m start w) (view w) (view w')) where
-  heard : AreHeard p start w
-  heard = asked_heard p start w is.asked
+-- so the world is calm
+pub left_calm : (p : SettlingParams) (silent : ℕ) (w : WorldState) → IsStanding p silent w → HaveAskedLong w
+    → HaveQuietLinks p.params w → UnlinkedHoldNothing (snapshot_of w) (view w)
+    → Calm (left_network p silent w) (view w)
+left_calm p silent w standing asked quiet none =
+    let c : Calm (start_network p (path_bound (snapshot_of w)) silent w) (view w) =
+    start_calm p silent w standing (asked_heard p silent w asked) quiet (path_bound (snapshot_of w)) in
+    record {
+      facts = c.facts;
+      stations = λ i s there lives.
+          let x = c.stations i s there lives in
+          record {
+            at_rest = x.at_rest;
+            ports = λ place q at.
+                let y = x.ports place q at in
+                record {
+                  log = y.log;
+                  interval = y.interval;
+                  timer = y.timer;
+                  capable = λ now linked.
+                      linked_on p 0 w standing.world (asked_heard p 0 w asked) quiet (omega arith) i s place q there at
+                      linked;
+                  bare = λ now unlinked r holds. none i s place r there lives unlinked (q, at, holds);
+                  unlinked = y.unlinked;
+                  long = y.long;
+                };
+          };
+      placed = c.placed;
+      there = λ s member.
+          let x = c.there s member in
+          record { station = x.station; there = x.there; live = x.live; is = x.is };
+      lanes = λ from to joins.
+          let x = c.lanes from to joins in
+          record { lane = x.lane; there = x.there; from = x.from; to = x.to; loss = x.loss; is_up = x.is_up };
+      apart = c.apart;
+      left = c.left;
+    }
 
-  heard' : AreHeard p start w'
-  heard' = asked_heard p start w' asked'
+module _ (p : SettlingParams) (g : Snapshot) (silent : ℕ) (w w' : WorldState) (is : IsLeftAlways p g silent w)
+    (standing' : IsStanding p silent w') (asked' : HaveAskedLong w') (keeps : KeepsNetwork w w')
+    (step : MachineSteps says_announce (view w) (view w')) (on : w.time ≤ w'.time) where
+  same_snap : snapshot_of w' ≡ snapshot_of w
+  same_snap = same_snapshot w w' keeps
 
-  left_then : IsLeftUnmoved g (snapshot_of w')
-  left_then = subst (IsLeftUnmoved g) (sym (same_snapshot w w' keeps)) is.left
+  late_then : pred (path_bound (snapshot_of w')) * delay_in w' ≤ w'.time
+  late_then =
+      let late = is.late in
+      subst (λ delay. pred (path_bound (snapshot_of w')) * delay ≤ w'.time) (sym (delay_kept w w' keeps))
+      (subst (λ h. pred (path_bound h) * delay_in w ≤ w'.time) (sym same_snap) (omega (arith, late, on)))
 
-  what_is_left : IsWhatIsLeft g (start_network p 0 start w)
-  what_is_left = record { graph = is.well; systems = is.left.systems; links = is.left.links }
-
-  fits_then : HaveQuietLinks p.params w' → EverythingFits says_announce g (start_network p 0 start w') (view w')
-  fits_then quiet' =
+  seen_then : HaveQuietLinks p.params w' → NothingLapses p.params
+      → IsLeftSeen says_announce g (left_network p silent w') (view w')
+  seen_then quiet' off =
       let quiet = links_quiet w' w (kept_back w w' keeps) p.params quiet' in
-      let same = same_start p 0 start w w' keeps in
-      let n = start_network p 0 start w in
-      let before : Calm n (view w) = start_calm p start w is.standing heard quiet 0 in
-      let after : Calm n (view w') =
-      subst (λ x. Calm x (view w')) same (start_calm p start w' standing' heard' quiet' 0) in
-      subst (λ x. EverythingFits says_announce g x (view w')) (sym same)
-      (fits_kept says_announce g n what_is_left (view w) (view w') before after step (is.fits quiet))
+      let same = same_left p silent w w' keeps in
+      let n = left_network p silent w in
+      let seen = is.seen quiet off in
+      let late = is.late in
+      subst (λ x. IsLeftSeen says_announce g x (view w')) (sym same)
+      (left_kept says_announce g n (view w) (view w') is.well (left_net p silent w is.standing.world) is.left is.near
+      is.farther (left_calm p silent w is.standing is.asked quiet seen.unlinked)
+      (λ none.
+      subst (λ x. Calm x (view w')) same
+      (left_calm p silent w' standing' asked' quiet' (subst (λ h. UnlinkedHoldNothing h (view w')) (sym same_snap)
+      none))) (nothing_lapses p n w is.standing.world.known off)
+      (record {
+        hears = λ d from u i joins claims early. absurd (omega (arith, early));
+        stays = λ d from u i joins claims early. absurd (omega (arith, early));
+      }) (omega (arith, late)) step seen)
 
-  left_step : IsLeftAlways p g start w'
+  left_step : IsLeftAlways p g silent w'
   left_step = record {
     standing = standing';
     asked = asked';
     well = is.well;
-    left = left_then;
-    fits = fits_then;
-    settling = λ m bounded quiet off.
-        let world = standing'.world in
-        steps_settle p start m w w' is.standing standing' heard heard' keeps step (early m)
-        (received_still g (snapshot_of w') is.well (stands_well w' world.sound world.between world.encodable) left_then
-        (view w') (fits_then quiet).stations)
-        (λ bounded_then quiet_then. is.settling m bounded_then quiet_then off) bounded quiet off;
+    left = subst (IsLeftUnmoved g) (sym same_snap) is.left;
+    near = subst AllAreNear (sym same_snap) is.near;
+    farther = subst (LostAreFarther g) (sym same_snap) is.farther;
+    late = late_then;
+    seen = seen_then;
   }
 
-pub left_later : (p : SettlingParams) (g : Snapshot) (start time : ℕ) (w : WorldState) → w.time ≤ time
-    → NothingBefore time w.net.pending → IsLeftAlways p g start w → IsLeftAlways p g start (at_time time w)
-left_later p g start time w later first is =
-    left_step p g start w (at_time time w) is (standing_later p start time w later first is.standing)
-    (λ at stands. let (one, x) = is.asked at (stood_in at (at_time time w) w stands refl stands.here) in
-    (one, first_later p one start at time w is.standing.world later first x)) (later_keeps time w)
-    (inl (record { time = time; later = later; is = refl }))
-    (λ m quiet. early_later p start m time w is.standing (asked_heard p start w is.asked) quiet)
+pub left_later : (p : SettlingParams) (g : Snapshot) (silent time : ℕ) (w : WorldState) → w.time ≤ time
+    → NothingBefore time w.net.pending → IsLeftAlways p g silent w → IsLeftAlways p g silent (at_time time w)
+left_later p g silent time w later first is =
+    left_step p g silent w (at_time time w) is (standing_later p silent time w later first is.standing)
+    (λ at stands. let (one, by, before, x) = is.asked at (stood_in at (at_time time w) w stands refl stands.here) in
+    (one, by, before, first_later p one by at time w is.standing.world later first x)) (later_keeps time w)
+    (inl (record { time = time; later = later; is = refl })) later
 
-pub left_acts : (p : SettlingParams) (g : Snapshot) (start : ℕ) (act : Act) (w : WorldState) (draws : List Draw)
+pub left_acts : (p : SettlingParams) (g : Snapshot) (silent : ℕ) (act : Act) (w : WorldState) (draws : List Draw)
     (done : Done) (w' : WorldState) → IsNoChange act → SetsAnOctet act → Acts act w draws done w'
-    → IsLeftAlways p g start w → IsLeftAlways p g start w'
-left_acts p g start act w draws done w' none octet acts is =
+    → IsLeftAlways p g silent w → IsLeftAlways p g silent w'
+left_acts p g silent act w draws done w' none octet acts is =
     let world = is.standing.world in
-    let standing' = standing_acts p start act w draws done w' none octet acts is.standing in
+    let standing' = standing_acts p silent act w draws done w' none octet acts is.standing in
     let keeps = acts_keep act w draws done w' none acts in
-    left_step p g start w w' is standing'
-    (λ at stands. let (one, x) = is.asked at (stood p w w' world standing'.world keeps at stands) in (
+    let time = acts_time act w draws done w' acts in
+    left_step p g silent w w' is standing'
+    (λ at stands. let (one, by, before, x) = is.asked at (stood p w w' world standing'.world keeps at stands) in
+    let change = keeps.change in (
       one,
-      first_acted p start act w draws done w' none acts world standing'.world is.standing.measured at one start x,
+      by,
+      omega (arith, before, change),
+      first_acted p silent act w draws done w' none acts world standing'.world is.standing.measured at one by x,
     )) keeps
-    (inr (acts_seen act w draws done w' none world.sound world.encodable acts))
-    (λ m quiet. early_acts p start m act w draws done w' none acts is.standing standing'
-    (asked_heard p start w is.asked) quiet)
+    (inr (acts_seen act w draws done w' none world.sound world.encodable acts)) (omega (arith, time))
 
--- it has settled
-pub left_settles : (p : SettlingParams) (g : Snapshot) (start m : ℕ) (w : WorldState) → IsLeftAlways p g start w
-    → HaveQuietLinks p.params w → BoundsPaths (snapshot_of w) m → NothingLapses p.params
-    → start + pred m * delay_in w ≤ w.time → Settled w × IsBoundedWorld w
-left_settles p g start m w is quiet bounded off late =
-    standing_settles p start m w is.standing (asked_heard p start w is.asked) (is.settling m bounded quiet off) quiet
-    bounded late
+-- ---- it stands
+
+module _ (p : SettlingParams) (g : Snapshot) (silent : ℕ) (w : WorldState) (is : IsLeftAlways p g silent w)
+    (quiet : HaveQuietLinks p.params w) (off : NothingLapses p.params) where
+  abbrev n : Network
+  n = left_network p silent w
+
+  net : IsSettlingNetwork n
+  net = left_net p silent w is.standing.world
+
+  seen : IsLeftSeen says_announce g n (view w)
+  seen = is.seen quiet off
+
+  calm : Calm n (view w)
+  calm = left_calm p silent w is.standing is.asked quiet seen.unlinked
+
+  settled_by_now : settled_from n ≤ w.time
+  settled_by_now = let late = is.late in omega (arith, late)
+
+  -- its choice stands
+  pub left_chooses : ChoiceStands w
+  left_chooses =
+      seen_chooses p n w is.standing.world refl net calm seen.invariant settled_by_now (omega arith) (omega arith)
+
+  -- it has settled once ports without a link aren't capable
+  pub left_settles : silent ≤ w.time → Settled w × IsBoundedWorld w
+  left_settles late =
+      let settled : Settled w =
+      seen_settles p n w is.standing.world refl net calm seen.invariant settled_by_now (omega arith) (omega arith) late
+      in (
+        settled,
+        bounded_by p w is.standing.world settled (λ place station here live best is_best.
+            systems_bounded says_announce n (view w) place (station_view station) best net calm seen.invariant
+            (station_there w.stations place station here) live is_best (omega arith)),
+      )
 
 -- its ports have measured their links
-pub left_measured : (p : SettlingParams) (g : Snapshot) (start : ℕ) (w : WorldState) → IsLeftAlways p g start w
-    → HaveQuietLinks p.params w → start + window_span p.params ≤ w.time → HaveMeasuredLinks w
-left_measured p g start w is quiet =
-    ready_measures p start w is.standing.world (asked_ready p start w is.asked) quiet
+pub left_measured : (p : SettlingParams) (g : Snapshot) (silent : ℕ) (w : WorldState) → IsLeftAlways p g silent w
+    → HaveQuietLinks p.params w → w.last_change + window_span p.params ≤ w.time → HaveMeasuredLinks w
+left_measured p g silent w is quiet =
+    ready_measures p w.last_change w is.standing.world (asked_ready p w is.asked) quiet

@@ -75,9 +75,11 @@ pub mod ReselectsLemmas
 pub mod UnmovedLemmas
 pub mod BetterClockLemmas
 pub mod FitsLemmas
+pub mod UnlinkedLemmas
 pub mod LeftClaimedLemmas
 pub mod GoesDownLemmas
 pub mod ReducedLemmas
 pub mod LoweredLemmas
+pub mod FailedAloneLemmas
 pub mod LeftToLemmas
 pub mod WellFormedLemmas

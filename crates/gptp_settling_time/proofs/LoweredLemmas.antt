@@ -1,12 +1,13 @@
 -- A link between live systems goes down, and no system is moved: each keeps its root and its steps, and sends nothing.
 -- So what is left stands as it did, and all that is held and in flight fits the snapshot of before.
-use Rattle.std.proofs.Common.{◌≡◌, ◌≢◌, ◌⊎◌, ◌≤◌, ℕ, ℤ, zero, suc, Bool, true, false, List, [], ◌∷◌, map, Some, slice_get, slice_set, refl, sym, ap, subst, ◌∙◌, inl, inr, arith}
+use Rattle.std.proofs.Common.{◌≡◌, ◌≢◌, ◌⊎◌, ◌≤◌, ◌*◌, ℕ, ℤ, zero, suc, pred, Bool, true, false, List, [], ◌∷◌, map, Some, slice_get, slice_set, refl, sym, ap, subst, ◌∙◌, inl, inr, arith}
 use Rattle.std.proofs.lemmas.Option.{same_Some}
 use Rattle.gptp_lists.specs.Members.{In}
 use Rattle.gptp_lists.proofs.MappedLemmas.{same_there}
 use Rattle.gptp_lists.proofs.PlaceLemmas.{get-set_other, get-set_same, same_place}
-use Rattle.gptp_graph.specs.PathBound.{BoundsPaths}
-use Rattle.gptp_graph.specs.Snapshot.{IsLinked, IsWellFormed, Joins, Snapshot, clocks, port_of}
+use Rattle.gptp_graph.specs.PathBound.{path_bound}
+use Rattle.gptp_graph.specs.Snapshot.{IsLinked, IsWellFormed, Joins, Snapshot, System, clocks, port_of}
+use Rattle.gptp_graph.proofs.LinkLemmas.{Joins-clock}
 use Rattle.gptp_graph.proofs.SystemLemmas.{In-clocks}
 use Rattle.gptp_vector.specs.Vector.{path_of, system_vector}
 use Rattle.gptp_vector.specs.declared.vector.Vector.{Vector}
@@ -36,6 +37,7 @@ use Rattle.gptp_model.specs.Sends.{SendsAll}
 use Rattle.gptp_model.specs.World.{Channel, Net, WorldState, port_id, sender}
 use Rattle.gptp_model.specs.declared.done.Done.{Done}
 use Rattle.gptp_model.specs.declared.station.Station.{Station}
+use Rattle.gptp_bmca_machine.specs.Calm.{Calm}
 use Rattle.gptp_bmca_machine.specs.Frame.{Lane}
 use Rattle.gptp_bmca_machine.specs.Levels.{Invariant}
 use Rattle.gptp_bmca_machine.specs.LossLaws.{EverythingFits}
@@ -63,15 +65,16 @@ use Rattle.gptp_invariants.proofs.WorldStandsLemmas.{stands_well}
 use Rattle.gptp_invariants.proofs.WorldSystemLemmas.{live_there}
 use Rattle.gptp_invariants.proofs.WorldWayLemmas.{one_way, way_of}
 use Rattle.gptp_settling_time.specs.Losses.{IsUnmoved}
-use Rattle.gptp_settling_time.proofs.AlwaysClaimedLemmas.{IsStanding, same_start, start_calm, start_net, start_network}
-use Rattle.gptp_settling_time.proofs.FitsLemmas.{IsLeftUnmoved, everything_fits, received_still}
+use Rattle.gptp_settling_time.proofs.AlwaysClaimedLemmas.{IsStanding, same_start, start_calm, start_network}
+use Rattle.gptp_settling_time.proofs.FitsLemmas.{IsLeftUnmoved, everything_fits, lived, received_still}
 use Rattle.gptp_settling_time.proofs.GoesDownLemmas.{GoesDownQuietly, goes_down_quietly, held_among, without}
-use Rattle.gptp_settling_time.proofs.LeftClaimedLemmas.{HaveAskedBy, IsLeftAlways, asked_heard}
+use Rattle.gptp_settling_time.proofs.LeftClaimedLemmas.{HaveAskedLong, IsLeftAlways, asked_heard, left_calm, left_net, left_network}
 use Rattle.gptp_settling_time.proofs.LinkStoodLemmas.{second_still}
 use Rattle.gptp_settling_time.proofs.LinkUpLemmas.{lane_set}
-use Rattle.gptp_settling_time.proofs.ReducedLemmas.{HoldsAsMuch, IsReduced, IsReducedStation, fits_reduced, holds_as_much, levels_reduced}
+use Rattle.gptp_settling_time.proofs.ReducedLemmas.{HoldsAsMuch, IsReduced, IsReducedStation, fits_reduced, holds_as_much, levels_reduced, reduced_itself}
 use Rattle.gptp_settling_time.proofs.SettledSeenLemmas.{IsSettledSeen, wired_as}
 use Rattle.gptp_settling_time.proofs.TakenDownLemmas.{silent_down, stood_down, told_keeps, up_apart}
+use Rattle.gptp_settling_time.proofs.UnlinkedLemmas.{LostAreFarther, UnlinkedHoldNothing}
 use Rattle.gptp_settling_time.proofs.WidenedLemmas.{ready_first}
 
 -- ---- a system whose port goes down
@@ -105,9 +108,6 @@ reduced live i a b sends quiet = record {
     same : ports_view (span_at b) b.held b.ports
         ≡ ports_view (span_at a) (without i a.held) (change_at silenced i a.ports)
     same = λ k. ports_view (spans k) (quiet.held k) (quiet.ports k)
-
-reduced_itself : (s : SeenStation) → IsReducedStation s s
-reduced_itself s = record { live = refl; clock = refl; root = refl; steps = refl; ports = λ j q there. inl there }
 
 reduced_on : (a b c : SeenStation) → IsReducedStation a b → IsReducedStation b c → IsReducedStation a c
 reduced_on a b c first second = record {
@@ -382,7 +382,7 @@ module _ (p : SettlingParams) (w : WorldState) (is : IsWorld p w) (place : ℕ) 
       ]
 
   less : IsReduced (view w) (view w')
-  less = record { time = told.time; stations = told.stations; lanes = lanes }
+  less = record { time = told.time; stations = λ i s there live. told.stations i s there; lanes = lanes }
 
   -- a network of the world then has the wiring of one that it had
   wires : (n : Network) → delay_in w' ≡ delay_in w → n ≡ wired_as n (start_network p 0 0 w') → SameWiring seen.n n
@@ -405,9 +405,20 @@ module _ (p : SettlingParams) (w : WorldState) (is : IsWorld p w) (place : ℕ) 
 
   -- ---- the claims
 
+  near_then : AllAreNear g'
+  near_then v known =
+      let (d, far, close) = near v (lived g g' well well' left v known) in
+      (d, (unmoved v known).far d far, close)
+
+  -- all systems live that did
+  farther_then : LostAreFarther g g'
+  farther_then p q far close joins known gone =
+      absurd (gone (subst (λ (systems : List System). In p.clock (map (λ (s : System). s.clock) systems))
+      (sym keeps.systems) (Joins-clock g p q well joins)))
+
   module _ (next : ℕ) (pace : KeepPace p) (measured' : LinkIsMeasured w') (past : next ≤ w.time)
-      (delay : delay_in w' ≡ delay_in w) (sound : IsSoundWorld w) (ready' : AreReadyBy p next w')
-      (silent : AreSilentBy p next w) where
+      (delay : delay_in w' ≡ delay_in w) (way : pred (path_bound g') * delay_in w' ≤ w'.time)
+      (sound : IsSoundWorld w) (ready' : AreReadyBy p next w') (silent : AreSilentBy p next w) where
     by_now : next ≤ w'.time
     by_now = let time = told.time in omega (arith, past, time)
 
@@ -419,32 +430,41 @@ module _ (p : SettlingParams) (w : WorldState) (is : IsWorld p w) (place : ℕ) 
       silent = silent_down p w is place channel here draws w' is' k told.channels next silent;
     }
 
-    asked_then : HaveAskedBy next w'
+    asked_then : HaveAskedLong w'
     asked_then at stands =
         let (first, by) = ready_first p next w' is' by_now at (ready' at stands) in
-        (first, record { is = by; late = by_now })
+        let change = keeps.change in
+        (first, next, omega (arith, past, change), record { is = by; late = by_now })
 
-    fits_then : EverythingFits says_announce g (start_network p 0 next w') (view w')
+    fits_then : EverythingFits says_announce g (left_network p next w') (view w')
     fits_then =
-        subst (λ h. EverythingFits says_announce h (start_network p 0 next w') (view w')) seen.graph
-        (fits_reduced says_announce seen.n (start_network p 0 next w') seen.net.graph well' left_seen (view w) (view w')
+        subst (λ h. EverythingFits says_announce h (left_network p next w') (view w')) seen.graph
+        (fits_reduced says_announce seen.n (left_network p next w') seen.net.graph well' left_seen (view w) (view w')
         less
         (everything_fits says_announce seen.n (view w) seen.net.graph seen.calm.facts
         (subst (λ h. IsSoundEverywhere says_announce h (view w)) (sym seen.graph) sound)))
 
-    settling_then : (m : ℕ) → BoundsPaths g' m → HaveQuietLinks p.params w'
-        → Invariant says_announce (start_network p m next w') (view w')
-    settling_then m bounded quiet' =
-        let n = start_network p m next w' in
-        let sound' : RunIsSound n (view w') =
-        λ late. received_still g g' well well' left (view w') fits_then.stations in
-        record {
-          sound = sound';
-          levels = levels_reduced says_announce seen.n n seen.net (start_net p m next w' is' bounded)
-              (wires n delay refl) left_seen (view w) (view w') less seen.calm
-              (start_calm p next w' standing_then (asked_heard p next w' asked_then) quiet' m) seen.invariant seen.late
-              sound' (λ q linked. by_now);
-        }
+    module _ (quiet' : HaveQuietLinks p.params w') where
+      -- ports that no link is at are off
+      unlinked_then : UnlinkedHoldNothing g' (view w')
+      unlinked_then i s place r there live none (q, at, holds) =
+          let calm : Calm (start_network p 0 next w') (view w') =
+          start_calm p next w' standing_then (asked_heard p next w' asked_then) quiet' 0 in
+          let off : q.held ≡ Disabled = ((calm.stations i s there live).ports place q at).unlinked by_now none in
+          absurd (let both : Received r ≡ Disabled = sym holds ∙ off in cc)
+
+      settling_then : Invariant says_announce (left_network p next w') (view w')
+      settling_then =
+          let n = left_network p next w' in
+          let sound' : RunIsSound n (view w') =
+          λ late. received_still g g' well well' left (view w') fits_then.stations in
+          record {
+            sound = sound';
+            levels = levels_reduced says_announce seen.n n seen.net (left_net p next w' is') (wires n delay refl)
+                left_seen (view w) (view w') less seen.calm
+                (left_calm p next w' standing_then asked_then quiet' unlinked_then) seen.invariant seen.late sound'
+                (λ q linked. omega arith);
+          }
 
     pub lowered_left : IsLeftAlways p g next w'
     lowered_left = record {
@@ -452,8 +472,14 @@ module _ (p : SettlingParams) (w : WorldState) (is : IsWorld p w) (place : ℕ) 
       asked = asked_then;
       well = well;
       left = left;
-      fits = λ quiet'. fits_then;
-      settling = λ m bounded quiet' off. settling_then m bounded quiet';
+      near = near_then;
+      farther = farther_then;
+      late = way;
+      seen = λ quiet' off. record {
+        unlinked = unlinked_then quiet';
+        fits = fits_then;
+        invariant = settling_then quiet';
+      };
     }
 
 -- ---- the act
@@ -492,11 +518,12 @@ module _ (p : SettlingParams) (next owner port : ℕ) (w : WorldState) (draws : 
         up_apart p w is at_link.place at_link.channel at_link.is.here draws w' is' ends stands.channels at.link
         s.channel s.here s.up (sym same ∙ one)
 
-    pub act_left : next ≤ w.time → delay_in w' ≡ delay_in w → IsSoundWorld w → AreReadyBy p next w
+    pub act_left : next ≤ w.time → delay_in w' ≡ delay_in w
+        → pred (path_bound (snapshot_of w')) * delay_in w' ≤ w'.time → IsSoundWorld w → AreReadyBy p next w
         → AreSilentBy p next w → IsLeftAlways p (snapshot_of w) next w'
-    act_left past delay sound ready silent =
+    act_left past delay way sound ready silent =
         lowered_left p w is at_link.place at_link.channel at_link.is.here draws w' is' ends seen near unmoved next
-        pace measured' past delay sound
+        pace measured' past delay way sound
         (λ at s.
         ready_goes_through p next at (Changing (LinkDown owner port)) w w' draws done is.sound measured (other at s)
         acts (ready at

@@ -1,5 +1,5 @@
--- A state of which links are gone, and nothing else, where no system is moved: what is held and in flight fits as it
--- did, each link that is left stays at its stage, and each system holds as much at its other ports.
+-- A state of which links or systems are gone, and nothing else, where no system is moved: what is held and in flight
+-- fits as it did, each link that is left stays at its stage, and each system holds as much at its other ports.
 use Rattle.std.proofs.Common.{◌≡◌, ◌≢◌, ◌⊎◌, ◌<◌, ◌≤◌, ℕ, zero, suc, true, false, List, [], Some, slice_get, refl, sym, ap, subst, ◌∙◌, inl, inr, arith}
 use Rattle.gptp_lists.specs.Members.{In}
 use Rattle.gptp_graph.specs.Distance.{IsDistance}
@@ -35,10 +35,13 @@ pub record IsReducedStation (old s : Station) : Type 0 where
   pub ports : (j : ℕ) (q : Port) → slice_get s.ports j ≡ Some q
       → (slice_get old.ports j ≡ Some q) ⊎ (q.held ≡ Disabled)
 
--- each system does, and each lane is as it was, or down and empty
+pub reduced_itself : (s : Station) → IsReducedStation s s
+reduced_itself s = record { live = refl; clock = refl; root = refl; steps = refl; ports = λ j q there. inl there }
+
+-- each live system does, and each lane is as it was, or down and empty
 pub record IsReduced (w w' : MachineState) : Type 0 where
   pub time : w'.time ≡ w.time
-  pub stations : (i : ℕ) (s : Station) → slice_get w'.stations i ≡ Some s
+  pub stations : (i : ℕ) (s : Station) → slice_get w'.stations i ≡ Some s → s.live ≡ true
       → (old : Station) × (slice_get w.stations i ≡ Some old) × IsReducedStation old s
   pub lanes : (j : ℕ) (l : Lane) → slice_get w'.lanes j ≡ Some l
       → (slice_get w.lanes j ≡ Some l) ⊎ ((l.frames ≡ []) × (l.is_up ≡ false))
@@ -70,7 +73,7 @@ module _ (says : Spelling) (n n' : Network) (well : IsWellFormed n.graph) (well'
       | inr (none, off) ↦ absurd (subst (In f) none flies)
     ];
     stations = λ i s place r at live holds.
-        station_fits all.stations i s place r (less.stations i s at) live holds;
+        station_fits all.stations i s place r (less.stations i s at live) live holds;
   }
 
 -- ---- links
@@ -86,6 +89,9 @@ module _ (says : Spelling) (n n' : Network) (net : IsSettlingNetwork n) (net' : 
     where
       back : Joins n'.graph (port_of u (suc q)) (port_of v (suc p))
       back = Joins-sym n'.graph (port_of v (suc p)) (port_of u (suc q)) leads.joins
+
+      known_v : In v (clocks n'.graph)
+      known_v = Joins-clock n'.graph (port_of v (suc p)) (port_of u (suc q)) net'.graph leads.joins
 
       known_u : In u (clocks n'.graph)
       known_u = Joins-clock n'.graph (port_of u (suc q)) (port_of v (suc p)) net'.graph back
@@ -121,8 +127,10 @@ module _ (says : Spelling) (n n' : Network) (net : IsSettlingNetwork n) (net' : 
 
       stood : Stand (wiring n d best v p u q) w pv pu l
       stood =
-          let (old_v, at_v, same_v) = less.stations (n'.place v) stand.v stand.teller in
-          let (old_u, at_u, same_u) = less.stations (n'.place u) stand.u stand.hearer in
+          let live_v = (is_station n' net' w' calm' sound' v stand.v known_v stand.teller).0 in
+          let live_u = (is_station n' net' w' calm' sound' u stand.u known_u stand.hearer).0 in
+          let (old_v, at_v, same_v) = less.stations (n'.place v) stand.v stand.teller live_v in
+          let (old_u, at_u, same_u) = less.stations (n'.place u) stand.u stand.hearer live_u in
           record {
             v = old_v;
             u = old_u;

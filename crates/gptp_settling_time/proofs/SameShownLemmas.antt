@@ -1,11 +1,11 @@
 -- Two worlds with one snapshot in which all live systems have settled show the same.
-use Rattle.std.proofs.Common.{◌≡◌, ◌≤◌, ℕ, zero, suc, Bool, true, false, Option, Some, None, length, refl, sym, ap, subst, ◌∙◌, arith}
+use Rattle.std.proofs.Common.{◌≡◌, ◌≤◌, ℕ, zero, suc, Bool, true, false, Option, Some, None, length, slice_get, refl, sym, ap, subst, ◌∙◌, arith}
 use Rattle.std.specs.Option.{option_map_or}
 use Rattle.std.specs.Prelude.{◌==◌}
 use Rattle.gptp_lists.specs.Members.{In}
 use Rattle.gptp_lists.proofs.PlaceLemmas.{member_there}
 use Rattle.gptp_lists.proofs.SystemSpecLemmas.{In-map}
-use Rattle.gptp_graph.specs.Distance.{IsDistance}
+use Rattle.gptp_graph.specs.Distance.{IsDistance, IsNear}
 use Rattle.gptp_graph.specs.Parent.{ParentLink}
 use Rattle.gptp_graph.specs.SettledChoice.{IsBestIdentity}
 use Rattle.gptp_graph.specs.SettledRole.{IsMasterPort, IsSlavePort}
@@ -25,6 +25,7 @@ use Rattle.gptp_system.specs.Facts.{AreShown, IsShown}
 use Rattle.gptp_system.specs.Start.{role_at, role_by}
 use Rattle.gptp_system.specs.State.{SystemState, clock, is_capable_at}
 use Rattle.gptp_system.specs.Steps.{HasPortNumber}
+use Rattle.gptp_model.specs.declared.station.Station.{Station}
 use Rattle.gptp_model.specs.Views.{ShowsLive}
 use Rattle.gptp_model.specs.World.{WorldState}
 use Rattle.gptp_bmca_machine.specs.Settled.{IsSlaveOf}
@@ -35,7 +36,8 @@ use Rattle.gptp_invariants.proofs.WorldStandsLemmas.{stands_well}
 use Rattle.gptp_invariants.proofs.WorldSystemLemmas.{live_from, live_there}
 use Rattle.gptp_setup.specs.SettlingParams.{SettlingParams}
 use Rattle.gptp_bmca_machine.specs.SoundLaws.{AllAreNear}
-use Rattle.gptp_settling_time.specs.Unchanged.{LeavesShown, ShowsSameChoice, ShowsSameRoles}
+use Rattle.gptp_settling_time.specs.ChoiceAlone.{ChoiceStands, HasSettledChoice}
+use Rattle.gptp_settling_time.specs.Unchanged.{LeavesChoiceShown, LeavesShown, ShowsSameChoice, ShowsSameRoles}
 
 -- ---- what is settled is one thing
 
@@ -127,6 +129,19 @@ capable_by s shown (suc i) is =
 
 -- ---- two states of one system
 
+-- a settled system has its settled choice
+pub settled_choice : (g : Snapshot) (s : SystemState) → IsSettledSystem g s → HasSettledChoice g s
+settled_choice g s is = record { root = is.root; steps = is.steps; slave = is.slave; parent = is.parent }
+
+same_choice : (g : Snapshot) → IsWellFormed g → (s s' : SystemState) → clock s' ≡ clock s → HasSettledChoice g s
+    → HasSettledChoice g s' → ShowsSameChoice s s'
+same_choice g well s s' named is is' = record {
+  root = same_root g (clock s) s'.root s.root well (subst (λ v. IsBestIdentity g v s'.root) named is'.root) is.root;
+  steps = IsDistance-unique g (clock s) s'.steps s.steps well (subst (λ v. IsDistance g v s'.steps) named is'.steps)
+      is.steps;
+  slave = same_slave_port g (clock s) s'.slave s.slave (subst (λ v. IsSlaveOf g v s'.slave) named is'.slave) is.slave;
+}
+
 module _ (g : Snapshot) (well : IsWellFormed g) (s s' : SystemState) (named : clock s' ≡ clock s)
     (count : length s'.ports ≡ length s.ports) (shown : AreShown s) (shown' : AreShown s') (is : IsSettledSystem g s)
     (is' : IsSettledSystem g s') where
@@ -141,15 +156,6 @@ module _ (g : Snapshot) (well : IsWellFormed g) (s s' : SystemState) (named : cl
       (graph_role (role_at s n))
       (subst (λ v. graph.IsSettledRole g (port_of v n) (graph_role (role_at s' n))) named (is'.roles n (as_port n of)))
       (is.roles n of))
-
-  same_choice : ShowsSameChoice s s'
-  same_choice = record {
-    root = same_root g (clock s) s'.root s.root well (subst (λ v. IsBestIdentity g v s'.root) named is'.root) is.root;
-    steps = IsDistance-unique g (clock s) s'.steps s.steps well
-        (subst (λ v. IsDistance g v s'.steps) named is'.steps) is.steps;
-    slave = same_slave_port g (clock s) s'.slave s.slave (subst (λ v. IsSlaveOf g v s'.slave) named is'.slave)
-        is.slave;
-  }
 
   same_roles : ShowsSameRoles s s'
   same_roles = record {
@@ -184,41 +190,64 @@ lives_too w w' same number s is =
       ap (λ (x : System). x.ports) (sym at.is) ∙ ap (λ (x : SystemState). length x.ports) (sym is.state),
     )
 
+clock_is : (v : WorldState) (number : ℕ) (s : SystemState) → ShowsLive number v s → clock s ≡ number
+clock_is v number s shows = ap clock shows.state ∙ shows.is.named
+
+-- what is so of each near live system is so of each that is shown, where all are near
+shown_so : (So : Snapshot → SystemState → Type 0) (v : WorldState)
+    → ((place : ℕ) (station : Station) → slice_get v.stations place ≡ Some station → station.live ≡ true
+    → IsNear (snapshot_of v) (clock station.system) → So (snapshot_of v) station.system)
+    → AllAreNear (snapshot_of v) → (number : ℕ) (s : SystemState) → ShowsLive number v s → So (snapshot_of v) s
+shown_so So v has all number s is =
+    subst (So (snapshot_of v)) (sym is.state)
+    (has is.place is.station is.is.here is.live
+    (all (clock is.station.system)
+    (In-map (λ (x : System). x.clock) (standing_system is.station) (snapshot_of v).systems
+    (live_there v.stations is.place is.station is.is.here is.live))))
+
+-- their choice is the same
+module _ (p : SettlingParams) (w w' : WorldState) (world : IsWorld p w) (stands : ChoiceStands w)
+    (stands' : ChoiceStands w') (same : snapshot_of w' ≡ snapshot_of w) (near : AllAreNear (snapshot_of w')) where
+  pub leaves_choice : LeavesChoiceShown w w'
+  leaves_choice = record {
+    stays = λ number s shows.
+        let (s', shows', count) = lives_too w w' same number s shows in
+        record {
+          state = s';
+          shows = shows';
+          choice = same_choice (snapshot_of w) (stands_well w world.sound world.between world.encodable) s s'
+              (clock_is w' number s' shows' ∙ sym (clock_is w number s shows))
+              (shown_so HasSettledChoice w stands (subst AllAreNear same near) number s shows)
+              (subst (λ g. HasSettledChoice g s') same (shown_so HasSettledChoice w' stands' near number s' shows'));
+        };
+    comes = λ number lives.
+        let back = lives_too w' w (sym same) number lives.0 lives.1 in (back.0, back.1);
+  }
+
 module _ (p : SettlingParams) (w w' : WorldState) (world : IsWorld p w) (world' : IsWorld p w') (settled : Settled w)
     (settled' : Settled w') (same : snapshot_of w' ≡ snapshot_of w) (near : AllAreNear (snapshot_of w')) where
   well : IsWellFormed (snapshot_of w)
   well = stands_well w world.sound world.between world.encodable
 
-  -- a live system has settled
-  settled_at : (v : WorldState) → Settled v → AllAreNear (snapshot_of v) → (number : ℕ) (s : SystemState)
-      → ShowsLive number v s → IsSettledSystem (snapshot_of v) s
-  settled_at v has all number s is =
-      subst (IsSettledSystem (snapshot_of v)) (sym is.state)
-      (has is.place is.station is.is.here is.live
-      (all (clock is.station.system)
-      (In-map (λ (x : System). x.clock) (standing_system is.station) (snapshot_of v).systems
-      (live_there v.stations is.place is.station is.is.here is.live))))
-
   shown_at : (v : WorldState) → IsWorld p v → (number : ℕ) (s : SystemState) → ShowsLive number v s → AreShown s
   shown_at v is number s shows =
       subst AreShown (sym shows.state) (is.sound.on_time.stations shows.place shows.station shows.is.here).steady.shown
-
-  clock_is : (v : WorldState) (number : ℕ) (s : SystemState) → ShowsLive number v s → clock s ≡ number
-  clock_is v number s shows = ap clock shows.state ∙ shows.is.named
 
   pub leaves_shown : LeavesShown w w'
   leaves_shown = record {
     stays = λ number s shows.
         let (s', shows', count) = lives_too w w' same number s shows in
         let named : clock s' ≡ clock s = clock_is w' number s' shows' ∙ sym (clock_is w number s shows) in
-        let one = settled_at w settled (subst AllAreNear same near) number s shows in
-        let other = subst (λ g. IsSettledSystem g s') same (settled_at w' settled' near number s' shows') in
+        let one = shown_so IsSettledSystem w settled (subst AllAreNear same near) number s shows in
+        let other = subst (λ g. IsSettledSystem g s') same (shown_so IsSettledSystem w' settled' near number s' shows')
+        in
         let before = shown_at w world number s shows in
         let after = shown_at w' world' number s' shows' in
         record {
           state = s';
           shows = shows';
-          choice = same_choice (snapshot_of w) well s s' named count before after one other;
+          choice = same_choice (snapshot_of w) well s s' named (settled_choice (snapshot_of w) s one)
+              (settled_choice (snapshot_of w) s' other);
           roles = same_roles (snapshot_of w) well s s' named count before after one other;
         };
     comes = λ number lives.

@@ -1,4 +1,5 @@
--- A world whose systems are seen to have settled has settled.
+-- A world whose systems are seen to have settled has settled; and its choice stands where they are seen to follow the
+-- best.
 use Rattle.std.proofs.Common.{◌≡◌, ◌≤◌, ℕ, zero, suc, true, Some, slice_get, subst, arith}
 use Rattle.gptp_lists.proofs.PlaceLemmas.{member_there}
 use Rattle.gptp_graph.specs.Distance.{IsNear}
@@ -25,6 +26,7 @@ use Rattle.gptp_invariants.specs.WorldStanding.{snapshot_of}
 use Rattle.gptp_invariants.proofs.ChoiceParentLemmas.{parent_settled}
 use Rattle.gptp_invariants.proofs.ChoicePlaceLemmas.{port_there, station_there}
 use Rattle.gptp_invariants.proofs.ChoiceSettledLemmas.{is_slave, plays_own}
+use Rattle.gptp_settling_time.specs.ChoiceAlone.{ChoiceStands, HasSettledChoice}
 
 -- ---- roles
 
@@ -55,17 +57,16 @@ module _ (g : Snapshot) (station : Station) (shown : AreShown station.system)
 -- ---- the world
 
 -- by any network of the machine that has the world's snapshot, and settles by now
-pub seen_settles : (p : SettlingParams) (n : Network) (w : WorldState) → IsWorld p w → n.graph ≡ snapshot_of w
-    → IsSettlingNetwork n → Calm n (view w) → Invariant says_announce n (view w) → settled_from n ≤ w.time
-    → n.bare ≤ w.time → n.off ≤ w.time → n.sound ≤ w.time → Settled w
-seen_settles p n w is graph net state invariant late bare off sound =
-    subst (λ g. (place : ℕ) (station : Station) → slice_get w.stations place ≡ Some station → station.live ≡ true
-    → IsNear g (clock station.system) → IsSettledSystem g station.system) graph by
-  where
-    by : (place : ℕ) (station : Station) → slice_get w.stations place ≡ Some station → station.live ≡ true
-        → IsNear n.graph (clock station.system) → IsSettledSystem n.graph station.system
-    by place station here live near =
-        let there = station_there w.stations place station here in
+module _ (p : SettlingParams) (n : Network) (w : WorldState) (is : IsWorld p w) (graph : n.graph ≡ snapshot_of w)
+    (net : IsSettlingNetwork n) (state : Calm n (view w)) (invariant : Invariant says_announce n (view w))
+    (late : settled_from n ≤ w.time) (bare : n.bare ≤ w.time) (sound : n.sound ≤ w.time) where
+  module _ (place : ℕ) (station : Station) (here : slice_get w.stations place ≡ Some station)
+      (live : station.live ≡ true) (near : IsNear n.graph (clock station.system)) where
+    there : slice_get (view w).stations place ≡ Some (station_view station)
+    there = station_there w.stations place station here
+
+    choice : HasSettledChoice n.graph station.system
+    choice =
         let (has, follow, roles) = network_settles says_announce n (view w) place (station_view station) net state
         invariant there live near late in
         let follows = follow bare in
@@ -76,5 +77,27 @@ seen_settles p n w is graph net state invariant late bare off sound =
           slave = follows.slave;
           parent = parent_settled n.graph station net.graph rest.vector rest.chosen
               (λ i r. invariant.sound sound place (station_view station) i r there live) follows.slave;
+        }
+
+    system : n.off ≤ w.time → IsSettledSystem n.graph station.system
+    system off =
+        let (has, follow, roles) = network_settles says_announce n (view w) place (station_view station) net state
+        invariant there live near late in
+        record {
+          root = choice.root;
+          steps = choice.steps;
+          slave = choice.slave;
+          parent = choice.parent;
           roles = roles_settled n.graph station (is.sound.on_time.stations place station here).steady.shown (roles off);
         }
+
+  pub seen_chooses : ChoiceStands w
+  seen_chooses =
+      subst (λ g. (place : ℕ) (station : Station) → slice_get w.stations place ≡ Some station → station.live ≡ true
+      → IsNear g (clock station.system) → HasSettledChoice g station.system) graph choice
+
+  pub seen_settles : n.off ≤ w.time → Settled w
+  seen_settles off =
+      subst (λ g. (place : ℕ) (station : Station) → slice_get w.stations place ≡ Some station → station.live ≡ true
+      → IsNear g (clock station.system) → IsSettledSystem g station.system) graph
+      (λ place station here live near. system place station here live near off)

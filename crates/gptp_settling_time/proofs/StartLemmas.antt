@@ -229,8 +229,8 @@ module _ (p : SettlingParams) (start m : ℕ) (w : WorldState) (is : IsStanding 
 
   settled : Settled w
   settled =
-      seen_settles p seen w is.world refl net state invariant (omega (arith, late)) (omega (arith, late))
-      (omega (arith, late)) (omega arith)
+      seen_settles p seen w is.world refl net state invariant (omega (arith, late)) (omega (arith, late)) (omega arith)
+      (omega (arith, late))
 
   pub standing_settles : Settled w × IsBoundedWorld w
   standing_settles = (

@@ -1,4 +1,5 @@
--- A choice bound of a document holds of every run: by then the choice and the roles stand, until the next event.
+-- A choice bound of a document holds of every run: by then the choice and the roles stand, until the next event. By a
+-- bound of the choice alone the choice does.
 use Rattle.std.specs.Prelude.{◌<◌, ◌≤◌, ◌+◌, ◌^◌, ℕ, List, Option}
 use Rattle.gptp_lists.specs.Members.{In}
 use Rattle.gptp_links.specs.declared.bounds.Bounds.{Bounds}
@@ -11,11 +12,12 @@ use Rattle.gptp_network.specs.Snapshot.{events_by}
 use Rattle.gptp_report.specs.Transitions.{ActTrace, Unfolds}
 use Rattle.gptp_invariants.specs.WorldStanding.{snapshot_of}
 use Rattle.gptp_theorem.specs.PlayedLaws.{IsPlayable}
+use Rattle.gptp_settling_time.specs.ChoiceAlone.{ChoiceStandsAs}
 use Rattle.gptp_settling_time.specs.Documents.{IsSettledAs}
 use Rattle.gptp_settling_time.specs.ExactInTurn.{last_set}
 use Rattle.gptp_settling_time.specs.Exactly.{AreExactFrom}
-use Rattle.gptp_settling_time.specs.HowSoon.{IsChoiceBound, NoneBetween}
-use Rattle.gptp_settling_time.specs.Unchanged.{LeavesShown}
+use Rattle.gptp_settling_time.specs.HowSoon.{IsChoiceAloneBound, IsChoiceBound, NoneBetween}
+use Rattle.gptp_settling_time.specs.Unchanged.{LeavesChoiceShown, LeavesShown}
 
 -- Each act leaves a settled world that is later than a time by more than its choice bound, and comes before the next
 -- event. Where every live system is near, it leaves no system another.
@@ -27,6 +29,16 @@ ChoiceBoundsHold {F} answers = (d : DocumentState) (time choice next until : ℕ
     → time + choice < t.told.timed.at → t.told.timed.at < next
     → IsSettledAs d t.told.timed.at t.after
     × (AllAreNear (snapshot_of t.after) → LeavesShown t.before t.after)
+
+-- So it is of the choice alone by its own bound.
+abbrev pub ChoiceAloneBoundsHold : {F : Type 0} → (Bounds → ℕ → F → Option ℕ → F → Type 0) → Type 0
+ChoiceAloneBoundsHold {F} answers = (d : DocumentState) (time choice next until : ℕ) (fate : F) (first w : WorldState)
+    (ts : List ActTrace) (t : ActTrace)
+    → IsPlayable d → Unfolds answers d until fate first ts w → In t ts
+    → IsChoiceAloneBound d time choice → NoneBetween d.events time next
+    → time + choice < t.told.timed.at → t.told.timed.at < next
+    → ChoiceStandsAs d t.told.timed.at t.after
+    × (AllAreNear (snapshot_of t.after) → LeavesChoiceShown t.before t.after)
 
 -- Each act of a run leaves offsets that are exact, once a Sync has had the time to come down a way since a time that is
 -- later than another by more than its choice bound, and before the next event. An announce interval is over then since

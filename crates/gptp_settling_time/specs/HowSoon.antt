@@ -17,7 +17,8 @@
 -- little, the second where it uses no link, the last where no path has more than 255 systems. At time 0 links may go
 -- down and come up, systems fail and a priority1 be set. Not followed are other delays that are set, and other events
 -- that take something away at a later time. There the span stands. But the one event of a time asks for none, too, if a
--- link goes down by it and no system is moved.
+-- link goes down by it and no system is moved. Nor does the choice ask for time where by the one event a system fails
+-- that is the far end of each of its links: roles stand once the ports beside it aren't capable any more.
 use Rattle.std.specs.Prelude.{◌≡◌, ◌<◌, ◌≤◌, ◌⊎◌, ◌+◌, ◌*◌, ◌==◌, ℕ, ⊤, pred, suc, List, [], ◌∷◌, ◌++◌, filter}
 use Rattle.gptp_lists.specs.Members.{In}
 use Rattle.gptp_setup.specs.Intervals.{interval_of}
@@ -25,7 +26,7 @@ use Rattle.gptp_setup.specs.SettlingParams.{SettlingParams, largest_interval}
 use Rattle.gptp_scenario.specs.Calm.{IsCalm, NothingLapses}
 use Rattle.gptp_scenario.specs.Network.{NetworkState, pace_of}
 use Rattle.gptp_scenario.specs.SettlingAtOnce.{settling_span_at_once}
-use Rattle.gptp_scenario.specs.SettlingTime.{settling_span_with}
+use Rattle.gptp_scenario.specs.SettlingTime.{capability_span, settling_span_with}
 use Rattle.gptp_scenario.specs.SyncWait.{sync_paths}
 use Rattle.gptp_scenario.specs.declared.change.Act.{Act}
 use Rattle.gptp_scenario.specs.declared.change.Act.TheVariants.{Change as Changing}
@@ -37,7 +38,7 @@ use Rattle.gptp_network.specs.Document.{DocumentState}
 use Rattle.gptp_network.specs.Snapshot.{events_by}
 use Rattle.gptp_settling_time.specs.Gains.{ChangesNothing, EndHasFailed, LeavesCapable, TakesNothing}
 use Rattle.gptp_settling_time.specs.InTurn.{AddsHeard, BettersClock, MakesNothing, NoneUsed, TellsNothing, UsedVaryLittle, WidensLink}
-use Rattle.gptp_settling_time.specs.Losses.{LeavesChoice, LowersLink}
+use Rattle.gptp_settling_time.specs.Losses.{FailsFarEnd, LeavesChoice, LowersLink}
 
 -- ---- times
 
@@ -185,28 +186,46 @@ IsChoiceBoundAfter n events (last ∷ earlier) time choice =
     × BoundsEvents n (events_by last events) (events_at time events) (last + choice_then) time choice)
     (events_by time events) choice
 
--- one event comes, by which a link goes down, and no system is moved
-abbrev pub LowersOneLink : NetworkState → List Timed → List Timed → Type 0
-LowersOneLink n made [] = ⊥
-LowersOneLink n made (event ∷ []) = LowersLink n made event
-LowersOneLink n made (event ∷ other ∷ events) = ⊥
+-- one event comes, which is such a one
+abbrev pub OneEvent : (List Timed → Timed → Type 0) → List Timed → List Timed → Type 0
+OneEvent Is made [] = ⊥
+OneEvent Is made (event ∷ []) = Is made event
+OneEvent Is made (event ∷ other ∷ events) = ⊥
 
--- A loss bound at a time, by the times before it, the latest first. It is 0, where nothing lapses, and such an event
--- comes to a calm network behind the choice bound before. No later bound builds on it.
-abbrev pub IsLossBoundAfter : NetworkState → List Timed → List ℕ → ℕ → ℕ → Type 0
-IsLossBoundAfter n events [] time choice = ⊥
-IsLossBoundAfter n events (last ∷ earlier) time choice =
+-- by it a link goes down, and no system is moved
+abbrev pub LowersOneLink : NetworkState → List Timed → List Timed → Type 0
+LowersOneLink n = OneEvent (LowersLink n)
+
+-- by it a system fails that is the far end of each of its links
+abbrev pub FailsOneEnd : NetworkState → List Timed → List Timed → Type 0
+FailsOneEnd n = OneEvent (FailsFarEnd n)
+
+-- Bounds at a time of a loss, by the times before it, the latest first: of the choice, and of the roles. Nothing
+-- lapses, and the one event comes to a calm network behind the choice bound before. The choice stands at once. So do
+-- roles after a link goes down; after a system fails they do once the ports beside it have been unanswered for long
+-- enough. No later bound builds on these.
+abbrev pub IsLossBoundAfter : NetworkState → List Timed → List ℕ → ℕ → ℕ → ℕ → Type 0
+IsLossBoundAfter n events [] time choice roles = ⊥
+IsLossBoundAfter n events (last ∷ earlier) time choice roles =
     (last < time)
     × NoneBetween events last time
     × IsCalm n (events_by time events)
     × NothingLapses n.params
     × ((choice_then : ℕ) × IsChoiceBoundAfter n events earlier last choice_then × (last + choice_then < time))
-    × LowersOneLink n (events_by last events) (events_at time events)
     × (choice ≡ 0)
+    × ((LowersOneLink n (events_by last events) (events_at time events) × (roles ≡ 0))
+    ⊎ (FailsOneEnd n (events_by last events) (events_at time events) × (roles ≡ capability_span (pace_of n))))
 
--- a choice bound of a document at a time
+-- a choice bound of a document at a time: by then the choice stands, and the roles do
 abbrev pub IsChoiceBound : DocumentState → ℕ → ℕ → Type 0
 IsChoiceBound d time choice =
     (earlier : List ℕ)
     × (IsChoiceBoundAfter d.network d.events earlier time choice
-    ⊎ IsLossBoundAfter d.network d.events earlier time choice)
+    ⊎ IsLossBoundAfter d.network d.events earlier time 0 choice)
+
+-- a bound of the choice alone
+abbrev pub IsChoiceAloneBound : DocumentState → ℕ → ℕ → Type 0
+IsChoiceAloneBound d time choice =
+    (earlier : List ℕ)
+    × (IsChoiceBoundAfter d.network d.events earlier time choice
+    ⊎ ((roles : ℕ) × IsLossBoundAfter d.network d.events earlier time choice roles))

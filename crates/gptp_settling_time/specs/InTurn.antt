@@ -12,7 +12,8 @@
 -- no system, and what widens the delays of a link in use. Where all was heard before, such links may also come up, and
 -- such systems recover, one after another at any time, as several at once; and what changes nothing asks for no time at
 -- all. Nor does a link that goes down by which no system is moved, in a network that had settled. That network is
--- *left*: its choice stands, but what is held may name links that are gone.
+-- *left*: its choice stands, but what is held may name links that are gone. So it is where a system fails that is the
+-- far end of each of its links: roles stand once the ports beside it aren't capable any more.
 use Rattle.std.specs.Prelude.{◌≡◌, ◌<◌, ◌≤◌, ◌⊎◌, ◌+◌, ◌*◌, ℕ, ⊤, pred, List, [], ◌∷◌, ◌++◌, Option, Some, slice_get}
 use Rattle.gptp_lists.specs.Members.{In}
 use Rattle.gptp_vector.specs.declared.port.PortId.{PortId}
@@ -34,12 +35,14 @@ use Rattle.gptp_network.specs.Document.{DocumentState}
 use Rattle.gptp_network.specs.Snapshot.{events_by}
 use Rattle.gptp_report.specs.Transitions.{ActTrace, Unfolds}
 use Rattle.gptp_theorem.specs.PlayedLaws.{IsPlayable}
+use Rattle.gptp_settling_time.specs.ChoiceAlone.{ChoiceStandsAs}
 use Rattle.gptp_settling_time.specs.Documents.{IsSettledAs}
 use Rattle.gptp_settling_time.specs.Exactly.{SettlesBy}
 use Rattle.gptp_settling_time.specs.Gains.{AreCapableAnyway, AreCapableNext, AreCapableStill, ChangesNothing, EndHasFailed, HasRested, IsDownAfter, IsNoWorse, JoinsLive, LeavesCapable, TakesNothing, UsesNoLink, exchanged_from}
-use Rattle.gptp_settling_time.specs.Losses.{LeavesChoice, LowersLink}
+use Rattle.gptp_settling_time.specs.Losses.{FailsFarEnd, LeavesChoice, LowersLink}
 
--- what a network came from, and from when on its ports are capable
+-- what a network came from, and from when on its ports are capable; of one that is left, from when on ports without a
+-- link aren't
 pub data Past : Type 0 where
   AnyPast : Past
   Starting : Past
@@ -177,6 +180,19 @@ pub record LowersCalm (n : NetworkState) (before : List Timed) (event : Timed) :
   pub calm : IsCalm n before
   pub off : NothingLapses n.params
 
+-- a system fails that is the far end of each of its links, in such a network
+pub record FailsCalm (n : NetworkState) (before : List Timed) (event : Timed) : Type 0 where
+  pub fails : FailsFarEnd n before event
+  pub calm : IsCalm n before
+  pub off : NothingLapses n.params
+
+-- After either the choice stands. Ports without a link aren't capable from the next time on: as from the one before
+-- where a link goes down, and beside a system that fails once they have been unanswered for long enough.
+abbrev pub LeavesStanding : NetworkState → List Timed → Timed → ℕ → ℕ → Type 0
+LeavesStanding n before event start next =
+    (LowersCalm n before event × (next ≡ start))
+    ⊎ (FailsCalm n before event × (next ≡ event.at + capability_span (pace_of n)))
+
 -- the network has settled from any past by this time, or from such a start, where something may not be heard or all is
 pub record HasSettledAnyhow (n : NetworkState) (events : List Timed) (time : ℕ) : Type 0 where
   pub calm : IsCalm n events
@@ -202,7 +218,7 @@ LeadsToGain n before AnyPast event next =
 LeadsToGain n before Starting event next = ⊥
 LeadsToGain n before (Gained start) event next = AreCapableStill n before start event next
 LeadsToGain n before (Heard start) event next = AreCapableStill n before start event next
-LeadsToGain n before (Left start) event next = ⊥
+LeadsToGain n before (Left silent) event next = ⊥
 
 abbrev pub LeadsToHeard : NetworkState → List Timed → Past → Timed → ℕ → Type 0
 LeadsToHeard n before AnyPast event next =
@@ -222,19 +238,19 @@ LeadsToHeard n before (Heard start) event next =
     ⊎ ((HasSettledHeard n before start event.at
     × (BettersClock n before event next ⊎ (LeavesSettled n before event next ⊎ WidensFrom n before event start next)))
     ⊎ (MakesNothing n before event start × (next ≡ start)))
-LeadsToHeard n before (Left start) event next = ⊥
+LeadsToHeard n before (Left silent) event next = ⊥
 
--- a network that had settled is left so by such a link that goes down
+-- a network that had settled is left so
 abbrev pub LeadsToLeft : NetworkState → List Timed → Past → Timed → ℕ → Type 0
 LeadsToLeft n before AnyPast event next =
-    HasSettledAnyhow n before event.at × LowersCalm n before event
-    × (next ≡ last_change before + capability_span (pace_of n))
+    HasSettledAnyhow n before event.at
+    × LeavesStanding n before event (last_change before + capability_span (pace_of n)) next
 LeadsToLeft n before Starting event next = ⊥
 LeadsToLeft n before (Gained start) event next =
-    HasSettledSince n before start event.at × LowersCalm n before event × (next ≡ start)
+    HasSettledSince n before start event.at × LeavesStanding n before event start next
 LeadsToLeft n before (Heard start) event next =
-    HasSettledHeard n before start event.at × LowersCalm n before event × (next ≡ start)
-LeadsToLeft n before (Left start) event next = ⊥
+    HasSettledHeard n before start event.at × LeavesStanding n before event start next
+LeadsToLeft n before (Left silent) event next = ⊥
 
 -- a gain, and what is heard, stays so from the start that it had
 abbrev pub StaysFrom : Past → ℕ → Type 0
@@ -242,7 +258,7 @@ StaysFrom AnyPast next = ⊥
 StaysFrom Starting next = ⊥
 StaysFrom (Gained start) next = next ≡ start
 StaysFrom (Heard start) next = next ≡ start
-StaysFrom (Left start) next = ⊥
+StaysFrom (Left silent) next = ⊥
 
 -- nothing is told as the network starts, and this is the last event then
 abbrev pub StartsFrom : NetworkState → List Timed → Past → Timed → ℕ → Type 0
@@ -250,7 +266,7 @@ StartsFrom n before AnyPast event next = ⊥
 StartsFrom n before Starting event next = StartsWith n before event next
 StartsFrom n before (Gained start) event next = ⊥
 StartsFrom n before (Heard start) event next = ⊥
-StartsFrom n before (Left start) event next = ⊥
+StartsFrom n before (Left silent) event next = ⊥
 
 -- nothing is told as the network starts, nor after this event
 abbrev pub StartsStill : Past → Timed → Type 0
@@ -258,7 +274,7 @@ StartsStill AnyPast event = ⊥
 StartsStill Starting event = (event.at ≡ 0) × TellsNothing event.act
 StartsStill (Gained start) event = ⊥
 StartsStill (Heard start) event = ⊥
-StartsStill (Left start) event = ⊥
+StartsStill (Left silent) event = ⊥
 
 abbrev pub EventLeads : NetworkState → List Timed → Past → Timed → Past → Type 0
 EventLeads n before past event AnyPast = ⊤
@@ -284,11 +300,12 @@ BeginsBy n AnyPast = ⊤
 BeginsBy n Starting = ⊤
 BeginsBy n (Gained start) = AreCapableSoon n [] start
 BeginsBy n (Heard start) = UsedVaryLittle n [] × AreCapableSoon n [] start
-BeginsBy n (Left start) = ⊥
+BeginsBy n (Left silent) = ⊥
 
 -- By this time a calm network has settled after these events. From any past the span has to pass, the sharper one where
 -- nothing lapses. Else ports become capable; then an announce interval passes where something may not be heard; and
--- then the greatest delay for each system of a path but one.
+-- then the greatest delay for each system of a path but one. In a network that is left the choice stands, and roles do
+-- once ports without a link aren't capable.
 abbrev pub SettlesAfter : NetworkState → List Timed → Past → ℕ → Type 0
 SettlesAfter n events AnyPast settled =
     (NothingLapses n.params
@@ -300,18 +317,32 @@ SettlesAfter n events (Gained start) settled = SettlesBy (pace_of n) (sync_paths
 SettlesAfter n events (Heard start) settled =
     NothingLapses n.params
     × (start + pred (sync_paths n events).systems * (sync_paths n events).delay ≤ settled)
-SettlesAfter n events (Left start) settled =
-    NothingLapses n.params
-    × (start + pred (sync_paths n events).systems * (sync_paths n events).delay ≤ settled)
+SettlesAfter n events (Left silent) settled = NothingLapses n.params × (silent ≤ settled)
 
--- A document settles by a time after its events up to another, one after another.
-pub record SettlesByEvents (d : DocumentState) (until settled : ℕ) : Type 0 where
+-- By this time the choice stands after these events: as soon as it has settled, and at once in a network that is left.
+abbrev pub ChoosesAfter : NetworkState → List Timed → Past → ℕ → Type 0
+ChoosesAfter n events AnyPast settled = SettlesAfter n events AnyPast settled
+ChoosesAfter n events Starting settled = ⊥
+ChoosesAfter n events (Gained start) settled = SettlesAfter n events (Gained start) settled
+ChoosesAfter n events (Heard start) settled = SettlesAfter n events (Heard start) settled
+ChoosesAfter n events (Left silent) settled = NothingLapses n.params
+
+-- A document comes by a time to what so comes after its events up to another, one after another.
+pub record ComesByEvents (So : NetworkState → List Timed → Past → ℕ → Type 0) (d : DocumentState)
+    (until settled : ℕ) : Type 0 where
   pub calm : IsCalm d.network (events_by until d.events)
   pub first : Past
   pub begins : BeginsBy d.network first
   pub last : Past
   pub lead : LeadOn d.network [] first (events_by until d.events) last
-  pub settles : SettlesAfter d.network (events_by until d.events) last settled
+  pub settles : So d.network (events_by until d.events) last settled
+
+-- it settles, or its choice stands
+abbrev pub SettlesByEvents : DocumentState → ℕ → ℕ → Type 0
+SettlesByEvents = ComesByEvents SettlesAfter
+
+abbrev pub ChoosesByEvents : DocumentState → ℕ → ℕ → Type 0
+ChoosesByEvents = ComesByEvents ChoosesAfter
 
 -- The world after each act of its run is settled that is done by then, and later than those events.
 abbrev pub ActsFindSettledInTurn : {F : Type 0} → (Bounds → ℕ → F → Option ℕ → F → Type 0) → Type 0
@@ -321,3 +352,12 @@ ActsFindSettledInTurn {F} answers = (d : DocumentState) (until settled : ℕ) (f
     → SettlesByEvents d t.told.timed.at settled → settled ≤ t.told.timed.at
     → last_change (events_by t.told.timed.at d.events) < t.told.timed.at
     → IsSettledAs d t.told.timed.at t.after
+
+-- and by the time by which its choice stands it does so in that world
+abbrev pub ActsFindChoiceInTurn : {F : Type 0} → (Bounds → ℕ → F → Option ℕ → F → Type 0) → Type 0
+ActsFindChoiceInTurn {F} answers = (d : DocumentState) (until settled : ℕ) (fate : F) (first w : WorldState)
+    (ts : List ActTrace) (t : ActTrace)
+    → IsPlayable d → Unfolds answers d until fate first ts w → In t ts
+    → ChoosesByEvents d t.told.timed.at settled → settled ≤ t.told.timed.at
+    → last_change (events_by t.told.timed.at d.events) < t.told.timed.at
+    → ChoiceStandsAs d t.told.timed.at t.after

@@ -7,5 +7,6 @@ pub mod Starts
 pub mod InTurn
 pub mod ExactInTurn
 pub mod Unchanged
+pub mod ChoiceAlone
 pub mod HowSoon
 pub mod ChoiceBounds

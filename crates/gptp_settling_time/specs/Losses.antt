@@ -2,18 +2,18 @@
 --
 -- An event *moves* a system that lives after it where another system, or the same with another identity, is the best of
 -- its component then, or it is nearer to that or farther from it. So its root or its steps are others.
-use Rattle.std.specs.Prelude.{◌≡◌, ◌≤◌, ℕ, List, [], ◌∷◌, ◌++◌, Some, slice_get}
+use Rattle.std.specs.Prelude.{◌≡◌, ◌⊎◌, ◌<◌, ◌≤◌, ℕ, List, [], ◌∷◌, ◌++◌, Some, slice_get}
 use Rattle.gptp_lists.specs.Members.{In}
 use Rattle.gptp_graph.specs.Best.{IsBest}
 use Rattle.gptp_graph.specs.Distance.{IsDistance}
-use Rattle.gptp_graph.specs.Snapshot.{Snapshot, System, clocks}
+use Rattle.gptp_graph.specs.Snapshot.{Adjacent, Snapshot, System, clocks}
 use Rattle.gptp_network.specs.Snapshot.{StandsAfter}
 use Rattle.gptp_scenario.specs.Calm.{IsLive, IsUsed}
 use Rattle.gptp_scenario.specs.Change.{link_after}
 use Rattle.gptp_scenario.specs.Network.{IsEnd, NetworkState}
 use Rattle.gptp_scenario.specs.SyncWait.{sync_paths}
 use Rattle.gptp_scenario.specs.declared.change.Act.TheVariants.{Change as Changing}
-use Rattle.gptp_scenario.specs.declared.change.Change.TheVariants.{LinkDown, Priority1}
+use Rattle.gptp_scenario.specs.declared.change.Change.TheVariants.{Fail, LinkDown, Priority1}
 use Rattle.gptp_scenario.specs.declared.change.Timed.{Timed}
 use Rattle.gptp_scenario.specs.declared.network.LinkSpec.{LinkSpec}
 use Rattle.gptp_model.specs.World.{port_id}
@@ -48,6 +48,24 @@ pub record LowersLink (n : NetworkState) (before : List Timed) (event : Timed) :
   pub used : (place : ℕ) (v : LinkSpec) → slice_get n.links place ≡ Some v
       → IsEnd (port_id clock port) (link_after before v)
       → IsUsed n.systems before (link_after before v)
+  pub moves : MovesNone n before event
+  pub delay : (sync_paths n (before ++ event ∷ [])).delay ≡ (sync_paths n before).delay
+  pub paths : (sync_paths n (before ++ event ∷ [])).systems ≤ (sync_paths n before).systems
+  pub few : (sync_paths n before).systems ≤ 255
+
+-- The system is the far end of each of its links: its neighbours are nearer to the best, or as near and have the lower
+-- clock. So none of them gets its choice from it.
+abbrev pub IsFarEnd : Snapshot → ℕ → Type 0
+IsFarEnd g v = (u far near : ℕ) → Adjacent g v u → IsDistance g v far → IsDistance g u near
+    → (near < far) ⊎ ((near ≡ far) × (u < v))
+
+-- After these events this one lets a live system fail that is the far end of each of its links, and no system is moved.
+-- The greatest delay of a link in use stays, and no path gets longer. None had more than 255 systems.
+pub record FailsFarEnd (n : NetworkState) (before : List Timed) (event : Timed) : Type 0 where
+  pub clock : ℕ
+  pub act : event.act ≡ Changing (Fail clock)
+  pub live : IsLive n.systems before clock
+  pub far : (g : Snapshot) → StandsAfter n before g → IsFarEnd g clock
   pub moves : MovesNone n before event
   pub delay : (sync_paths n (before ++ event ∷ [])).delay ≡ (sync_paths n before).delay
   pub paths : (sync_paths n (before ++ event ∷ [])).systems ≤ (sync_paths n before).systems

@@ -1,6 +1,6 @@
 //! How soon the choice stands after the events of each time of a document, and how exactly.
 
-ghost use Rattle.gptp_settling_time.specs.ChoiceBounds.{ChoiceBoundsAreExact, ChoiceBoundsHold};
+ghost use Rattle.gptp_settling_time.specs.ChoiceBounds.{ChoiceAloneBoundsHold, ChoiceBoundsAreExact, ChoiceBoundsHold};
 
 use gptp_links::Fate;
 
@@ -10,6 +10,13 @@ use gptp_links::Fate;
 /// capability of a port.
 pub fn choice_bounds_hold<F: Fate>()
     ensures { ChoiceBoundsHold F.answers }
+{}
+
+/// A bound of the choice alone holds of every run, whatever is drawn for the frames: the choice stands in the world after
+/// each act that is later by more, and before the next event. Where every live system is near, the act leaves no system
+/// another as to whether it lives, its root, its steps and its Slave port.
+pub fn choice_alone_bounds_hold<F: Fate>()
+    ensures { ChoiceAloneBoundsHold F.answers }
 {}
 
 /// Once a Sync has had the time to come down a way since a time that is later than a choice bound of a document, each

@@ -1,6 +1,6 @@
 //! How soon a document has settled, event by event.
 
-ghost use Rattle.gptp_settling_time.specs.InTurn.{ActsFindSettledInTurn};
+ghost use Rattle.gptp_settling_time.specs.InTurn.{ActsFindChoiceInTurn, ActsFindSettledInTurn};
 
 use gptp_links::Fate;
 
@@ -15,4 +15,11 @@ use gptp_links::Fate;
 /// from; nor does a priority1 by which no system is moved.
 pub fn documents_settle_in_turn<F: Fate>()
     ensures { ActsFindSettledInTurn F.answers }
+{}
+
+/// By the last of these events the choice stands in the world after each act of a run, once the document has had the time
+/// for it. That is when it is settled; but at once after a loss by which no system is moved: a link that goes down, or a
+/// system that fails and is the far end of each of its links.
+pub fn choice_stands_in_turn<F: Fate>()
+    ensures { ActsFindChoiceInTurn F.answers }
 {}

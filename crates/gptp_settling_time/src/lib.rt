@@ -14,7 +14,8 @@
 //! nothing asks for no time (`specs/InTurn.antt`), nor does a priority1 by which no system is moved
 //! (`specs/Losses.antt`). Once a document has settled no act leaves a system another (`specs/Unchanged.antt`), and
 //! offsets are exact as soon as a Sync has come down a way (`specs/ExactInTurn.antt`). So the choice stands by the
-//! bound that `specs/HowSoon.antt` has for each time of a document (`specs/ChoiceBounds.antt`).
+//! bound that `specs/HowSoon.antt` has for each time of a document (`specs/ChoiceBounds.antt`). After a system fails that
+//! is the far end of its links the choice stands though roles change still (`specs/ChoiceAlone.antt`).
 //!
 //! Each function of this crate is a law: it does nothing, and its contract is a theorem about the definitions.
 #![tactic(auto)]
@@ -28,11 +29,11 @@ mod in_turn;
 mod starts;
 mod unchanged;
 
-pub use choice_bounds::{choice_bounds_are_exact, choice_bounds_hold};
+pub use choice_bounds::{choice_alone_bounds_hold, choice_bounds_are_exact, choice_bounds_hold};
 pub use documents::{documents_settle_soon, runs_are_exact_soon, runs_begin_so};
 pub use exact_in_turn::documents_are_exact_in_turn;
 pub use exactly::news_are_exact;
 pub use idle::idle_changes_leave_settled;
-pub use in_turn::documents_settle_in_turn;
+pub use in_turn::{choice_stands_in_turn, documents_settle_in_turn};
 pub use starts::starts_settle_at_once;
-pub use unchanged::acts_leave_shown;
+pub use unchanged::{acts_leave_choice, acts_leave_shown};

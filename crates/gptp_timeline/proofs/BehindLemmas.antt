@@ -21,6 +21,14 @@ IsStill time t = (at_of t ≤ time) ⊎ ShowsTheSame t
 abbrev pub StillBehind : ℕ → List ActTrace → Type 0
 StillBehind time = AllByRecursion (IsStill time)
 
+-- no choice that is shown is another after an act
+abbrev pub ShowsTheSameChoice : ActTrace → Type 0
+ShowsTheSameChoice t = (name : ℕ) → same_choice (shown name t.before) (shown name t.after) ≡ true
+
+-- so it is of all of some acts behind a time
+abbrev pub ChosenBehind : ℕ → List ActTrace → Type 0
+ChosenBehind time = AllByRecursion (λ t. (at_of t ≤ time) ⊎ ShowsTheSameChoice t)
+
 -- what is so of these acts and of those is so of both
 pub all_both : (P : ActTrace → Type 0) (ts us : List ActTrace) → AllByRecursion P ts → AllByRecursion P us
     → AllByRecursion P (ts ++ us)
@@ -41,27 +49,36 @@ last_within test time (t ∷ ts) all = by (last_at test ts) (last_within test ti
     by None within true is (inr none) = absurd (let both : true ≡ false = sym is ∙ none in cc)
     by None within false is one = tt
 
-still_tests : (same : Option Shown → Option Shown → Bool) (names : List ℕ) (time : ℕ) (ts : List ActTrace)
-    → ((t : ActTrace) → ShowsTheSame t → (name : ℕ) → same (shown name t.before) (shown name t.after) ≡ true)
-    → StillBehind time ts → AllByRecursion (λ t. (at_of t ≤ time) ⊎ (leaves_another same names t ≡ false)) ts
-still_tests same names time [] follows still = tt
-still_tests same names time (t ∷ ts) follows still =
-    (by still.0, still_tests same names time ts follows still.1)
+-- a test of two shown systems that those acts leave
+left_tests : (same : Option Shown → Option Shown → Bool) (names : List ℕ) (time : ℕ) (Leaves : ActTrace → Type 0)
+    (ts : List ActTrace)
+    → ((t : ActTrace) → Leaves t → (name : ℕ) → same (shown name t.before) (shown name t.after) ≡ true)
+    → AllByRecursion (λ t. (at_of t ≤ time) ⊎ Leaves t) ts
+    → AllByRecursion (λ t. (at_of t ≤ time) ⊎ (leaves_another same names t ≡ false)) ts
+left_tests same names time Leaves [] follows left = tt
+left_tests same names time Leaves (t ∷ ts) follows left =
+    (by left.0, left_tests same names time Leaves ts follows left.1)
   where
-    by : (at_of t ≤ time) ⊎ ShowsTheSame t → (at_of t ≤ time) ⊎ (leaves_another same names t ≡ false)
+    by : (at_of t ≤ time) ⊎ Leaves t → (at_of t ≤ time) ⊎ (leaves_another same names t ≡ false)
     by (inl early) = inl early
     by (inr shows) =
         inr (any_none (λ name. not (same (shown name t.before) (shown name t.after))) names
         (λ i name there. ap not (follows t shows name)))
 
+pub last_alone : (names : List ℕ) (time : ℕ) (ts : List ActTrace) → ChosenBehind time ts
+    → IfSome (last_at (leaves_another same_choice names) ts) (λ last. last ≤ time)
+last_alone names time ts chosen =
+    last_within (leaves_another same_choice names) time ts
+    (left_tests same_choice names time ShowsTheSameChoice ts (λ t shows. shows) chosen)
+
 pub last_choice : (names : List ℕ) (time : ℕ) (ts : List ActTrace) → StillBehind time ts
     → IfSome (last_at (leaves_another same_choice names) ts) (λ last. last ≤ time)
 last_choice names time ts still =
     last_within (leaves_another same_choice names) time ts
-    (still_tests same_choice names time ts (λ t shows. shows.choice) still)
+    (left_tests same_choice names time ShowsTheSame ts (λ t shows. shows.choice) still)
 
 pub last_roles : (names : List ℕ) (time : ℕ) (ts : List ActTrace) → StillBehind time ts
     → IfSome (last_at (leaves_another same_roles names) ts) (λ last. last ≤ time)
 last_roles names time ts still =
     last_within (leaves_another same_roles names) time ts
-    (still_tests same_roles names time ts (λ t shows. shows.roles) still)
+    (left_tests same_roles names time ShowsTheSame ts (λ t shows. shows.roles) still)

@@ -280,9 +280,9 @@ is_told d at from playable is =
     let (time, among, at_is, told) = settling_told (settling_times d) last s settling in
     let (earlier, so_then) = time_so d playable time s among told in
     let so : IsSo d playable earlier last s = subst (λ at. IsSo d playable earlier at s) at_is so_then in record {
-      choice = s.choice;
-      bounds = (earlier, so.choice);
-      told = subst (λ e. come_from d last s.choice ≤ e) exact_is (told_later d playable earlier last s so);
+      choice = s.roles;
+      bounds = (earlier, so.bounds);
+      told = subst (λ e. come_from d last s.roles ≤ e) exact_is (told_later d playable earlier last s so);
     }
 
 -- Where errors are said of a system, a path has two systems at least, so that is later than the last change.

@@ -196,7 +196,7 @@ choice_is d at choice above ([], inl (first, bounds)) =
 choice_is d at choice above ((last ∷ earlier), inl (late, between, bounds)) =
     choice_of d.network _ (events_by at d.events) choice above bounds
 choice_is d at choice above ([], inr none) = absurd none
-choice_is d at choice above ((last ∷ earlier), inr (late, between, calm, off, before, lowers, none)) =
+choice_is d at choice above ((last ∷ earlier), inr (late, between, calm, off, before, none, which)) =
     absurd (omega (arith, off, above))
 
 pub over_by : (d : DocumentState) (at from : ℕ) → IsTold d at from → 0 < d.network.params.sync_timeout

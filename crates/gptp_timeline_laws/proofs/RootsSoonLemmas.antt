@@ -8,7 +8,7 @@ use Rattle.gptp_graph.specs.Snapshot.{Snapshot}
 use Rattle.gptp_how_soon.specs.Times.{settling_times}
 use Rattle.gptp_how_soon.specs.declared.bounds.Settling.{Settling}
 use Rattle.gptp_how_soon_laws.proofs.ChoiceLemmas.{settlings_are_choice_bounds}
-use Rattle.gptp_how_soon_laws.proofs.EndLemmas.{bound_ends_settled}
+use Rattle.gptp_how_soon_laws.proofs.EndLemmas.{bound_ends_chosen}
 use Rattle.gptp_invariants.specs.WorldStanding.{snapshot_of}
 use Rattle.gptp_links.specs.declared.bounds.Bounds.{Bounds}
 use Rattle.gptp_lists.specs.Members.{In}
@@ -18,8 +18,8 @@ use Rattle.gptp_model.specs.World.{WorldState}
 use Rattle.gptp_network.specs.Document.{DocumentState}
 use Rattle.gptp_network.specs.Snapshot.{IsSnapshot, events_by}
 use Rattle.gptp_scenario.specs.declared.change.Timed.{Timed}
-use Rattle.gptp_settling_time.specs.Documents.{IsSettledAs}
-use Rattle.gptp_settling_time.specs.HowSoon.{IsChoiceBound}
+use Rattle.gptp_settling_time.specs.ChoiceAlone.{ChoiceStandsAs}
+use Rattle.gptp_settling_time.specs.HowSoon.{IsChoiceAloneBound}
 use Rattle.gptp_system.specs.State.{SystemState}
 use Rattle.gptp_theorem.specs.PlayedLaws.{IsPlayable}
 use Rattle.gptp_timeline.specs.Laws.{AreRoots}
@@ -31,31 +31,31 @@ use Rattle.gptp_timeline.proofs.FollowedLemmas.{follow_best}
 use Rattle.gptp_timeline.proofs.RestLemmas.{found_live}
 use Rattle.gptp_timeline.proofs.SettlingLemmas.{begins, keeps_first, left_first}
 use Rattle.gptp_timeline_laws.specs.Soon.{StretchesFollowSoon}
-use Rattle.gptp_timeline_laws.proofs.ShortenedLemmas.{playable_by, short_bound, shortened}
+use Rattle.gptp_timeline_laws.proofs.ShortenedLemmas.{playable_by, short_alone, shortened}
 use Rattle.gptp_timeline_laws.proofs.SoonLemmas.{none, told_time, unfolds}
 use Rattle.gptp_timeline_laws.proofs.StretchRunLemmas.{ends_on, runs_to}
 
--- ---- a settled world
+-- ---- a world whose choice stands
 
 -- its near systems follow the bests of their components
-follows_best : (d : DocumentState) (until : ℕ) (w : WorldState) → IsSettledAs d until w → (name : ℕ)
+follows_best : (d : DocumentState) (until : ℕ) (w : WorldState) → ChoiceStandsAs d until w → (name : ℕ)
     (s : SystemState) → live_system name w ≡ Some s → IsNear (snapshot_of w) name
     → IsBestIdentity (snapshot_of w) name s.root
-follows_best d until w settled name s is near =
+follows_best d until w stands name s is near =
     let k = found_live name w.stations s is in
-    let own = settled.settled.tree.settled k.place k.station k.here k.live
+    let own = stands.choice k.place k.station k.here k.live
     (subst (IsNear (snapshot_of w)) (sym k.is_named) near) in
     subst (λ (x : SystemState). IsBestIdentity (snapshot_of w) name x.root) k.state
     (subst (λ c. IsBestIdentity (snapshot_of w) c k.station.system.root) k.is_named own.root)
 
 -- ---- a stretch
 
--- one that begins with a choice bound
+-- one that begins with a bound of the choice
 pub bound_follows : {F : Type 0} (answers : Bounds → ℕ → F → Option ℕ → F → Type 0) (d : DocumentState) (exact : Bool)
     (until : ℕ) (passages : List StretchTrace) (fate started fate_after : F) (start after : WorldState)
     (p : StretchTrace) (choice : ℕ) (g : Snapshot) → IsPlayable d → Begun answers d.network fate started start
     → AllPass answers exact d until 0 (events_by until d.events) started fate_after start after passages → In p passages
-    → IsChoiceBound (shortened p.from d) p.from choice → p.from + choice < p.to → IsSnapshot d p.from g
+    → IsChoiceAloneBound (shortened p.from d) p.from choice → p.from + choice < p.to → IsSnapshot d p.from g
     → AreRoots g (roots_of (map (λ name. shown name p.after) (rising_clocks start)))
 bound_follows answers d exact until passages fate started fate_after start after p choice g playable begun pass
     member bound late stands =
@@ -72,18 +72,19 @@ bound_follows answers d exact until passages fate started fate_after start after
     let ends = ends_on until b.from b.left (later_than b.from b.left) refl within in
     let due : p.from ≤ until = omega (arith, from_is, within) in
     let on : p.from ≤ p.to = omega (arith, from_is, to_is, ends) in
-    let settled = bound_ends_settled answers (shortened p.from d) p.from choice (suc p.to) p.to fate start p.after
+    let stands_so = bound_ends_chosen answers (shortened p.from d) p.from choice (suc p.to) p.to fate start p.after
     run.ts (playable_by p.from d playable) (unfolds answers d playable until p fate started start begun run due on)
     bound (none answers d playable until p fate started start begun run due on) late (omega arith) in
     follow_best answers d playable names exact until passages started fate_after start after p g keeps pass member
-    (λ name s lives near. follows_best (shortened p.from d) p.to p.after settled name s lives near) stands
+    (λ name s lives near. follows_best (shortened p.from d) p.to p.after stands_so name s lives near) stands
 
--- what is told of a time is a choice bound then
+-- what is told of a time is a bound of the choice then
 pub told_bound : (d : DocumentState) (at : ℕ) (s : Settling) → IsPlayable d → settling_of d at ≡ Some s
-    → IsChoiceBound d at s.choice
+    → IsChoiceAloneBound d at s.choice
 told_bound d at s playable told =
     let (time, member, at_is, is) = told_time (settling_times d) at s told in
-    subst (λ a. IsChoiceBound d a s.choice) at_is (settlings_are_choice_bounds d time s playable member is).0
+    let (bound, alone, sooner) = settlings_are_choice_bounds d time s playable member is in
+    subst (λ a. IsChoiceAloneBound d a s.choice) at_is alone
 
 pub stretches_follow_soon : {F : Type 0} (answers : Bounds → ℕ → F → Option ℕ → F → Type 0)
     → StretchesFollowSoon answers
@@ -92,8 +93,8 @@ stretches_follow_soon answers d until options fate lines exceeded t playable p s
     let b = begins answers d playable names true until t.passages 0 [] (events_by until d.events) t.started
     t.fate_after t.start t.after p (left_first answers d playable names until)
     (keeps_first answers d playable names fate t.started t.start refl t.begun) t.pass member in
-    let bound = subst (λ at. IsChoiceBound d at s.choice) (sym b.passage.from_is)
+    let bound = subst (λ at. IsChoiceAloneBound d at s.choice) (sym b.passage.from_is)
     (told_bound d b.from s playable (sym b.passage.settling_is ∙ told)) in
     bound_follows answers d true until t.passages fate t.started t.fate_after t.start t.after p s.choice g playable
     t.begun t.pass member
-    (short_bound d p.from p.from s.choice (omega arith) bound) late stands
+    (short_alone d p.from p.from s.choice (omega arith) bound) late stands

@@ -1,5 +1,5 @@
 -- A document without its events after a time.
-use Rattle.std.proofs.Common.{◌≡◌, inl, inr, ◌<◌, ◌≤◌, ◌+◌, ℕ, Bool, true, false, nat_le, List, [], ◌∷◌, refl, sym, ap, subst, arith}
+use Rattle.std.proofs.Common.{◌≡◌, ◌⊎◌, inl, inr, ◌<◌, ◌≤◌, ◌+◌, ℕ, Bool, true, false, nat_le, List, [], ◌∷◌, refl, sym, ap, subst, arith}
 use Rattle.std.specs.Prelude.{◌==◌, if◌then◌else◌}
 use Rattle.std.proofs.lemmas.Bool.{ne_eqb}
 use Rattle.std.proofs.lemmas.Bool.Decides.{nat_tests}
@@ -10,9 +10,11 @@ use Rattle.gptp_network.specs.Events.{IsEvent}
 use Rattle.gptp_network.specs.Snapshot.{events_by}
 use Rattle.gptp_network.proofs.SnapshotLemmas.{from_filter}
 use Rattle.gptp_scenario.specs.Calm.{IsCalm}
-use Rattle.gptp_scenario.specs.Network.{NetworkState}
+use Rattle.gptp_scenario.specs.Network.{NetworkState, pace_of}
+use Rattle.gptp_scenario.specs.SettlingTime.{capability_span}
 use Rattle.gptp_scenario.specs.declared.change.Timed.{Timed}
-use Rattle.gptp_settling_time.specs.HowSoon.{BoundsChoice, BoundsEvents, BoundsStart, IsChoiceBound, IsChoiceBoundAfter, IsLossBoundAfter, LowersOneLink, events_at}
+use Rattle.gptp_settling_time.specs.HowSoon.{BoundsChoice, BoundsEvents, BoundsStart, FailsOneEnd, IsChoiceAloneBound, IsChoiceBound, IsChoiceBoundAfter, IsLossBoundAfter, LowersOneLink, OneEvent, events_at}
+use Rattle.gptp_settling_time.specs.Losses.{FailsFarEnd, LowersLink}
 use Rattle.gptp_theorem.specs.PlayedLaws.{IsPlayable}
 use Rattle.gptp_timeline.proofs.EventLemmas.{filter_each, filter_in_order}
 use Rattle.gptp_timeline.proofs.PastLemmas.{by_sooner}
@@ -92,24 +94,49 @@ module _ (n : NetworkState) (all : List Timed) (until : ℕ) where
         bounds),
   )
 
-  loss_by : (earlier : List ℕ) (time choice : ℕ) → time ≤ until → IsLossBoundAfter n all earlier time choice
-      → IsLossBoundAfter n (events_by until all) earlier time choice
-  loss_by [] time choice le none = absurd none
-  loss_by (last ∷ earlier) time choice le (late, between, calm, off, (choice_then, bound, soon), lowers, none) = (
+  -- one event of a time is one of these
+  one_by : (Is : List Timed → Timed → Type 0) (last time : ℕ) → last ≤ until → time ≤ until
+      → OneEvent Is (events_by last all) (events_at time all)
+      → OneEvent Is (events_by last (events_by until all)) (events_at time (events_by until all))
+  one_by Is last time late le is =
+      subst (λ made. OneEvent Is made (events_at time (events_by until all)))
+      (sym (by_sooner last until all late))
+      (subst (OneEvent Is (events_by last all)) (sym (at_sooner time until all le)) is)
+
+  loss_by : (earlier : List ℕ) (time choice roles : ℕ) → time ≤ until
+      → IsLossBoundAfter n all earlier time choice roles
+      → IsLossBoundAfter n (events_by until all) earlier time choice roles
+  loss_by [] time choice roles le none = absurd none
+  loss_by (last ∷ earlier) time choice roles le (late, between, calm, off, (choice_then, bound, soon), none, which) = (
     late,
     λ event member. between event (from_filter (λ (t : Timed). nat_le t.at until) event all member).0,
     subst (IsCalm n) (sym (by_sooner time until all le)) calm,
     off,
     (choice_then, bound_by earlier last choice_then (omega (arith, late, le)) bound, soon),
-    subst (λ made. LowersOneLink n made (events_at time (events_by until all)))
-        (sym (by_sooner last until all (omega (arith, late, le))))
-        (subst (LowersOneLink n (events_by last all)) (sym (at_sooner time until all le)) lowers),
     none,
+    by which,
   )
+    where
+      by : (LowersOneLink n (events_by last all) (events_at time all) × (roles ≡ 0))
+          ⊎ (FailsOneEnd n (events_by last all) (events_at time all) × (roles ≡ capability_span (pace_of n)))
+          → (LowersOneLink n (events_by last (events_by until all)) (events_at time (events_by until all))
+          × (roles ≡ 0))
+          ⊎ (FailsOneEnd n (events_by last (events_by until all)) (events_at time (events_by until all))
+          × (roles ≡ capability_span (pace_of n)))
+      by (inl (lowers, is)) = inl (one_by (LowersLink n) last time (omega (arith, late, le)) le lowers, is)
+      by (inr (fails, is)) = inr (one_by (FailsFarEnd n) last time (omega (arith, late, le)) le fails, is)
 
 pub short_bound : (d : DocumentState) (until time choice : ℕ) → time ≤ until → IsChoiceBound d time choice
     → IsChoiceBound (shortened until d) time choice
 short_bound d until time choice le (earlier, inl bound) =
     (earlier, inl (bound_by d.network d.events until earlier time choice le bound))
 short_bound d until time choice le (earlier, inr lost) =
-    (earlier, inr (loss_by d.network d.events until earlier time choice le lost))
+    (earlier, inr (loss_by d.network d.events until earlier time 0 choice le lost))
+
+-- so it has the same bounds of the choice alone
+pub short_alone : (d : DocumentState) (until time choice : ℕ) → time ≤ until → IsChoiceAloneBound d time choice
+    → IsChoiceAloneBound (shortened until d) time choice
+short_alone d until time choice le (earlier, inl bound) =
+    (earlier, inl (bound_by d.network d.events until earlier time choice le bound))
+short_alone d until time choice le (earlier, inr (roles, lost)) =
+    (earlier, inr (roles, loss_by d.network d.events until earlier time choice roles le lost))

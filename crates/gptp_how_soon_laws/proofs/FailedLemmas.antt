@@ -1,0 +1,252 @@
+-- A system that fails by the one event of a time, is the far end of each of its links, and whose failure moves no
+-- system, is so as its event is told.
+use Rattle.std.proofs.Common.{◌≡◌, ◌<◌, ◌≤◌, ◌⊎◌, inl, inr, ℕ, Bool, true, false, cond, List, [], ◌∷◌, ◌++◌, Some, refl, sym, ap, subst, ◌∙◌, append-nil, arith}
+use Rattle.std.specs.Prelude.{◌==◌, ◌&&◌, ◌||◌, nat_lt, not}
+use Rattle.std.specs.List.{list_all}
+use Rattle.std.proofs.lemmas.Bool.{and_from, and_parts, eq-eqb, eqb-true, or_cases}
+use Rattle.std.proofs.lemmas.Bool.Decides.{nat_tests}
+use Rattle.gptp_lists.specs.Members.{In}
+use Rattle.gptp_lists.proofs.MappedLemmas.{mapped_there}
+use Rattle.gptp_lists.proofs.SystemSpecLemmas.{from_map}
+use Rattle.gptp_graph.specs.Best.{IsBest}
+use Rattle.gptp_graph.specs.Distance.{IsDistance}
+use Rattle.gptp_graph.specs.Snapshot.{IsWellFormed, Snapshot, System, clocks}
+use Rattle.gptp_graph.proofs.BestLemmas.{IsBest-unique}
+use Rattle.gptp_graph.proofs.DistanceLemmas.{IsDistance-unique}
+use Rattle.gptp_graph.proofs.LinkLemmas.{Adjacent-clock, Adjacent-sym}
+use Rattle.gptp_graph.proofs.SystemLemmas.{In-clocks}
+use Rattle.gptp_roles.specs.Selection.{clock_of}
+use Rattle.gptp_scenario.specs.Change.{standing, system_acted, system_after, with_live}
+use Rattle.gptp_scenario.specs.InUse.{lives}
+use Rattle.gptp_scenario.specs.Network.{IsNetwork, NetworkState}
+use Rattle.gptp_scenario.specs.SyncWait.{sync_paths}
+use Rattle.gptp_scenario.specs.declared.change.Act.{Act}
+use Rattle.gptp_scenario.specs.declared.change.Act.TheVariants as acts
+use Rattle.gptp_scenario.specs.declared.change.Change.TheVariants as changes
+use Rattle.gptp_scenario.specs.declared.change.Timed.{Timed}
+use Rattle.gptp_scenario.specs.declared.network.SystemSpec.{SystemSpec}
+use Rattle.gptp_network.specs.Snapshot.{StandsAfter, has_clock}
+use Rattle.gptp_network.proofs.InUseLemmas.{live_there, there_live}
+use Rattle.gptp_network.proofs.PassLemmas.{passes, passes_at}
+use Rattle.gptp_network.proofs.SnapshotLemmas.{with_clock}
+use Rattle.gptp_theorem.proofs.EventLemmas.{system_behind}
+use Rattle.gptp_topology.specs.After.{system_then, systems_after}
+use Rattle.gptp_topology.specs.declared.nodes.System as ours
+use Rattle.gptp_how_soon.specs.Chosen.{chosen_after, moves_some, place_of, used_ends}
+use Rattle.gptp_how_soon.specs.Far.{are_far_after, has_lower_clock, is_far_end, is_far_over, is_nearer, is_nearer_at}
+use Rattle.gptp_how_soon.specs.Kinds.{fails_one, is_fail, is_failing, is_loss}
+use Rattle.gptp_how_soon.specs.Times.{told_at, told_of}
+use Rattle.gptp_how_soon.specs.declared.chosen.Chosen.{Chosen}
+use Rattle.gptp_how_soon.proofs.ChosenLemmas.{at_clock, chosen_there, place_is, settled_choice, touched}
+use Rattle.gptp_how_soon.proofs.RoundsLemmas.{Touches}
+use Rattle.gptp_settling_time.specs.HowSoon.{FailsOneEnd}
+use Rattle.gptp_settling_time.specs.Losses.{FailsFarEnd, IsFarEnd, MovesNone}
+use Rattle.gptp_how_soon_laws.proofs.KindLemmas.{loss_fails}
+use Rattle.gptp_how_soon_laws.proofs.UnmovedLemmas.{AreWell, chooses_so, same_system}
+
+-- what is so of all is so of each
+each_is : {X : Type 0} (p : X → Bool) (xs : List X) (x : X) → list_all p xs ≡ true → In x xs → p x ≡ true
+each_is p [] x all member = absurd member
+each_is p (y ∷ xs) x all (inl same) = ap p same ∙ (and_parts (p y) (list_all p xs) all).0
+each_is p (y ∷ xs) x all (inr behind) = each_is p xs x (and_parts (p y) (list_all p xs) all).1 behind
+
+-- ---- a far end
+
+module _ (n : NetworkState) (network : IsNetwork n) (made : List Timed) (g : Snapshot)
+    (stands : StandsAfter n made g) (well : IsWellFormed g) where
+  abbrev systems : List ours.System
+  systems = systems_after n made
+
+  abbrev cs : List Chosen
+  cs = chosen_after n made
+
+  -- the test of one end
+  at_end : (i k place : ℕ) → k ≡ place → (not (k == place) || is_nearer_at systems cs i place) ≡ true
+      → is_nearer_at systems cs i place ≡ true
+  at_end i k place same is = elim (or_cases (not (k == place)) (is_nearer_at systems cs i place) is) [
+    | inl apart ↦
+        let one = eq-eqb k place same in
+        absurd (let both : not true ≡ true = ap not (sym one) ∙ apart in cc)
+    | inr near ↦ near
+  ]
+
+  -- the other end of a link that touches the place is nearer
+  over_link : (i place : ℕ) → is_far_end systems cs (used_ends n made) place ≡ true → Touches (used_ends n made) place i
+      → is_nearer_at systems cs i place ≡ true
+  over_link i place far (inl member) =
+      let here = each_is (is_far_over systems cs place) (used_ends n made) (record { a = place; b = i }) far member in
+      at_end i place place refl
+      (and_parts (not (place == place) || is_nearer_at systems cs i place)
+      (not (i == place) || is_nearer_at systems cs place place) here).0
+  over_link i place far (inr member) =
+      let here = each_is (is_far_over systems cs place) (used_ends n made) (record { a = i; b = place }) far member in
+      at_end i place place refl
+      (and_parts (not (i == place) || is_nearer_at systems cs place place)
+      (not (place == place) || is_nearer_at systems cs i place) here).1
+
+  -- what the test says of the numbers
+  nearer_by : (e c : Chosen) (lower higher : ℕ)
+      → (nat_lt e.steps c.steps || ((e.steps == c.steps) && nat_lt lower higher)) ≡ true
+      → (e.steps < c.steps) ⊎ ((e.steps ≡ c.steps) × (lower < higher))
+  nearer_by e c lower higher is =
+      elim (or_cases (nat_lt e.steps c.steps) ((e.steps == c.steps) && nat_lt lower higher) is) [
+        | inl less ↦ inl (grind (arith, nat_tests))
+        | inr both ↦
+            let (same, below) = and_parts (e.steps == c.steps) (nat_lt lower higher) both in
+            inr (eqb-true e.steps c.steps same, grind (arith, nat_tests))
+      ]
+
+  pub far_so : (v : ℕ) → is_far_end systems cs (used_ends n made) (place_of systems v) ≡ true → IsFarEnd g v
+  far_so v test u far near adjacent v_far u_near =
+      let v_known = Adjacent-clock g u v well (Adjacent-sym g v u adjacent) in
+      let u_known = Adjacent-clock g v u well adjacent in
+      let (i, at_v) = at_clock n network made g stands well v v_known in
+      let (j, at_u) = at_clock n network made g stands well u u_known in
+      let (c, c_there) = chosen_there n network made g stands well i v at_v in
+      let (e, e_there) = chosen_there n network made g stands well j u at_u in
+      let chose_v = settled_choice n network made g stands well i v at_v v_known c c_there in
+      let chose_u = settled_choice n network made g stands well j u at_u u_known e e_there in
+      let steps_v = IsDistance-unique g v far c.steps well v_far chose_v.far in
+      let steps_u = IsDistance-unique g u near e.steps well u_near chose_u.far in
+      let place = place_is n network made g stands well made i v at_v in
+      let test_i : is_far_end systems cs (used_ends n made) i ≡ true =
+      subst (λ k. is_far_end systems cs (used_ends n made) k ≡ true) place test in
+      let nearer : is_nearer_at systems cs j i ≡ true =
+      over_link j i test_i (touched n network made g stands well v u i j adjacent at_v at_u) in
+      let o_v = mapped_there (system_then made) n.systems i at_v.system at_v.there in
+      let o_u = mapped_there (system_then made) n.systems j at_u.system at_u.there in
+      let told : is_nearer (Some e) (Some c)
+      (has_lower_clock (Some (system_then made at_u.system)) (Some (system_then made at_v.system))) ≡ true =
+      (λ k. is_nearer (sym e_there k) (sym c_there k) (has_lower_clock (sym o_u k) (sym o_v k))) ∙ nearer in
+      let clock_v = at_v.clock in
+      let clock_u = at_u.clock in
+      elim (nearer_by e c (clock_of at_u.system.identity) (clock_of at_v.system.identity) told) [
+        | inl less ↦ inl (omega (arith, less, steps_v, steps_u))
+        | inr (same, lower) ↦
+            inr (omega (arith, same, steps_v, steps_u), omega (arith, lower, clock_v, clock_u))
+      ]
+
+-- ---- the event
+
+module _ (n : NetworkState) (network : IsNetwork n) (made : List Timed) (event : Timed) where
+  abbrev later : List Timed
+  later = made ++ event ∷ []
+
+  -- a live system fails by it
+  record Fails : Type 0 where
+    pub clock : ℕ
+    pub act : event.act ≡ acts.Change (changes.Fail clock)
+    pub loss : is_loss (told_at n made (acts.Change (changes.Fail clock))) ≡ true
+
+  not_failing : (act : Act) → is_fail (told_at n made act) ≡ false → is_failing (told_at n made act) ≡ true → ⊥
+  not_failing act other is =
+      let (loss, fails) = and_parts (is_loss (told_at n made act)) (is_fail (told_at n made act)) is in
+      let no : true ≡ false = sym fails ∙ other in cc
+
+  fails : (act : Act) → event.act ≡ act → is_failing (told_at n made act) ≡ true → Fails
+  fails (acts.Change (changes.Fail clock)) same is =
+      let act = acts.Change (changes.Fail clock) in
+      record {
+        clock = clock;
+        act = same;
+        loss = (and_parts (is_loss (told_at n made act)) (is_fail (told_at n made act)) is).0;
+      }
+  fails (acts.Deliver link direction) same is = absurd (not_failing (acts.Deliver link direction) refl is)
+  fails (acts.Expire clock timer) same is = absurd (not_failing (acts.Expire clock timer) refl is)
+  fails (acts.Change (changes.LinkDown clock port)) same is =
+      absurd (not_failing (acts.Change (changes.LinkDown clock port)) refl is)
+  fails (acts.Change (changes.LinkUp clock port)) same is =
+      absurd (not_failing (acts.Change (changes.LinkUp clock port)) refl is)
+  fails (acts.Change (changes.LinkSet clock port least greatest loss)) same is =
+      absurd (not_failing (acts.Change (changes.LinkSet clock port least greatest loss)) refl is)
+  fails (acts.Change (changes.Recover clock)) same is =
+      absurd (not_failing (acts.Change (changes.Recover clock)) refl is)
+  fails (acts.Change (changes.Priority1 clock value)) same is =
+      absurd (not_failing (acts.Change (changes.Priority1 clock value)) refl is)
+  fails (acts.Change (changes.Inject clock port octets)) same is =
+      absurd (not_failing (acts.Change (changes.Inject clock port octets)) refl is)
+
+  -- who lives then lived before
+  module _ (x : Fails) where
+    lived : (m : SystemSpec) → (system_after later m).live ≡ true → (system_after made m).live ≡ true
+    lived m live =
+        by (x.clock == clock_of m.identity) (sym (ap (λ s. s.live)
+        (system_behind made event (clock_of m.identity) (standing m)
+        ∙ ap (λ act. system_acted act (clock_of m.identity) (system_after made m)) x.act)) ∙ live)
+      where
+        by : (test : Bool)
+            → (cond test (with_live false (system_after made m)) (system_after made m)).live ≡ true
+            → (system_after made m).live ≡ true
+        by true none = absurd cc
+        by false is = is
+
+    clock_before : (g h : Snapshot) → StandsAfter n made g → StandsAfter n later h → (v : ℕ) → In v (clocks h)
+        → In v (clocks g)
+    clock_before g h stands stands' v known =
+        let (s, there, named) = from_map (λ (t : System). t.clock) v h.systems known in
+        let has : has_clock h.systems v ≡ true =
+        passes_at (λ (t : System). t.clock == v) h.systems s there (eq-eqb s.clock v named) in
+        let (k, among, both) =
+        passes (λ (k : SystemSpec). (clock_of k.identity == v) && (system_after later k).live) n.systems
+        (there_live n network later h stands' v has) in
+        let (is, live) = and_parts (clock_of k.identity == v) (system_after later k).live both in
+        let then : lives n.systems made v ≡ true =
+        passes_at (λ (k : SystemSpec). (clock_of k.identity == v) && (system_after made k).live) n.systems k among
+        (and_from (clock_of k.identity == v) (system_after made k).live is (lived k live)) in
+        let (t, here, same) = with_clock g.systems v (live_there n network made g stands v then) in
+        subst (λ c. In c (clocks g)) same (In-clocks g t here)
+
+  module _ (well : AreWell n later) (unmoved : moves_some n made later ≡ false) (x : Fails) where
+    moves_none : MovesNone n made event
+    moves_none g h v stands stands' known =
+        let well_g = well made (event ∷ []) refl g stands in
+        let well_h = well later [] (append-nil later) h stands' in
+        let was_known = clock_before x g h stands stands' v known in
+        let c = chooses_so n network made later unmoved g h stands stands' well_g well_h v was_known known in
+        let one =
+        same_system n network made later g h stands stands' c.was.best c.is.best c.was.is_best.live c.is.is_best.live
+        (sym c.was.root ∙ c.root ∙ c.is.root) in
+        record {
+          best = λ b is. subst (IsBest h v)
+              (sym (IsBest-unique g v b c.was.best well_g is c.was.is_best ∙ one)) c.is.is_best;
+          far = λ d far. subst (IsDistance h v)
+              (sym (IsDistance-unique g v d c.before.steps well_g far c.was.far ∙ c.steps)) c.is.far;
+        }
+
+  module _ (well : AreWell n later) (unmoved : moves_some n made later ≡ false)
+      (delay : (sync_paths n later).delay ≡ (sync_paths n made).delay)
+      (paths : (sync_paths n later).systems ≤ (sync_paths n made).systems)
+      (few : (sync_paths n made).systems ≤ 255) (is : is_failing (told_at n made event.act) ≡ true)
+      (far : is_far_end (systems_after n made) (chosen_after n made) (used_ends n made)
+      (place_of (systems_after n made) (told_at n made event.act).clock) ≡ true) where
+    pub fails_far_end : FailsFarEnd n made event
+    fails_far_end =
+        let x = fails event.act refl is in
+        record {
+          clock = x.clock;
+          act = x.act;
+          live = loss_fails n network made x.clock x.loss;
+          far = λ g stands.
+              far_so n network made g stands (well made (event ∷ []) refl g stands) x.clock
+              (subst (λ act. is_far_end (systems_after n made) (chosen_after n made) (used_ends n made)
+              (place_of (systems_after n made) (told_at n made act).clock) ≡ true) x.act far);
+          moves = moves_none well unmoved x;
+          delay = delay;
+          paths = paths;
+          few = few;
+        }
+
+-- the events of a time
+pub fails_one_end : (n : NetworkState) (network : IsNetwork n) (made now : List Timed) → AreWell n (made ++ now)
+    → moves_some n made (made ++ now) ≡ false
+    → (sync_paths n (made ++ now)).delay ≡ (sync_paths n made).delay
+    → (sync_paths n (made ++ now)).systems ≤ (sync_paths n made).systems
+    → (sync_paths n made).systems ≤ 255
+    → fails_one (told_of n made now) ≡ true → are_far_after n made (told_of n made now) ≡ true
+    → FailsOneEnd n made now
+fails_one_end n network made [] well unmoved delay paths few is far = absurd cc
+fails_one_end n network made (event ∷ []) well unmoved delay paths few is far =
+    fails_far_end n network made event well unmoved delay paths few is
+    (and_parts (is_far_end (systems_after n made) (chosen_after n made) (used_ends n made)
+    (place_of (systems_after n made) (told_at n made event.act).clock)) true far).0
+fails_one_end n network made (event ∷ other ∷ events) well unmoved delay paths few is far = absurd cc

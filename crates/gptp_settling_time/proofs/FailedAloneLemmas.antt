@@ -1,0 +1,377 @@
+-- A system fails that is the far end of each of its links, and no system is moved: what is left stands as it did, and
+-- all that is held and in flight fits the snapshot of before.
+use Rattle.std.proofs.Common.{◌≡◌, ◌≢◌, ◌⊎◌, ◌≤◌, ◌*◌, ℕ, suc, pred, pos, true, false, List, Some, slice_get, slice_set, refl, sym, ap, subst, ◌∙◌, inl, inr, arith}
+use Rattle.std.specs.Option.{option_map_or}
+use Rattle.std.proofs.lemmas.Bool.{and_from}
+use Rattle.std.proofs.lemmas.Option.{same_Some}
+use Rattle.gptp_lists.specs.Members.{In}
+use Rattle.gptp_lists.proofs.MappedLemmas.{same_there}
+use Rattle.gptp_lists.proofs.PlaceLemmas.{get-set_other, get-set_same, map-set_same, same_place}
+use Rattle.gptp_graph.specs.Distance.{IsDistance}
+use Rattle.gptp_graph.specs.PathBound.{path_bound}
+use Rattle.gptp_graph.specs.Snapshot.{IsWellFormed, Joins, PortIdentity, Snapshot, System, clocks, port_of}
+use Rattle.gptp_graph.proofs.LinkLemmas.{Joins-clock, Joins-sym}
+use Rattle.gptp_graph.proofs.SystemLemmas.{In-clocks, system_of}
+use Rattle.gptp_links.specs.declared.link.Direction.{Direction}
+use Rattle.gptp_links.specs.declared.link.Direction.TheVariants.{FromA, FromB}
+use Rattle.gptp_links.specs.Fate.{Draw}
+use Rattle.gptp_scenario.specs.Params.{KeepPace}
+use Rattle.gptp_scenario.specs.declared.change.Act.TheVariants.{Change as Changing}
+use Rattle.gptp_scenario.specs.declared.change.Change.TheVariants.{Fail}
+use Rattle.gptp_setup.specs.Intervals.{interval_of}
+use Rattle.gptp_setup.specs.SettlingParams.{SettlingParams}
+use Rattle.gptp_setup.specs.declared.setup.Setup.{Setup}
+use Rattle.gptp_system.specs.State.{clock}
+use Rattle.gptp_model.specs.Acts.{Acts, AtSystem}
+use Rattle.gptp_model.specs.Changing.{FailsIf, failed}
+use Rattle.gptp_model.specs.declared.done.Done.{Done}
+use Rattle.gptp_model.specs.declared.station.Station.{Station}
+use Rattle.gptp_model.specs.World.{Channel, WorldState, receiver, sender}
+use Rattle.gptp_bmca_machine.specs.Clean.{CameSound}
+use Rattle.gptp_bmca_machine.specs.LossLaws.{EverythingFits}
+use Rattle.gptp_bmca_machine.specs.Levels.{Invariant}
+use Rattle.gptp_bmca_machine.specs.Network.{Network}
+use Rattle.gptp_bmca_machine.specs.RestLaws.{SameWiring}
+use Rattle.gptp_bmca_machine.specs.Sound.{RunIsSound}
+use Rattle.gptp_bmca_machine.specs.SoundEverywhere.{IsSoundEverywhere}
+use Rattle.gptp_bmca_machine.specs.SoundLaws.{AllAreNear}
+use Rattle.gptp_bmca_machine.specs.Station.{Station as SeenStation}
+use Rattle.gptp_invariants.specs.ChoiceCalm.{HaveQuietLinks, clock_place, delay_in, lane_of, log_at, log_of, setups_of}
+use Rattle.gptp_invariants.specs.ChoiceSettlesAsMachine.{IsWorld}
+use Rattle.gptp_invariants.specs.ChoiceView.{lanes_view, port_identity_number, says_announce, view}
+use Rattle.gptp_invariants.specs.DelayElsewhere.{IsOtherSystem}
+use Rattle.gptp_invariants.specs.DelayLinkView.{LinkPlace}
+use Rattle.gptp_invariants.specs.DelayMeasured.{LinkIsMeasured, LinkStandsAt, StationIsLiveAt}
+use Rattle.gptp_invariants.specs.WorldNews.{AreReadyBy, AreSilentBy}
+use Rattle.gptp_invariants.specs.WorldSound.{IsSoundWorld}
+use Rattle.gptp_invariants.specs.WorldStanding.{channel_is_used, live_stations, snapshot_of, standing_system, stations_have_clock}
+use Rattle.gptp_invariants.proofs.ChoicePlaceLemmas.{station_from, station_there}
+use Rattle.gptp_invariants.proofs.WorldNewsLemmas.{ready_goes_through}
+use Rattle.gptp_invariants.proofs.WorldSoundCallLemmas.{links_more}
+use Rattle.gptp_invariants.proofs.WorldStandsLemmas.{stands_well, used_up}
+use Rattle.gptp_invariants.proofs.WorldSystemLemmas.{clock_there, live_from, live_there}
+use Rattle.gptp_invariants.proofs.WorldWayLemmas.{used_joins, way_of}
+use Rattle.gptp_settling_time.specs.Losses.{IsFarEnd, IsUnmoved}
+use Rattle.gptp_settling_time.proofs.AlwaysClaimedLemmas.{IsStanding, start_network}
+use Rattle.gptp_settling_time.proofs.FitsLemmas.{IsLeftUnmoved, everything_fits, lived, received_still}
+use Rattle.gptp_settling_time.proofs.LeftClaimedLemmas.{HaveAskedLong, IsLeftAlways, left_calm, left_net, left_network}
+use Rattle.gptp_settling_time.proofs.ReactsLemmas.{places_set}
+use Rattle.gptp_settling_time.proofs.ReducedLemmas.{IsReduced, fits_reduced, levels_reduced, reduced_itself}
+use Rattle.gptp_settling_time.proofs.SettledSeenLemmas.{IsSettledSeen, wired_as}
+use Rattle.gptp_settling_time.proofs.UnlinkedLemmas.{LostAreFarther, UnlinkedHoldNothing, far_holds_none}
+use Rattle.gptp_settling_time.proofs.WidenedLemmas.{ready_first}
+
+-- a link that is up between two of the systems is used
+used_between : (systems : List System) (direction : Direction) (channel : Channel) → channel.up ≡ true
+    → stations_have_clock systems (sender direction channel).clock ≡ true
+    → stations_have_clock systems (receiver direction channel).clock ≡ true
+    → channel_is_used systems channel ≡ true
+used_between systems FromA channel up from to = and_from channel.up _ up (and_from _ _ from to)
+used_between systems FromB channel up from to = and_from channel.up _ up (and_from _ _ to from)
+
+module _ (p : SettlingParams) (number : ℕ) (w : WorldState) (draws : List Draw) (done : Done) (w' : WorldState)
+    (is : IsWorld p w) (is' : IsWorld p w') (acts : Acts (Changing (Fail number)) w draws done w') where
+  abbrev now : WorldState
+  now = record w { last_change = w.time }
+
+  abbrev k : AtSystem number now (λ place station. FailsIf station.live place station now draws w')
+  k = acts.1
+
+  abbrev g : Snapshot
+  g = snapshot_of w
+
+  abbrev g' : Snapshot
+  g' = snapshot_of w'
+
+  well : IsWellFormed g
+  well = stands_well w is.sound is.between is.encodable
+
+  well' : IsWellFormed g'
+  well' = stands_well w' is'.sound is'.between is'.encodable
+
+  module _ (lives : k.station.live ≡ true) where
+    abbrev dead : Station
+    dead = record k.station { live = false }
+
+    same : w' ≡ failed k.place k.station now
+    same = (subst (λ live. FailsIf live k.place k.station now draws w') lives k.so).1
+
+    stations_now : w'.stations ≡ slice_set w.stations k.place dead
+    stations_now = ap (λ (v : WorldState). v.stations) same
+
+    channels_now : w'.net.channels ≡ w.net.channels
+    channels_now = ap (λ (v : WorldState). v.net.channels) same
+
+    time_now : w'.time ≡ w.time
+    time_now = ap (λ (v : WorldState). v.time) same
+
+    -- ---- systems
+
+    -- one that lives then is another, and is as it was
+    record IsAsItWas (place : ℕ) (x : Station) : Type 0 where
+      here : slice_get w.stations place ≡ Some x
+      apart : place ≢ k.place
+
+    stood : (place : ℕ) (x : Station) → slice_get w'.stations place ≡ Some x → x.live ≡ true → IsAsItWas place x
+    stood place x there live =
+        let set : slice_get (slice_set w.stations k.place dead) place ≡ Some x =
+        ap (λ xs. slice_get xs place) (sym stations_now) ∙ there in
+        elim (same_place place k.place) [
+          | inl at ↦
+              let one : x ≡ dead =
+              same_Some x dead
+              (sym set ∙ ap (slice_get (slice_set w.stations k.place dead)) at
+              ∙ get-set_same w.stations k.place k.station dead k.is.here) in
+              absurd (let both : true ≡ false = sym live ∙ ap (λ (y : Station). y.live) one in cc)
+          | inr apart ↦ record {
+            here = sym (get-set_other w.stations k.place place dead apart) ∙ set;
+            apart = apart;
+          }
+        ]
+
+    stays : (place : ℕ) (x : Station) → slice_get w.stations place ≡ Some x → place ≢ k.place
+        → slice_get w'.stations place ≡ Some x
+    stays place x there apart =
+        ap (λ xs. slice_get xs place) stations_now ∙ get-set_other w.stations k.place place dead apart ∙ there
+
+    systems_before : (s : System) → In s g'.systems → In s g.systems
+    systems_before s member =
+        let at = live_from w'.stations s member in
+        let old = stood at.place at.station at.here at.live in
+        subst (λ x. In x (live_stations w.stations)) (sym at.is)
+        (live_there w.stations at.place at.station old.here at.live)
+
+    -- one of before is the one that fails, or lives still
+    lives_still : (v : ℕ) → In v (clocks g) → (v ≡ number) ⊎ In v (clocks g')
+    lives_still v known =
+        let (s, member, named) = system_of g v known in
+        let at = live_from w.stations s member in
+        let clock_is : clock at.station.system ≡ v = ap (λ (x : System). x.clock) (sym at.is) ∙ named in
+        elim (same_place at.place k.place) [
+          | inl here ↦
+              let one = same_there w.stations k.place at.station k.station
+              (ap (slice_get w.stations) (sym here) ∙ at.here) k.is.here in
+              inl (sym clock_is ∙ ap (λ (x : Station). clock x.system) one ∙ k.is.named)
+          | inr apart ↦
+              inr (subst (λ c. In c (clocks g')) clock_is
+              (In-clocks g' (standing_system at.station)
+              (live_there w'.stations at.place at.station (stays at.place at.station at.here apart) at.live)))
+        ]
+
+    -- ---- links
+
+    links_before : (a b : PortIdentity) → Joins g' a b → Joins g a b
+    links_before =
+        links_more w' w (λ s member. (s, systems_before s member, refl))
+        (λ link channel there. record {
+          new = channel;
+          here = ap (λ cs. slice_get cs link) (sym channels_now) ∙ there;
+          a = refl;
+          b = refl;
+          up = λ on. on;
+        })
+
+    -- a link between two that live still is
+    links_still : (a b : PortIdentity) → Joins g a b → In a.clock (clocks g') → In b.clock (clocks g') → Joins g' a b
+    links_still a b joins from to =
+        let way = way_of w a b joins in
+        let systems = live_stations w'.stations in
+        let used = used_between systems way.direction way.channel
+        (used_up (live_stations w.stations) way.channel way.used)
+        (clock_there systems (sender way.direction way.channel).clock
+        (subst (λ (q : PortIdentity). In q.clock (clocks g')) (sym way.from) from))
+        (clock_there systems (receiver way.direction way.channel).clock
+        (subst (λ (q : PortIdentity). In q.clock (clocks g')) (sym way.to) to)) in
+        subst (λ x. Joins g' x b) way.from
+        (subst (λ x. Joins g' (port_identity_number (sender way.direction way.channel)) x) way.to
+        (used_joins w' way.link way.direction way.channel (ap (λ cs. slice_get cs way.link) channels_now ∙ way.here)
+        used))
+
+    stood_at : (place clock_is : ℕ) → StationIsLiveAt place clock_is w' → StationIsLiveAt place clock_is w
+    stood_at place clock_is x = record {
+      station = x.station;
+      here = (stood place x.station x.here x.live).here;
+      live = x.live;
+      named = x.named;
+    }
+
+    stood_link : (at : LinkPlace) → LinkStandsAt at w' → LinkStandsAt at w
+    unfolding stood_at
+    stood_link at s = record {
+      channel = s.channel;
+      here = ap (λ cs. slice_get cs at.link) (sym channels_now) ∙ s.here;
+      up = s.up;
+      lossless = s.lossless;
+      asking = stood_at at.asking (sender at.direction s.channel).clock s.asking;
+      answering = stood_at at.answering (receiver at.direction s.channel).clock s.answering;
+      apart = s.apart;
+      good = s.good;
+    }
+
+    -- the system is at neither end of a link that stands then
+    elsewhere : (at : LinkPlace) → LinkStandsAt at w' → IsOtherSystem at number w
+    elsewhere at s place station named =
+        let one = is.sound.wired.clocks place k.place station k.station named.here k.is.here
+        (named.named ∙ sym k.is.named) in (
+          λ same. (stood at.asking s.asking.station s.asking.here s.asking.live).apart (sym same ∙ one),
+          λ same. (stood at.answering s.answering.station s.answering.here s.answering.live).apart (sym same ∙ one),
+        )
+
+    -- ---- as the machine sees it
+
+    lanes_now : (view w').lanes ≡ (view w).lanes
+    lanes_now = ap lanes_view channels_now
+
+    stood_seen : (i : ℕ) (s : SeenStation) → slice_get (view w').stations i ≡ Some s → s.live ≡ true
+        → slice_get (view w).stations i ≡ Some s
+    stood_seen i s there live =
+        let x = station_from w'.stations i s there in
+        let old = stood i x.station x.here (subst (λ (y : SeenStation). y.live ≡ true) x.is live) in
+        station_there w.stations i x.station old.here ∙ ap (λ y. Some y) (sym x.is)
+
+    less : IsReduced (view w) (view w')
+    less = record {
+      time = time_now;
+      stations = λ i s there live. (s, stood_seen i s there live, reduced_itself s);
+      lanes = λ j l there. inl (ap (λ ls. slice_get ls j) (sym lanes_now) ∙ there);
+    }
+
+    known_then : (i : ℕ) (s : SeenStation) → slice_get (view w').stations i ≡ Some s → s.live ≡ true
+        → In s.clock (clocks g')
+    known_then i s there live =
+        let x = station_from w'.stations i s there in
+        subst (λ (y : SeenStation). In y.clock (clocks g')) (sym x.is)
+        (In-clocks g' (standing_system x.station)
+        (live_there w'.stations i x.station x.here (subst (λ (y : SeenStation). y.live ≡ true) x.is live)))
+
+    module _ (seen : IsSettledSeen p w) (near : AllAreNear g) (far : IsFarEnd g number)
+        (unmoved : (v : ℕ) → In v (clocks g') → IsUnmoved g g' v) (sound : IsSoundWorld w) where
+      left : IsLeftUnmoved g g'
+      left = record { systems = systems_before; links = links_before; unmoved = unmoved }
+
+      left_seen : IsLeftUnmoved seen.n.graph g'
+      left_seen = subst (λ h. IsLeftUnmoved h g') (sym seen.graph) left
+
+      near_then : AllAreNear g'
+      near_then v known =
+          let (d, here, close) = near v (lived g g' well well' left v known) in
+          (d, (unmoved v known).far d here, close)
+
+      farther_then : LostAreFarther g g'
+      farther_then a b d e joins known gone from to = elim (lives_still a.clock (Joins-clock g a b well joins)) [
+        | inl same ↦ (subst (IsFarEnd g) (sym same) far) b.clock d e (a.port, b.port, joins) from to
+        | inr still ↦ absurd (gone still)
+      ]
+
+      -- at ports that no link is at any more nothing is received
+      unlinked_then : UnlinkedHoldNothing g' (view w')
+      unlinked_then i s place r there live none holds =
+          let at = stood_seen i s there live in
+          let came : CameSound g s.clock (suc place) r = sound.stations i s at live place r holds in
+          let port : PortIdentity = port_of s.clock (suc place) in
+          let from_known = Joins-clock g came.from port well came.joins in
+          let (d, here, close) = near s.clock (Joins-clock g port came.from well (Joins-sym g came.from port came.joins))
+          in
+          let (e, there_far, close_far) = near came.from.clock from_known in
+          elim (lives_still came.from.clock from_known) [
+            | inl same ↦
+                far_holds_none says_announce seen.n seen.net (view w) seen.calm seen.invariant seen.late i s place r
+                came.from d e at live holds
+                (subst (λ h. Joins h port came.from) (sym seen.graph) (Joins-sym g came.from port came.joins))
+                (subst (λ h. IsDistance h s.clock d) (sym seen.graph) here) close
+                (subst (λ h. IsDistance h came.from.clock e) (sym seen.graph) there_far)
+                ((subst (IsFarEnd g) (sym same) far) s.clock e d (came.from.port, suc place, came.joins) there_far here)
+            | inr still ↦
+                none (
+                  came.from,
+                  links_still port came.from (Joins-sym g came.from port came.joins) (known_then i s there live) still,
+                )
+          ]
+
+      -- ---- the claims
+
+      log_kept : (q : PortIdentity) → log_of w'.stations q ≡ log_of w.stations q
+      log_kept q =
+          let setups : setups_of w'.stations ≡ setups_of w.stations =
+          ap setups_of stations_now
+          ∙ map-set_same (λ (x : Station). x.setup) w.stations k.place k.station dead k.is.here refl in
+          ap (λ xs. option_map_or (λ (setup : Setup). log_at setup q.port)
+          (slice_get xs (clock_place w'.stations q.clock)) (pos 0)) setups
+          ∙ ap (λ i. option_map_or (λ (setup : Setup). log_at setup q.port) (slice_get (setups_of w.stations) i) (pos 0))
+          (place_kept q.clock)
+        where
+          place_kept : (v : ℕ) → clock_place w'.stations v ≡ clock_place w.stations v
+          place_kept v =
+              ap (λ xs. clock_place xs v) stations_now
+              ∙ places_set w.stations k.place k.station dead k.is.here refl v
+
+      wires : (n : Network) → delay_in w' ≡ delay_in w → n ≡ wired_as n (start_network p 0 0 w') → SameWiring seen.n n
+      wires n delay wired =
+          let most = seen.most in
+          let delays : n.most ≡ delay_in w' = ap (λ (x : Network). x.most) wired in
+          record {
+            place = λ v.
+                ap (λ (x : Network). x.place v) wired ∙ ap (λ xs. clock_place xs v) stations_now
+                ∙ places_set w.stations k.place k.station dead k.is.here refl v ∙ seen.same.place v;
+            lane = λ q.
+                ap (λ (x : Network). x.lane q) wired ∙ ap (λ cs. lane_of cs q) channels_now ∙ seen.same.lane q;
+            log = λ q. ap (λ (x : Network). x.log_of q) wired ∙ log_kept q ∙ seen.same.log q;
+            interval = λ q.
+                ap (λ (x : Network). x.interval_of q) wired ∙ ap interval_of (log_kept q) ∙ seen.same.interval q;
+            most = omega (arith, delay, delays, most);
+          }
+
+      module _ (next silent : ℕ) (pace : KeepPace p) (measured : LinkIsMeasured w) (measured' : LinkIsMeasured w')
+          (past : next ≤ w.time) (delay : delay_in w' ≡ delay_in w)
+          (way : pred (path_bound g') * delay_in w' ≤ w'.time) (ready : AreReadyBy p next w)
+          (silent_then : AreSilentBy p silent w') where
+        by_now : next ≤ w'.time
+        by_now = let time = time_now in omega (arith, past, time)
+
+        standing_then : IsStanding p silent w'
+        standing_then = record { pace = pace; world = is'; measured = measured'; silent = silent_then }
+
+        asked_then : HaveAskedLong w'
+        asked_then at stands =
+            let ready' = ready_goes_through p next at (Changing (Fail number)) w w' draws done is.sound measured
+            (elsewhere at stands) acts (ready at (stood_link at stands)) in
+            let (first, by) = ready_first p next w' is' by_now at ready' in
+            let change : w'.last_change ≡ w.time = ap (λ (v : WorldState). v.last_change) same in
+            (first, next, omega (arith, past, change), record { is = by; late = by_now })
+
+        fits_then : EverythingFits says_announce g (left_network p silent w') (view w')
+        fits_then =
+            subst (λ h. EverythingFits says_announce h (left_network p silent w') (view w')) seen.graph
+            (fits_reduced says_announce seen.n (left_network p silent w') seen.net.graph well' left_seen (view w)
+            (view w') less
+            (everything_fits says_announce seen.n (view w) seen.net.graph seen.calm.facts
+            (subst (λ h. IsSoundEverywhere says_announce h (view w)) (sym seen.graph) sound)))
+
+        settling_then : HaveQuietLinks p.params w' → Invariant says_announce (left_network p silent w') (view w')
+        settling_then quiet' =
+            let n = left_network p silent w' in
+            let sound' : RunIsSound n (view w') =
+            λ late. received_still g g' well well' left (view w') fits_then.stations in
+            record {
+              sound = sound';
+              levels = levels_reduced says_announce seen.n n seen.net (left_net p silent w' is') (wires n delay refl)
+                  left_seen (view w) (view w') less seen.calm
+                  (left_calm p silent w' standing_then asked_then quiet' unlinked_then) seen.invariant seen.late sound'
+                  (λ q linked. omega arith);
+            }
+
+        pub failed_left : IsLeftAlways p g silent w'
+        failed_left = record {
+          standing = standing_then;
+          asked = asked_then;
+          well = well;
+          left = left;
+          near = near_then;
+          farther = farther_then;
+          late = way;
+          seen = λ quiet' off. record {
+            unlinked = unlinked_then;
+            fits = fits_then;
+            invariant = settling_then quiet';
+          };
+        }

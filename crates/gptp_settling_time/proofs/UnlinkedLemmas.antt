@@ -1,0 +1,280 @@
+-- What a system had sent that fails, and was the far end of each of its links, is taken by nobody: at a port that no
+-- link is at any more nothing is received.
+use Rattle.std.proofs.Common.{◌≡◌, ◌⊎◌, ◌<◌, ◌≤◌, ℕ, suc, true, [], ◌∷◌, Some, slice_get, refl, sym, ap, subst, ◌∙◌, inl, inr, arith}
+use Rattle.gptp_lists.specs.Members.{In}
+use Rattle.gptp_graph.specs.Best.{IsBest}
+use Rattle.gptp_graph.specs.Distance.{IsDistance}
+use Rattle.gptp_graph.specs.Order.{IsLower}
+use Rattle.gptp_graph.specs.Snapshot.{IsLinked, IsWellFormed, Joins, PortIdentity, Snapshot, System, clocks, port_of}
+use Rattle.gptp_graph.proofs.ExistenceLemmas.{distance_exists}
+use Rattle.gptp_graph.proofs.LinkLemmas.{Joins-clock, Joins-sym}
+use Rattle.gptp_graph.proofs.PathBoundLemmas.{IsDistance-within}
+use Rattle.gptp_graph.proofs.SystemLemmas.{In-clocks}
+use Rattle.gptp_bmca_machine.specs.Acts.{Arrives, MachineSteps, StationAnswers}
+use Rattle.gptp_bmca_machine.specs.AtRest.{StationIsAtRest}
+use Rattle.gptp_bmca_machine.specs.Calm.{Calm}
+use Rattle.gptp_bmca_machine.specs.EarlyPorts.{EarlyPortsHear}
+use Rattle.gptp_bmca_machine.specs.Facts.{station_system}
+use Rattle.gptp_bmca_machine.specs.Frame.{Announce, Spelling}
+use Rattle.gptp_bmca_machine.specs.Lapsing.{NothingNearLapses}
+use Rattle.gptp_bmca_machine.specs.Levels.{Invariant}
+use Rattle.gptp_bmca_machine.specs.LossLaws.{EverythingFits, FlightFits}
+use Rattle.gptp_bmca_machine.specs.Network.{IsSettlingNetwork, Network, settled_from}
+use Rattle.gptp_bmca_machine.specs.Reacts.{PortStep}
+use Rattle.gptp_bmca_machine.specs.SoundLaws.{AllAreNear}
+use Rattle.gptp_bmca_machine.specs.Station.{Aged, Disabled, Held, HoldsAt, MachineState, Mine, Port, Received, Reception, Station}
+use Rattle.gptp_bmca_machine.specs.Touch.{Disable, Enable, Grow, Hear, HeldInTouch, Other, Replaces, StationTouch, Tick}
+use Rattle.gptp_bmca_machine.specs.Vectors.{master, message}
+use Rattle.gptp_bmca_machine.proofs.EndsLemmas.{clear_at}
+use Rattle.gptp_bmca_machine.proofs.LevelLemmas.{invariant_kept}
+use Rattle.gptp_bmca_machine.proofs.LossLemmas.{fits_kept}
+use Rattle.gptp_bmca_machine.proofs.RestLemmas.{is_master}
+use Rattle.gptp_bmca_machine.proofs.RestingLemmas.{all_choose, by_then_at}
+use Rattle.gptp_bmca_machine.proofs.SettledLemmas.{network_settles}
+use Rattle.gptp_settling_time.proofs.FitsLemmas.{IsLeftUnmoved, best_before, distance_before, received_still}
+
+-- at a port of a live system that no link of the snapshot is at nothing is received
+abbrev pub UnlinkedHoldNothing : Snapshot → MachineState → Type 0
+UnlinkedHoldNothing g w = (i : ℕ) (s : Station) (place : ℕ) (r : Reception) → slice_get w.stations i ≡ Some s
+    → s.live ≡ true → (IsLinked g (port_of s.clock (suc place)) → ⊥) → HoldsAt s place r
+    → ⊥
+
+-- What is gone in the second snapshot was the far end of each link to what is left: that was nearer to the best, or as
+-- near and has the lower clock.
+abbrev pub LostAreFarther : Snapshot → Snapshot → Type 0
+LostAreFarther g g' = (p q : PortIdentity) (far near : ℕ) → Joins g p q → In q.clock (clocks g')
+    → (In p.clock (clocks g') → ⊥) → IsDistance g p.clock far → IsDistance g q.clock near
+    → (near < far) ⊎ ((near ≡ far) × (q.clock < p.clock))
+
+-- what a port received after a touch it had received before, or it just heard an Announce that replaces what it held
+mid_taken : (c n now : ℕ) (touch : StationTouch) (held mid : Held) (r : Reception) → HeldInTouch c n touch now held mid
+    → mid ≡ Received r → (held ≡ Received r) ⊎ ((a : Announce) × (touch ≡ Hear n a) × Replaces c n a held)
+mid_taken c n now (Hear m a) held mid r (inl (same, on, inl takes)) e =
+    inr (a, (λ i. Hear (sym same i) a), takes.replaces)
+mid_taken c n now (Hear m a) held mid r (inl (same, on, inr refuses)) e = inl (sym refuses.is ∙ e)
+mid_taken c n now (Hear m a) held mid r (inr (other, is)) e = inl (sym is ∙ e)
+mid_taken c n now (Tick m) held mid r is e = inl (sym is ∙ e)
+mid_taken c n now (Grow m) held mid r (inl (same, is)) e = absurd (let x : Aged ≡ Received r = sym is ∙ e in cc)
+mid_taken c n now (Grow m) held mid r (inr (other, is)) e = inl (sym is ∙ e)
+mid_taken c n now (Enable m) held mid r (inl (same, off, is)) e =
+    absurd (let x : Aged ≡ Received r = sym is ∙ e in cc)
+mid_taken c n now (Enable m) held mid r (inr (other, is)) e = inl (sym is ∙ e)
+mid_taken c n now (Disable m) held mid r (inl (same, is)) e =
+    absurd (let x : Disabled ≡ Received r = sym is ∙ e in cc)
+mid_taken c n now (Disable m) held mid r (inr (other, is)) e = inl (sym is ∙ e)
+mid_taken c n now Other held mid r is e = inl (sym is ∙ e)
+
+module _ (says : Spelling) (g : Snapshot) (n : Network) (well : IsWellFormed g) (net : IsSettlingNetwork n)
+    (left : IsLeftUnmoved g n.graph) (near : AllAreNear n.graph) (farther : LostAreFarther g n.graph)
+    (w : MachineState) (calm : Calm n w) (invariant : Invariant says n w) (late : settled_from n ≤ w.time)
+    (all : EverythingFits says g n w) (none : UnlinkedHoldNothing n.graph w) where
+  -- an Announce that comes to such a port replaces nothing that it may hold
+  module _ (i : ℕ) (s : Station) (here : slice_get w.stations i ≡ Some s) (live : s.live ≡ true) (place : ℕ)
+      (q : Port) (there : slice_get s.ports place ≡ Some q)
+      (unlinked : IsLinked n.graph (port_of s.clock (suc place)) → ⊥) where
+    known : In s.clock (clocks n.graph)
+    known = In-clocks n.graph (station_system s) (calm.facts.stations i s here live).known
+
+    module _ (from : PortIdentity) (a : Announce) (joins : Joins g from (port_of s.clock (suc place)))
+        (gone : In from.clock (clocks n.graph) → ⊥) (source : a.source ≡ from)
+        (sender : (best : System) (far : ℕ) → IsBest g s.clock best → a.root ≡ best.identity
+        → IsDistance g from.clock far → far ≤ a.steps)
+        (above : (best : System) → IsBest g s.clock best → best.identity ≤ a.root) where
+      not_lower : IsLower (message a (suc place)) (master s.root s.steps s.clock (suc place)) → ⊥
+      not_lower lower =
+          let (has, follows, roles) = network_settles says n w i s net calm invariant here live (near s.clock known)
+          late in
+          by has.root (distance_exists g from.clock well (Joins-clock g from (port_of s.clock (suc place)) well joins))
+          has.steps lower
+        where
+          by : ((best : System) × IsBest n.graph s.clock best × (s.root ≡ best.identity))
+              → ((far : ℕ) × IsDistance g from.clock far) → IsDistance n.graph s.clock s.steps
+              → IsLower (message a (suc place)) (master s.root s.steps s.clock (suc place)) → ⊥
+          by (best, is_best, root) (far, from_far) steps (inl less) =
+              let least = above best (best_before g n.graph well net.graph left s.clock best is_best) in
+              omega (arith, least, root, less)
+          by (best, is_best, root) (far, from_far) steps (inr (same_root, rest)) = go rest
+            where
+              was : IsBest g s.clock best
+              was = best_before g n.graph well net.graph left s.clock best is_best
+
+              reaches : far ≤ a.steps
+              reaches = sender best far was (same_root ∙ root) from_far
+
+              beyond : (s.steps < far) ⊎ ((s.steps ≡ far) × (s.clock < from.clock))
+              beyond =
+                  farther from (port_of s.clock (suc place)) far s.steps joins known gone from_far
+                  (distance_before g n.graph well net.graph left s.clock s.steps steps)
+
+              clock_is : a.source.clock ≡ from.clock
+              clock_is = ap (λ (p : PortIdentity). p.clock) source
+
+              go : (a.steps < s.steps) ⊎ ((a.steps ≡ s.steps)
+                  × ((a.source.clock < s.clock) ⊎ ((a.source.clock ≡ s.clock)
+                  × IsLower (a.source.port ∷ suc place ∷ []) (suc place ∷ suc place ∷ [])))) → ⊥
+              go (inl fewer) = elim beyond [
+                | inl less ↦ omega (arith, reaches, fewer, less)
+                | inr (same, lower) ↦ omega (arith, reaches, fewer, same)
+              ]
+              go (inr (same_steps, rest)) = elim beyond [
+                | inl less ↦ omega (arith, reaches, same_steps, less)
+                | inr (same, lower) ↦ elim rest [
+                  | inl below ↦ omega (arith, below, lower, clock_is)
+                  | inr (equal, ports) ↦ omega (arith, equal, lower, clock_is)
+                ]
+              ]
+
+      -- so nothing that it may hold is replaced
+      not_replaced : Replaces s.clock (suc place) a q.held → ⊥
+      not_replaced = by q.held refl
+        where
+          rest : StationIsAtRest s
+          rest = (calm.stations i s here live).at_rest
+
+          by : (held : Held) → q.held ≡ held → Replaces s.clock (suc place) a held → ⊥
+          by Disabled is taken = taken
+          by Aged is taken = rest.fresh place q there is
+          by (Mine root steps) is taken =
+              let (own_root, own_steps) = rest.mine place q root steps there is in
+              not_lower
+              (subst (λ t. IsLower (message a (suc place)) (master s.root t s.clock (suc place))) own_steps
+              (subst (λ r. IsLower (message a (suc place)) (master r steps s.clock (suc place))) own_root taken))
+          by (Received r) is taken = none i s place r here live unlinked (q, there, is)
+
+  -- where a system answers, what it hears is refused there
+  module _ (touch : StationTouch) (mid w' : MachineState) (stood : (i : ℕ) (s : Station)
+      → slice_get mid.stations i ≡ Some s → slice_get w.stations i ≡ Some s) (call : StationAnswers says touch mid w')
+      (refused : (place : ℕ) (q : Port) (a : Announce) → touch ≡ Hear (suc place) a
+      → slice_get call.s.ports place ≡ Some q → (IsLinked n.graph (port_of call.s.clock (suc place)) → ⊥)
+      → Replaces call.s.clock (suc place) a q.held → ⊥) where
+    own : (place : ℕ) (r : Reception) → (IsLinked n.graph (port_of call.s.clock (suc place)) → ⊥)
+        → HoldsAt call.s' place r → ⊥
+    own place r unlinked (q', at, holds) = go (call.reacts.ports place q' at)
+      where
+        go : ((q : Port) × (slice_get call.s.ports place ≡ Some q)
+            × PortStep says call.s.clock (suc place) mid.time touch call.s'.root call.s'.steps q q' call.sends) → ⊥
+        go (q, there, step) = elim step.after [
+          | inl (kept, is_kept) ↦ elim (mid_taken call.s.clock (suc place) mid.time touch q.held step.mid r step.before
+              (sym kept ∙ holds)) [
+                | inl before ↦
+                    none call.place call.s place r (stood call.place call.s call.here) call.live unlinked
+                    (q, there, before)
+                | inr (a, hears, taken) ↦ refused place q a hears there unlinked taken
+              ]
+          | inr master_is ↦
+              absurd (let x : Mine call.s'.root call.s'.steps ≡ Received r = sym master_is.mine ∙ holds in cc)
+        ]
+
+    answered : UnlinkedHoldNothing n.graph w'
+    answered i s place r here live unlinked holds = elim (call.stations i s here) [
+      | inl (same, is) ↦
+          own place r
+          (subst (λ c. IsLinked n.graph (port_of c (suc place)) → ⊥)
+          (ap (λ (x : Station). x.clock) is ∙ call.reacts.clock) unlinked)
+          (subst (λ x. HoldsAt x place r) is holds)
+      | inr (other, before) ↦ none i s place r (stood i s before) live unlinked holds
+    ]
+
+  -- what arrives is
+  arrives_refused : (w' : MachineState) (act : Arrives says w w') (place : ℕ) (q : Port) (a : Announce)
+      → act.touch ≡ Hear (suc place) a → slice_get act.call.s.ports place ≡ Some q
+      → (IsLinked n.graph (port_of act.call.s.clock (suc place)) → ⊥)
+      → Replaces act.call.s.clock (suc place) a q.held → ⊥
+  arrives_refused w' act place q a hears there unlinked =
+      not_replaced act.call.place act.call.s here act.call.live place q there unlinked act.l.from a joins gone
+      fit.source
+      (λ best far is_best.
+      fit.sender best far (subst (λ (x : PortIdentity). IsBest g x.clock best) (sym to) is_best))
+      (λ best is_best.
+      fit.fits.root best (subst (λ (x : PortIdentity). IsBest g x.clock best) (sym to) is_best))
+    where
+      here : slice_get w.stations act.call.place ≡ Some act.call.s
+      here = act.pops.stations act.call.place act.call.s act.call.here
+
+      heard : (suc place ≡ act.l.to.port) × says act.f.octets a
+      heard = act.heard (suc place) a hears
+
+      to : act.l.to ≡ port_of act.call.s.clock (suc place)
+      to = λ j. port_of (sym act.owner j) (sym heard.0 j)
+
+      among : In act.f act.l.frames
+      among = subst (In act.f) (sym act.pops.frames) (inl refl)
+
+      lives : In act.l.to.clock (clocks n.graph)
+      lives =
+          subst (λ c. In c (clocks n.graph)) act.owner
+          (In-clocks n.graph (station_system act.call.s)
+          (calm.facts.stations act.call.place act.call.s here act.call.live).known)
+
+      fit : FlightFits g act.l a
+      fit = all.lanes act.j act.l act.f a act.pops.here among heard.1 lives
+
+      joins : Joins g act.l.from (port_of act.call.s.clock (suc place))
+      joins = subst (Joins g act.l.from) to fit.joins
+
+      gone : In act.l.from.clock (clocks n.graph) → ⊥
+      gone sender =
+          let over = calm.facts.linked act.j act.l act.f act.pops.here among sender lives in
+          unlinked (act.l.from, subst (λ p. Joins n.graph p act.l.from) to (Joins-sym n.graph act.l.from act.l.to over))
+
+  -- every step keeps that nothing is received there
+  pub unlinked_kept : (w' : MachineState) → MachineSteps says w w' → UnlinkedHoldNothing n.graph w'
+  unlinked_kept w' (inl wait) =
+      λ i s place r here.
+      none i s place r (subst (λ (x : MachineState). slice_get x.stations i ≡ Some s) wait.is here)
+  unlinked_kept w' (inr (inl act)) =
+      answered act.touch act.mid w' act.pops.stations act.call (arrives_refused w' act)
+  unlinked_kept w' (inr (inr (inl act))) = λ i s place r here. none i s place r (act.pops.stations i s here)
+  unlinked_kept w' (inr (inr (inr act))) =
+      answered act.touch w w' (λ i s at. at) act.call (λ place q a hears. absurd (act.deaf (suc place) a hears))
+
+-- ---- a link to what is farther
+
+-- Over its link to a system that is farther, or as far with the higher clock, a system that has settled holds nothing.
+module _ (says : Spelling) (n : Network) (net : IsSettlingNetwork n) (w : MachineState) (calm : Calm n w)
+    (invariant : Invariant says n w) (late : settled_from n ≤ w.time) where
+  pub far_holds_none : (i : ℕ) (s : Station) (place : ℕ) (r : Reception) (from : PortIdentity) (d far : ℕ)
+      → slice_get w.stations i ≡ Some s → s.live ≡ true → HoldsAt s place r
+      → Joins n.graph (port_of s.clock (suc place)) from → IsDistance n.graph s.clock d → d < 255
+      → IsDistance n.graph from.clock far → (d < far) ⊎ ((d ≡ far) × (s.clock < from.clock)) → ⊥
+  far_holds_none i s place r from d far at live (q, there, holds) joins here close beyond farther =
+      let within = IsDistance-within n.graph n.reach s.clock d net.paths here in
+      let chosen = all_choose says n net w calm invariant late d close
+      (by_then_at says n net w calm invariant late d within) s.clock here.best s
+      (subst (λ k. slice_get w.stations k ≡ Some s) (calm.placed i s at) at) here.is_best here in
+      let mine = is_master n.graph net.graph s
+      (clear_at n net w calm invariant.sound i s at live (omega (arith, late))) here.best here.is_best d far place q
+      from chosen there (λ off. absurd (let both : Received r ≡ Disabled = sym holds ∙ off in cc)) joins beyond farther
+      in
+      absurd (let both : Received r ≡ Mine here.best.identity d = sym holds ∙ mine in cc)
+
+-- ---- a network that is left
+
+-- What is claimed of a state of a network that is left of a snapshot: at ports without a link nothing is received, all
+-- that is held and in flight fits the snapshot, and each link is at its stage.
+pub record IsLeftSeen (says : Spelling) (g : Snapshot) (n : Network) (w : MachineState) : Type 0 where
+  pub unlinked : UnlinkedHoldNothing n.graph w
+  pub fits : EverythingFits says g n w
+  pub invariant : Invariant says n w
+
+-- every step keeps that, where the network has settled
+pub left_kept : (says : Spelling) (g : Snapshot) (n : Network) (w w' : MachineState) → IsWellFormed g
+    → IsSettlingNetwork n → IsLeftUnmoved g n.graph → AllAreNear n.graph → LostAreFarther g n.graph → Calm n w
+    → (UnlinkedHoldNothing n.graph w' → Calm n w') → NothingNearLapses n w → EarlyPortsHear says n w w'
+    → settled_from n ≤ w.time → MachineSteps says w w' → IsLeftSeen says g n w → IsLeftSeen says g n w'
+left_kept says g n w w' well net left near farther calm calm' nothing early late step is =
+    record { unlinked = unlinked'; fits = fits'; invariant = invariant' }
+  where
+    unlinked' : UnlinkedHoldNothing n.graph w'
+    unlinked' =
+        unlinked_kept says g n well net left near farther w calm is.invariant late is.fits is.unlinked w' step
+
+    fits' : EverythingFits says g n w'
+    fits' =
+        fits_kept says g n (record { graph = well; systems = left.systems; links = left.links }) w w' calm
+        (calm' unlinked') step is.fits
+
+    invariant' : Invariant says n w'
+    invariant' =
+        invariant_kept says n net w w' calm (calm' unlinked') nothing early step
+        (λ by. received_still g n.graph well net.graph left w' fits'.stations) is.invariant
