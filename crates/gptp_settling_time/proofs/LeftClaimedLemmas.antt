@@ -1,6 +1,6 @@
 -- A world since a loss that moved no system: what it holds fits the snapshot of before. It goes on as one since news
 -- does, and settles.
-use Rattle.std.proofs.Common.{◌≤◌, ◌+◌, ◌*◌, ℕ, pred, List, refl, sym, subst, inl, inr, arith}
+use Rattle.std.proofs.Common.{◌≤◌, ◌+◌, ◌*◌, ℕ, pred, List, refl, sym, subst, inl, inr}
 use Rattle.gptp_graph.specs.PathBound.{BoundsPaths}
 use Rattle.gptp_graph.specs.Snapshot.{IsWellFormed, Snapshot}
 use Rattle.gptp_links.specs.Fate.{Draw}
