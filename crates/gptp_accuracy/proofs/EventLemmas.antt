@@ -1,5 +1,5 @@
 -- The last change is no later than events may be.
-use Rattle.std.proofs.Common.{ℕ, zero, suc, List, [], ◌∷◌, refl, arith}
+use Rattle.std.proofs.Common.{zero, suc, List, [], ◌∷◌, refl, arith}
 use Rattle.gptp_setup.specs.Intervals.{IsMoment}
 use Rattle.gptp_scenario.specs.Allowed.{AreAllowed}
 use Rattle.gptp_scenario.specs.Calm.{last_change}

@@ -5,7 +5,6 @@ use Rattle.gptp_graph.specs.Distance.{IsDistance}
 use Rattle.gptp_graph.specs.Parent.{ParentLink, IsParent}
 use Rattle.gptp_graph.specs.Snapshot.{Snapshot}
 use Rattle.gptp_roles.specs.Selection.{clock_of}
-use Rattle.gptp_links.specs.declared.bounds.Bounds.{Bounds}
 use Rattle.gptp_setup.specs.Stamping.{behind_of, blur_of, rate_interval}
 use Rattle.gptp_setup.specs.declared.setup.Params.{Params}
 use Rattle.gptp_scenario.specs.Change.{link_after}

@@ -1,5 +1,5 @@
 -- Each input has a text of its faults, where a fault stays for some time.
-use Rattle.std.proofs.Common.{◌≡◌, ◌≤◌, ◌+◌, ℕ, Bool, false, List, [], ◌∷◌, ◌++◌, None, IfSome, refl, inl, inr}
+use Rattle.std.proofs.Common.{◌≤◌, ◌+◌, ℕ, Bool, false, List, [], ◌∷◌, ◌++◌, None, IfSome, refl, inl, inr}
 use Rattle.rand_pcg.specs.Lcg.{Lcg}
 use Rattle.gptp_setup.specs.Intervals.{IsMoment}
 use Rattle.gptp_model.specs.Views.{rising_clocks}

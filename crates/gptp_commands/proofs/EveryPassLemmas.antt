@@ -1,5 +1,5 @@
 -- Where a document unfolds, its stretches pass one after another.
-use Rattle.std.proofs.Common.{◌≡◌, ◌≢◌, ◌≤◌, ◌<◌, ◌+◌, ℕ, zero, suc, Bool, true, false, nat_le, nat_lt, List, [], ◌∷◌, ◌++◌, length, Option, refl, sym, ap, subst, ◌∙◌, arith}
+use Rattle.std.proofs.Common.{◌≡◌, ◌≢◌, ◌≤◌, ◌<◌, ◌+◌, ℕ, zero, suc, Bool, nat_le, nat_lt, List, [], ◌∷◌, ◌++◌, length, Option, refl, sym, ap, subst, ◌∙◌, arith}
 use Rattle.gptp_model.specs.Acts.{at}
 use Rattle.gptp_model.specs.Pending.{NothingBefore}
 use Rattle.gptp_model.specs.World.{WorldState}

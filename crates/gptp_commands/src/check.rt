@@ -2,7 +2,6 @@
 
 ghost use Rattle.std.specs.Prelude.{◌≡◌, ◌≢◌, ◌⊎◌, ◌+◌, List, ℕ, IfErr, IfOk, IfSome, OnOk, codes, ◌++◌};
 ghost use Rattle.std.specs.Io.KnownBytes.{Keeps};
-ghost use Rattle.gptp_network.specs.Snapshot.{IsSnapshot};
 ghost use Rattle.gptp_words.specs.Lines.{text_of};
 ghost use Rattle.gptp_checker.specs.Faults.{check_fault_text};
 ghost use Rattle.gptp_commands.specs.CheckText.{moment_of, AnswersBoth, AnswersCertificate, CheckText, Judges, JudgesAt, RefusesCertificate, Says};

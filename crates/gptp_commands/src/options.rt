@@ -1,6 +1,6 @@
 //! What was found for an argument, by its row.
 
-ghost use Rattle.std.specs.Prelude.{◌≡◌, map, option_and_then, option_map};
+ghost use Rattle.std.specs.Prelude.{◌≡◌, option_and_then, option_map};
 ghost use Rattle.clap.specs.Words.{found_of, rows_of};
 ghost use Rattle.gptp_commands.specs.Options.{flag_of, option_number, place_value, within, word_of};
 ghost use Rattle.gptp_commands.specs.Table.{shown_argument};

@@ -1,6 +1,6 @@
 //! The words of a line.
 
-ghost use Rattle.std.specs.Prelude.{◌≡◌, ◌≢◌, ◌≤◌, List, ℕ, [], ◌∷◌, length, drop, IfSome, IfNone};
+ghost use Rattle.std.specs.Prelude.{◌≡◌, ◌≢◌, ◌≤◌, [], ◌∷◌, length, IfSome, IfNone};
 ghost use Rattle.std.specs.List.{prefix_len, position_or_len};
 ghost use Rattle.gptp_commands.specs.Words.{is_space_or_tab, words};
 

@@ -1,5 +1,5 @@
 -- Links as they stand after the events of a document have bounds that a link of its network can have.
-use Rattle.std.proofs.Common.{◌≡◌, ◌<◌, ◌≤◌, inl, inr, ℕ, ℤ, Bool, true, false, if◌then◌else◌, length, map, List, [], ◌∷◌, Some, slice_get, refl, sym, ap, subst, ◌∙◌, arith}
+use Rattle.std.proofs.Common.{◌≡◌, ◌<◌, ◌≤◌, inl, inr, ℕ, ℤ, Bool, true, false, if◌then◌else◌, length, List, [], ◌∷◌, Some, slice_get, refl, sym, subst, arith}
 use Rattle.std.specs.Int.{int_min}
 use Rattle.std.specs.List.{AllByRecursion, reduce}
 use Rattle.std.specs.Option.{unwrap_or}

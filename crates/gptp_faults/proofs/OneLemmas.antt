@@ -1,5 +1,5 @@
 -- A document has one table of its faults, or is refused in one way, where runs end in one way.
-use Rattle.std.proofs.Common.{◌≡◌, ◌⊎◌, ◌+◌, ◌≤◌, ℕ, Bool, true, false, List, [], ◌∷◌, ◌++◌, length, map, max, Some, unwrap_or, refl, sym, ap, ap₂, subst, ◌∙◌, inl, inr, arith}
+use Rattle.std.proofs.Common.{◌≡◌, ◌⊎◌, ◌+◌, ℕ, Bool, true, false, List, [], ◌∷◌, ◌++◌, length, map, max, Some, unwrap_or, refl, sym, ap, ap₂, subst, ◌∙◌, inl, inr, arith}
 use Rattle.std.proofs.lemmas.Option.{same_Some}
 use Rattle.gptp_graph.specs.PathBound.{path_bound}
 use Rattle.gptp_graph.specs.SettledChoice.{IsBestIdentity}

@@ -1,6 +1,6 @@
 //! What becomes of a network where something fails and comes back.
 
-ghost use Rattle.std.specs.Prelude.{◌≡◌, ◌≢◌, ◌≤◌, ◌+◌, ◌++◌, ◌∷◌, [], Err, IfOk, OnOk, false, length};
+ghost use Rattle.std.specs.Prelude.{◌≡◌, ◌≢◌, ◌+◌, ◌++◌, ◌∷◌, [], Err, IfOk, OnOk, false, length};
 ghost use Rattle.std.specs.Io.KnownBytes.{Appends};
 ghost use Rattle.gptp_words.specs.Lines.{text_of};
 ghost use Rattle.gptp_faults.specs.Faults.{AnswersFaultsOf, IsTable};
@@ -193,7 +193,8 @@ fn try_cases<P: Sink>(
     ensures works { result ≢ Err Cut.Write → P.failures progress.new ≡ P.failures progress.old }
     ensures fails { result ≡ Err Cut.Write → P.failures progress.new ≢ P.failures progress.old }
 {
-    let kept = run_so_far(alloc, document, options, times)?;
+    let count = count_of(options, cases.len());
+    let kept = run_so_far(alloc, document, options, times, count)?;
     try_each(
         alloc, document, options, whole, times, &kept, cases, progress,
     )

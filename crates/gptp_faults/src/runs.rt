@@ -83,19 +83,20 @@ fn ends_of(seen: bool, ends: LastStretches) -> Result<RunEnds, Cut>
 }
 
 /// The run of a document with the first seed up to the first moment, from which its runs with that seed go on; none
-/// where an event isn't before that moment.
+/// where there are no cases to try, or an event isn't before that moment.
 pub(crate) fn run_so_far(
     alloc: Global,
     document: &mut Document,
     options: &FaultsOptions,
     times: &Times,
+    cases: usize,
 ) -> Result<Option<RunSoFar<PcgFate>>, Cut>
     requires { TimesAreBounded times.now }
     ensures run { IfOk result (IsKept document.old options.now times.now) }
     ensures same { OnOk result (document.new ≡ document.old) }
     ensures memory { IfErr result (λ e. e ≡ Cut.Memory) }
 {
-    if document.last_change() >= times.from {
+    if cases == 0 || document.last_change() >= times.from {
         return Ok(None);
     }
     let before = document.network().seed();

@@ -1,6 +1,6 @@
 //! Which links are new at a time, over which delays vary, and the greatest delay of links.
 
-ghost use Rattle.std.specs.Prelude.{◌≡◌, ◌++◌, ◌∷◌, [], IfOk, OnOk, map};
+ghost use Rattle.std.specs.Prelude.{◌≡◌, ◌++◌, IfOk, OnOk, map};
 ghost use Rattle.gptp_topology.specs.Course.{cable_is_used};
 ghost use Rattle.gptp_how_soon.specs.Links.{delay_changed, delay_set, is_old_at, is_used_at, longest_among, new_among, new_one, varies};
 

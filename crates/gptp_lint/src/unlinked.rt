@@ -1,6 +1,6 @@
 //! Systems that no link names.
 
-ghost use Rattle.std.specs.Prelude.{◌≡◌, ◌<◌, ◌+◌, ◌++◌, ◌∷◌, [], filter, length, map, not, take, IfOk, OnOk};
+ghost use Rattle.std.specs.Prelude.{◌≡◌, ◌<◌, ◌+◌, ◌++◌, ◌∷◌, [], length, map, take, IfOk, OnOk};
 ghost use Rattle.gptp_roles.specs.Selection.{clock_of};
 ghost use Rattle.gptp_scenario.specs.declared.network.SystemSpec.{SystemSpec};
 ghost use Rattle.gptp_topology.specs.Course.{cable_of};

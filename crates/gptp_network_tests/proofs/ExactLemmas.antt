@@ -327,11 +327,11 @@ runs_exact granularity noise good answers theorem until fate start w ts t offset
     (playable (stamped_params granularity noise) k.network) (omega (arith, early)) unfolds in_ts)
     left
 
-pub second_is_exact : (error : ℕ) (w : WorldState) (time : ℕ) (w' : WorldState) (done : Done) (offset : ℤ)
-    → IsPairWithin error 27000000000 w → WorldInvariant w → w.time ≤ time
-    → IsHeardExact w time w' done → LeavesOffset 2 offset w' done → AreWithin error offset (pos 0)
-second_is_exact error w time w' Quiet offset k all passed promised left = absurd left.uses
-second_is_exact error w time w' (Heard number port answer frame) offset k all passed promised left =
+pub second_is_exact : (most : ℕ) (w : WorldState) (time : ℕ) (w' : WorldState) (done : Done) (offset : ℤ)
+    → IsPairWithin most 27000000000 w → WorldInvariant w → w.time ≤ time
+    → IsHeardExact w time w' done → LeavesOffset 2 offset w' done → AreWithin most offset (pos 0)
+second_is_exact most w time w' Quiet offset k all passed promised left = absurd left.uses
+second_is_exact most w time w' (Heard number port answer frame) offset k all passed promised left =
     let (named, used, (message, reads)) = left.uses in
     let shows = subst (λ n. ShowsLive n w' left.system) (sym named) left.shows in
     subst (λ e. AreWithin e offset (pos 0)) (sym k.error_is)

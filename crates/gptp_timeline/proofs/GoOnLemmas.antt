@@ -1,5 +1,5 @@
 -- A run that goes on from one so far is a run from the start.
-use Rattle.std.proofs.Common.{◌≡◌, ◌≢◌, ◌<◌, ◌≤◌, ◌||◌, ℕ, zero, suc, Bool, true, false, length, List, [], ◌∷◌, ◌++◌, drop, Option, Some, None, refl, sym, ap, ap₂, subst, ◌∙◌, append-nil, length-append, arith}
+use Rattle.std.proofs.Common.{◌≡◌, ◌≢◌, ◌<◌, ◌≤◌, ℕ, zero, suc, Bool, true, false, length, List, [], ◌∷◌, ◌++◌, drop, Option, Some, None, refl, sym, ap, ap₂, subst, ◌∙◌, append-nil, length-append, arith}
 use Rattle.std.proofs.lemmas.Bool.Decides.{nat_tests}
 use Rattle.std.proofs.lemmas.List.{drop-append-le, drop_all}
 use Rattle.std.proofs.lemmas.List.Elements.{filter-append}
@@ -14,7 +14,7 @@ use Rattle.gptp_scenario.specs.declared.change.Timed.{Timed}
 use Rattle.gptp_model.specs.Acts.{at}
 use Rattle.gptp_model.specs.Course.{Begun}
 use Rattle.gptp_model.specs.Initial.{initial}
-use Rattle.gptp_model.specs.Prompt.{AllDelaysFitIntervals, NoneFaster}
+use Rattle.gptp_model.specs.Prompt.{NoneFaster}
 use Rattle.gptp_model.specs.Sound.{HaveTheirSetups, IsSound}
 use Rattle.gptp_model.specs.Views.{rising_clocks}
 use Rattle.gptp_model.specs.World.{WorldState}
@@ -25,19 +25,17 @@ use Rattle.gptp_network.specs.Document.{DocumentState}
 use Rattle.gptp_network.specs.Events.{AreInOrder}
 use Rattle.gptp_network.specs.Snapshot.{events_by}
 use Rattle.gptp_accuracy.specs.Settlings.{settling_of}
-use Rattle.gptp_report.specs.Transitions.{Courses}
 use Rattle.gptp_report.proofs.RunLemmas.{passed_stays}
 use Rattle.gptp_world.specs.Observing.{Tells}
 use Rattle.gptp_world.specs.Transitions.{PassesTo, ActTrace}
 use Rattle.gptp_world.proofs.InitialLemmas.{initial_sound}
 use Rattle.gptp_timeline.specs.Aside.{aside_begun, AsideState, nobody_aside}
-use Rattle.gptp_timeline.specs.LastStretches.{all_kept, carry_begun, carry_over, CarriedAside, end_begun, end_of, EndsOf, first_aside, kept_after, last_behind, none_kept, none_last, with_end}
+use Rattle.gptp_timeline.specs.LastStretches.{carry_begun, carry_over, CarriedAside, end_begun, end_of, EndsOf, first_aside, kept_after, last_behind, none_kept, none_last, with_end}
 use Rattle.gptp_timeline.specs.Limits.{no_limits}
 use Rattle.gptp_timeline.specs.Passing.{AllAreSeen, EarlierAreSeen, first_time, MayPass, OneIsSeen, Standing, standing, StretchIsSeen, watch_at_start, watch_before}
-use Rattle.gptp_timeline.specs.RunSoFar.{GoesOnFrom, GoesOn, IsRunSoFar, RunUpTo, summary_of}
+use Rattle.gptp_timeline.specs.RunSoFar.{GoesOnFrom, RunUpTo, summary_of}
 use Rattle.gptp_timeline.specs.Timeline.{AllPass, Carried, end_before, end_lines, is_begun, IsPassage, IsTimelinePlan, later_than, none_carried, now_of, StretchTrace, tracks, exact_time}
 use Rattle.gptp_timeline.specs.Watch.{tells_changes, watch_begun, WatchState, with_aside}
-use Rattle.gptp_timeline.specs.declared.ends.LastStretches.{LastStretches}
 use Rattle.gptp_timeline.specs.declared.ends.StretchesSoFar.{StretchesSoFar}
 use Rattle.gptp_timeline.specs.declared.run_so_far.RunSoFar.{RunSoFar}
 use Rattle.gptp_timeline.specs.declared.timeline.Plan.{Plan}

@@ -13,7 +13,6 @@ use Rattle.gptp_scenario.specs.declared.change.Timed.{Timed}
 use Rattle.gptp_world.specs.Observing.{Observed, Tells}
 use Rattle.gptp_world.specs.Transitions.{ActTrace}
 use Rattle.gptp_report.specs.Transitions.{Courses, CoursesSoFar}
-use Rattle.gptp_world.proofs.FollowLemmas.{text_append}
 use Rattle.gptp_report.proofs.RunLemmas.{made_if_stays, passed_stays}
 use Rattle.gptp_sink.specs.declared.cut.Cut.{Cut}
 use Rattle.gptp_sink.specs.declared.cut.Cut.TheVariants.{Memory, Write}

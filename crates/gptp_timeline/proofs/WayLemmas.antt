@@ -1,5 +1,5 @@
 -- The way that a system has by a document is the one that it has in each world that the document leads to.
-use Rattle.std.proofs.Common.{◌≡◌, ℕ, zero, suc, ◌*◌, ℤ, pos, List, [], Some, slice_get, inl, inr, refl, sym, ap, ap₂, subst, ◌∙◌, arith}
+use Rattle.std.proofs.Common.{◌≡◌, ℕ, zero, suc, ℤ, pos, List, Some, slice_get, inl, inr, refl, sym, ap, ap₂, subst, ◌∙◌}
 use Rattle.std.proofs.lemmas.Option.{same_Some}
 use Rattle.gptp_error_laws.specs.TimeError.{WayLink, Way}
 use Rattle.gptp_error_laws.specs.WayLaws.{longer}

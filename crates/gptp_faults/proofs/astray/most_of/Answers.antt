@@ -1,4 +1,4 @@
-use Rattle.std.proofs.Common.{◌≡◌, ap, ◌∙◌}
+use Rattle.std.proofs.Common.{ap, ◌∙◌}
 use Rattle.gptp_faults.specs.Astray.{most_systems}
 use Rattle.gptp_faults.proofs.MostLemmas.{most_is}
 use Rattle.gptp_faults.proofs.astray.most_of.Goals as goal

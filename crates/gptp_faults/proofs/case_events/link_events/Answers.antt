@@ -1,4 +1,4 @@
-use Rattle.std.proofs.Common.{◌≡◌, sym, ◌∙◌}
+use Rattle.std.proofs.Common.{sym, ◌∙◌}
 use Rattle.gptp_faults.proofs.BoundsLemmas.{found_in_range}
 use Rattle.gptp_faults.proofs.case_events.link_events.Goals as goal
 

@@ -1,4 +1,4 @@
-use Rattle.std.proofs.Common.{◌≡◌, ◌≤◌, sym, ap, subst, ◌∙◌}
+use Rattle.std.proofs.Common.{◌≡◌, sym, ap, subst, ◌∙◌}
 use Rattle.gptp_faults.specs.Parts.{AreFew, kept, parts_of, weighed}
 use Rattle.gptp_faults.proofs.PlacedLemmas.{kept_few, parts_few}
 use Rattle.gptp_faults.proofs.parts.parts_after.Goals as goal

@@ -1,4 +1,4 @@
-use Rattle.std.proofs.Common.{◌≡◌, [], ap, ◌∙◌, refl, subst, sym}
+use Rattle.std.proofs.Common.{[], refl, subst, sym}
 use Rattle.std.specs.Io.KnownBytes.{Appends}
 use Rattle.std.proofs.lemmas.Result.{IfOk-weaker, on_err_weaker}
 use Rattle.gptp_model.specs.Views.{rising_clocks}
@@ -6,7 +6,7 @@ use Rattle.gptp_network.specs.Snapshot.{events_by}
 use Rattle.gptp_sink.specs.Sink.{AppendsSome}
 use Rattle.gptp_words.specs.Lines.{text_of}
 use Rattle.gptp_timeline.specs.LastStretches.{first_aside, none_kept}
-use Rattle.gptp_timeline.specs.Passing.{AllAreSeen, aside_kept, standing, StopsBetween, watch_before}
+use Rattle.gptp_timeline.specs.Passing.{aside_kept, standing, watch_before}
 use Rattle.gptp_timeline.specs.Timeline.{tracks}
 use Rattle.gptp_timeline.proofs.EventLemmas.{may_begin}
 use Rattle.gptp_timeline.proofs.ObservedLemmas.{Rests, start_rests}

@@ -1,4 +1,4 @@
-use Rattle.std.proofs.Common.{◌≡◌, ◌<◌, ◌≤◌, suc, [], ◌++◌, Some, length, nat_le, ap, ◌∙◌, refl, subst, sym, arith}
+use Rattle.std.proofs.Common.{◌≡◌, ◌<◌, ◌≤◌, suc, [], ◌++◌, Some, length, nat_le, ◌∙◌, refl, subst, sym, arith}
 use Rattle.std.specs.Io.KnownBytes.{Appends}
 use Rattle.gptp_model.specs.Prompt.{AllDelaysFitIntervals, DelaysFitIntervals}
 use Rattle.gptp_network.specs.Snapshot.{events_by}

@@ -1,4 +1,4 @@
-use Rattle.std.proofs.Common.{◌≡◌, Err, ap, ◌∙◌, refl}
+use Rattle.std.proofs.Common.{Err, ap, ◌∙◌, refl}
 use Rattle.std.proofs.lemmas.Result.{err_from_is_err_and}
 use Rattle.gptp_model.specs.Views.{rising_clocks}
 use Rattle.gptp_timeline.specs.LastStretches.{aside_if, first_aside, last_behind, none_last}
