@@ -5,12 +5,8 @@ ghost use Rattle.std.specs.List.{list_any};
 ghost use Rattle.gptp_network.specs.declared.keys.TheConstants.{LATEST_EVENT};
 ghost use Rattle.gptp_scenario.specs.Network.{pace_of};
 ghost use Rattle.gptp_scenario.specs.SettlingAtOnce.{settling_span_at_once};
-<<<<<<< HEAD
 ghost use Rattle.gptp_scenario.specs.SettlingTime.{capability_span};
-ghost use Rattle.gptp_how_soon.specs.Bounds.{asked_again, choice_by, exact_from, exact_span, heard_by, is_again, is_hard_to_hear, ready, rest_by, roles_by, set_span, settled, settling_by, sound_row, times_by, two_exchanges, watch, way_span};
-=======
-ghost use Rattle.gptp_how_soon.specs.Bounds.{asked_again, choice_by, exact_from, exact_span, heard_by, is_again, is_hard_to_hear, ready, set_span, settled, sound_row, times_by, two_exchanges, watch, way_span};
->>>>>>> 8dcb1366927407017c4dbec62e40360666c2a24b
+ghost use Rattle.gptp_how_soon.specs.Bounds.{asked_again, choice_by, exact_from, exact_span, heard_by, is_again, is_hard_to_hear, ready, roles_by, set_span, settled, sound_row, times_by, two_exchanges, watch, way_span};
 
 use crate::kinds::{Told, recovers};
 use crate::links::varies;

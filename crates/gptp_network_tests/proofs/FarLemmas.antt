@@ -22,7 +22,7 @@ use Rattle.gptp_graph.proofs.OrderLemmas.{IsLower-dec}
 use Rattle.gptp_graph.proofs.SoundLemmas.{sound}
 use Rattle.gptp_graph.proofs.SureTests.{sure_passes, sure_well_formed}
 use Rattle.gptp_setup.specs.SettlingParams.{SettlingParams}
-use Rattle.gptp_scenario.specs.Calm.{AllRest, IsLive}
+use Rattle.gptp_scenario.specs.Calm.{AllRest}
 use Rattle.gptp_scenario.specs.InUse.{path_systems}
 use Rattle.gptp_scenario.specs.Network.{IsNetwork, pace_of}
 use Rattle.gptp_scenario.specs.SettlingTime.{capability_span}
@@ -37,8 +37,7 @@ use Rattle.gptp_invariants.specs.WorldEncodableLaws.{SetsAnOctet}
 use Rattle.gptp_theorem.specs.PlayedLaws.{IsPlayable}
 use Rattle.gptp_settling_time.specs.HowSoon.{IsChoiceAloneBound, IsChoiceBound, IsLossBoundAfter, NoneBetween}
 use Rattle.gptp_settling_time.specs.Losses.{FailsFarEnd, IsFarEnd, IsUnmoved, MovesNone}
-use Rattle.gptp_network_tests.specs.Pair.{pair_pace}
-use Rattle.gptp_network_tests.specs.Ring.{bridge, far_document, ring_network, ring_paths}
+use Rattle.gptp_network_tests.specs.Ring.{bridge, far_document, ring_network}
 use Rattle.gptp_network_tests.proofs.RingLemmas.{pace_is, paths_are, ring_begun}
 
 -- ---- the document
