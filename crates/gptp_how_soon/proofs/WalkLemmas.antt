@@ -15,9 +15,9 @@ use Rattle.gptp_topology.specs.Tables.{cables_of, has_clock}
 use Rattle.gptp_topology.specs.declared.course.Standing.{Standing}
 use Rattle.gptp_topology.proofs.BoundLemmas.{calm_is, crossed_is}
 use Rattle.gptp_topology.proofs.StandingLemmas.{maps_twice, stand_more, systems_are}
-use Rattle.gptp_how_soon.specs.Chosen.{ends_among, ends_in_use, ends_of, moves_some, used_ends}
+use Rattle.gptp_how_soon.specs.Chosen.{ends_among, ends_in_use, ends_of, moves_counted, used_ends}
 use Rattle.gptp_how_soon.specs.Far.{are_far_after}
-use Rattle.gptp_how_soon.specs.Kinds.{sets_bounds, told_by}
+use Rattle.gptp_how_soon.specs.Kinds.{lowers_one, sets_bounds, told_by}
 use Rattle.gptp_how_soon.specs.Links.{delay_set, longest_delay, longest_set, new_among}
 use Rattle.gptp_how_soon.specs.Times.{last_set, told_at, told_of, view_at}
 use Rattle.gptp_how_soon.specs.Walk.{IsFirstWalk, WalkGoesOn, WalkPasses, far_seen, moves_seen, view_seen}
@@ -99,14 +99,15 @@ told_more n made (u ∷ now) t =
 
 module _ (n : NetworkState) (network : IsNetwork n) where
   moves_are : (made now : List Timed) (w : Walk) → WalkStands n made now w
-      → moves_seen w ≡ moves_some n made (made ++ now)
+      → moves_seen w ≡ moves_counted (lowers_one (told_of n made now)) n made (made ++ now)
   moves_are made now w so =
       let used = so.used in
       let ends = so.ends in
+      let told = so.told in
       let systems_before = so.systems_before in
       let systems = systems_are n (made ++ now) w.tables so.tables in
       let standings = so.tables.standings in
-      rw (used, ends, systems, systems_before, standings, used_are n made, used_are n (made ++ now)) refl
+      rw (used, ends, told, systems, systems_before, standings, used_are n made, used_are n (made ++ now)) refl
 
   far_are : (made now : List Timed) (w : Walk) → WalkStands n made now w
       → far_seen w ≡ are_far_after n made (told_of n made now)

@@ -112,6 +112,33 @@ is_moved_at systems before now place =
 abbrev pub any_moved : List System → List Chosen → List Chosen → Bool
 any_moved systems before now = list_any (is_moved_at systems before now) (range_with_len 0 (length systems))
 
+-- so is one that isn't cut off: a link ends at its place, which is one of these
+abbrev pub ends_at : ℕ → Ends → Bool
+ends_at place e = (e.a == place) || (e.b == place)
+
+abbrev pub is_joined : List Ends → ℕ → Bool
+is_joined links place = list_any (ends_at place) links
+
+abbrev pub is_joined_moved_at : List System → List Ends → List Chosen → List Chosen → ℕ → Bool
+is_joined_moved_at systems links before now place =
+    is_joined links place && is_moved_at systems before now place
+
+abbrev pub any_joined_moved : List System → List Ends → List Chosen → List Chosen → Bool
+any_joined_moved systems links before now =
+    list_any (is_joined_moved_at systems links before now) (range_with_len 0 (length systems))
+
+-- whether one is, or of those that aren't cut off
+abbrev pub any_counted : Bool → List System → List Ends → List Chosen → List Chosen → Bool
+any_counted joined systems links before now =
+    if joined then any_joined_moved systems links before now else any_moved systems before now
+
 -- between these events and more of them
 abbrev pub moves_some : NetworkState → List Timed → List Timed → Bool
 moves_some n made events = any_moved (systems_after n events) (chosen_after n made) (chosen_after n events)
+
+abbrev pub moves_joined : NetworkState → List Timed → List Timed → Bool
+moves_joined n made events =
+    any_joined_moved (systems_after n events) (used_ends n events) (chosen_after n made) (chosen_after n events)
+
+abbrev pub moves_counted : Bool → NetworkState → List Timed → List Timed → Bool
+moves_counted joined n made events = if joined then moves_joined n made events else moves_some n made events

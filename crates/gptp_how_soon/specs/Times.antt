@@ -21,9 +21,9 @@ use Rattle.gptp_topology.specs.Times.{times_of}
 use Rattle.gptp_topology.specs.declared.course.Cable.{Cable}
 use Rattle.gptp_topology.specs.declared.course.Standing.{Standing}
 use Rattle.gptp_how_soon.specs.Bounds.{heard_by, ready, times_by, way_span}
-use Rattle.gptp_how_soon.specs.Chosen.{moves_some}
+use Rattle.gptp_how_soon.specs.Chosen.{moves_counted}
 use Rattle.gptp_how_soon.specs.Far.{are_far_after}
-use Rattle.gptp_how_soon.specs.Kinds.{sets_bounds, sets_link, told_by}
+use Rattle.gptp_how_soon.specs.Kinds.{lowers_one, sets_bounds, sets_link, told_by}
 use Rattle.gptp_how_soon.specs.Links.{longest_delay, new_links}
 use Rattle.gptp_how_soon.specs.Rest.{heard_at_once, is_from_rest, row_of}
 use Rattle.gptp_how_soon.specs.declared.bounds.SettlingTime.{SettlingTime}
@@ -31,8 +31,9 @@ use Rattle.gptp_how_soon.specs.declared.bounds.Row.{Row}
 use Rattle.gptp_how_soon.specs.declared.kinds.Told.{Told}
 
 -- What is seen of a time: when a link was last set, and the greatest delay that one has had; the time before, and what
--- Sync had to cross then; the links that are new at it; its events, whether they move a system, and whether those that
--- they name were far ends; what Sync has to cross; and whether the network is calm.
+-- Sync had to cross then; the links that are new at it; its events, whether they move a system, of which such as a link
+-- cuts off by the one event don't count, and whether those that they name were far ends; what Sync has to cross; and
+-- whether the network is calm.
 pub record View : Type 0 where
   pub at : ℕ
   pub last_set : ℕ
@@ -99,7 +100,7 @@ view_at n made now before at = record {
   paths_before = sync_paths n made;
   new = new_links n made (made ++ now) (not (is_some before));
   told = told_of n made now;
-  moved = moves_some n made (made ++ now);
+  moved = moves_counted (lowers_one (told_of n made now)) n made (made ++ now);
   far = are_far_after n made (told_of n made now);
   paths = sync_paths n (made ++ now);
   calm = is_calm n (made ++ now);

@@ -8,9 +8,9 @@ use Rattle.gptp_topology.specs.After.{Stand}
 use Rattle.gptp_topology.specs.Course.{cable_is_used, named}
 use Rattle.gptp_topology.specs.Tables.{TablesActed, are_calm, cables_of, has_clock, link_named, marked_paths, neighbours_at, systems_in}
 use Rattle.gptp_topology.specs.declared.nodes.System.{System}
-use Rattle.gptp_how_soon.specs.Chosen.{any_moved, chosen_over, ends_among, ends_in_use}
+use Rattle.gptp_how_soon.specs.Chosen.{any_counted, chosen_over, ends_among, ends_in_use}
 use Rattle.gptp_how_soon.specs.Far.{are_far}
-use Rattle.gptp_how_soon.specs.Kinds.{sets_bounds, told_by}
+use Rattle.gptp_how_soon.specs.Kinds.{lowers_one, sets_bounds, told_by}
 use Rattle.gptp_how_soon.specs.Links.{delay_set, longest_among, new_among}
 use Rattle.gptp_how_soon.specs.Times.{View, settling_time}
 use Rattle.gptp_how_soon.specs.declared.bounds.SettlingTime.{SettlingTime}
@@ -58,13 +58,15 @@ pub record WalkGoesOn (time : SettlingTime) (old new : Walk) : Type 0 where
   pub used : new.used_before.items ≡ map cable_is_used old.tables.standings.items
   pub paths : new.paths_before ≡ marked_paths old.tables.marks.items old.tables.nodes.items
 
--- what systems that stand so choose over the links in use, and whether one is moved at this time
+-- what systems that stand so choose over the links in use, and whether one that counts is moved at this time
 abbrev pub chosen_in : Walk → List System → List Bool → List Chosen
 chosen_in w systems used = chosen_over systems (ends_in_use w.ends.items used)
 
 abbrev pub moves_seen : Walk → Bool
 moves_seen w =
-    any_moved (systems_in w.tables.nodes.items) (chosen_in w w.systems_before.items w.used_before.items)
+    any_counted (lowers_one w.told.items) (systems_in w.tables.nodes.items)
+    (ends_in_use w.ends.items (map cable_is_used w.tables.standings.items))
+    (chosen_in w w.systems_before.items w.used_before.items)
     (chosen_in w (systems_in w.tables.nodes.items) (map cable_is_used w.tables.standings.items))
 
 -- whether those that its events name were far ends

@@ -47,7 +47,7 @@ pub enum Row {
     AnyPast,
     /// It is from rest, and its events change nothing.
     Unchanged,
-    /// It is from rest, and a link goes down by its one event that changes no choice.
+    /// It is from rest, and a link goes down by its one event that changes no choice but of a system that it cuts off.
     Lowered,
     /// It is from rest, and by its one event a system fails that was the far end of its links and whose failure changes
     /// no choice.

@@ -3,7 +3,7 @@
 ghost use Rattle.std.specs.Prelude.{◌≡◌, ◌<◌, ◌++◌, IfOk, IfSome, OnOk, map, slice_get};
 ghost use Rattle.std.specs.List.{AllByRecursion};
 ghost use Rattle.gptp_topology.specs.Tables.{systems_in};
-ghost use Rattle.gptp_how_soon.specs.Chosen.{any_moved, better, chosen_over, ends_among, ends_in_use, hearing, is_better, is_moved_at, differs, itself, passing, place_of, round, used_one};
+ghost use Rattle.gptp_how_soon.specs.Chosen.{any_counted, any_joined_moved, any_moved, better, chosen_over, ends_among, ends_at, ends_in_use, hearing, is_better, is_joined, is_joined_moved_at, is_moved_at, differs, itself, passing, place_of, round, used_one};
 
 use crate::links::is_used_at;
 use gptp_topology::{Cable, Node, System};
@@ -207,8 +207,59 @@ fn is_moved_at(systems: &[System], before: &[Chosen], now: &[Chosen], place: usi
 }
 
 /// Whether one of these systems lives and has another choice.
-pub(crate) fn any_moved(systems: &[System], before: &[Chosen], now: &[Chosen]) -> bool
+fn any_moved(systems: &[System], before: &[Chosen], now: &[Chosen]) -> bool
     ensures { result ≡ any_moved systems.now before.now now.now }
 {
     (0..systems.len()).any(|place| is_moved_at(systems, before, now, place))
+}
+
+/// Whether a link ends at a place.
+fn ends_at(place: usize, ends: &Ends) -> bool
+    ensures { result ≡ ends_at place ends.now }
+{
+    ends.a == place || ends.b == place
+}
+
+/// Whether one of these links ends at a place.
+fn is_joined(links: &[Ends], place: usize) -> bool
+    ensures { result ≡ is_joined links.now place }
+{
+    links.iter().any(|ends| ends_at(place, ends))
+}
+
+/// Whether one of these links ends at the place of a system that lives and has another choice.
+fn is_joined_moved_at(
+    systems: &[System],
+    links: &[Ends],
+    before: &[Chosen],
+    now: &[Chosen],
+    place: usize,
+) -> bool
+    ensures { result ≡ is_joined_moved_at systems.now links.now before.now now.now place }
+{
+    is_joined(links, place) && is_moved_at(systems, before, now, place)
+}
+
+/// Whether one of these systems is so.
+fn any_joined_moved(systems: &[System], links: &[Ends], before: &[Chosen], now: &[Chosen]) -> bool
+    ensures { result ≡ any_joined_moved systems.now links.now before.now now.now }
+{
+    (0..systems.len()).any(|place| is_joined_moved_at(systems, links, before, now, place))
+}
+
+/// Whether one of these systems lives and has another choice, or of those alone at whose place one of these links ends.
+pub(crate) fn any_counted(
+    joined: bool,
+    systems: &[System],
+    links: &[Ends],
+    before: &[Chosen],
+    now: &[Chosen],
+) -> bool
+    ensures { result ≡ any_counted joined systems.now links.now before.now now.now }
+{
+    if joined {
+        any_joined_moved(systems, links, before, now)
+    } else {
+        any_moved(systems, before, now)
+    }
 }

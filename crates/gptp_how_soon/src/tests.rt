@@ -240,6 +240,17 @@ fn a_link_that_goes_down_and_moves_no_system_costs_nothing(rt: HostRuntime) -> R
 }
 
 #[test]
+fn a_system_that_a_link_cuts_off_costs_nothing(rt: HostRuntime) -> Result<(), Fail> {
+    // The second link is the last one of b.
+    let times = ring(
+        rt.alloc(),
+        "[[event]]\nat = 30000000000\nkind = \"link_down\"\nclock = \"000000000000000b\"\nport = 2\n[[event]]\nat = 100000000000\nkind = \"link_down\"\nclock = \"000000000000000b\"\nport = 1\n",
+    )?;
+    assert_eq!(rt; soon(&times, 100_000_000_000), Some((0, 100_000_005_400)));
+    Ok(())
+}
+
+#[test]
 fn a_far_end_that_fails_costs_the_choice_nothing(rt: HostRuntime) -> Result<(), Fail> {
     // Both neighbours of c are nearer to the root than it is; c is farther from it than d is.
     let far = ring(

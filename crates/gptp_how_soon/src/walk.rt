@@ -7,9 +7,9 @@ ghost use Rattle.gptp_how_soon.specs.Times.{settling_time};
 ghost use Rattle.gptp_how_soon.specs.Walk.{IsFirstWalk, WalkGoesOn, WalkPasses, chosen_in, far_seen, moves_seen, view_seen};
 
 use crate::bounds::{SettlingTime, heard, ready, times_by, way_span};
-use crate::chosen::{Chosen, Ends, any_moved, choose, copy_systems, ends_in_use, ends_of};
+use crate::chosen::{Chosen, Ends, any_counted, choose, copy_systems, ends_in_use, ends_of};
 use crate::far::are_far;
-use crate::kinds::{Told, sets_bounds, sets_link, tell};
+use crate::kinds::{Told, lowers_one, sets_bounds, sets_link, tell};
 use crate::links::{delay_set, longest_among, mark_used, new_links};
 use crate::rest::{asks_who_is_far, asks_who_is_moved, heard_at_once, is_from_rest, row_of};
 use gptp_scenario::{Act, Network, SyncPaths};
@@ -105,7 +105,8 @@ impl Walk {
         choose(alloc, systems, &links)
     }
 
-    /// Whether the events of this time move a system.
+    /// Whether the events of this time move a system. One that is cut off doesn't count where a link goes down by the one
+    /// event.
     fn moves(&self, alloc: Global) -> Result<bool, AllocError>
         ensures { IfOk result (λ moved. moved ≡ moves_seen self.now) }
     {
@@ -113,9 +114,11 @@ impl Walk {
         copy_systems(&mut systems, &self.tables.nodes)?;
         let mut used = Vec::new(alloc);
         mark_used(&mut used, &self.tables.standings)?;
+        let links = ends_in_use(alloc, &self.ends, &used)?;
         let before = self.chosen(alloc, &self.systems_before, &self.used_before)?;
-        let now = self.chosen(alloc, &systems, &used)?;
-        Ok(any_moved(&systems, &before, &now))
+        let now = choose(alloc, &systems, &links)?;
+        let joined = lowers_one(&self.told);
+        Ok(any_counted(joined, &systems, &links, &before, &now))
     }
 
     /// Whether the events of this time move a system, where that is asked.

@@ -202,7 +202,7 @@ module _ (n : NetworkState) (network : IsNetwork n) (made : List Timed) (event :
         let well_g = well made (event ∷ []) refl g stands in
         let well_h = well later [] (append-nil later) h stands' in
         let was_known = clock_before x g h stands stands' v known in
-        let c = chooses_so n network made later unmoved g h stands stands' well_g well_h v was_known known in
+        let c = chooses_so n network made later g h stands stands' well_g well_h v was_known known unmoved in
         let one =
         same_system n network made later g h stands stands' c.was.best c.is.best c.was.is_best.live c.is.is_best.live
         (sym c.was.root ∙ c.root ∙ c.is.root) in

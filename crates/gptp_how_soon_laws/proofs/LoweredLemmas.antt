@@ -1,11 +1,17 @@
--- A link that goes down by the one event of a time, and by which no system is moved, is so as its event is told.
-use Rattle.std.proofs.Common.{◌≡◌, ◌≤◌, ℕ, true, false, List, [], ◌∷◌, ◌++◌, refl, sym, ap, subst, ◌∙◌, append-nil}
-use Rattle.std.proofs.lemmas.Bool.{and_parts}
+-- A link that goes down by the one event of a time, and by which no system is moved but such as are cut off, is so as its
+-- event is told.
+use Rattle.std.proofs.Common.{◌≡◌, ◌≤◌, ℕ, Bool, true, false, List, [], ◌∷◌, ◌++◌, refl, sym, ap, subst, ◌∙◌, inl, inr, append-nil}
+use Rattle.std.specs.Prelude.{◌==◌, ◌||◌}
+use Rattle.std.proofs.lemmas.Bool.{and_parts, eq-eqb}
 use Rattle.gptp_lists.specs.Members.{In}
 use Rattle.gptp_graph.specs.Best.{IsBest}
 use Rattle.gptp_graph.specs.Distance.{IsDistance}
 use Rattle.gptp_graph.proofs.BestLemmas.{IsBest-unique}
 use Rattle.gptp_graph.proofs.DistanceLemmas.{IsDistance-unique}
+use Rattle.gptp_graph.proofs.LinkLemmas.{Adjacent-clock}
+use Rattle.gptp_graph.specs.Snapshot.{IsWellFormed, Snapshot, clocks}
+use Rattle.gptp_network.proofs.PassLemmas.{passes_at}
+use Rattle.gptp_network.specs.Snapshot.{StandsAfter}
 use Rattle.gptp_roles.specs.Selection.{clock_of}
 use Rattle.gptp_scenario.specs.Change.{standing, system_acted, system_after}
 use Rattle.gptp_scenario.specs.Network.{IsNetwork, NetworkState}
@@ -16,13 +22,29 @@ use Rattle.gptp_scenario.specs.declared.change.Change.TheVariants as changes
 use Rattle.gptp_scenario.specs.declared.change.Timed.{Timed}
 use Rattle.gptp_scenario.specs.declared.network.SystemSpec.{SystemSpec}
 use Rattle.gptp_theorem.proofs.EventLemmas.{system_behind}
-use Rattle.gptp_how_soon.specs.Chosen.{moves_some}
+use Rattle.gptp_how_soon.specs.Chosen.{ends_at, is_joined, moves_joined, used_ends}
+use Rattle.gptp_how_soon.proofs.ChosenLemmas.{IsAt, at_clock, touched}
+use Rattle.gptp_how_soon.proofs.RoundsLemmas.{Touches}
 use Rattle.gptp_how_soon.specs.Kinds.{is_link_down, is_loss, is_lowering, lowers_one}
 use Rattle.gptp_how_soon.specs.Times.{told_at, told_of}
 use Rattle.gptp_settling_time.specs.HowSoon.{LowersOneLink}
-use Rattle.gptp_settling_time.specs.Losses.{LowersLink, MovesNone}
+use Rattle.gptp_settling_time.specs.Losses.{IsCutOff, IsUnmoved, IsUnmovedOrCutOff, LowersLink, MovesNoneJoined}
 use Rattle.gptp_how_soon_laws.proofs.KindLemmas.{loss_lowers}
-use Rattle.gptp_how_soon_laws.proofs.UnmovedLemmas.{AreWell, chooses_so, clock_over, same_system}
+use Rattle.gptp_how_soon_laws.proofs.UnmovedLemmas.{AreWell, chooses_at, clock_over, none_joined_there, same_system}
+
+-- a link that touches a place ends there
+joined_by : (n : NetworkState) (events : List Timed) (place i : ℕ) → Touches (used_ends n events) place i
+    → is_joined (used_ends n events) place ≡ true
+joined_by n events place i (inl member) =
+    passes_at (ends_at place) (used_ends n events) (record { a = place; b = i }) member
+    (ap (λ b. b || (i == place)) (eq-eqb place place refl))
+joined_by n events place i (inr member) =
+    passes_at (ends_at place) (used_ends n events) (record { a = i; b = place }) member
+    (ap (λ b. (i == place) || b) (eq-eqb place place refl) ∙ or_true (i == place))
+  where
+    or_true : (b : Bool) → (b || true) ≡ true
+    or_true true = refl
+    or_true false = refl
 
 module _ (n : NetworkState) (network : IsNetwork n) (made : List Timed) (event : Timed) where
   abbrev later : List Timed
@@ -64,29 +86,61 @@ module _ (n : NetworkState) (network : IsNetwork n) (made : List Timed) (event :
   takes_down (acts.Change (changes.Inject clock port octets)) same is =
       absurd (not_down (acts.Change (changes.Inject clock port octets)) refl is)
 
-  module _ (well : AreWell n later) (unmoved : moves_some n made later ≡ false) (x : TakesDown) where
+  module _ (well : AreWell n later) (unmoved : moves_joined n made later ≡ false) (x : TakesDown) where
     lives_still : (m : SystemSpec) → In m n.systems → (system_after made m).live ≡ (system_after later m).live
     lives_still m member =
         sym (ap (λ s. s.live) (system_behind made event (clock_of m.identity) (standing m))
         ∙ ap (λ act. (system_acted act (clock_of m.identity) (system_after made m)).live) x.act)
 
-    moves_none : MovesNone n made event
-    moves_none g h v stands stands' known =
-        let well_g = well made (event ∷ []) refl g stands in
-        let well_h = well later [] (append-nil later) h stands' in
-        let was_known = clock_over n network later made lives_still h g stands' stands v known in
-        let c = chooses_so n network made later unmoved g h stands stands' well_g well_h v was_known known in
-        let one =
-        same_system n network made later g h stands stands' c.was.best c.is.best c.was.is_best.live c.is.is_best.live
-        (sym c.was.root ∙ c.root ∙ c.is.root) in
-        record {
-          best = λ b is. subst (IsBest h v)
-              (sym (IsBest-unique g v b c.was.best well_g is c.was.is_best ∙ one)) c.is.is_best;
-          far = λ d far. subst (IsDistance h v)
-              (sym (IsDistance-unique g v d c.before.steps well_g far c.was.far ∙ c.steps)) c.is.far;
-        }
+    module _ (g h : Snapshot) (v : ℕ) (stands : StandsAfter n made g) (stands' : StandsAfter n later h)
+        (known : In v (clocks h)) where
+      well_g : IsWellFormed g
+      well_g = well made (event ∷ []) refl g stands
 
-  module _ (well : AreWell n later) (unmoved : moves_some n made later ≡ false)
+      well_h : IsWellFormed h
+      well_h = well later [] (append-nil later) h stands'
+
+      at_v : (i : ℕ) × IsAt n i v
+      at_v = at_clock n network later h stands' well_h v known
+
+      -- a link in use is at it
+      stays : is_joined (used_ends n later) at_v.0 ≡ true → IsUnmoved g h v
+      stays joined =
+          let (i, at) = at_v in
+          let was_known = clock_over n network later made lives_still h g stands' stands v known in
+          let c = chooses_at n network made later g h stands stands' well_g well_h v was_known known i at
+          (none_joined_there n made later unmoved i at.system at.there joined) in
+          let one =
+          same_system n network made later g h stands stands' c.was.best c.is.best c.was.is_best.live c.is.is_best.live
+          (sym c.was.root ∙ c.root ∙ c.is.root) in
+          record {
+            best = λ b is. subst (IsBest h v)
+                (sym (IsBest-unique g v b c.was.best well_g is c.was.is_best ∙ one)) c.is.is_best;
+            far = λ d far. subst (IsDistance h v)
+                (sym (IsDistance-unique g v d c.before.steps well_g far c.was.far ∙ c.steps)) c.is.far;
+          }
+
+      -- or none is
+      cut_off : is_joined (used_ends n later) at_v.0 ≡ false → IsCutOff h v
+      cut_off none u adjacent =
+          let (i, at) = at_v in
+          let (j, at_u) = at_clock n network later h stands' well_h u (Adjacent-clock h v u well_h adjacent) in
+          let joined = joined_by n later i j
+          (touched n network later h stands' well_h v u i j adjacent at at_u) in
+          let no : true ≡ false = sym joined ∙ none in
+          cc
+
+    moves_none : MovesNoneJoined n made event
+    moves_none g h v stands stands' known =
+        by g h v stands stands' known (is_joined (used_ends n later) (at_v g h v stands stands' known).0) refl
+      where
+        by : (g h : Snapshot) (v : ℕ) (stands : StandsAfter n made g) (stands' : StandsAfter n later h)
+            (known : In v (clocks h)) (joined : Bool)
+            → is_joined (used_ends n later) (at_v g h v stands stands' known).0 ≡ joined → IsUnmovedOrCutOff g h v
+        by g h v stands stands' known true is = inl (stays g h v stands stands' known is)
+        by g h v stands stands' known false is = inr (cut_off g h v stands stands' known is)
+
+  module _ (well : AreWell n later) (unmoved : moves_joined n made later ≡ false)
       (delay : (sync_paths n later).delay ≡ (sync_paths n made).delay)
       (paths : (sync_paths n later).systems ≤ (sync_paths n made).systems)
       (few : (sync_paths n made).systems ≤ 255) (is : is_lowering (told_at n made event.act) ≡ true) where
@@ -106,7 +160,7 @@ module _ (n : NetworkState) (network : IsNetwork n) (made : List Timed) (event :
 
 -- the events of a time
 pub lowers_one_link : (n : NetworkState) (network : IsNetwork n) (made now : List Timed) → AreWell n (made ++ now)
-    → moves_some n made (made ++ now) ≡ false
+    → moves_joined n made (made ++ now) ≡ false
     → (sync_paths n (made ++ now)).delay ≡ (sync_paths n made).delay
     → (sync_paths n (made ++ now)).systems ≤ (sync_paths n made).systems
     → (sync_paths n made).systems ≤ 255

@@ -27,7 +27,8 @@ use Rattle.gptp_topology.specs.After.{is_calm}
 use Rattle.gptp_topology.specs.Course.{cable_of}
 use Rattle.gptp_topology.specs.declared.course.Cable.{Cable}
 use Rattle.gptp_how_soon.specs.Bounds.{asked_again, choice_by, choice_of_row, is_again, is_hard_to_hear, ready, roles_by, settled, sound_row, two_exchanges}
-use Rattle.gptp_how_soon.specs.Kinds.{are_heard, fails_and_recovers, fails_one, is_better, is_gain, is_idle, is_loss, is_other, is_recover, is_recovery, is_recovery_of, leaves_links, lowers_one, lowers_unused, makes_nothing, recovers, sets_link, tells_nothing, begins_wider, first_wider_by, is_wider}
+use Rattle.gptp_how_soon.specs.Chosen.{moves_counted, moves_joined, moves_some}
+use Rattle.gptp_how_soon.specs.Kinds.{are_heard, fails_and_recovers, fails_one, is_better, is_failing, is_gain, is_idle, is_loss, is_lowering, is_other, is_recover, is_recovery, is_recovery_of, leaves_links, lowers_one, lowers_unused, makes_nothing, recovers, sets_link, tells_nothing, begins_wider, first_wider_by, is_wider}
 use Rattle.gptp_how_soon.specs.Links.{delay_set, is_new, longest_among, longest_delay, longest_set, new_links, varies}
 use Rattle.gptp_how_soon.specs.Rest.{are_events_followed, are_losses_followed, are_recoveries_followed, are_turns_followed, heard_at_once, is_failing_followed, is_from_rest, is_lowering_followed, keeps_paths, rested, rested_by, is_wider_followed, settles_wider_by}
 use Rattle.gptp_how_soon.specs.Times.{View, events_at, gained_at, ready_at, row_at, settling_time, told_at, told_of, view_at}
@@ -36,6 +37,7 @@ use Rattle.gptp_how_soon.specs.declared.bounds.Row.TheVariants.{AnyPast, Unchang
 use Rattle.gptp_how_soon.specs.declared.bounds.Settling.{Settling}
 use Rattle.gptp_how_soon.specs.declared.bounds.SettlingTime.{SettlingTime}
 use Rattle.gptp_how_soon.specs.declared.kinds.Kind.{Kind}
+use Rattle.gptp_how_soon.specs.declared.kinds.Kind.TheVariants.{Gain, Idle, Loss, Other, Unused, Wider}
 use Rattle.gptp_how_soon.specs.declared.kinds.Told.{Told}
 use Rattle.gptp_how_soon.specs.declared.kinds.What.{What}
 use Rattle.gptp_how_soon.specs.declared.kinds.What.TheVariants as whats
@@ -51,6 +53,62 @@ use Rattle.gptp_how_soon_laws.proofs.KindLemmas.{told}
 use Rattle.gptp_how_soon_laws.proofs.FailedLemmas.{fails_one_end}
 use Rattle.gptp_how_soon_laws.proofs.LoweredLemmas.{lowers_one_link}
 use Rattle.gptp_how_soon_laws.proofs.UnmovedLemmas.{AreWell, all_still_unmoved}
+
+-- ---- who counts as moved
+
+counts_joined : (joined : Bool) (n : NetworkState) (made events : List Timed) → joined ≡ true
+    → moves_counted joined n made events ≡ false → moves_joined n made events ≡ false
+counts_joined true n made events is none = none
+counts_joined false n made events is none = absurd cc
+
+counts_all : (joined : Bool) (n : NetworkState) (made events : List Timed) → joined ≡ false
+    → moves_counted joined n made events ≡ false → moves_some n made events ≡ false
+counts_all true n made events is none = absurd cc
+counts_all false n made events is none = none
+
+-- a system that fails, or whose priority1 gets worse, takes no link down
+fails_not_down : (clock : ℕ) (what : What) (kind : Kind) → is_failing (told clock what kind) ≡ true
+    → is_lowering (told clock what kind) ≡ false
+fails_not_down clock whats.Fail Loss is = refl
+fails_not_down clock whats.LinkDown Loss is = absurd cc
+fails_not_down clock whats.LinkUp Loss is = absurd cc
+fails_not_down clock whats.LinkSet Loss is = absurd cc
+fails_not_down clock whats.Recover Loss is = absurd cc
+fails_not_down clock whats.Priority1 Loss is = absurd cc
+fails_not_down clock whats.Inject Loss is = absurd cc
+fails_not_down clock whats.NoChange Loss is = absurd cc
+fails_not_down clock what Idle is = refl
+fails_not_down clock what Unused is = refl
+fails_not_down clock what Gain is = refl
+fails_not_down clock what (Wider by) is = refl
+fails_not_down clock what Other is = refl
+
+leaves_not_down : (clock : ℕ) (what : What) (kind : Kind) → leaves_links (told clock what kind) ≡ true
+    → is_lowering (told clock what kind) ≡ false
+leaves_not_down clock whats.Priority1 Loss is = refl
+leaves_not_down clock whats.Fail Loss is = absurd cc
+leaves_not_down clock whats.LinkDown Loss is = absurd cc
+leaves_not_down clock whats.LinkUp Loss is = absurd cc
+leaves_not_down clock whats.LinkSet Loss is = absurd cc
+leaves_not_down clock whats.Recover Loss is = absurd cc
+leaves_not_down clock whats.Inject Loss is = absurd cc
+leaves_not_down clock whats.NoChange Loss is = absurd cc
+leaves_not_down clock what Idle is = refl
+leaves_not_down clock what Unused is = refl
+leaves_not_down clock what Gain is = refl
+leaves_not_down clock what (Wider by) is = refl
+leaves_not_down clock what Other is = refl
+
+fails_no_link : (es : List Told) → fails_one es ≡ true → lowers_one es ≡ false
+fails_no_link [] is = refl
+fails_no_link (e ∷ []) is = fails_not_down e.clock e.what e.kind is
+fails_no_link (e ∷ f ∷ es) is = refl
+
+leaves_no_link : (es : List Told) → list_all leaves_links es ≡ true → lowers_one es ≡ false
+leaves_no_link [] all = refl
+leaves_no_link (e ∷ []) all =
+    leaves_not_down e.clock e.what e.kind (and_parts (leaves_links e) (list_all leaves_links []) all).0
+leaves_no_link (e ∷ f ∷ es) all = refl
 
 -- ---- what is told
 
@@ -531,7 +589,9 @@ module _ (n : NetworkState) (network : IsNetwork n) (events : List Timed) (b : S
       let (followed, none) = and_parts (are_losses_followed v.paths_before v.told) (not v.moved) left in
       let (few, leaves) =
       and_parts (nat_le v.paths_before.systems 255) (list_all leaves_links v.told) followed in
-      all_still_unmoved n network made now well (at_most v.paths_before.systems 255 few) (not-true v.moved none) leaves
+      all_still_unmoved n network made now well (at_most v.paths_before.systems 255 few)
+      (counts_all (lowers_one v.told) n made (made ++ now) (leaves_no_link v.told leaves) (not-true v.moved none))
+      leaves
 
   pub unchanged : AreWell n (made ++ now) → row_at v ≡ Unchanged
       → (rest : HasComeToRest b at)
@@ -652,7 +712,8 @@ module _ (n : NetworkState) (network : IsNetwork n) (events : List Timed) (b : S
       let (keeps, one) = and_parts (keeps_paths v.paths_before v.paths) (lowers_one v.told) followed in
       let (delay, paths, few) = keeps_so keeps in (
         (from_rest from).rested,
-        lowers_one_link n network made now well (not-true v.moved none) delay paths few one,
+        lowers_one_link n network made now well
+            (counts_joined (lowers_one v.told) n made (made ++ now) one (not-true v.moved none)) delay paths few one,
       )
 
   -- or a system fails that is a far end
@@ -668,5 +729,7 @@ module _ (n : NetworkState) (network : IsNetwork n) (events : List Timed) (b : S
       let (keeps, one) = and_parts (keeps_paths v.paths_before v.paths) (fails_one v.told) followed in
       let (delay, paths, few) = keeps_so keeps in (
         (from_rest from).rested,
-        fails_one_end n network made now well (not-true v.moved none) delay paths few one far,
+        fails_one_end n network made now well
+            (counts_all (lowers_one v.told) n made (made ++ now) (fails_no_link v.told one) (not-true v.moved none)) delay
+            paths few one far,
       )

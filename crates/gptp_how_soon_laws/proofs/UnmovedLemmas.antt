@@ -33,7 +33,7 @@ use Rattle.gptp_network.proofs.SnapshotLemmas.{clock_after, member_there, with_c
 use Rattle.gptp_theorem.proofs.EventLemmas.{system_behind}
 use Rattle.gptp_topology.specs.After.{system_then, systems_after}
 use Rattle.gptp_topology.specs.declared.nodes.System as ours
-use Rattle.gptp_how_soon.specs.Chosen.{chosen_after, differs, is_moved, is_moved_at, moves_some}
+use Rattle.gptp_how_soon.specs.Chosen.{chosen_after, differs, is_joined, is_joined_moved_at, is_moved, is_moved_at, moves_joined, moves_some, used_ends}
 use Rattle.gptp_how_soon.specs.Kinds.{is_idle, is_loss, is_priority1, is_unused, leaves_links, makes_nothing}
 use Rattle.gptp_how_soon.specs.Times.{told_at, told_of}
 use Rattle.gptp_how_soon.specs.declared.chosen.Chosen.{Chosen}
@@ -340,10 +340,40 @@ in_range first (suc count) place least most = elim (same_place place first) [
 
 -- ---- what a system chose at first and at last
 
-module _ (n : NetworkState) (network : IsNetwork n) (first all : List Timed) (unmoved : moves_some n first all ≡ false)
-    (g0 gk : Snapshot) (stands0 : StandsAfter n first g0) (standsk : StandsAfter n all gk) (well0 : IsWellFormed g0)
+-- the place of each system is one of those that are asked
+asked_of : (n : NetworkState) (all : List Timed) (i : ℕ) (m : SystemSpec) → slice_get n.systems i ≡ Some m
+    → In i (range_with_len 0 (length (systems_after n all)))
+asked_of n all i m there =
+    let less = bound (systems_after n all) i (system_then all m)
+    (mapped_there (system_then all) n.systems i m there) in
+    in_range 0 (length (systems_after n all)) i (omega arith) (omega (arith, less))
+  where
+    bound : (os : List ours.System) (place : ℕ) (o : ours.System) → slice_get os place ≡ Some o → place < length os
+    bound [] place o is = absurd cc
+    bound (p ∷ os) zero o is = omega arith
+    bound (p ∷ os) (suc place) o is = let rest = bound os place o is in omega (arith, rest)
+
+-- where none is moved none is so there; nor is one that isn't cut off, where none of these is
+none_there : (n : NetworkState) (first all : List Timed) → moves_some n first all ≡ false → (i : ℕ) (m : SystemSpec)
+    → slice_get n.systems i ≡ Some m
+    → is_moved_at (systems_after n all) (chosen_after n first) (chosen_after n all) i ≡ false
+none_there n first all unmoved i m there =
+    none_any (is_moved_at (systems_after n all) (chosen_after n first) (chosen_after n all))
+    (range_with_len 0 (length (systems_after n all))) i unmoved (asked_of n all i m there)
+
+pub none_joined_there : (n : NetworkState) (first all : List Timed) → moves_joined n first all ≡ false → (i : ℕ)
+    (m : SystemSpec) → slice_get n.systems i ≡ Some m → is_joined (used_ends n all) i ≡ true
+    → is_moved_at (systems_after n all) (chosen_after n first) (chosen_after n all) i ≡ false
+none_joined_there n first all unmoved i m there joined =
+    let none = none_any
+    (is_joined_moved_at (systems_after n all) (used_ends n all) (chosen_after n first) (chosen_after n all))
+    (range_with_len 0 (length (systems_after n all))) i unmoved (asked_of n all i m there) in
+    ap (λ b. b && is_moved_at (systems_after n all) (chosen_after n first) (chosen_after n all) i) (sym joined) ∙ none
+
+module _ (n : NetworkState) (network : IsNetwork n) (first all : List Timed) (g0 gk : Snapshot)
+    (stands0 : StandsAfter n first g0) (standsk : StandsAfter n all gk) (well0 : IsWellFormed g0)
     (wellk : IsWellFormed gk) (v : ℕ) (known0 : In v (clocks g0)) (known : In v (clocks gk)) where
-  -- it is the same where no system is moved
+  -- it is the same
   pub record ChoosesSo : Type 0 where
     pub before : Chosen
     pub now : Chosen
@@ -366,19 +396,15 @@ module _ (n : NetworkState) (network : IsNetwork n) (first all : List Timed) (un
       let (root, steps) = and_parts (before.root == now.root) (before.steps == now.steps) both in
       (eqb-true before.root now.root root, eqb-true before.steps now.steps steps)
 
-  pub chooses_so : ChoosesSo
-  chooses_so =
-      let (i, at) = at_clock n network all gk standsk wellk v known in
+  -- where it isn't moved
+  pub chooses_at : (i : ℕ) (at : IsAt n i v)
+      → is_moved_at (systems_after n all) (chosen_after n first) (chosen_after n all) i ≡ false → ChoosesSo
+  chooses_at i at none =
       let (b, there0) = chosen_there n network first g0 stands0 well0 i v at in
       let (c, therek) = chosen_there n network all gk standsk wellk i v at in
       let o : ours.System = system_then all at.system in
       let there : slice_get (systems_after n all) i ≡ Some o =
       mapped_there (system_then all) n.systems i at.system at.there in
-      let less = bound (systems_after n all) i o there in
-      let within : In i (range_with_len 0 (length (systems_after n all))) =
-      in_range 0 (length (systems_after n all)) i (omega arith) (omega (arith, less)) in
-      let none = none_any (is_moved_at (systems_after n all) (chosen_after n first) (chosen_after n all))
-      (range_with_len 0 (length (systems_after n all))) i unmoved within in
       let here : (o.lives && differs b c) ≡ false =
       (λ k. is_moved (sym there k) (sym there0 k) (sym therek k)) ∙ none in
       let (root, steps) = both_stay o b c here (lives_at i at) in
@@ -390,11 +416,11 @@ module _ (n : NetworkState) (network : IsNetwork n) (first all : List Timed) (un
         root = root;
         steps = steps;
       }
-    where
-      bound : (os : List ours.System) (place : ℕ) (o : ours.System) → slice_get os place ≡ Some o → place < length os
-      bound [] place o is = absurd cc
-      bound (p ∷ os) zero o is = omega arith
-      bound (p ∷ os) (suc place) o is = let rest = bound os place o is in omega (arith, rest)
+
+  pub chooses_so : moves_some n first all ≡ false → ChoosesSo
+  chooses_so unmoved =
+      let (i, at) = at_clock n network all gk standsk wellk v known in
+      chooses_at i at (none_there n first all unmoved i at.system at.there)
 
 -- ---- where no system is moved between first and last
 
@@ -413,7 +439,7 @@ module _ (n : NetworkState) (network : IsNetwork n) (first all : List Timed) (wo
   stays v known =
       let known0 =
       clock_over n network all first (alike_back n first all worsen.alike).systems gk g0 standsk stands0 v known in
-      let x = chooses_so n network first all unmoved g0 gk stands0 standsk well0 wellk v known0 known in
+      let x = chooses_so n network first all g0 gk stands0 standsk well0 wellk v known0 known unmoved in
       record {
         best = x.was.best;
         is_best = x.was.is_best;

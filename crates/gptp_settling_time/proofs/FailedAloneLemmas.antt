@@ -53,12 +53,12 @@ use Rattle.gptp_invariants.proofs.WorldSystemLemmas.{clock_there, live_from, liv
 use Rattle.gptp_invariants.proofs.WorldWayLemmas.{used_joins, way_of}
 use Rattle.gptp_settling_time.specs.Losses.{IsFarEnd, IsUnmoved}
 use Rattle.gptp_settling_time.proofs.AlwaysClaimedLemmas.{IsStanding, start_network}
-use Rattle.gptp_settling_time.proofs.FitsLemmas.{IsLeftUnmoved, everything_fits, lived, received_still}
+use Rattle.gptp_settling_time.proofs.FitsLemmas.{IsLeftUnmoved, UnlinkedHoldNothing, everything_fits, lived, received_still}
 use Rattle.gptp_settling_time.proofs.LeftClaimedLemmas.{HaveAskedLong, IsLeftAlways, left_calm, left_net, left_network}
 use Rattle.gptp_settling_time.proofs.ReactsLemmas.{places_set}
 use Rattle.gptp_settling_time.proofs.ReducedLemmas.{IsReduced, fits_reduced, levels_reduced, reduced_itself}
 use Rattle.gptp_settling_time.proofs.SettledSeenLemmas.{IsSettledSeen, wired_as}
-use Rattle.gptp_settling_time.proofs.UnlinkedLemmas.{LostAreFarther, UnlinkedHoldNothing, far_holds_none}
+use Rattle.gptp_settling_time.proofs.UnlinkedLemmas.{LostAreFarther, far_holds_none}
 use Rattle.gptp_settling_time.proofs.WidenedLemmas.{ready_first}
 
 -- a link that is up between two of the systems is used
@@ -247,7 +247,7 @@ module _ (p : SettlingParams) (number : ℕ) (w : WorldState) (draws : List Draw
     module _ (seen : IsSettledSeen p w) (near : AllAreNear g) (far : IsFarEnd g number)
         (unmoved : (v : ℕ) → In v (clocks g') → IsUnmoved g g' v) (sound : IsSoundWorld w) where
       left : IsLeftUnmoved g g'
-      left = record { systems = systems_before; links = links_before; unmoved = unmoved }
+      left = record { systems = systems_before; links = links_before; unmoved = λ v known. inl (unmoved v known) }
 
       left_seen : IsLeftUnmoved seen.n.graph g'
       left_seen = subst (λ h. IsLeftUnmoved h g') (sym seen.graph) left
@@ -258,10 +258,13 @@ module _ (p : SettlingParams) (number : ℕ) (w : WorldState) (draws : List Draw
           (d, (unmoved v known).far d here, close)
 
       farther_then : LostAreFarther g g'
-      farther_then a b d e joins known gone from to = elim (lives_still a.clock (Joins-clock g a b well joins)) [
-        | inl same ↦ (subst (IsFarEnd g) (sym same) far) b.clock d e (a.port, b.port, joins) from to
-        | inr still ↦ absurd (gone still)
-      ]
+      farther_then a b joins known gone = (
+        unmoved b.clock known,
+        (λ d e from to. elim (lives_still a.clock (Joins-clock g a b well joins)) [
+          | inl same ↦ (subst (IsFarEnd g) (sym same) far) b.clock d e (a.port, b.port, joins) from to
+          | inr still ↦ absurd (gone still)
+        ]),
+      )
 
       -- at ports that no link is at any more nothing is received
       unlinked_then : UnlinkedHoldNothing g' (view w')
@@ -350,13 +353,13 @@ module _ (p : SettlingParams) (number : ℕ) (w : WorldState) (draws : List Draw
         settling_then : HaveQuietLinks p.params w' → Invariant says_announce (left_network p silent w') (view w')
         settling_then quiet' =
             let n = left_network p silent w' in
+            let calm_then = left_calm p silent w' standing_then asked_then quiet' unlinked_then in
             let sound' : RunIsSound n (view w') =
-            λ late. received_still g g' well well' left (view w') fits_then.stations in
+            λ late. received_still g n (view w') well well' left calm_then unlinked_then fits_then.stations in
             record {
               sound = sound';
               levels = levels_reduced says_announce seen.n n seen.net (left_net p silent w' is') (wires n delay refl)
-                  left_seen (view w) (view w') less seen.calm
-                  (left_calm p silent w' standing_then asked_then quiet' unlinked_then) seen.invariant seen.late sound'
+                  left_seen (view w) (view w') less seen.calm calm_then seen.invariant seen.late sound'
                   (λ q linked. omega arith);
             }
 

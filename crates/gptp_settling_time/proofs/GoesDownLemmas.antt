@@ -1,5 +1,5 @@
--- A port goes down, and another holds as much, or the system follows itself: it keeps its root and its steps, and sends
--- nothing.
+-- A port goes down, and another holds as much, or the system follows itself, or no other takes part: what others hold
+-- stays, and the system sends nothing.
 use Rattle.std.proofs.Common.{◌≡◌, ◌≢◌, ◌<◌, ◌≤◌, ◌+◌, ℕ, zero, suc, Bool, true, false, List, [], ◌∷◌, Option, Some, None, slice_get, refl, sym, ap, subst, ◌∙◌, inl, inr, arith}
 use Rattle.std.specs.Prelude.{◌==◌, if◌then◌else◌}
 use native.Mathlib.Decide.{dec_lt, ℕ_discrete}
@@ -227,6 +227,36 @@ module _ (v w : Vector) (c : ℕ) (root : w.root ≡ v.root) (steps : w.steps �
       let others = others_still i (port + 1) hs (omega (arith, at)) rest in
       λ j. one j ∷ others j
 
+-- ---- no other port takes part
+
+-- each of these is disabled
+abbrev pub AreDisabled : List Held → Type 0
+AreDisabled hs = (j : ℕ) (h : Held) → slice_get hs j ≡ Some h → h ≡ helds.Disabled
+
+-- so it is without one, where each other is
+pub others_disabled : (i : ℕ) (hs : List Held)
+    → ((j : ℕ) (h : Held) → slice_get hs j ≡ Some h → j ≢ i → h ≡ helds.Disabled) → AreDisabled (without i hs)
+others_disabled i [] off j h at = absurd cc
+others_disabled zero (x ∷ hs) off zero h at = sym (same_Some helds.Disabled h at)
+others_disabled zero (x ∷ hs) off (suc j) h at = off (suc j) h at (λ e. absurd (omega (arith, e)))
+others_disabled (suc i) (x ∷ hs) off zero h at = off zero h at (λ e. absurd (omega (arith, e)))
+others_disabled (suc i) (x ∷ hs) off (suc j) h at =
+    others_disabled i hs (λ k y there apart. off (suc k) y there (λ e. apart (omega (arith, e)))) j h at
+
+-- whatever is chosen
+disabled_stay : (v : Vector) (c port : ℕ) (hs : List Held) → AreDisabled hs
+    → hs ≡ each_from (held_after_selection v c) port hs
+disabled_stay v c port [] off = refl
+disabled_stay v c port (h ∷ hs) off =
+    let rest = disabled_stay v c (port + 1) hs (λ j x at. off (suc j) x at) in one h (off zero h refl) rest
+  where
+    one : (h : Held) → h ≡ helds.Disabled → hs ≡ each_from (held_after_selection v c) (port + 1) hs
+        → h ∷ hs ≡ held_after_selection v c port h ∷ each_from (held_after_selection v c) (port + 1) hs
+    one helds.Disabled is rest = λ j. helds.Disabled ∷ rest j
+    one helds.Aged is rest = absurd cc
+    one (helds.Mine root steps) is rest = absurd cc
+    one (helds.Received r) is rest = absurd cc
+
 -- ---- the port goes down
 
 module _ (now i : ℕ) (s s' : SystemState) (sends : List Sending) (held : AreHeld s) (rest : IsAtRest s)
@@ -253,22 +283,19 @@ module _ (now i : ℕ) (s s' : SystemState) (sends : List Sending) (held : AreHe
   goes_down_unheard : (s' ≡ t) × (sends ≡ [])
   goes_down_unheard = selects_again now t s' sends ((down_touches (suc i) s).held held) rest_then k
 
--- the port at place i goes down: what others hold stays, and so do root and steps
+-- the port at place i goes down, and what others hold stays
 pub record GoesDownQuietly (i : ℕ) (s s' : SystemState) (sends : List Sending) : Type 0 where
   pub identity : s'.identity ≡ s.identity
   pub params : s'.params ≡ s.params
   pub largest : s'.largest ≡ s.largest
   pub held : s'.held ≡ without i s.held
   pub ports : s'.ports ≡ (down (suc i) s).ports
-  pub root : s'.root ≡ s.root
-  pub steps : s'.steps ≡ s.steps
   pub silent : sends ≡ []
 
-module _ (now i : ℕ) (s s' : SystemState) (sends : List Sending) (held : AreHeld s) (rest : IsAtRest s)
+module _ (now i : ℕ) (s s' : SystemState) (sends : List Sending) (held : AreHeld s)
     (k : GoesDown (suc i) now s s' sends) where
-  -- it was the Slave, and another vector of that root and those steps is chosen
-  module _ (was : rest.vector.receiver ≡ suc i)
-      (same : (k.vector.root ≡ rest.vector.root) × (k.vector.steps ≡ rest.vector.steps)) where
+  -- each port holds by the vector that is chosen then what it holds
+  module _ (stays : without i s.held ≡ each_from (held_after_selection k.vector (clock s)) 1 (without i s.held)) where
     abbrev turned : SystemState
     turned = record (down (suc i) s) { root = k.vector.root; steps = k.vector.steps; slave = slave_port k.vector }
 
@@ -276,7 +303,7 @@ module _ (now i : ℕ) (s s' : SystemState) (sends : List Sending) (held : AreHe
     rest_turned = record {
       vector = k.vector;
       is_chosen = k.is_chosen;
-      stays = others_still rest.vector k.vector (clock s) same.0 same.1 i 1 s.held (omega (arith, was)) rest.stays;
+      stays = stays;
       root = refl;
       steps = refl;
       slave = refl;
@@ -294,11 +321,15 @@ module _ (now i : ℕ) (s s' : SystemState) (sends : List Sending) (held : AreHe
       largest = ap (λ (x : SystemState). x.largest) k.state;
       held = ap (λ (x : SystemState). x.held) k.state ∙ ap (λ (x : SystemState). x.held) again.0;
       ports = ap (λ (x : SystemState). x.ports) k.state ∙ ap (λ (x : SystemState). x.ports) again.0;
-      root = ap (λ (x : SystemState). x.root) k.state ∙ same.0 ∙ sym rest.root;
-      steps = ap (λ (x : SystemState). x.steps) k.state ∙ same.1 ∙ sym rest.steps;
       silent = again.1;
     }
 
+  -- so it is where no other port takes part
+  pub goes_down_alone : AreDisabled (without i s.held) → GoesDownQuietly i s s' sends
+  goes_down_alone off = turns (disabled_stay k.vector (clock s) 1 (without i s.held) off)
+
+module _ (now i : ℕ) (s s' : SystemState) (sends : List Sending) (held : AreHeld s) (rest : IsAtRest s)
+    (k : GoesDown (suc i) now s s' sends) where
   -- something of that root and those steps is left, at another port or the system's own
   module _ (u : Vector) (among : IsIn u (system_vector s.identity ∷ path_vectors (without i s.held)))
       (root : u.root ≡ s.root) (steps : u.steps ≡ s.steps) where
@@ -318,7 +349,9 @@ module _ (now i : ℕ) (s s' : SystemState) (sends : List Sending) (held : AreHe
 
     pub goes_down_quietly : GoesDownQuietly i s s' sends
     goes_down_quietly = elim (ℕ_discrete rest.vector.receiver (suc i)) [
-      | yes was ↦ turns was same_choice
+      | yes was ↦ turns now i s s' sends held k
+          (others_still rest.vector k.vector (clock s) same_choice.0 same_choice.1 i 1 s.held (omega (arith, was))
+          rest.stays)
       | no other ↦
           let (is, silent) = goes_down_unheard now i s s' sends held rest other k in
           record {
@@ -327,8 +360,6 @@ module _ (now i : ℕ) (s s' : SystemState) (sends : List Sending) (held : AreHe
             largest = ap (λ (x : SystemState). x.largest) is;
             held = ap (λ (x : SystemState). x.held) is;
             ports = ap (λ (x : SystemState). x.ports) is;
-            root = ap (λ (x : SystemState). x.root) is;
-            steps = ap (λ (x : SystemState). x.steps) is;
             silent = silent;
           }
     ]

@@ -58,7 +58,7 @@ use Rattle.gptp_settling_time.specs.ChoiceAlone.{ChoiceStands}
 use Rattle.gptp_settling_time.specs.Exactly.{SettlesBy}
 use Rattle.gptp_settling_time.specs.Gains.{ChangesNothing, IsIdleAfter, LeavesCapable, TakesNothing}
 use Rattle.gptp_settling_time.specs.InTurn.{ActsFindChoiceInTurn, ActsFindSettledInTurn, AddsHeard, AnyPast, BeginsBy, BettersClock, BringsUp, ChoosesAfter, ComesByEvents, EventLeads, FailsCalm, Gained, Heard, LeadOn, LeavesSettled, LeavesStanding, Left, LowersCalm, MakesNothing, Past, RecoversAlone, SettlesAfter, Starting, TurnsInVain, WidensFrom}
-use Rattle.gptp_settling_time.specs.Losses.{IsFarEnd, IsUnmoved, MovesNone}
+use Rattle.gptp_settling_time.specs.Losses.{IsFarEnd, IsUnmoved, IsUnmovedOrCutOff, MovesNone, MovesNoneJoined}
 use Rattle.gptp_settling_time.proofs.AlwaysClaimedLemmas.{IsClaimedAlways, since_later}
 use Rattle.gptp_settling_time.proofs.BegunLemmas.{begun_keeps, begun_last, rested_sound}
 use Rattle.gptp_settling_time.proofs.ClaimedToLemmas.{IsClaimedTo, claimed_act, claimed_later, claimed_settled}
@@ -128,6 +128,16 @@ module _ (d : DocumentState) (events : List Timed) where
       so
 
 -- ---- an event is made
+
+-- a system is unmoved between two snapshots that is so between others of the same systems and links
+unmoved_alike : (g h g' h' : Snapshot) → AreAlike g h → AreAlike g' h' → (v : ℕ) → IsUnmoved h h' v
+    → IsUnmoved g g' v
+unmoved_alike g h g' h' before now v unmoved =
+    let back = turned g' h' now in
+    record {
+      best = λ b was. alike_best h' g' back v b (unmoved.best b (alike_best g h before v b was));
+      far = λ far was. alike_distance h' g' back v far (unmoved.far far (alike_distance g h before v far was));
+    }
 
 module _ {F : Type 0} (answers : Bounds → ℕ → F → Option ℕ → F → Type 0) (d : DocumentState)
     (playable : IsPlayable d) (made : List Timed) (event : Timed) (fate fate_after : F) (w w' : WorldState)
@@ -338,14 +348,28 @@ module _ {F : Type 0} (answers : Bounds → ℕ → F → Option ℕ → F → T
       let (systems', links') = snapshots_stand n more w' g' after.stands after.claim.world.sound stands' in
       let before : AreAlike (snapshot_of then) g = record { systems = systems; links = links } in
       let now : AreAlike (snapshot_of w') g' = record { systems = systems'; links = links' } in
-      let back = turned (snapshot_of w') g' now in
-      let unmoved = none g g' v stands stands' (clock_among (snapshot_of w') g' now v known) in
-      record {
-        best = λ b was. alike_best g' (snapshot_of w') back v b
-            (unmoved.best b (alike_best (snapshot_of then) g before v b was));
-        far = λ far was. alike_distance g' (snapshot_of w') back v far
-            (unmoved.far far (alike_distance (snapshot_of then) g before v far was));
-      }
+      unmoved_alike (snapshot_of then) g (snapshot_of w') g' before now v
+      (none g g' v stands stands' (clock_among (snapshot_of w') g' now v known))
+
+  -- nor is one that is cut off or isn't moved
+  stays_joined : MovesNoneJoined n made event → (v : ℕ) → In v (clocks (snapshot_of w'))
+      → IsUnmovedOrCutOff (snapshot_of then) (snapshot_of w') v
+  stays_joined none v known =
+      let (g, stands) = stands_after n made playable.network in
+      let (g', stands') = stands_after n more playable.network in
+      let (systems, links) = snapshots_stand n made then g keeps_then.stands keeps_then.claim.world.sound stands in
+      let (systems', links') = snapshots_stand n more w' g' after.stands after.claim.world.sound stands' in
+      let before : AreAlike (snapshot_of then) g = record { systems = systems; links = links } in
+      let now : AreAlike (snapshot_of w') g' = record { systems = systems'; links = links' } in
+      elim (none g g' v stands stands' (clock_among (snapshot_of w') g' now v known)) [
+        | inl unmoved ↦ inl (unmoved_alike (snapshot_of then) g (snapshot_of w') g' before now v unmoved)
+        | inr cut ↦ inr (λ u (m, q, joins). cut u (
+          m,
+          q,
+          subst (λ (ls : List Link). In (record { a = port_of v m; b = port_of u q }) ls
+              ⊎ In (record { a = port_of u q; b = port_of v m }) ls) links' joins,
+        ))
+      ]
 
   -- what is the far end of its links in the network is so in the world
   far_end : (number : ℕ) → ((g : Snapshot) → StandsAfter n made g → IsFarEnd g number)
@@ -440,7 +464,7 @@ module _ {F : Type 0} (answers : Bounds → ℕ → F → Option ℕ → F → T
         let time = made_time answers d playable made event fate fate_after w w' done is fit k in
         omega (arith, over, less, time)
 
-    -- a link goes down
+    -- a link goes down, and no system is moved but such as are cut off
     lowered_to : LowersCalm n made event → IsLeftTo d more start w'
     lowered_to lowers =
         let x = lowers.lowers in
@@ -453,8 +477,9 @@ module _ {F : Type 0} (answers : Bounds → ℕ → F → Option ℕ → F → T
               after.claim.world keeps_then.claim.measured after.claim.measured came
               (up_so n made then keeps_then.stands (port_id x.clock x.port) (λ place v there end.
               (x.used place v there end).up) came.1.place came.1.channel came.1.is)
-              (seen_then lowers.calm lowers.off) (near_then x.few) (stays_unmoved x.moves) (omega (arith, over))
-              (same_delay x.delay) (way_over x.delay x.paths) sound ready silent;
+              (quiet_stands n made then playable.network keeps_then.stands world_then.sound lowers.calm).links
+              (omega (arith, over)) ready silent (seen_then lowers.calm lowers.off) (near_then x.few)
+              (stays_joined x.moves) (same_delay x.delay) (way_over x.delay x.paths) sound;
         }
 
     -- a system fails that is the far end of its links

@@ -46,12 +46,12 @@ use Rattle.gptp_invariants.proofs.WorldSettledLemmas.{still_acts_stay, time_stay
 use Rattle.gptp_invariants.proofs.WorldStandsLemmas.{stands_well}
 use Rattle.gptp_settling_time.specs.ChoiceAlone.{ChoiceStands}
 use Rattle.gptp_settling_time.proofs.AlwaysClaimedLemmas.{AreHeard, IsStanding, linked_on, same_start, start_calm, start_network}
-use Rattle.gptp_settling_time.proofs.FitsLemmas.{IsLeftUnmoved}
+use Rattle.gptp_settling_time.proofs.FitsLemmas.{IsLeftUnmoved, UnlinkedHoldNothing}
 use Rattle.gptp_settling_time.proofs.HeardLemmas.{IsFirstLong, first_acted, first_later}
 use Rattle.gptp_settling_time.proofs.LinkStoodLemmas.{stood_in}
 use Rattle.gptp_settling_time.proofs.NewsMeasuredLemmas.{ready_measures}
 use Rattle.gptp_settling_time.proofs.SeenSettledLemmas.{seen_chooses, seen_settles}
-use Rattle.gptp_settling_time.proofs.UnlinkedLemmas.{IsLeftSeen, LostAreFarther, UnlinkedHoldNothing, left_kept}
+use Rattle.gptp_settling_time.proofs.UnlinkedLemmas.{IsLeftSeen, LostAreFarther, left_kept}
 
 -- ---- what holds of a world whose ports are capable from a start on
 
@@ -91,7 +91,7 @@ asked_ready p w asked at stands =
     let soon = x.is.1 in
     inl (first, (x.is.0, omega (arith, before, soon)))
 
--- ---- a loss that moved none
+-- ---- a loss that moved none but such as it cut off
 
 -- The network that such a world has: claims are made of all links always. At ports without a link nothing is received,
 -- and from a time on they aren't capable.
@@ -118,9 +118,9 @@ same_left p silent w w' keeps =
     (same_start p (path_bound (snapshot_of w')) 0 w w' keeps)
     ∙ ap (λ g. record (start_network p (path_bound g) 0 w) { bare = 0; off = silent }) (same_snapshot w w' keeps)
 
--- What is claimed of a world since a loss that moved none: what it holds and what is in flight fits the snapshot of
--- before. A system that is gone was the far end of its links. Ports at links are capable, and those that no link is at
--- aren't from a time on.
+-- What is claimed of a world since such a loss: what it holds and what is in flight fits the snapshot of before. A
+-- system that is gone was the far end of its links. Ports at links are capable, and those that no link is at aren't from
+-- a time on.
 pub record IsLeftAlways (p : SettlingParams) (g : Snapshot) (silent : ℕ) (w : WorldState) : Type 0 where
   pub standing : IsStanding p silent w
   pub asked : HaveAskedLong w

@@ -1,15 +1,18 @@
--- A link between live systems goes down, and no system is moved: each keeps its root and its steps, and sends nothing.
--- So what is left stands as it did, and all that is held and in flight fits the snapshot of before.
-use Rattle.std.proofs.Common.{◌≡◌, ◌≢◌, ◌⊎◌, ◌≤◌, ◌*◌, ℕ, ℤ, zero, suc, pred, Bool, true, false, List, [], ◌∷◌, map, Some, slice_get, slice_set, refl, sym, ap, subst, ◌∙◌, inl, inr, arith}
+-- A link between live systems goes down, and no system is moved but such as are cut off: none sends anything, and what
+-- other ports hold stays. So what is left stands as it did, and all that is held and in flight fits the snapshot of
+-- before.
+use Rattle.std.proofs.Common.{◌≡◌, ◌≢◌, ◌⊎◌, ◌<◌, ◌≤◌, ◌*◌, ℕ, ℤ, zero, suc, pred, Bool, true, false, List, [], ◌∷◌, length, map, Some, slice_get, slice_set, refl, sym, ap, subst, ◌∙◌, inl, inr, arith}
 use Rattle.std.proofs.lemmas.Option.{same_Some}
 use Rattle.gptp_lists.specs.Members.{In}
 use Rattle.gptp_lists.proofs.MappedLemmas.{same_there}
 use Rattle.gptp_lists.proofs.PlaceLemmas.{get-set_other, get-set_same, same_place}
 use Rattle.gptp_graph.specs.PathBound.{path_bound}
-use Rattle.gptp_graph.specs.Snapshot.{IsLinked, IsWellFormed, Joins, Snapshot, System, clocks, port_of}
+use Rattle.gptp_graph.specs.Snapshot.{IsLinked, IsWellFormed, Joins, PortIdentity, Snapshot, System, clocks, port_of}
+use Rattle.gptp_graph.proofs.ExistenceLemmas.{distance_exists}
 use Rattle.gptp_graph.proofs.LinkLemmas.{Joins-clock}
 use Rattle.gptp_graph.proofs.SystemLemmas.{In-clocks}
 use Rattle.gptp_vector.specs.Vector.{path_of, system_vector}
+use Rattle.gptp_vector.specs.declared.port.PortId.{PortId}
 use Rattle.gptp_vector.specs.declared.vector.Vector.{Vector}
 use Rattle.gptp_links.specs.declared.link.Direction.{Direction}
 use Rattle.gptp_links.specs.declared.link.Direction.TheVariants.{FromA, FromB}
@@ -25,7 +28,7 @@ use Rattle.gptp_scenario.specs.declared.change.Change.TheVariants.{LinkDown}
 use Rattle.gptp_setup.specs.SettlingParams.{SettlingParams, span_by}
 use Rattle.gptp_system.specs.declared.port.Port.{Port}
 use Rattle.gptp_system.specs.declared.sending.Sending.{Sending}
-use Rattle.gptp_system.specs.Facts.{AreHeld, IsAtRest}
+use Rattle.gptp_system.specs.Facts.{AreHeld, AreShown, IsAtRest}
 use Rattle.gptp_system.specs.Input.{PortDown}
 use Rattle.gptp_system.specs.Measuring.{GoesDown, silenced}
 use Rattle.gptp_system.specs.State.{SystemState, change_at, clock}
@@ -45,11 +48,12 @@ use Rattle.gptp_bmca_machine.specs.Network.{Network}
 use Rattle.gptp_bmca_machine.specs.RestLaws.{SameWiring}
 use Rattle.gptp_bmca_machine.specs.Sound.{RunIsSound}
 use Rattle.gptp_bmca_machine.specs.SoundEverywhere.{IsSoundEverywhere}
-use Rattle.gptp_bmca_machine.specs.SoundLaws.{AllAreNear}
+use Rattle.gptp_bmca_machine.specs.SoundLaws.{AllAreNear, UnlinkedAreOff}
+use Rattle.gptp_bmca_machine.proofs.PlaceLemmas.{there_within}
 use Rattle.gptp_bmca_machine.specs.Station.{Disabled, Port as SeenPort, Received, Reception as SeenReception, Station as SeenStation}
 use Rattle.gptp_invariants.specs.ChoiceCalm.{HaveQuietLinks, delay_in}
 use Rattle.gptp_invariants.specs.ChoiceSettlesAsMachine.{IsWorld}
-use Rattle.gptp_invariants.specs.ChoiceView.{held_view, lane_view, port_identity_number, ports_view, reception_view, says_announce, span_at, station_view, system_view, view}
+use Rattle.gptp_invariants.specs.ChoiceView.{held_view, lane_view, port_identity_number, port_view, ports_view, reception_view, says_announce, span_at, station_view, system_view, view}
 use Rattle.gptp_invariants.specs.DelayElsewhere.{IsOtherLink}
 use Rattle.gptp_invariants.specs.DelayLinkView.{LinkPlace}
 use Rattle.gptp_invariants.specs.DelayMeasured.{LinkIsMeasured, LinkStandsAt}
@@ -57,24 +61,24 @@ use Rattle.gptp_invariants.specs.WorldNews.{AreReadyBy, AreSilentBy}
 use Rattle.gptp_invariants.specs.WorldSound.{IsSoundWorld}
 use Rattle.gptp_invariants.specs.WorldStanding.{channel_is_used, live_stations, snapshot_of, standing_system}
 use Rattle.gptp_invariants.proofs.ChoiceCalmKeptLemmas.{KeepsNetwork, same_snapshot}
-use Rattle.gptp_invariants.proofs.ChoicePlaceLemmas.{port_from, station_from, station_there}
+use Rattle.gptp_invariants.proofs.ChoicePlaceLemmas.{port_from, port_there, station_from, station_there}
 use Rattle.gptp_invariants.proofs.ChoiceSeenLaneLemmas.{lane_from, lane_there}
 use Rattle.gptp_invariants.proofs.WorldNewsLemmas.{ready_goes_through}
 use Rattle.gptp_invariants.proofs.WorldSoundCallLemmas.{IsThereToo, links_more, same_systems}
 use Rattle.gptp_invariants.proofs.WorldStandsLemmas.{stands_well}
 use Rattle.gptp_invariants.proofs.WorldSystemLemmas.{live_there}
-use Rattle.gptp_invariants.proofs.WorldWayLemmas.{one_way, way_of}
-use Rattle.gptp_settling_time.specs.Losses.{IsUnmoved}
-use Rattle.gptp_settling_time.proofs.AlwaysClaimedLemmas.{IsStanding, same_start, start_calm, start_network}
-use Rattle.gptp_settling_time.proofs.FitsLemmas.{IsLeftUnmoved, everything_fits, lived, received_still}
-use Rattle.gptp_settling_time.proofs.GoesDownLemmas.{GoesDownQuietly, goes_down_quietly, held_among, without}
+use Rattle.gptp_invariants.proofs.WorldWayLemmas.{one_way, used_joins, way_of}
+use Rattle.gptp_settling_time.specs.Losses.{IsCutOff, IsUnmoved, IsUnmovedOrCutOff}
+use Rattle.gptp_settling_time.proofs.AlwaysClaimedLemmas.{AreHeard, IsStanding, same_start, start_calm, start_network}
+use Rattle.gptp_settling_time.proofs.FitsLemmas.{IsLeftUnmoved, UnlinkedHoldNothing, at_zero, everything_fits, lived, received_still}
+use Rattle.gptp_settling_time.proofs.GoesDownLemmas.{AreDisabled, GoesDownQuietly, goes_down_alone, goes_down_quietly, held_among, others_disabled, without}
 use Rattle.gptp_settling_time.proofs.LeftClaimedLemmas.{HaveAskedLong, IsLeftAlways, asked_heard, left_calm, left_net, left_network}
 use Rattle.gptp_settling_time.proofs.LinkStoodLemmas.{second_still}
 use Rattle.gptp_settling_time.proofs.LinkUpLemmas.{lane_set}
 use Rattle.gptp_settling_time.proofs.ReducedLemmas.{HoldsAsMuch, IsReduced, IsReducedStation, fits_reduced, holds_as_much, levels_reduced, reduced_itself}
 use Rattle.gptp_settling_time.proofs.SettledSeenLemmas.{IsSettledSeen, wired_as}
 use Rattle.gptp_settling_time.proofs.TakenDownLemmas.{silent_down, stood_down, told_keeps, up_apart}
-use Rattle.gptp_settling_time.proofs.UnlinkedLemmas.{LostAreFarther, UnlinkedHoldNothing}
+use Rattle.gptp_settling_time.proofs.UnlinkedLemmas.{LostAreFarther}
 use Rattle.gptp_settling_time.proofs.WidenedLemmas.{ready_first}
 
 -- ---- a system whose port goes down
@@ -95,8 +99,6 @@ reduced : (live : Bool) (i : ℕ) (a b : SystemState) (sends : List Sending) →
 reduced live i a b sends quiet = record {
   live = refl;
   clock = ap clock_of quiet.identity;
-  root = quiet.root;
-  steps = quiet.steps;
   ports = λ j q there.
       ports_reduced (span_at a) i a.held a.ports j q (subst (λ (ports : List SeenPort). slice_get ports j ≡ Some q) same
       there);
@@ -113,8 +115,6 @@ reduced_on : (a b c : SeenStation) → IsReducedStation a b → IsReducedStation
 reduced_on a b c first second = record {
   live = second.live ∙ first.live;
   clock = second.clock ∙ first.clock;
-  root = second.root ∙ first.root;
-  steps = second.steps ∙ first.steps;
   ports = λ j q there. elim (second.ports j q there) [
     | inl between ↦ first.ports j q between
     | inr off ↦ inr off
@@ -123,16 +123,20 @@ reduced_on a b c first second = record {
 
 -- ---- a call
 
--- what is known of a system whose port goes down: something else is as good as what it follows
+-- without its port at this place something else is as good as what it follows
+record HasAnother (s : SystemState) (place : ℕ) : Type 0 where
+  left : Vector
+  among : IsIn left (system_vector s.identity ∷ path_vectors (without place s.held))
+  root : left.root ≡ s.root
+  steps : left.steps ≡ s.steps
+
+-- what is known of a system whose port goes down: so it is of it, or no other port takes part
 record CanLose (station : Station) (port : ℕ) : Type 0 where
   held : AreHeld station.system
   rest : IsAtRest station.system
   place : ℕ
   number : port ≡ suc place
-  left : Vector
-  among : IsIn left (system_vector station.system.identity ∷ path_vectors (without place station.system.held))
-  root : left.root ≡ station.system.root
-  steps : left.steps ≡ station.system.steps
+  others : HasAnother station.system place ⊎ AreDisabled (without place station.system.held)
 
 -- systems are reduced at most, and links are as they were
 record StandsReduced (w w' : WorldState) : Type 0 where
@@ -177,9 +181,12 @@ goes_down_reduced place port w draws w' can (inl (answer, c)) =
     let after : Station = in_state c.after c.station in
     let steps : GoesDown (suc x.place) w.time c.station.system c.after c.sends =
     subst (λ n. GoesDown n w.time c.station.system c.after c.sends) x.number c.steps in
-    let quiet =
-    goes_down_quietly w.time x.place c.station.system c.after c.sends x.held x.rest steps x.left x.among x.root x.steps
-    in
+    let quiet : GoesDownQuietly x.place c.station.system c.after c.sends =
+    elim x.others [
+      | inl y ↦ goes_down_quietly w.time x.place c.station.system c.after c.sends x.held x.rest steps y.left y.among
+          y.root y.steps
+      | inr off ↦ goes_down_alone w.time x.place c.station.system c.after c.sends x.held steps off
+    ] in
     let net : c.net ≡ all_timers place after w.net =
     (subst (λ sends. SendsAll w.time c.after sends draws (all_timers place after w.net) c.net) quiet.silent c.sent).1 in
     record {
@@ -209,13 +216,33 @@ received_from keep helds.Aged r is = absurd cc
 received_from keep (helds.Mine root steps) r is = absurd cc
 received_from keep (helds.Received x) r is = (x, refl, cc)
 
+-- what is seen to be disabled is
+disabled_from : (keep : ℤ → ℕ) (h : Held) → held_view keep h ≡ Disabled → h ≡ helds.Disabled
+disabled_from keep helds.Disabled is = refl
+disabled_from keep helds.Aged is = absurd cc
+disabled_from keep (helds.Mine root steps) is = absurd cc
+disabled_from keep (helds.Received x) is = absurd cc
+
+place_within : (j : ℕ) (hs : List Held) (h : Held) → slice_get hs j ≡ Some h → j < length hs
+place_within j [] h there = absurd cc
+place_within zero (x ∷ hs) h there = omega arith
+place_within (suc j) (x ∷ hs) h there = let within = place_within j hs h there in omega (arith, within)
+
+-- the ends of a link between two systems differ, so one that is at this system is this one
+same_end : (channel : Channel) (way direction : Direction) → channel.a.clock ≢ channel.b.clock
+    → (sender direction channel).clock ≡ (sender way channel).clock → sender direction channel ≡ sender way channel
+same_end channel FromA FromA apart same = refl
+same_end channel FromB FromB apart same = refl
+same_end channel FromA FromB apart same = absurd (apart (sym same))
+same_end channel FromB FromA apart same = absurd (apart same)
+
 -- ---- the link goes down
 
 module _ (p : SettlingParams) (w : WorldState) (is : IsWorld p w) (place : ℕ) (channel : Channel)
     (here : slice_get w.net.channels place ≡ Some channel) (draws : List Draw) (w' : WorldState) (is' : IsWorld p w')
     (k : TellsEnds PortDown channel (record w { net = taken_down place channel w.net; last_change = w.time }) draws w')
-    (seen : IsSettledSeen p w) (near : AllAreNear (snapshot_of w))
-    (unmoved : (v : ℕ) → In v (clocks (snapshot_of w')) → IsUnmoved (snapshot_of w) (snapshot_of w') v) where
+    (seen : IsSettledSeen p w) (near : AllAreNear (snapshot_of w)) (dark : UnlinkedAreOff (snapshot_of w) (view w))
+    (unmoved : (v : ℕ) → In v (clocks (snapshot_of w')) → IsUnmovedOrCutOff (snapshot_of w) (snapshot_of w') v) where
   abbrev taken : WorldState
   taken = record w { net = taken_down place channel w.net; last_change = w.time }
 
@@ -287,59 +314,106 @@ module _ (p : SettlingParams) (w : WorldState) (is : IsWorld p w) (place : ℕ) 
       sym (get-set_other w.net.channels place x.link (lost channel) apart) ∙ x.here in
       apart (one_way w is.sound is.encodable x.link place x.direction way x.channel channel was here x.from).same_link
 
+  -- any other link is there still
+  still_joins : (p q : PortIdentity) → Joins g p q
+      → Joins g' p q ⊎ ((direction : Direction) × (p ≡ port_identity_number (sender direction channel)))
+  still_joins p q joins =
+      let x = way_of w p q joins in
+      elim (same_place x.link place) [
+        | inl same ↦
+            let one : x.channel ≡ channel =
+            same_Some x.channel channel (sym x.here ∙ ap (slice_get w.net.channels) same ∙ here) in
+            inr (x.direction, sym x.from ∙ ap (λ c. port_identity_number (sender x.direction c)) one)
+        | inr apart ↦
+            let there = used_joins taken x.link x.direction x.channel
+            (get-set_other w.net.channels place x.link (lost channel) apart ∙ x.here) x.used in
+            inl (subst (λ h. Joins h p q) (sym (same_snapshot taken w' keeps))
+            (subst (λ a. Joins (snapshot_of taken) a q) x.from
+            (subst (λ b. Joins (snapshot_of taken) (port_identity_number (sender x.direction x.channel)) b) x.to there)))
+      ]
+
   -- an end of it
   module _ (way : Direction) (at : ℕ) (station : Station) (stands : slice_get w.stations at ≡ Some station)
       (named : clock station.system ≡ (sender way channel).clock) (live : station.live ≡ true) where
     among : In (standing_system station) (live_stations w.stations)
     among = live_there w.stations at station stands live
 
-    as_much : HoldsAsMuch g' (station_view station)
-    as_much =
+    known : In (clock station.system) (clocks g')
+    known = In-clocks g' (standing_system station) (subst (In (standing_system station)) (sym keeps.systems) among)
+
+    as_much : IsUnmoved g g' (clock station.system) → HoldsAsMuch g' (station_view station)
+    as_much stays =
         let x = clock station.system in
         let (d, far, close) = near x (In-clocks g (standing_system station) among) in
-        let known =
-        In-clocks g' (standing_system station) (subst (In (standing_system station)) (sym keeps.systems) among) in
         holds_as_much says_announce seen.n seen.net (view w) seen.calm seen.invariant seen.late g' well' left_seen at
-        (station_view station) (station_there w.stations at station stands) live d close
-        ((unmoved x known).far d far)
+        (station_view station) (station_there w.stations at station stands) live
+        (subst (λ h. IsUnmoved h g' x) (sym seen.graph) stays) d close (stays.far d far)
 
     can_lose : CanLose station (sender way channel).port
     can_lose = by (sender way channel).port refl (is.sound.wired.ports place at way channel station here stands named)
-        as_much
       where
-        by : (n : ℕ) → (sender way channel).port ≡ n → HasPortNumber station.system n
-            → HoldsAsMuch g' (station_view station) → CanLose station n
-        by zero is_n of much = let least = of.least in absurd (omega (arith, least))
-        by (suc i) is_n of (inl (root, steps)) =
-            let steady = (is.sound.on_time.stations at station stands).steady in
-            record {
-              held = steady.held;
-              rest = steady.rest;
-              place = i;
-              number = refl;
-              left = system_vector station.system.identity;
-              among = inl refl;
-              root = sym root;
-              steps = sym steps;
-            }
-        by (suc i) is_n of (inr (q, r, linked, (port, at_port, holds), root, steps)) =
-            let steady = (is.sound.on_time.stations at station stands).steady in
+        another : (i : ℕ) → (sender way channel).port ≡ suc i → HoldsAsMuch g' (station_view station)
+            → HasAnother station.system i
+        another i is_n (inl (root, steps)) = record {
+          left = system_vector station.system.identity;
+          among = inl refl;
+          root = sym root;
+          steps = sym steps;
+        }
+        another i is_n (inr (q, r, linked, (port, at_port, holds), root, steps)) =
             let x = port_from (span_at station.system) station.system.held station.system.ports q port at_port in
             let (y, is_y, seen_y) =
             received_from (span_at station.system) x.held r
             (sym (ap (λ (z : SeenPort). z.held) x.is) ∙ holds) in
             let same_steps = ap (λ (z : SeenReception). z.said.steps) seen_y in
             record {
-              held = steady.held;
-              rest = steady.rest;
-              place = i;
-              number = refl;
               left = path_of y.vector;
               among = inr (held_among i q station.system.held y (x.held_there ∙ ap (λ h. Some h) is_y) (λ same.
                   unlinked way
                   (subst (IsLinked g') (λ j. port_of (named j) ((ap suc same ∙ sym is_n) j)) linked)));
               root = ap (λ (z : SeenReception). z.said.root) seen_y ∙ root;
               steps = omega (arith, same_steps, steps);
+            }
+
+        -- no link was at another port of a system that is cut off then
+        alone : (i : ℕ) → (sender way channel).port ≡ suc i → IsCutOff g' (clock station.system) → (j : ℕ) → j ≢ i
+            → IsLinked g (port_of (clock station.system) (suc j)) → ⊥
+        alone i is_n cut j apart (q, joins) = elim (still_joins (port_of (clock station.system) (suc j)) q joins) [
+          | inl there ↦ cut q.clock (suc j, q.port, there)
+          | inr (direction, is_end) ↦
+              let clocks_are : (sender direction channel).clock ≡ (sender way channel).clock =
+              ap (λ (x : PortIdentity). x.clock) (sym is_end) ∙ named in
+              let one = same_end channel way direction (is.between place channel here).apart clocks_are in
+              let number : suc j ≡ suc i =
+              ap (λ (x : PortIdentity). x.port) is_end ∙ ap (λ (x : PortId). x.port) one ∙ is_n in
+              apart (omega (arith, number))
+        ]
+
+        off : (i : ℕ) → (sender way channel).port ≡ suc i → IsCutOff g' (clock station.system) → AreShown station.system
+            → AreDisabled (without i station.system.held)
+        off i is_n cut shown =
+            others_disabled i station.system.held (λ j h there apart.
+            let keep = span_at station.system in
+            let places = shown.places in
+            let within = place_within j station.system.held h there in
+            let (q, at_q) = there_within station.system.ports j (omega (arith, places, within)) in
+            disabled_from keep h
+            (dark at (station_view station) j (port_view keep h q) (station_there w.stations at station stands) live
+            (port_there keep station.system.held station.system.ports j h q there at_q) (alone i is_n cut j apart)))
+
+        by : (n : ℕ) → (sender way channel).port ≡ n → HasPortNumber station.system n → CanLose station n
+        by zero is_n of = let least = of.least in absurd (omega (arith, least))
+        by (suc i) is_n of =
+            let steady = (is.sound.on_time.stations at station stands).steady in
+            record {
+              held = steady.held;
+              rest = steady.rest;
+              place = i;
+              number = refl;
+              others = elim (unmoved (clock station.system) known) [
+                | inl stays ↦ inl (another i is_n (as_much stays))
+                | inr cut ↦ inr (off i is_n cut steady.shown)
+              ];
             }
 
   still_b : slice_get k.between.stations k.place_b ≡ Some k.station_b
@@ -406,13 +480,17 @@ module _ (p : SettlingParams) (w : WorldState) (is : IsWorld p w) (place : ℕ) 
   -- ---- the claims
 
   near_then : AllAreNear g'
-  near_then v known =
-      let (d, far, close) = near v (lived g g' well well' left v known) in
-      (d, (unmoved v known).far d far, close)
+  near_then v known = elim (unmoved v known) [
+    | inl stays ↦
+        let (d, far, close) = near v (lived g g' well well' left v known) in (d, stays.far d far, close)
+    | inr cut ↦
+        let (e, here_far) = distance_exists g' v well' known in
+        let zero_is = at_zero g' v e well' cut here_far in (e, here_far, omega (arith, zero_is))
+  ]
 
   -- all systems live that did
   farther_then : LostAreFarther g g'
-  farther_then p q far close joins known gone =
+  farther_then p q joins known gone =
       absurd (gone (subst (λ (systems : List System). In p.clock (map (λ (s : System). s.clock) systems))
       (sym keeps.systems) (Joins-clock g p q well joins)))
 
@@ -453,16 +531,19 @@ module _ (p : SettlingParams) (w : WorldState) (is : IsWorld p w) (place : ℕ) 
           let off : q.held ≡ Disabled = ((calm.stations i s there live).ports place q at).unlinked by_now none in
           absurd (let both : Received r ≡ Disabled = sym holds ∙ off in cc)
 
+      calm_then : Calm (left_network p next w') (view w')
+      calm_then = left_calm p next w' standing_then asked_then quiet' unlinked_then
+
       settling_then : Invariant says_announce (left_network p next w') (view w')
       settling_then =
           let n = left_network p next w' in
           let sound' : RunIsSound n (view w') =
-          λ late. received_still g g' well well' left (view w') fits_then.stations in
+          λ late. received_still g n (view w') well well' left calm_then unlinked_then fits_then.stations in
           record {
             sound = sound';
             levels = levels_reduced says_announce seen.n n seen.net (left_net p next w' is') (wires n delay refl)
                 left_seen (view w) (view w') less seen.calm
-                (left_calm p next w' standing_then asked_then quiet' unlinked_then) seen.invariant seen.late sound'
+                calm_then seen.invariant seen.late sound'
                 (λ q linked. omega arith);
           }
 
@@ -496,8 +577,21 @@ module _ (p : SettlingParams) (next owner port : ℕ) (w : WorldState) (draws : 
       → (direction : Direction) × (sender direction channel ≡ port_id owner port)
   begins_at place channel at = elim at.joined [ inl a ↦ (FromA, a) | inr b ↦ (FromB, b) ]
 
-  module _ (up : at_link.channel.up ≡ true) (seen : IsSettledSeen p w) (near : AllAreNear (snapshot_of w))
-      (unmoved : (v : ℕ) → In v (clocks (snapshot_of w')) → IsUnmoved (snapshot_of w) (snapshot_of w') v) where
+  module _ (up : at_link.channel.up ≡ true) (quiet : HaveQuietLinks p.params w) (past : next ≤ w.time)
+      (ready : AreReadyBy p next w) (silent : AreSilentBy p next w) (seen : IsSettledSeen p w)
+      (near : AllAreNear (snapshot_of w))
+      (unmoved : (v : ℕ) → In v (clocks (snapshot_of w')) → IsUnmovedOrCutOff (snapshot_of w) (snapshot_of w') v) where
+    -- ports that no link was at were off
+    dark : UnlinkedAreOff (snapshot_of w) (view w)
+    dark i s place q there live at unlinked =
+        let heard : AreHeard p next w =
+        (λ at stands.
+        let (first, by) = ready_first p next w is past at (ready at stands) in
+        inr (inr (inr (first, next, record { is = by; late = past })))) in
+        let calm : Calm (start_network p 0 next w) (view w) =
+        start_calm p next w (record { pace = pace; world = is; measured = measured; silent = silent }) heard quiet 0 in
+        ((calm.stations i s there live).ports place q at).unlinked past unlinked
+
     ends : TellsEnds PortDown at_link.channel
         (record w { net = taken_down at_link.place at_link.channel w.net; last_change = w.time }) draws w'
     ends =
@@ -505,7 +599,7 @@ module _ (p : SettlingParams) (next owner port : ℕ) (w : WorldState) (draws : 
         at_link.so
 
     stands : StandsReduced (record w { net = taken_down at_link.place at_link.channel w.net; last_change = w.time }) w'
-    stands = told p w is at_link.place at_link.channel at_link.is.here draws w' is' ends seen near unmoved
+    stands = told p w is at_link.place at_link.channel at_link.is.here draws w' is' ends seen near dark unmoved
 
     -- a link that stands then is another
     other : (at : LinkPlace) → LinkStandsAt at w' → IsOtherLink at (port_id owner port) w
@@ -518,11 +612,10 @@ module _ (p : SettlingParams) (next owner port : ℕ) (w : WorldState) (draws : 
         up_apart p w is at_link.place at_link.channel at_link.is.here draws w' is' ends stands.channels at.link
         s.channel s.here s.up (sym same ∙ one)
 
-    pub act_left : next ≤ w.time → delay_in w' ≡ delay_in w
-        → pred (path_bound (snapshot_of w')) * delay_in w' ≤ w'.time → IsSoundWorld w → AreReadyBy p next w
-        → AreSilentBy p next w → IsLeftAlways p (snapshot_of w) next w'
-    act_left past delay way sound ready silent =
-        lowered_left p w is at_link.place at_link.channel at_link.is.here draws w' is' ends seen near unmoved next
+    pub act_left : delay_in w' ≡ delay_in w → pred (path_bound (snapshot_of w')) * delay_in w' ≤ w'.time
+        → IsSoundWorld w → IsLeftAlways p (snapshot_of w) next w'
+    act_left delay way sound =
+        lowered_left p w is at_link.place at_link.channel at_link.is.here draws w' is' ends seen near dark unmoved next
         pace measured' past delay way sound
         (λ at s.
         ready_goes_through p next at (Changing (LinkDown owner port)) w w' draws done is.sound measured (other at s)

@@ -1,5 +1,6 @@
--- A state of which links or systems are gone, and nothing else, where no system is moved: what is held and in flight
--- fits as it did, each link that is left stays at its stage, and each system holds as much at its other ports.
+-- A state of which links or systems are gone, and nothing else, where no system is moved but such as are cut off: what
+-- is held and in flight fits as it did, each link that is left stays at its stage, and each unmoved system holds as much
+-- at its other ports.
 use Rattle.std.proofs.Common.{◌≡◌, ◌≢◌, ◌⊎◌, ◌<◌, ◌≤◌, ℕ, zero, suc, true, false, List, [], Some, slice_get, refl, sym, ap, subst, ◌∙◌, inl, inr, arith}
 use Rattle.gptp_lists.specs.Members.{In}
 use Rattle.gptp_graph.specs.Distance.{IsDistance}
@@ -24,21 +25,20 @@ use Rattle.gptp_bmca_machine.proofs.EndsLemmas.{is_station}
 use Rattle.gptp_bmca_machine.proofs.LevelLemmas.{places_of, told}
 use Rattle.gptp_bmca_machine.proofs.PlaceLemmas.{same_there}
 use Rattle.gptp_bmca_machine.proofs.RestingLemmas.{all_choose, by_then_at, links_stay, stays_so}
-use Rattle.gptp_settling_time.proofs.FitsLemmas.{IsLeftUnmoved, best_before, distance_before, lived}
+use Rattle.gptp_settling_time.specs.Losses.{IsUnmoved}
+use Rattle.gptp_settling_time.proofs.FitsLemmas.{IsLeftUnmoved, best_before, distance_before, joined_stays, lived}
 
--- a system keeps its root and its steps, and each port is as it was or disabled
+-- each port of a system is as it was or disabled
 pub record IsReducedStation (old s : Station) : Type 0 where
   pub live : s.live ≡ old.live
   pub clock : s.clock ≡ old.clock
-  pub root : s.root ≡ old.root
-  pub steps : s.steps ≡ old.steps
   pub ports : (j : ℕ) (q : Port) → slice_get s.ports j ≡ Some q
       → (slice_get old.ports j ≡ Some q) ⊎ (q.held ≡ Disabled)
 
 pub reduced_itself : (s : Station) → IsReducedStation s s
-reduced_itself s = record { live = refl; clock = refl; root = refl; steps = refl; ports = λ j q there. inl there }
+reduced_itself s = record { live = refl; clock = refl; ports = λ j q there. inl there }
 
--- each live system does, and each lane is as it was, or down and empty
+-- so it is of each live system, and each lane is as it was, or down and empty
 pub record IsReduced (w w' : MachineState) : Type 0 where
   pub time : w'.time ≡ w.time
   pub stations : (i : ℕ) (s : Station) → slice_get w'.stations i ≡ Some s → s.live ≡ true
@@ -96,13 +96,20 @@ module _ (says : Spelling) (n n' : Network) (net : IsSettlingNetwork n) (net' : 
       known_u : In u (clocks n'.graph)
       known_u = Joins-clock n'.graph (port_of u (suc q)) (port_of v (suc p)) net'.graph back
 
+      stays_v : IsUnmoved n.graph n'.graph v
+      stays_v =
+          joined_stays n.graph n'.graph net.graph net'.graph left (port_of v (suc p)) (port_of u (suc q)) leads.joins
+
+      stays_u : IsUnmoved n.graph n'.graph u
+      stays_u = joined_stays n.graph n'.graph net.graph net'.graph left (port_of u (suc q)) (port_of v (suc p)) back
+
       before : LeadsFarther n.graph d best v p u q
       before = record {
-        is_best = best_before n.graph n'.graph net.graph net'.graph left v best leads.is_best;
-        here = distance_before n.graph n'.graph net.graph net'.graph left v d leads.here;
+        is_best = best_before n.graph n'.graph net.graph net'.graph left v best stays_v leads.is_best;
+        here = distance_before n.graph n'.graph net.graph net'.graph left v d stays_v leads.here;
         joins = left.links (port_of v (suc p)) (port_of u (suc q)) leads.joins;
         far = leads.far;
-        there = distance_before n.graph n'.graph net.graph net'.graph left u leads.far leads.there;
+        there = distance_before n.graph n'.graph net.graph net'.graph left u leads.far stays_u leads.there;
         farther = leads.farther;
       }
 
@@ -153,11 +160,11 @@ HoldsAsMuch g s =
 module _ (says : Spelling) (n : Network) (net : IsSettlingNetwork n) (w : MachineState) (calm : Calm n w)
     (invariant : Invariant says n w) (late : settled_from n ≤ w.time) (g : Snapshot) (well : IsWellFormed g)
     (left : IsLeftUnmoved n.graph g) (i : ℕ) (s : Station) (at : slice_get w.stations i ≡ Some s)
-    (live : s.live ≡ true) where
+    (live : s.live ≡ true) (unmoved : IsUnmoved n.graph g s.clock) where
   at_place : slice_get w.stations (n.place s.clock) ≡ Some s
   at_place = subst (λ k. slice_get w.stations k ≡ Some s) (calm.placed i s at) at
 
-  was_far : (v e : ℕ) → IsDistance g v e → IsDistance n.graph v e
+  was_far : (v e : ℕ) → IsUnmoved n.graph g v → IsDistance g v e → IsDistance n.graph v e
   was_far = distance_before n.graph g net.graph well left
 
   by_now : (e : ℕ) → IsDistance n.graph s.clock e → since n e ≤ w.time
@@ -168,7 +175,7 @@ module _ (says : Spelling) (n : Network) (net : IsSettlingNetwork n) (w : Machin
   -- it is its own root
   itself : IsDistance g s.clock 0 → HoldsAsMuch g s
   itself here =
-      let far = was_far s.clock 0 here in
+      let far = was_far s.clock 0 unmoved here in
       let b = far.best in
       let chosen = all_choose says n net w calm invariant late 0 (omega arith) (by_now 0 far) s.clock b s at_place
       far.is_best far in
@@ -180,7 +187,7 @@ module _ (says : Spelling) (n : Network) (net : IsSettlingNetwork n) (w : Machin
   -- a neighbour that is nearer tells as much
   module _ (e : ℕ) (close : suc e < 255) (here : IsDistance g s.clock (suc e)) where
     far : IsDistance n.graph s.clock (suc e)
-    far = was_far s.clock (suc e) here
+    far = was_far s.clock (suc e) unmoved here
 
     by_neighbour : ((y : ℕ) × Adjacent g s.clock y × IsDistance g y e) → HoldsAsMuch g s
     by_neighbour (y, (m, k, joins), nearer) = go (places_of g s.clock m y k well joins)
@@ -192,11 +199,14 @@ module _ (says : Spelling) (n : Network) (net : IsSettlingNetwork n) (w : Machin
             (subst (λ j. Joins g (port_of s.clock j) (port_of y k)) is_p joins) in
             let was : Joins n.graph (port_of s.clock (suc p)) (port_of y (suc q)) =
             left.links (port_of s.clock (suc p)) (port_of y (suc q)) over in
+            let back = Joins-sym g (port_of s.clock (suc p)) (port_of y (suc q)) over in
+            let stays : IsUnmoved n.graph g y =
+            joined_stays n.graph g net.graph well left (port_of y (suc q)) (port_of s.clock (suc p)) back in
             let best = far.best in
             let leads : LeadsFarther n.graph e best y q s.clock p =
             record {
               is_best = IsBest-neighbour n.graph s.clock y best net.graph (suc p, suc q, was) far.is_best;
-              here = was_far y e nearer;
+              here = was_far y e stays nearer;
               joins = Joins-sym n.graph (port_of s.clock (suc p)) (port_of y (suc q)) was;
               far = suc e;
               there = far;

@@ -31,20 +31,18 @@ use Rattle.gptp_bmca_machine.proofs.LossLemmas.{fits_kept}
 use Rattle.gptp_bmca_machine.proofs.RestLemmas.{is_master}
 use Rattle.gptp_bmca_machine.proofs.RestingLemmas.{all_choose, by_then_at}
 use Rattle.gptp_bmca_machine.proofs.SettledLemmas.{network_settles}
-use Rattle.gptp_settling_time.proofs.FitsLemmas.{IsLeftUnmoved, best_before, distance_before, received_still}
+use Rattle.gptp_settling_time.specs.Losses.{IsUnmoved}
+use Rattle.gptp_settling_time.proofs.FitsLemmas.{IsLeftUnmoved, UnlinkedHoldNothing, best_before, distance_before, received_still}
 
--- at a port of a live system that no link of the snapshot is at nothing is received
-abbrev pub UnlinkedHoldNothing : Snapshot → MachineState → Type 0
-UnlinkedHoldNothing g w = (i : ℕ) (s : Station) (place : ℕ) (r : Reception) → slice_get w.stations i ≡ Some s
-    → s.live ≡ true → (IsLinked g (port_of s.clock (suc place)) → ⊥) → HoldsAt s place r
-    → ⊥
-
--- What is gone in the second snapshot was the far end of each link to what is left: that was nearer to the best, or as
--- near and has the lower clock.
-abbrev pub LostAreFarther : Snapshot → Snapshot → Type 0
-LostAreFarther g g' = (p q : PortIdentity) (far near : ℕ) → Joins g p q → In q.clock (clocks g')
-    → (In p.clock (clocks g') → ⊥) → IsDistance g p.clock far → IsDistance g q.clock near
+-- the first port is one of a system that is farther from the best, or as far with the higher clock
+abbrev pub IsFarther : Snapshot → PortIdentity → PortIdentity → Type 0
+IsFarther g p q = (far near : ℕ) → IsDistance g p.clock far → IsDistance g q.clock near
     → (near < far) ⊎ ((near ≡ far) × (q.clock < p.clock))
+
+-- What is gone in the second snapshot was the far end of each link to what is left, which is unmoved.
+abbrev pub LostAreFarther : Snapshot → Snapshot → Type 0
+LostAreFarther g g' = (p q : PortIdentity) → Joins g p q → In q.clock (clocks g') → (In p.clock (clocks g') → ⊥)
+    → IsUnmoved g g' q.clock × IsFarther g p q
 
 -- what a port received after a touch it had received before, or it just heard an Announce that replaces what it held
 mid_taken : (c n now : ℕ) (touch : StationTouch) (held mid : Held) (r : Reception) → HeldInTouch c n touch now held mid
@@ -80,6 +78,12 @@ module _ (says : Spelling) (g : Snapshot) (n : Network) (well : IsWellFormed g) 
         (sender : (best : System) (far : ℕ) → IsBest g s.clock best → a.root ≡ best.identity
         → IsDistance g from.clock far → far ≤ a.steps)
         (above : (best : System) → IsBest g s.clock best → best.identity ≤ a.root) where
+      away : IsUnmoved g n.graph s.clock × IsFarther g from (port_of s.clock (suc place))
+      away = farther from (port_of s.clock (suc place)) joins known gone
+
+      stays : IsUnmoved g n.graph s.clock
+      stays = away.0
+
       not_lower : IsLower (message a (suc place)) (master s.root s.steps s.clock (suc place)) → ⊥
       not_lower lower =
           let (has, follows, roles) = network_settles says n w i s net calm invariant here live (near s.clock known)
@@ -91,20 +95,20 @@ module _ (says : Spelling) (g : Snapshot) (n : Network) (well : IsWellFormed g) 
               → ((far : ℕ) × IsDistance g from.clock far) → IsDistance n.graph s.clock s.steps
               → IsLower (message a (suc place)) (master s.root s.steps s.clock (suc place)) → ⊥
           by (best, is_best, root) (far, from_far) steps (inl less) =
-              let least = above best (best_before g n.graph well net.graph left s.clock best is_best) in
+              let least = above best (best_before g n.graph well net.graph left s.clock best stays is_best) in
               omega (arith, least, root, less)
           by (best, is_best, root) (far, from_far) steps (inr (same_root, rest)) = go rest
             where
               was : IsBest g s.clock best
-              was = best_before g n.graph well net.graph left s.clock best is_best
+              was = best_before g n.graph well net.graph left s.clock best stays is_best
 
               reaches : far ≤ a.steps
               reaches = sender best far was (same_root ∙ root) from_far
 
               beyond : (s.steps < far) ⊎ ((s.steps ≡ far) × (s.clock < from.clock))
               beyond =
-                  farther from (port_of s.clock (suc place)) far s.steps joins known gone from_far
-                  (distance_before g n.graph well net.graph left s.clock s.steps steps)
+                  away.1 far s.steps from_far
+                  (distance_before g n.graph well net.graph left s.clock s.steps stays steps)
 
               clock_is : a.source.clock ≡ from.clock
               clock_is = ap (λ (p : PortIdentity). p.clock) source
@@ -277,4 +281,4 @@ left_kept says g n w w' well net left near farther calm calm' nothing early late
     invariant' : Invariant says n w'
     invariant' =
         invariant_kept says n net w w' calm (calm' unlinked') nothing early step
-        (λ by. received_still g n.graph well net.graph left w' fits'.stations) is.invariant
+        (λ by. received_still g n w' well net.graph left (calm' unlinked') unlinked' fits'.stations) is.invariant

@@ -11,9 +11,9 @@
 -- of what stands leaves a network settled that had settled, whatever it came from, and so does a priority1 that moves
 -- no system, and what widens the delays of a link in use. Where all was heard before, such links may also come up, and
 -- such systems recover, one after another at any time, as several at once; and what changes nothing asks for no time at
--- all. Nor does a link that goes down by which no system is moved, in a network that had settled. That network is
--- *left*: its choice stands, but what is held may name links that are gone. So it is where a system fails that is the
--- far end of each of its links: roles stand once the ports beside it aren't capable any more.
+-- all. Nor does a link that goes down by which no system is moved but such as are cut off, in a network that had
+-- settled. That network is *left*: its choice stands, but what is held may name links that are gone. So it is where a
+-- system fails that is the far end of each of its links: roles stand once the ports beside it aren't capable any more.
 use Rattle.std.specs.Prelude.{◌≡◌, ◌<◌, ◌≤◌, ◌⊎◌, ◌+◌, ◌*◌, ℕ, ⊤, pred, List, [], ◌∷◌, ◌++◌, Option, Some, slice_get}
 use Rattle.gptp_lists.specs.Members.{In}
 use Rattle.gptp_vector.specs.declared.port.PortId.{PortId}
@@ -173,8 +173,8 @@ pub record WidensFrom (n : NetworkState) (before : List Timed) (event : Timed) (
   pub later : start + 2 * by ≤ next
   pub past : next ≤ event.at
 
--- after these events this one takes down a link by which no system is moved, in a calm network where nothing lapses for
--- want of Sync
+-- after these events this one takes down a link by which no system is moved but such as are cut off, in a calm network
+-- where nothing lapses for want of Sync
 pub record LowersCalm (n : NetworkState) (before : List Timed) (event : Timed) : Type 0 where
   pub lowers : LowersLink n before event
   pub calm : IsCalm n before

@@ -1,4 +1,4 @@
--- Events by which no system is moved.
+-- Events by which no system is moved, or none but such as are cut off.
 --
 -- An event *moves* a system that lives after it where another system, or the same with another identity, is the best of
 -- its component then, or it is nearer to that or farther from it. So its root or its steps are others.
@@ -23,11 +23,25 @@ pub record IsUnmoved (g g' : Snapshot) (v : ℕ) : Type 0 where
   pub best : (b : System) → IsBest g v b → IsBest g' v b
   pub far : (d : ℕ) → IsDistance g v d → IsDistance g' v d
 
+-- no link is at any port of the system
+abbrev pub IsCutOff : Snapshot → ℕ → Type 0
+IsCutOff g v = (u : ℕ) → Adjacent g v u → ⊥
+
+-- in the second snapshot the system is cut off, or it is unmoved
+abbrev pub IsUnmovedOrCutOff : Snapshot → Snapshot → ℕ → Type 0
+IsUnmovedOrCutOff g g' v = IsUnmoved g g' v ⊎ IsCutOff g' v
+
 -- after these events this one moves no system
 abbrev pub MovesNone : NetworkState → List Timed → Timed → Type 0
 MovesNone n before event = (g g' : Snapshot) (v : ℕ) → StandsAfter n before g
     → StandsAfter n (before ++ event ∷ []) g' → In v (clocks g')
     → IsUnmoved g g' v
+
+-- after these events this one moves no system but such as it cuts off from all others
+abbrev pub MovesNoneJoined : NetworkState → List Timed → Timed → Type 0
+MovesNoneJoined n before event = (g g' : Snapshot) (v : ℕ) → StandsAfter n before g
+    → StandsAfter n (before ++ event ∷ []) g' → In v (clocks g')
+    → IsUnmovedOrCutOff g g' v
 
 -- After these events this one sets the priority1 of a system that lives, and the settled choice stays: no system is
 -- moved. So that system is nobody's best, before and after, or keeps its identity. No path has more than 255 systems.
@@ -39,8 +53,8 @@ pub record LeavesChoice (n : NetworkState) (before : List Timed) (event : Timed)
   pub moves : MovesNone n before event
   pub few : (sync_paths n before).systems ≤ 255
 
--- After these events this one takes down a link in use, and no system is moved. The greatest delay of a link in use
--- stays, and no path gets longer. None had more than 255 systems.
+-- After these events this one takes down a link in use, and no system is moved but such as it cuts off. The greatest
+-- delay of a link in use stays, and no path gets longer. None had more than 255 systems.
 pub record LowersLink (n : NetworkState) (before : List Timed) (event : Timed) : Type 0 where
   pub clock : ℕ
   pub port : ℕ
@@ -48,7 +62,7 @@ pub record LowersLink (n : NetworkState) (before : List Timed) (event : Timed) :
   pub used : (place : ℕ) (v : LinkSpec) → slice_get n.links place ≡ Some v
       → IsEnd (port_id clock port) (link_after before v)
       → IsUsed n.systems before (link_after before v)
-  pub moves : MovesNone n before event
+  pub moves : MovesNoneJoined n before event
   pub delay : (sync_paths n (before ++ event ∷ [])).delay ≡ (sync_paths n before).delay
   pub paths : (sync_paths n (before ++ event ∷ [])).systems ≤ (sync_paths n before).systems
   pub few : (sync_paths n before).systems ≤ 255

@@ -18,8 +18,8 @@ pub fn documents_settle_in_turn<F: Fate>()
 {}
 
 /// By the last of these events the choice stands in the world after each act of a run, once the document has had the time
-/// for it. That is when it is settled; but at once after a loss by which no system is moved: a link that goes down, or a
-/// system that fails and is the far end of each of its links.
+/// for it. That is when it is settled; but at once after such a loss: a link goes down, and no system is moved but such
+/// as are cut off, or a system fails that is the far end of each of its links, and none is moved.
 pub fn choice_stands_in_turn<F: Fate>()
     ensures { ActsFindChoiceInTurn F.answers }
 {}
