@@ -12,15 +12,12 @@ use Rattle.gptp_vector.specs.declared.port.PortId.{PortId}
 use Rattle.gptp_setup.specs.declared.setup.Params.{Params}
 use Rattle.gptp_scenario.specs.Faults as plans
 use Rattle.gptp_scenario.specs.declared.fault.NetworkFault.{NetworkFault}
-use Rattle.gptp_scenario.specs.declared.fault.NetworkFault.TheVariants as networks
 use Rattle.gptp_network.specs.Document.{DocumentState}
 use Rattle.gptp_network.specs.Keys.{name_text}
 use Rattle.gptp_network.specs.ReadDocument.{read_document}
 use Rattle.gptp_network.specs.declared.keys.Name.{Name}
-use Rattle.gptp_network.specs.declared.keys.Name.TheVariants as names
 use Rattle.gptp_network.specs.declared.why.Refusal.{Refusal}
 use Rattle.gptp_network.specs.declared.why.Shape.{Shape}
-use Rattle.gptp_network.specs.declared.why.Shape.TheVariants as shapes
 use Rattle.gptp_network.specs.declared.why.Why.{Why}
 use Rattle.gptp_network.specs.declared.why.Why.TheVariants as whys
 use Rattle.gptp_words.specs.Digits.{clock_text}
@@ -133,76 +130,14 @@ digits_of name = part (clock_text name) (clock name)
 escaped_word : (text : List ℕ) → IsPart (escaped text)
 escaped_word text = part (escaped text) (word text)
 
-key_has_none : (key : Name) → HasNoFeed (name_text key)
-key_has_none names.Version = refl
-key_has_none names.Network = refl
-key_has_none names.System = refl
-key_has_none names.Link = refl
-key_has_none names.Event = refl
-key_has_none names.Announce = refl
-key_has_none names.Sync = refl
-key_has_none names.Pdelay = refl
-key_has_none names.Timeout = refl
-key_has_none names.Lost = refl
-key_has_none names.Threshold = refl
-key_has_none names.Turnaround = refl
-key_has_none names.Residence = refl
-key_has_none names.SyncTimeout = refl
-key_has_none names.Granularity = refl
-key_has_none names.Noise = refl
-key_has_none names.Window = refl
-key_has_none names.Clock = refl
-key_has_none names.Priority1 = refl
-key_has_none names.Class = refl
-key_has_none names.Accuracy = refl
-key_has_none names.Variance = refl
-key_has_none names.Priority2 = refl
-key_has_none names.Phase = refl
-key_has_none names.Drift = refl
-key_has_none names.Continues = refl
-key_has_none names.Ports = refl
-key_has_none names.A = refl
-key_has_none names.APort = refl
-key_has_none names.B = refl
-key_has_none names.BPort = refl
-key_has_none names.Min = refl
-key_has_none names.Max = refl
-key_has_none names.Loss = refl
-key_has_none names.Up = refl
-key_has_none names.At = refl
-key_has_none names.Kind = refl
-key_has_none names.Port = refl
-key_has_none names.Value = refl
-key_has_none names.Octets = refl
-
 name : (key : Name) → IsPart (name_text key)
-name key = part (name_text key) (key_has_none key)
-
-shape_has_none : (s : Shape) → HasNoFeed (shape_word s)
-shape_has_none shapes.Text = refl
-shape_has_none shapes.Whole = refl
-shape_has_none shapes.Float = refl
-shape_has_none shapes.Flag = refl
-shape_has_none shapes.Date = refl
-shape_has_none shapes.Array = refl
-shape_has_none shapes.Table = refl
+name key = part (name_text key) (grind arith)
 
 shape : (s : Shape) → IsPart (shape_word s)
-shape s = part (shape_word s) (shape_has_none s)
-
-test_has_none : (fault : NetworkFault) → HasNoFeed (plans.network_fault_text fault)
-test_has_none networks.OutOfRange = refl
-test_has_none networks.DuplicateClock = refl
-test_has_none networks.SelfLink = refl
-test_has_none networks.PortTaken = refl
-test_has_none networks.NoSuchPort = refl
-test_has_none networks.DelayTooLong = refl
-test_has_none networks.TooMany = refl
-test_has_none networks.Timing = refl
-test_has_none networks.OutOfMemory = refl
+shape s = part (shape_word s) (grind arith)
 
 test : (fault : NetworkFault) → IsPart (plans.network_fault_text fault)
-test fault = part (plans.network_fault_text fault) (test_has_none fault)
+test fault = part (plans.network_fault_text fault) (grind arith)
 
 port : (p : PortId) → IsPart (port_words p)
 port p = digits_of p.clock then_part part (codes " ") refl then_part natural p.port

@@ -1,4 +1,4 @@
-use Rattle.std.proofs.Common.{◌+◌, ◌-◌, ◌++◌, ℕ, true, List, filter, map, sym, ap, ◌∙◌, arith}
+use Rattle.std.proofs.Common.{◌+◌, ◌-◌, ◌++◌, ℕ, true, List, filter, map, sym, ap, ◌∙◌, append-nil, arith}
 use Rattle.std.specs.List.{range_with_len}
 use Rattle.gptp_setup.specs.declared.limits.TheConstants.{MOST_PORTS}
 use Rattle.gptp_vector.specs.declared.port.PortId.{PortId}
@@ -21,3 +21,14 @@ loop-number-preserved c =
           ∙ so_far.are;
       most = omega (arith, below);
     }
+
+-- no number is left
+pub returns : goal.returns
+returns c =
+    let cables = c.args.cables.now in let clock = c.args.clock in
+    let number = c.loop-number.number in let ports = c.loop-number.ports.items in
+    let most = c.loop-number.invariant.most in let ended = c.loop-number-test.false in
+    let none_left : 0 ≡ MOST_PORTS - number = omega (arith, most, ended) in
+    sym (append-nil ports)
+    ∙ ap (λ left. ports ++ filter (is_up_at cables) (map (port_after clock) (range_with_len number left))) none_left
+    ∙ c.loop-number.invariant.are
