@@ -730,6 +730,6 @@ module _ (n : NetworkState) (network : IsNetwork n) (events : List Timed) (b : S
       let (delay, paths, few) = keeps_so keeps in (
         (from_rest from).rested,
         fails_one_end n network made now well
-            (counts_all (lowers_one v.told) n made (made ++ now) (fails_no_link v.told one) (not-true v.moved none)) delay
-            paths few one far,
+            (counts_all (lowers_one v.told) n made (made ++ now) (fails_no_link v.told one) (not-true v.moved none))
+            delay paths few one far,
       )

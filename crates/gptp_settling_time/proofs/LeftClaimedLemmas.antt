@@ -119,8 +119,8 @@ same_left p silent w w' keeps =
     ∙ ap (λ g. record (start_network p (path_bound g) 0 w) { bare = 0; off = silent }) (same_snapshot w w' keeps)
 
 -- What is claimed of a world since such a loss: what it holds and what is in flight fits the snapshot of before. A
--- system that is gone was the far end of its links. Ports at links are capable, and those that no link is at aren't from
--- a time on.
+-- system that is gone was the far end of its links. Ports at links are capable, and from a time on those that no link
+-- is at aren't.
 pub record IsLeftAlways (p : SettlingParams) (g : Snapshot) (silent : ℕ) (w : WorldState) : Type 0 where
   pub standing : IsStanding p silent w
   pub asked : HaveAskedLong w

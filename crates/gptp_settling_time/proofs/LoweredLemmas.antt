@@ -329,7 +329,8 @@ module _ (p : SettlingParams) (w : WorldState) (is : IsWorld p w) (place : ℕ) 
             (get-set_other w.net.channels place x.link (lost channel) apart ∙ x.here) x.used in
             inl (subst (λ h. Joins h p q) (sym (same_snapshot taken w' keeps))
             (subst (λ a. Joins (snapshot_of taken) a q) x.from
-            (subst (λ b. Joins (snapshot_of taken) (port_identity_number (sender x.direction x.channel)) b) x.to there)))
+            (subst (λ b. Joins (snapshot_of taken) (port_identity_number (sender x.direction x.channel)) b) x.to
+            there)))
       ]
 
   -- an end of it

@@ -1,6 +1,6 @@
 -- A state of which links or systems are gone, and nothing else, where no system is moved but such as are cut off: what
--- is held and in flight fits as it did, each link that is left stays at its stage, and each unmoved system holds as much
--- at its other ports.
+-- is held and in flight fits as it did, each link that is left stays at its stage, and each unmoved system holds as
+-- much at its other ports.
 use Rattle.std.proofs.Common.{◌≡◌, ◌≢◌, ◌⊎◌, ◌<◌, ◌≤◌, ℕ, zero, suc, true, false, List, [], Some, slice_get, refl, sym, ap, subst, ◌∙◌, inl, inr, arith}
 use Rattle.gptp_lists.specs.Members.{In}
 use Rattle.gptp_graph.specs.Distance.{IsDistance}
