@@ -81,8 +81,8 @@ is_from_rest longest at paths_before paths told (Some b) =
 
 -- Not from rest, or after a loss, the network may come from any past. Events that make nothing of what stands leave it
 -- as it was. So does a link that gets wider, and so do losses that are followed, where no system is moved; one that is
--- cut off doesn't count where a link goes down by the one event. It counts whether a system that fails was a far end. At
--- the start nothing was, and so nothing is lost.
+-- cut off doesn't count where a link goes down by the one event. It counts whether a system that fails was a far end.
+-- At the start nothing was, and so nothing is lost.
 abbrev pub row_of : Bool → Bool → SyncPaths → SyncPaths → List Told → Bool → Bool → Row
 row_of from_rest first paths_before paths told moved far =
     if not from_rest then AnyPast

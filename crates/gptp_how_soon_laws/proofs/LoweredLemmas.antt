@@ -1,5 +1,5 @@
--- A link that goes down by the one event of a time, and by which no system is moved but such as are cut off, is so as its
--- event is told.
+-- A link that goes down by the one event of a time, and by which no system is moved but such as are cut off, is so as
+-- its event is told.
 use Rattle.std.proofs.Common.{◌≡◌, ◌≤◌, ℕ, Bool, true, false, List, [], ◌∷◌, ◌++◌, refl, sym, ap, subst, ◌∙◌, inl, inr, append-nil}
 use Rattle.std.specs.Prelude.{◌==◌, ◌||◌}
 use Rattle.std.proofs.lemmas.Bool.{and_parts, eq-eqb}

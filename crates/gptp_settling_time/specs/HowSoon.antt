@@ -17,9 +17,9 @@
 -- little, the second where it uses no link, the last where no path has more than 255 systems. At time 0 links may go
 -- down and come up, systems fail and a priority1 be set. Not followed are other delays that are set, and other events
 -- that take something away at a later time. There the span stands. But the one event of a time asks for none, too, if a
--- link goes down by it and no system is moved but such as are cut off. Nor does the choice ask for time where by the one
--- event a system fails that is the far end of each of its links: roles stand once the ports beside it aren't capable any
--- more.
+-- link goes down by it and no system is moved but such as are cut off. Nor does the choice ask for time where by the
+-- one event a system fails that is the far end of each of its links: roles stand once the ports beside it aren't
+-- capable any more.
 use Rattle.std.specs.Prelude.{◌≡◌, ◌<◌, ◌≤◌, ◌⊎◌, ◌+◌, ◌*◌, ◌==◌, ℕ, ⊤, pred, suc, List, [], ◌∷◌, ◌++◌, filter}
 use Rattle.gptp_lists.specs.Members.{In}
 use Rattle.gptp_setup.specs.Intervals.{interval_of}
