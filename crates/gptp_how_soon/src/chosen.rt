@@ -237,7 +237,8 @@ fn is_joined_moved_at(
 ) -> bool
     ensures { result ≡ is_joined_moved_at systems.now links.now before.now now.now place }
 {
-    is_joined(links, place) && is_moved_at(systems, before, now, place)
+    // few are moved, and a link is searched only for these
+    is_moved_at(systems, before, now, place) && is_joined(links, place)
 }
 
 /// Whether one of these systems is so.
