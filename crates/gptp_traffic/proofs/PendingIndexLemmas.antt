@@ -752,6 +752,22 @@ index-grown systems links pending_index grown queue roomy after table more free 
       are_free = vacant;
     })
 
+-- places that are listed in other queues, which are the same
+pub index-copied : (systems links : ℕ) (pending_index copy : QueuesState ℕ) (places : ℕ) (free : List ℕ)
+    (ps : List PlacedItem) → PendingIsIndexed systems links pending_index places free ps
+    → copy.queues ≡ pending_index.queues → PendingIsIndexed systems links copy places free ps
+index-copied systems links pending_index copy places free ps are same = record {
+  few_systems = are.few_systems;
+  few_links = are.few_links;
+  timers = are.timers;
+  queues_len = ap length same ∙ are.queues_len;
+  known = are.known;
+  placed = are.placed;
+  queues = λ link direction. are.queues link direction
+      ∙ sym (ap (λ (qs : List (List ℕ)). slice_index_or qs (arrival_place link direction) []) same);
+  are_free = are.are_free;
+}
+
 -- ---- room
 
 pub spare-left : (spare : ℕ) (queue after : WaitingState) (pending_index left : QueuesState ℕ) (items : List Item)

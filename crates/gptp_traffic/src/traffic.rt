@@ -130,6 +130,7 @@ impl Traffic {
         ensures room { self.old.room ≤ self.new.room }
         ensures joins { map join_of self.new.net.channels ≡ map join_of self.old.net.channels }
     {
+        self.pending.lanes_are_listed();
         self.links[link].up = false;
         self.pending.cancel_arrivals(link);
     }
@@ -168,6 +169,7 @@ impl Traffic {
         ensures room { self.old.room ≤ self.new.room + 1 }
         ensures joins { map join_of self.new.net.channels ≡ map join_of self.old.net.channels }
     {
+        self.pending.lanes_are_listed();
         if let Some(delay) = fate.fate(&self.links[lane.link].bounds, now) {
             let due = (now + delay).max(self.pending.newest_due(lane.link, lane.direction));
             self.pending
@@ -184,6 +186,7 @@ impl Traffic {
         ensures room { self.old.room ≤ self.new.room }
         ensures joins { map join_of self.new.net.channels ≡ map join_of self.old.net.channels }
     {
+        self.pending.lanes_are_listed();
         self.pending
             .take_arrival(lane.link, lane.direction)
             .unwrap()

@@ -8,7 +8,7 @@ use Rattle.gptp_links.specs.declared.link.Direction.TheVariants.{FromA, FromB}
 use Rattle.gptp_setup.specs.declared.timer.Timer.{Timer}
 use Rattle.gptp_system.specs.Steps.{IsTimerOf}
 use Rattle.gptp_vector.specs.declared.port.PortId.{PortId}
-use Rattle.gptp_world.specs.declared.joined_link.Lane.{Lane}
+use Rattle.gptp_traffic.specs.declared.joined_link.Lane.{Lane}
 use Rattle.gptp_world.specs.declared.net.Net.{Net as Between}
 use Rattle.gptp_world.specs.declared.world_parts.WorldParts.{WorldParts}
 use Rattle.gptp_model.specs.declared.station.Station.{Station}
@@ -52,7 +52,7 @@ lane_found parts port lane is begins =
     let known = known_cable parts.net port lane is.net begins in
     record {
       channel = channel_of known.0;
-      here = mapped_there channel_of parts.net.cables.items lane.link known.0 known.1;
+      here = mapped_there channel_of parts.net.traffic.net.channels lane.link known.0 known.1;
       begins = known.2;
     }
 

@@ -4,7 +4,7 @@ use Rattle.gptp_links.specs.Queue.{Frame, frame, IsTaken}
 use Rattle.gptp_links.specs.State as links
 use Rattle.gptp_vector.specs.declared.port.PortId.{PortId}
 use Rattle.gptp_world.specs.declared.joined_link.JoinedLink.{JoinedLink}
-use Rattle.gptp_world.specs.declared.joined_link.Lane.{Lane}
+use Rattle.gptp_traffic.specs.declared.joined_link.Lane.{Lane}
 use Rattle.gptp_world.specs.Directory.{Join}
 use Rattle.gptp_model.specs.declared.item.Item.TheVariants.{Arrival}
 use Rattle.gptp_model.specs.Act.{TakesFrame}

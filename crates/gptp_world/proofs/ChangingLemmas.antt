@@ -24,15 +24,15 @@ net_changed cables place new channel after entries is pending =
     rw (channels, pending) refl
 
 pub still_net : (net net' : Between) (place : ℕ) (old new : JoinedLink) → IsNet net
-    → slice_get net.cables.items place ≡ Some old
+    → slice_get net.traffic.net.channels place ≡ Some old
     → new.a ≡ old.a → new.b ≡ old.b → net'.directory ≡ net.directory
-    → net'.cables.items ≡ slice_set net.cables.items place new
+    → net'.traffic.net.channels ≡ slice_set net.traffic.net.channels place new
     → net'.pending.links ≡ net.pending.links → IsNet net'
 still_net net net' place old new is here a b directory cables links =
-    let joins : map join_of (slice_set net.cables.items place new) ≡ map join_of net.cables.items =
-    joins_kept net.cables.items place old new here a b in
+    let joins : map join_of (slice_set net.traffic.net.channels place new) ≡ map join_of net.traffic.net.channels =
+    joins_kept net.traffic.net.channels place old new here a b in
     let fits = is.links in
     record {
       joins = rw (cables, directory) (joins ∙ is.joins);
-      links = rw (cables, links, length-set net.cables.items place new) fits;
+      links = rw (cables, links, length-set net.traffic.net.channels place new) fits;
     }

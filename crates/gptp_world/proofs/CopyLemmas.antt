@@ -4,7 +4,7 @@ use Rattle.gptp_world.specs.WorldParts.{IsWorldParts}
 use Rattle.gptp_world.specs.declared.world_parts.WorldParts.{WorldParts}
 
 module _ (p q : WorldParts) (now : q.now ≡ p.now) (stations : q.stations.items ≡ p.stations.items)
-    (cables : q.net.cables.items ≡ p.net.cables.items)
+    (cables : q.net.traffic.net.channels ≡ p.net.traffic.net.channels)
     (pending : q.net.pending ≡ record p.net.pending { room = 0 }) where
   pub parts_copied : q.net.directory ≡ p.net.directory → q.outbox.items ≡ [] → IsWorldParts p → IsWorldParts q
   parts_copied directory empty parts = record {

@@ -3,7 +3,7 @@ use Rattle.std.proofs.Common.{◌≡◌, ◌<◌, ℕ, List, length, map, Some, 
 use Rattle.gptp_system.specs.declared.reach.Reach.{Reach}
 use Rattle.gptp_system.specs.Reach.{frame_reach}
 use Rattle.gptp_links.specs.Queue.{frame}
-use Rattle.gptp_world.specs.declared.joined_link.Lane.{Lane}
+use Rattle.gptp_traffic.specs.declared.joined_link.Lane.{Lane}
 use Rattle.gptp_world.specs.declared.net.Net.{Net as Between}
 use Rattle.gptp_world.specs.declared.world_parts.WorldParts.{WorldParts}
 use Rattle.gptp_model.specs.Act.{TakesFrame}
@@ -25,10 +25,10 @@ IsReceiver lane place d = (join : Join) → slice_get d.joins lane.link ≡ Some
     → slice_get d.clocks place ≡ Some (direction_end lane.direction join).clock
 
 pub receiver_within : (parts : WorldParts) (lane : Lane) (place : ℕ) → IsWorldParts parts
-    → lane.link < length parts.net.cables.items
+    → lane.link < length parts.net.traffic.net.channels
     → IsReceiver lane place parts.net.directory → place < length parts.stations.items
 receiver_within parts lane place is known hears =
-    let joined_link = member_there parts.net.cables.items lane.link known in let join = join_of joined_link.0 in
+    let joined_link = member_there parts.net.traffic.net.channels lane.link known in let join = join_of joined_link.0 in
     place_within parts place (direction_end lane.direction join).clock is
     (hears join (known_join parts.net lane.link joined_link.0 is.net joined_link.1))
 
@@ -49,12 +49,12 @@ oldest_taken net net' lane now octets due takes = record {
 oldest_before : (parts stage' : WorldParts) (lane : Lane) (octets : List ℕ) → world_of stage' ≡ world_of parts
     → IsOldest lane octets stage'.net → IsOldest lane octets parts.net
 oldest_before parts stage' lane octets world oldest =
-    let channels : map channel_of stage'.net.cables.items ≡ map channel_of parts.net.cables.items =
+    let channels : map channel_of stage'.net.traffic.net.channels ≡ map channel_of parts.net.traffic.net.channels =
     ap (λ (w : WorldState). w.net.channels) world in
-    let there : slice_get (map channel_of parts.net.cables.items) lane.link ≡ Some (channel_of oldest.joined_link) =
+    let there : slice_get (map channel_of parts.net.traffic.net.channels) lane.link ≡ Some (channel_of oldest.joined_link) =
     ap (λ cs. slice_get cs lane.link) (sym channels)
-    ∙ mapped_there channel_of stage'.net.cables.items lane.link oldest.joined_link oldest.here in
-    let made = from_map channel_of parts.net.cables.items lane.link (channel_of oldest.joined_link) there in
+    ∙ mapped_there channel_of stage'.net.traffic.net.channels lane.link oldest.joined_link oldest.here in
+    let made = from_map channel_of parts.net.traffic.net.channels lane.link (channel_of oldest.joined_link) there in
     record {
       joined_link = made.one;
       here = made.there;

@@ -17,10 +17,10 @@ use Rattle.gptp_lists.proofs.MappedLemmas.{mapped_there}
 
 -- the directory knows the ports that a link joins
 pub known_join : (net : Between) (link : ℕ) (joined_link : JoinedLink) → IsNet net
-    → slice_get net.cables.items link ≡ Some joined_link
+    → slice_get net.traffic.net.channels link ≡ Some joined_link
     → slice_get net.directory.joins link ≡ Some (join_of joined_link)
 known_join net link joined_link is here =
-    ap (λ js. slice_get js link) (sym is.joins) ∙ mapped_there join_of net.cables.items link joined_link here
+    ap (λ js. slice_get js link) (sym is.joins) ∙ mapped_there join_of net.traffic.net.channels link joined_link here
 
 pub end_same : (d : Direction) (joined_link : JoinedLink)
     → direction_end d (join_of joined_link) ≡ receiver d (channel_of joined_link)

@@ -19,7 +19,7 @@ use Rattle.gptp_system.proofs.WindowLemmas.{starts_measuring_over}
 use Rattle.gptp_system.specs.State.{clock}
 use Rattle.gptp_vector.specs.declared.port.PortId.{PortId}
 use Rattle.gptp_world.specs.declared.joined_link.JoinedLink.{JoinedLink}
-use Rattle.gptp_world.specs.declared.joined_link.Lane.{Lane}
+use Rattle.gptp_traffic.specs.declared.joined_link.Lane.{Lane}
 use Rattle.gptp_world.specs.declared.net.Net.{Net as Between}
 use Rattle.gptp_scenario.specs.declared.network.SystemSpec.{SystemSpec}
 use Rattle.gptp_scenario.specs.declared.network.LinkSpec.{LinkSpec}
@@ -270,11 +270,11 @@ cables_counted : (cables : List JoinedLink) (wires : List LinkSpec) → map chan
 cables_counted cables wires e =
     sym (length-map cables channel_of) ∙ ap length e ∙ length-map wires channel_from
 
-pub idle_net : (n : NetworkState) (net : Between) → map channel_of net.cables.items ≡ channels_of n
+pub idle_net : (n : NetworkState) (net : Between) → map channel_of net.traffic.net.channels ≡ channels_of n
     → net.directory.joins ≡ joins_of n.links → net.pending.links ≡ length n.links → IsNet net
 idle_net n net cables joins links = record {
-  joins = joined net.cables.items n.links cables ∙ sym joins;
-  links = let count = cables_counted net.cables.items n.links cables in omega (arith, count, links);
+  joins = joined net.traffic.net.channels n.links cables ∙ sym joins;
+  links = let count = cables_counted net.traffic.net.channels n.links cables in omega (arith, count, links);
 }
 
 clocks_kept : (n : NetworkState) (systems : List SystemSpec)
@@ -320,7 +320,7 @@ have_few n is = each_station n (λ (station : Station). length station.system.po
 
 pub initial_stage : (n : NetworkState) (parts : WorldParts) → IsNetwork n → IsNet parts.net
     → parts.stations.items ≡ stations_of n → parts.net.directory.clocks ≡ directory_clocks n.systems
-    → parts.net.directory.joins ≡ joins_of n.links → parts.net.pending.systems ≡ length n.systems
+    → parts.net.directory.joins ≡ joins_of n.links → parts.net.traffic.systems ≡ length n.systems
     → parts.outbox.items ≡ [] → parts.now ≡ 0 → IsWorldParts parts
 initial_stage n parts is net stations clocks joins systems empty now =
     let there : (place : ℕ) (station : Station) → slice_get parts.stations.items place ≡ Some station

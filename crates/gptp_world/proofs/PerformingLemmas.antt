@@ -19,7 +19,7 @@ use Rattle.gptp_vector.specs.declared.port.PortId.{PortId}
 use Rattle.gptp_world.specs.declared.act_target.ActTarget.{ActTarget}
 use Rattle.gptp_world.specs.declared.act_target.ActTarget.TheVariants as aims
 use Rattle.gptp_world.specs.declared.joined_link.JoinedLink.{JoinedLink}
-use Rattle.gptp_world.specs.declared.joined_link.Lane.{Lane}
+use Rattle.gptp_traffic.specs.declared.joined_link.Lane.{Lane}
 use Rattle.gptp_scenario.specs.declared.change.Act.{Act}
 use Rattle.gptp_scenario.specs.declared.change.Act.TheVariants.{Deliver, Expire, Change as Changing}
 use Rattle.gptp_scenario.specs.declared.change.Change.{Change}
@@ -54,22 +54,22 @@ use Rattle.gptp_world.proofs.SendingLemmas.{queue_same}
 
 -- what an act is about is among the links, or the systems
 abbrev pub IsWithin : ActTarget → WorldParts → Type 0
-IsWithin (aims.Arrival lane) parts = lane.link < length parts.net.cables.items
+IsWithin (aims.Arrival lane) parts = lane.link < length parts.net.traffic.net.channels
 IsWithin (aims.Timer place timer) parts = place < length parts.stations.items
-IsWithin (aims.LinkDown link) parts = link < length parts.net.cables.items
-IsWithin (aims.LinkUp link) parts = link < length parts.net.cables.items
-IsWithin (aims.LinkSet link bounds) parts = link < length parts.net.cables.items
+IsWithin (aims.LinkDown link) parts = link < length parts.net.traffic.net.channels
+IsWithin (aims.LinkUp link) parts = link < length parts.net.traffic.net.channels
+IsWithin (aims.LinkSet link bounds) parts = link < length parts.net.traffic.net.channels
 IsWithin (aims.Fail place) parts = place < length parts.stations.items
 IsWithin (aims.Recover place) parts = place < length parts.stations.items
 IsWithin (aims.Priority1 place value) parts = place < length parts.stations.items
-IsWithin (aims.Inject lane) parts = lane.link < length parts.net.cables.items
+IsWithin (aims.Inject lane) parts = lane.link < length parts.net.traffic.net.channels
 
 link_within : (parts : WorldParts) (link : ℕ) (channel : Channel)
     → slice_get (world_of parts).net.channels link ≡ Some channel
-    → link < length parts.net.cables.items
+    → link < length parts.net.traffic.net.channels
 link_within parts link channel here =
-    subst (λ n. link < n) (length-map parts.net.cables.items channel_of)
-    (slice_get_within (map channel_of parts.net.cables.items) link channel here)
+    subst (λ n. link < n) (length-map parts.net.traffic.net.channels channel_of)
+    (slice_get_within (map channel_of parts.net.traffic.net.channels) link channel here)
 
 change_within : (change : Change) (target : ActTarget) (parts : WorldParts)
     → IsTargetOfChange change (world_of parts) target
@@ -92,7 +92,7 @@ change_within change target parts at = absurd at
 pub aim_within : (act : Act) (target : ActTarget) (parts : WorldParts) → IsTargetOf act (world_of parts) target
     → IsWithin target parts
 aim_within (Deliver link direction) (aims.Arrival lane) parts (same, (way, at)) =
-    subst (λ i. i < length parts.net.cables.items) (sym same) (link_within parts link at.channel at.here)
+    subst (λ i. i < length parts.net.traffic.net.channels) (sym same) (link_within parts link at.channel at.here)
 aim_within (Expire number timer) (aims.Timer place set) parts (at, same) =
     slice_get_within parts.stations.items place at.station at.is.here
 aim_within (Changing change) target parts at = change_within change target parts at
@@ -101,11 +101,11 @@ aim_within act target parts at = absurd at
 -- ---- what asks for no room
 
 -- a link is up or down, and not both
-pub never_both : (net : Between) (link : ℕ) (up : Bool) → link < length net.cables.items
-    → ((joined_link : JoinedLink) → slice_get net.cables.items link ≡ Some joined_link → up ≡ joined_link.link.up)
+pub never_both : (net : Between) (link : ℕ) (up : Bool) → link < length net.traffic.net.channels
+    → ((joined_link : JoinedLink) → slice_get net.traffic.net.channels link ≡ Some joined_link → up ≡ joined_link.link.up)
     → LinkIs (not up) link net → ⊥
 never_both net link up within found is =
-    let (joined_link, here) = member_there net.cables.items link within
+    let (joined_link, here) = member_there net.traffic.net.channels link within
     in by up (found joined_link here ∙ is joined_link here)
   where
     by : (up : Bool) → up ≡ not up → ⊥
@@ -127,7 +127,7 @@ link_is : (parts : WorldParts) (link : ℕ) (up : Bool) (channel : Channel)
 link_is parts link up channel here is = λ joined_link there.
     let same : channel_of joined_link ≡ channel =
     same_Some (channel_of joined_link) channel
-    (sym (mapped_there channel_of parts.net.cables.items link joined_link there) ∙ here) in
+    (sym (mapped_there channel_of parts.net.traffic.net.channels link joined_link there) ∙ here) in
     ap (λ (x : Channel). x.up) same ∙ is
 
 system_is : (parts : WorldParts) (place : ℕ) (live : Bool) (station : Station)
@@ -171,7 +171,7 @@ timer_there act place timer parts at = absurd at
 pub frame_due : (parts : WorldParts) (lane : Lane) (time : ℕ)
     → AtPlace lane.link (world_of parts).net (IsOldestDue lane.direction time) → IsFrameDue lane time parts.net
 frame_due parts lane time at =
-    let made = from_map channel_of parts.net.cables.items lane.link at.channel at.here in
+    let made = from_map channel_of parts.net.traffic.net.channels lane.link at.channel at.here in
     record {
       joined_link = made.one;
       here = made.there;
@@ -207,7 +207,7 @@ end_is : (parts : WorldParts) (link : ℕ) (direction : Direction) (join : Join)
     → slice_get parts.net.directory.joins link ≡ Some join → slice_get (world_of parts).net.channels link ≡ Some channel
     → direction_end direction join ≡ receiver direction channel
 end_is parts link direction join channel is there here =
-    let made = from_map channel_of parts.net.cables.items link channel here in
+    let made = from_map channel_of parts.net.traffic.net.channels link channel here in
     let one : join ≡ join_of made.one =
     same_Some join (join_of made.one) (sym there ∙ known_join parts.net link made.one is.net made.there) in
     ap (direction_end direction) one ∙ (end_same direction made.one ∙ ap (receiver direction) (sym made.is))
@@ -256,10 +256,10 @@ arrived answers lane reached answer octets done fate fate_after parts stage' is 
 
 -- what is so of a link with the state in which it was found
 pub of_link : (parts : WorldParts) (link : ℕ) (up : Bool) (So : Bool → Channel → Type 0)
-    → ((joined_link : JoinedLink) → slice_get parts.net.cables.items link ≡ Some joined_link → up ≡ joined_link.link.up)
+    → ((joined_link : JoinedLink) → slice_get parts.net.traffic.net.channels link ≡ Some joined_link → up ≡ joined_link.link.up)
     → OfLink link (world_of parts) (So up) → OfLink link (world_of parts) (λ channel. So channel.up channel)
 of_link parts link up So found so = λ channel here.
-    let made = from_map channel_of parts.net.cables.items link channel here in
+    let made = from_map channel_of parts.net.traffic.net.channels link channel here in
     let is : up ≡ channel.up = found made.one made.there ∙ ap (λ (x : Channel). x.up) (sym made.is) in
     subst (λ b. So b channel) is (so channel here)
 
@@ -287,7 +287,7 @@ of_that w place one So there so = λ station here. subst So (same_Some one stati
 -- a frame went onto a lane whose link is up
 pub injected : {F : Type 0} (answers : Bounds → ℕ → F → Option ℕ → F → Type 0) (lane : Lane) (octets : List ℕ)
     (fate fate_after : F) (parts : WorldParts) (net : Between) (joined_link : JoinedLink)
-    → slice_get parts.net.cables.items lane.link ≡ Some joined_link → joined_link.link.up ≡ true
+    → slice_get parts.net.traffic.net.channels lane.link ≡ Some joined_link → joined_link.link.up ≡ true
     → SentOne answers parts.now (sender lane.direction (channel_of joined_link)) octets fate fate_after
     (between parts.net)
     (between net)
@@ -299,7 +299,7 @@ injected answers lane octets fate fate_after parts net joined_link here up sent 
       drawn = (fate_after, sent.drawn, refl);
       injects = of_this w lane.link (channel_of joined_link)
           (λ channel. InjectsIf channel.up (sender lane.direction channel) octets w draws w')
-          (mapped_there channel_of parts.net.cables.items lane.link joined_link here)
+          (mapped_there channel_of parts.net.traffic.net.channels lane.link joined_link here)
           (subst (λ b. InjectsIf b (sender lane.direction (channel_of joined_link)) octets w draws w') (sym up)
           (record { draw = sent.draw; net = between net; drawn_once = refl; sent = sent.sends; is = refl }));
     }
@@ -307,7 +307,7 @@ injected answers lane octets fate fate_after parts net joined_link here up sent 
 -- none went onto one whose link is down
 pub not_injected : {F : Type 0} (answers : Bounds → ℕ → F → Option ℕ → F → Type 0) (lane : Lane) (octets : List ℕ)
     (fate : F) (parts : WorldParts)
-    → ((joined_link : JoinedLink) → slice_get parts.net.cables.items lane.link ≡ Some joined_link
+    → ((joined_link : JoinedLink) → slice_get parts.net.traffic.net.channels lane.link ≡ Some joined_link
     → false ≡ joined_link.link.up)
     → Injected answers lane octets fate fate parts parts
 not_injected answers lane octets fate parts down =

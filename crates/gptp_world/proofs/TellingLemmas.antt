@@ -102,7 +102,7 @@ pub same_joins : (parts stage' : WorldParts) → IsWorldParts parts → IsWorldP
     → stage'.net.directory.joins ≡ parts.net.directory.joins
 same_joins parts stage' is is' world =
     sym is'.net.joins
-    ∙ (joins_kept parts.net.cables.items stage'.net.cables.items (ap (λ (w : WorldState). w.net.channels) world)
+    ∙ (joins_kept parts.net.traffic.net.channels stage'.net.traffic.net.channels (ap (λ (w : WorldState). w.net.channels) world)
     ∙ is.net.joins)
 
 -- room was made for the ends of a link
@@ -131,7 +131,7 @@ room_at_ends parts stage' link a b is is' world ends room =
 -- what is between the systems becomes another of the same systems and links
 pub net_becomes : (parts : WorldParts) (net : Between) → IsWorldParts parts → IsNet net
     → net.directory ≡ parts.net.directory
-    → net.pending.systems ≡ parts.net.pending.systems → IsWorldParts (record parts { net = net })
+    → net.traffic.systems ≡ parts.net.traffic.systems → IsWorldParts (record parts { net = net })
 net_becomes parts net is after directory systems = record {
   net = after;
   clocks = rw directory is.clocks;
@@ -282,9 +282,9 @@ can_tell_second answers a b input fate fate_after parts stage' can told uses =
 
 -- a link is among those that the directory knows
 known_link : (net : Between) (link : ℕ) (join : Join) → IsNet net → slice_get net.directory.joins link ≡ Some join
-    → MadeOf join_of net.cables.items link join
+    → MadeOf join_of net.traffic.net.channels link join
 known_link net link join is here =
-    from_map join_of net.cables.items link join (ap (λ js. slice_get js link) is.joins ∙ here)
+    from_map join_of net.traffic.net.channels link join (ap (λ js. slice_get js link) is.joins ∙ here)
 
 -- the link changed in this way, and both its ends were told
 pub record BothTold {F : Type 0} (answers : Bounds → ℕ → F → Option ℕ → F → Type 0) (input : ℕ → Input)
@@ -299,7 +299,7 @@ pub both_told : {F : Type 0} (answers : Bounds → ℕ → F → Option ℕ → 
     (changed : Channel → Net) (link : ℕ) (a b : End) (first second third : F) (parts : WorldParts) (net : Between)
     (between after : WorldParts) → IsWorldParts parts
     → AreEndsOf link a b parts.net.directory → CanTell a b (record parts { net = net })
-    → ((joined_link : JoinedLink) → slice_get parts.net.cables.items link ≡ Some joined_link
+    → ((joined_link : JoinedLink) → slice_get parts.net.traffic.net.channels link ≡ Some joined_link
     → (world_of (record parts { net = net })).net ≡ changed (channel_of joined_link))
     → WasTold answers a.place (input a.port) first second (record parts { net = net }) between
     → WasTold answers b.place (input b.port) second third between after
@@ -332,7 +332,7 @@ both_told answers input changed link a b first second third parts net between af
     } in
     record {
       channel = channel;
-      here = mapped_there channel_of parts.net.cables.items link joined_link made.there;
+      here = mapped_there channel_of parts.net.traffic.net.channels link joined_link made.there;
       draws = all;
       drawn = draws.draws-append answers first second third told_a.draws told_b.draws told_a.drawn told_b.drawn;
       tells = subst (λ n. TellsEnds input channel (record (world_of parts) { net = n }) all (world_of after))

@@ -12,7 +12,7 @@ use Rattle.gptp_system.specs.declared.sending.Sending.{Sending}
 use Rattle.gptp_system.specs.Input.{Input}
 use Rattle.gptp_system.specs.State.{SystemState}
 use Rattle.gptp_vector.specs.declared.port.PortId.{PortId}
-use Rattle.gptp_world.specs.declared.joined_link.Lane.{Lane}
+use Rattle.gptp_traffic.specs.declared.joined_link.Lane.{Lane}
 use Rattle.gptp_world.specs.declared.net.Net.{Net as Between}
 use Rattle.gptp_model.specs.Act.{all_timers, in_state, Calls}
 use Rattle.gptp_world.specs.JoinedLink.{channel_of}
@@ -121,8 +121,8 @@ up_tells net number port None is up none = down_where (between net).channels num
 up_tells net number port (Some lane) is up none =
     let known = known_cable net (port_id number port) lane is up.begins in
     let same : known.0 ≡ up.joined_link = same_Some known.0 up.joined_link (sym known.1 ∙ up.here) in
-    up_where (map channel_of net.cables.items) lane.link lane.direction (channel_of known.0) number port
-    (mapped_there channel_of net.cables.items lane.link known.0 known.1) known.2 (rw same up.up)
+    up_where (map channel_of net.traffic.net.channels) lane.link lane.direction (channel_of known.0) number port
+    (mapped_there channel_of net.traffic.net.channels lane.link known.0 known.1) known.2 (rw same up.up)
 
 -- ---- calls
 

@@ -12,7 +12,7 @@ use Rattle.gptp_system.specs.State.{clock}
 use Rattle.gptp_invariants.specs.WorldStanding.{stations_have_clock, channel_is_used, standing_link, live_stations, standing_system, used_channels}
 use Rattle.gptp_invariants.proofs.WorldSystemLemmas.{OwnClocks, clock_in, clock_lives, clock_there, live_from, live_there}
 use Rattle.gptp_world.specs.declared.joined_link.JoinedLink.{JoinedLink}
-use Rattle.gptp_world.specs.declared.joined_link.Lane.{Lane}
+use Rattle.gptp_traffic.specs.declared.joined_link.Lane.{Lane}
 use Rattle.gptp_world.specs.declared.world_parts.WorldParts.{WorldParts}
 use Rattle.gptp_world.specs.JoinedLink.{channel_of, join_of}
 use Rattle.gptp_world.specs.Directory.{direction_end}
@@ -47,7 +47,7 @@ lives_by stations place number station false false own here named lives known = 
 
 -- so it is of the system at the end of a lane
 pub lives_there : (parts : WorldParts) (lane : Lane) (place : ℕ) (joined_link : JoinedLink) → IsFounded parts
-    → slice_get parts.net.cables.items lane.link ≡ Some joined_link → IsReceiver lane place parts.net.directory
+    → slice_get parts.net.traffic.net.channels lane.link ≡ Some joined_link → IsReceiver lane place parts.net.directory
     → (station : Station) → slice_get parts.stations.items place ≡ Some station
     → station.live ≡ stations_have_clock (live_stations parts.stations.items)
     (receiver lane.direction (channel_of joined_link)).clock
@@ -138,18 +138,18 @@ used_none systems channel same = by (channel_is_used systems channel) refl
 -- those before a place
 abbrev pub used_before : WorldParts → ℕ → List Link
 used_before parts link =
-    used_channels (live_stations parts.stations.items) (take link (map channel_of parts.net.cables.items))
+    used_channels (live_stations parts.stations.items) (take link (map channel_of parts.net.traffic.net.channels))
 
 module _ (parts : WorldParts) (link : ℕ) (joined_link : JoinedLink)
-    (here : slice_get parts.net.cables.items link ≡ Some joined_link) where
+    (here : slice_get parts.net.traffic.net.channels link ≡ Some joined_link) where
   abbrev systems : List System
   systems = live_stations parts.stations.items
 
-  there : slice_get (map channel_of parts.net.cables.items) link ≡ Some (channel_of joined_link)
-  there = mapped_there channel_of parts.net.cables.items link joined_link here
+  there : slice_get (map channel_of parts.net.traffic.net.channels) link ≡ Some (channel_of joined_link)
+  there = mapped_there channel_of parts.net.traffic.net.channels link joined_link here
 
   pub one_more : used_before parts (link + 1) ≡ used_before parts link ++ used_if systems (channel_of joined_link)
-  one_more = used_more systems (map channel_of parts.net.cables.items) link (channel_of joined_link) there
+  one_more = used_more systems (map channel_of parts.net.traffic.net.channels) link (channel_of joined_link) there
 
   pub counted_more : channel_is_used systems (channel_of joined_link) ≡ true
       → length (used_before parts (link + 1)) ≡ length (used_before parts link) + 1
@@ -170,13 +170,13 @@ module _ (parts : WorldParts) (link : ℕ) (joined_link : JoinedLink)
   pub stands_here : channel_is_used systems (channel_of joined_link) ≡ true
       → slice_get (used_in parts) (length (used_before parts link)) ≡ used systems (channel_of joined_link)
   stands_here is =
-      used_here systems (map channel_of parts.net.cables.items) link (channel_of joined_link) there is
+      used_here systems (map channel_of parts.net.traffic.net.channels) link (channel_of joined_link) there is
       ∙ sym (used_yes systems (channel_of joined_link) is)
 
 -- before the end all stand
-pub used_all : (parts : WorldParts) (link : ℕ) → length parts.net.cables.items ≤ link
+pub used_all : (parts : WorldParts) (link : ℕ) → length parts.net.traffic.net.channels ≤ link
     → used_before parts link ≡ used_in parts
 used_all parts link past =
     ap (used_channels (live_stations parts.stations.items))
-    (take_all link (map channel_of parts.net.cables.items)
-    (let long = length-map parts.net.cables.items channel_of in omega arith))
+    (take_all link (map channel_of parts.net.traffic.net.channels)
+    (let long = length-map parts.net.traffic.net.channels channel_of in omega arith))

@@ -14,7 +14,7 @@ use Rattle.gptp_system.specs.Input.{Input, IsTimely, Steps, PortUp, PortDown, Fr
 use Rattle.gptp_system.specs.Reach.{count_sends_at, SendsWithin}
 use Rattle.gptp_system.specs.State.{SystemState, clock}
 use Rattle.gptp_vector.specs.declared.port.PortId.{PortId}
-use Rattle.gptp_world.specs.declared.joined_link.Lane.{Lane}
+use Rattle.gptp_traffic.specs.declared.joined_link.Lane.{Lane}
 use Rattle.gptp_world.specs.declared.net.Net.{Net as Between}
 use Rattle.gptp_model.specs.declared.station.Station.{Station}
 use Rattle.gptp_model.specs.Act.{set_timers, all_timers, in_state}
@@ -45,7 +45,7 @@ net_kept used net net' only is =
     record { joins = rw (cables, directory) is.joins; links = rw (cables, links) is.links }
 
 pub timers_set : (used place : ℕ) (station : Station) (net net' : Between) → OnlyEntries used net net'
-    → net'.pending.entries ≡ set_timers place station (timers_from 1 station.system.ports) net.pending.entries
+    → net'.pending.entries ≡ set_timers place station (timers_from 1 station.system.ports) net.traffic.net.pending
     → between net' ≡ all_timers place station (between net)
 timers_set used place station net net' only entries = let cables = only.cables in rw (cables, entries) refl
 
@@ -271,7 +271,7 @@ pub becomes : (parts stage' : WorldParts) (place : ℕ) (old new : Station) → 
     → length new.system.ports ≡ length old.system.ports → clock new.system ≡ clock old.system
     → stage'.stations.items ≡ slice_set parts.stations.items place new → IsNet stage'.net
     → stage'.net.directory ≡ parts.net.directory
-    → stage'.net.pending.systems ≡ parts.net.pending.systems → stage'.now ≡ parts.now → stage'.outbox.items ≡ []
+    → stage'.net.traffic.systems ≡ parts.net.traffic.systems → stage'.now ≡ parts.now → stage'.outbox.items ≡ []
     → IsWorldParts stage'
 becomes parts stage' place old new is here ports clocks list net directory systems now outbox =
     let places = is.systems in
@@ -288,7 +288,7 @@ becomes parts stage' place old new is here ports clocks list net directory syste
 -- the stage after it was carried out, from the one that it left
 pub stays : (parts left stage' : WorldParts) (place : ℕ) (input : Input) (answer : Answer) → IsWorldParts parts
     → HasStepped place input answer parts left → stage'.stations ≡ left.stations → IsNet stage'.net
-    → stage'.net.directory ≡ left.net.directory → stage'.net.pending.systems ≡ left.net.pending.systems
+    → stage'.net.directory ≡ left.net.directory → stage'.net.traffic.systems ≡ left.net.traffic.systems
     → stage'.now ≡ left.now
     → stage'.outbox.items ≡ [] → IsWorldParts stage'
 stays parts left stage' place input answer is step stations net directory systems now outbox =
@@ -298,7 +298,7 @@ stays parts left stage' place input answer is step stations net directory system
     (same_clock input parts.now old.system step.after left.outbox.items answer step.steps)
     (ap (λ xs. xs.items) stations ∙ step.stations) net
     (directory ∙ ap (λ (n : Between). n.directory) step.net)
-    (systems ∙ ap (λ (n : Between). n.pending.systems) step.net)
+    (systems ∙ ap (λ (n : Between). n.traffic.systems) step.net)
     (now ∙ step.now) outbox
 
 -- it was one call of the system
@@ -364,7 +364,7 @@ call_uses input place parts net uses = λ station here.
 -- a stage whose net became another, with everything where it was
 pub net_replaced : (parts : WorldParts) (net : Between) → IsWorldParts parts → IsNet net
     → net.directory ≡ parts.net.directory
-    → net.pending.systems ≡ parts.net.pending.systems → IsWorldParts (record parts { net = net })
+    → net.traffic.systems ≡ parts.net.traffic.systems → IsWorldParts (record parts { net = net })
 net_replaced parts net is still directory systems = record {
   net = still;
   clocks = rw directory is.clocks;

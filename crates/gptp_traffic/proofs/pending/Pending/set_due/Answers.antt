@@ -2,6 +2,7 @@ use Rattle.std.proofs.Common.{◌≡◌, refl, sym, ap, ◌∙◌, arith}
 use Rattle.gptp_model.specs.declared.item.Item.TheVariants.{Expiry}
 use Rattle.gptp_model.specs.Pending.{put_if, set_due, times_of_item, without}
 use Rattle.gptp_model.proofs.PendingLemmas.{not_listed, set_due-moved}
+use Rattle.gptp_traffic.specs.Flight.{places_of}
 use Rattle.gptp_traffic.specs.PendingIndex.{placed_items, plain_items, timer_place}
 use Rattle.gptp_traffic.proofs.PendingLemmas.{same_state}
 use Rattle.gptp_traffic.proofs.PlacedLemmas.{placed-without}
@@ -15,7 +16,7 @@ returns-in-Some-clause-kept c =
     set_due-moved item c.args.due es
     (not_listed c.due.result c.args.due (times_of_item item es) c.due.ensures (sym c.eq.ensures ∙ c.if-eq.false)) in
     c.start.ensures.kept
-    ∙ same_state _ _ refl refl (sym (moved ∙ ap (λ due. put_if item due (without item es)) c.in-Some.is)) refl
+    ∙ same_state _ _ refl refl (sym (moved ∙ ap (λ due. put_if item due (without item es)) c.in-Some.is)) refl refl
 
 pub cancel-requires : goal.cancel-requires
 cancel-requires c =
@@ -32,9 +33,9 @@ invariant_of-self c =
       placed-without p.items.items (timer_place c.args.place c.args.timer)
           p.queue.entries,
     ) (
-      index-cancelled p.systems p.links p.pending_index p.queue.places p.free.items
+      index-cancelled p.systems p.links (places_of p.flights) p.queue.places p.free.items
           (placed_items p.items.items p.queue.entries) c.self.invariant.0 c.args.place c.args.timer known,
-      spare-left p.spare p.queue _ p.pending_index p.pending_index p.items.items p.free.items p.free.items
+      spare-left p.spare p.queue _ (places_of p.flights) (places_of p.flights) p.items.items p.free.items p.free.items
           c.self.invariant.1 (omega arith) refl (omega arith) (omega arith),
     )
 
@@ -51,4 +52,4 @@ returns-in-None-clause-kept c =
     (same_state _ _ refl refl
     (ap plain_items (placed-without p.items.items (timer_place c.args.place c.args.timer) p.queue.entries)
     ∙ plain-cancelled p.systems p.links c.args.place c.args.timer known ps are.known are.placed
-    ∙ sym (rw (← c.self.view_is) at gone)) refl)
+    ∙ sym (rw (← c.self.view_is) at gone)) refl refl)

@@ -1,4 +1,5 @@
 use Rattle.std.proofs.Common.{refl, arith}
+use Rattle.gptp_traffic.specs.Flight.{places_of}
 use Rattle.gptp_traffic.specs.PendingIndex.{placed_items}
 use Rattle.gptp_traffic.proofs.PendingLemmas.{same_state}
 use Rattle.gptp_traffic.proofs.PendingIndexLemmas.{timer_within, index-started, plain-started}
@@ -17,7 +18,7 @@ invariant_of-self c =
     let in_queue = spare.in_queue in let in_index = spare.in_index in let in_free = spare.in_free in
     let items = spare.each_place in let room = put.room in let places = put.places in let len = put.items in (
       rw (put.put, put.places, c.timer_place.ensures)
-          (index-started p.systems p.links p.pending_index p.queue.places p.free.items
+          (index-started p.systems p.links (places_of p.flights) p.queue.places p.free.items
           (placed_items p.items.items p.queue.entries) are c.args.place c.args.timer known c.args.time),
       record {
         in_queue = omega (arith, in_queue, room);
@@ -33,4 +34,4 @@ returns-clause-kept c =
     rw (← c.self.view_is, c.put_item.ensures.put, c.timer_place.ensures)
     (same_state _ _ refl refl
     (plain-started p.systems p.links c.args.place c.args.timer known c.args.time
-    (placed_items p.items.items p.queue.entries) are.known are.placed) refl)
+    (placed_items p.items.items p.queue.entries) are.known are.placed) refl refl)

@@ -1,6 +1,7 @@
 use Rattle.std.proofs.Common.{refl, ap, ◌∙◌, arith}
 use Rattle.gptp_model.specs.declared.item.Item.TheVariants.{Expiry}
 use Rattle.gptp_model.proofs.PendingLemmas.{without-once}
+use Rattle.gptp_traffic.specs.Flight.{places_of}
 use Rattle.gptp_traffic.specs.PendingIndex.{placed_items, plain_items, timer_place}
 use Rattle.gptp_traffic.proofs.PendingLemmas.{same_state}
 use Rattle.gptp_traffic.proofs.PlacedLemmas.{placed-without}
@@ -22,9 +23,9 @@ invariant_of-self c =
       placed-without p.items.items (timer_place c.args.place c.args.timer)
           p.queue.entries,
     ) (
-      index-cancelled p.systems p.links p.pending_index p.queue.places p.free.items
+      index-cancelled p.systems p.links (places_of p.flights) p.queue.places p.free.items
           (placed_items p.items.items p.queue.entries) c.self.invariant.0 c.args.place c.args.timer known,
-      spare-left p.spare p.queue _ p.pending_index p.pending_index p.items.items p.free.items p.free.items
+      spare-left p.spare p.queue _ (places_of p.flights) (places_of p.flights) p.items.items p.free.items p.free.items
           c.self.invariant.1 (omega arith) refl (omega arith) (omega arith),
     )
 
@@ -38,7 +39,7 @@ returns-clause-kept c =
     ∙ plain-cancelled p.systems p.links c.args.place c.args.timer known ps are.known are.placed
     ∙ without-once (Expiry c.args.place c.args.timer) (plain_items ps)
     (times-once p.systems p.links c.args.place c.args.timer known p.items.items p.queue.entries
-    c.places_differ.ensures.differ are.known are.placed)) refl)
+    c.places_differ.ensures.differ are.known are.placed)) refl refl)
 
 pub returns-clause-once : goal.returns-clause-once
 returns-clause-once c =

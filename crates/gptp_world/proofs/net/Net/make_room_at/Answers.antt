@@ -9,7 +9,7 @@ make_room_on-requires c =
     let here = slice_get-get_or c.args.self.now.directory.clocks c.args.place 0 c.requires.place in
     let begins = c.in-Some.ensures.some _ here in
     let known = known_cable c.args.self.now _ c.in-Some.lane c.requires.net begins in
-    rw c.as_mut_slice.ensures.value (slice_get_within c.args.self.now.cables.items c.in-Some.lane.link known.0 known.1)
+    rw c.as_mut_slice.ensures.value (slice_get_within c.args.self.now.traffic.net.channels c.in-Some.lane.link known.0 known.1)
 
 pub returns-in-Some-clause-ok : goal.returns-in-Some-clause-ok
 returns-in-Some-clause-ok c =

@@ -10,7 +10,7 @@ use Rattle.gptp_world.proofs.net.Net.take_frame.Goals as goal
 
 pub returns-clause-net : goal.returns-clause-net
 returns-clause-net c =
-    let one = c.index_mut.result.now in let cables = c.args.self.now.cables.items in let due = c.requires.due in
+    let one = c.index_mut.result.now in let cables = c.args.self.now.traffic.net.channels in let due = c.requires.due in
     let is : one ≡ due.joined_link = c.index_mut.ensures.value
     ∙ read cables c.args.lane.link due.joined_link one due.here in
     let here = due.here ∙ ap Some (sym is) in
@@ -25,7 +25,7 @@ returns-clause-net c =
 
 pub returns-clause-takes : goal.returns-clause-takes
 returns-clause-takes c = λ joined_link there.
-    let one = c.index_mut.result.now in let cables = c.args.self.now.cables.items in let due = c.requires.due in
+    let one = c.index_mut.result.now in let cables = c.args.self.now.traffic.net.channels in let due = c.requires.due in
     let is : one ≡ joined_link = c.index_mut.ensures.value ∙ read cables c.args.lane.link joined_link one there in
     let same : due.joined_link ≡ one = same_Some due.joined_link one (sym due.here ∙ (there ∙ ap Some (sym is))) in
     let here = there ∙ ap Some (sym is) in
@@ -38,7 +38,7 @@ returns-clause-takes c = λ joined_link there.
 
 pub returns-clause-uses : goal.returns-clause-uses
 returns-clause-uses c =
-    let one = c.index_mut.result.now in let cables = c.args.self.now.cables.items in let due = c.requires.due in
+    let one = c.index_mut.result.now in let cables = c.args.self.now.traffic.net.channels in let due = c.requires.due in
     let is : one ≡ due.joined_link = c.index_mut.ensures.value
     ∙ read cables c.args.lane.link due.joined_link one due.here in
     let here = due.here ∙ ap Some (sym is) in

@@ -15,7 +15,7 @@ is_up-requires c =
     let here = slice_get-get_or c.args.self.now.directory.clocks c.args.place 0 c.requires.place in
     let begins = c.in_ok-lane.ensures.some _ here in
     let known = known_cable c.args.self.now _ c.in_ok-lane.lane c.requires.net begins in
-    slice_get_within c.args.self.now.cables.items c.in_ok-lane.lane.link known.0 known.1
+    slice_get_within c.args.self.now.traffic.net.channels c.in_ok-lane.lane.link known.0 known.1
 
 pub returns-in-true-clause-some : goal.returns-in-true-clause-some
 returns-in-true-clause-some c = λ clock here.

@@ -13,7 +13,7 @@ invariant_of-self c =
     let parts = c.self.inside.parts in let until = c.args.until in
     let none = subst (λ (w : WorldState). NothingBefore (until + 1) w.net.pending) (sym c.self.view_is)
     c.requires.first in
-    let first = nothing_sooner until (until + 1) parts.net.pending.entries (omega arith) none in
+    let first = nothing_sooner until (until + 1) parts.net.traffic.net.pending (omega arith) none in
     let early : parts.now ≤ until =
     subst (λ (w : WorldState). w.time ≤ until) (sym c.self.view_is) c.requires.ahead in
     record {

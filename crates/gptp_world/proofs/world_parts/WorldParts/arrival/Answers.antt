@@ -6,7 +6,7 @@ use Rattle.gptp_world.proofs.world_parts.WorldParts.arrival.Goals as goal
 
 pub returns-clause-some : goal.returns-clause-some
 returns-clause-some c =
-    let cables = c.args.self.now.net.cables.items in let test = c.if-len-link.false in let count = c.len.ensures in
+    let cables = c.args.self.now.net.traffic.net.channels in let test = c.if-len-link.false in let count = c.len.ensures in
     let less : c.args.link < length cables = omega (arith, test, count) in
     let found = member_there cables c.args.link less in (
       refl,

@@ -11,7 +11,7 @@ use Rattle.gptp_world.proofs.world_parts.WorldParts.is_frame_due.Goals as goal
 
 pub returns : goal.returns
 returns c = λ channel here.
-    let cables = c.args.self.now.net.cables.items in let direction = c.args.lane.direction in
+    let cables = c.args.self.now.net.traffic.net.channels in let direction = c.args.lane.direction in
     let one = c.index.result.now in
     let made = from_map channel_of cables c.args.lane.link channel here in
     let is : one ≡ made.one = c.index.ensures ∙ read cables c.args.lane.link made.one one made.there in

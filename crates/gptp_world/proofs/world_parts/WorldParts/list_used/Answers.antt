@@ -11,8 +11,8 @@ pub loop-link-preserved : goal.loop-link-preserved
 loop-link-preserved c =
     let parts = c.args.self.now in let link = c.loop-link.link in let test = c.loop-link-test.true in
     let all = c.len-link-end.ensures in let known = parts.net.cables.ok.0 in
-    let within : link < length parts.net.cables.items = omega arith in
-    let (joined_link, here) = member_there parts.net.cables.items link within in
+    let within : link < length parts.net.traffic.net.channels = omega arith in
+    let (joined_link, here) = member_there parts.net.traffic.net.channels link within in
     let last = used_if (live_stations parts.stations.items) (channel_of joined_link) in
     c.in_ok-push_used.ensures joined_link here
     ∙ ap (λ (ls : List Link). ls ++ last) c.loop-link.invariant

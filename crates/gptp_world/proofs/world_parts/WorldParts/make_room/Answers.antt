@@ -28,7 +28,7 @@ returns-clause-room c =
     let ports = c.from-count.ensures in let made = c.in_ok-reserve.ensures in
     let made_entries : 6 * c.ports-ports.result + 3 ≤ c.reserve.new.self.pending.room = rw (← ports) made.entries in
     let made_buffers : 2 * c.ports-ports.result ≤ c.reserve.new.self.buffers.ready = rw (← ports) made.buffers in
-    let room : 6 * length one.system.ports + 3 ≤ after.net.pending.room = rw (← count) (omega arith) in
+    let room : 6 * length one.system.ports + 3 ≤ after.net.traffic.room = rw (← count) (omega arith) in
     let ready : 2 * length one.system.ports ≤ after.net.buffers.ready = rw (← count) (omega arith) in
     on_ok c.make_room_at_ports.result _ _
     (λ has. room_to_call after c.args.place one is here room ready (rw (← count) has))

@@ -49,7 +49,7 @@ returns-clause-room c =
     let ports = c.from-count.ensures in let made = c.in_ok-reserve.ensures in
     let made_entries : 6 * c.ports-ports.result + 3 ≤ c.reserve.new.self.pending.room = rw (← ports) made.entries in
     let made_buffers : 2 * c.ports-ports.result ≤ c.reserve.new.self.buffers.ready = rw (← ports) made.buffers in
-    let room : 6 * length one.system.ports + 3 ≤ after.net.pending.room = rw (← count) (omega arith) in
+    let room : 6 * length one.system.ports + 3 ≤ after.net.traffic.room = rw (← count) (omega arith) in
     let ready : 2 * length one.system.ports ≤ after.net.buffers.ready = rw (← count) (omega arith) in
     on_ok c.draw_within.result _ _
     (λ has. room_beyond after c.args.reach c.args.place one c.draw_within.new.frame_budget is here room ready has)

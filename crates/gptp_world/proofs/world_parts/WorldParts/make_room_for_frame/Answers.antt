@@ -18,7 +18,7 @@ returns-clause-room c =
     let net = c.make_room_on_link.new.self in let more = c.make_room_on_link.ensures.only in
     let made = c.in_ok-reserve.ensures in let entries = more.entries in let buffers = more.buffers in
     let had_entries = made.entries in let had_buffers = made.buffers in
-    let entry : 1 ≤ net.pending.room = omega arith in
+    let entry : 1 ≤ net.traffic.room = omega arith in
     let buffer : 1 ≤ net.buffers.ready = omega arith in
     on_ok c.make_room_on_link.result _ _
     (λ room. record { entry = entry; buffer = buffer; frame = room c.args.lane.direction })

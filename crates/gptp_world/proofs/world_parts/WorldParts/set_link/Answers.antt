@@ -14,7 +14,7 @@ returns-clause-parts c =
 
 pub returns-clause-set : goal.returns-clause-set
 returns-clause-set c = λ channel here.
-    let made = from_map channel_of c.args.self.now.net.cables.items c.args.link channel here in
+    let made = from_map channel_of c.args.self.now.net.traffic.net.channels c.args.link channel here in
     let set : between c.set_bounds.new.self
     ≡ with_bounds c.args.bounds c.args.link channel (between c.args.self.now.net) =
     c.set_bounds.ensures.bounds made.one made.there

@@ -12,8 +12,8 @@ pub returns-then-before-place : goal.returns-then-before-place
 returns-then-before-place c =
     let parts = c.args.self.now in let link = c.loop-link.link in let test = c.loop-link-test.true in
     let all = c.len-link-end.ensures in let known = parts.net.cables.ok.0 in
-    let within : link < length parts.net.cables.items = omega arith in
-    let (joined_link, here) = member_there parts.net.cables.items link within in
+    let within : link < length parts.net.traffic.net.channels = omega arith in
+    let (joined_link, here) = member_there parts.net.traffic.net.channels link within in
     let so_far = c.loop-link.invariant.is in let at = c.if-before-place.true in
     let same : length (used_before parts link) ≡ c.args.place = omega arith in
     c.used_link.ensures joined_link here
@@ -24,8 +24,8 @@ pub loop-link-preserved : goal.loop-link-preserved
 loop-link-preserved c =
     let parts = c.args.self.now in let link = c.loop-link.link in let test = c.loop-link-test.true in
     let all = c.len-link-end.ensures in let known = parts.net.cables.ok.0 in
-    let within : link < length parts.net.cables.items = omega arith in
-    let (joined_link, here) = member_there parts.net.cables.items link within in
+    let within : link < length parts.net.traffic.net.channels = omega arith in
+    let (joined_link, here) = member_there parts.net.traffic.net.channels link within in
     let so_far = c.loop-link.invariant.is in let few = c.loop-link.invariant.few in
     let sooner = c.loop-link.invariant.sooner in
     elim c.if-is_in_use.branch [

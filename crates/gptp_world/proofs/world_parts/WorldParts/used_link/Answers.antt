@@ -11,7 +11,7 @@ pub returns : goal.returns
 returns c = λ joined_link here.
     let parts = c.args.self.now in let one = c.index-joined_link.result.now in
     let same : one ≡ joined_link = c.index-joined_link.ensures
-    ∙ read parts.net.cables.items c.args.link joined_link one here in
+    ∙ read parts.net.traffic.net.channels c.args.link joined_link one here in
     ap (λ (x : JoinedLink). Some (snapshot_link (x.a, x.b))) same
     ∙ sym (used_yes (live_stations parts.stations.items) (channel_of joined_link)
     (sym (c.is_in_use.ensures joined_link here) ∙ c.if-not-is_in_use.false))
