@@ -16,6 +16,10 @@ pub on_ok : {X E : Type 0} (r : Result X E) (P Q : Type 0) → (P → Q) → OnO
 on_ok (Ok x) P Q f p = f p
 on_ok (Err e) P Q f p = p
 
+pub both_ok : {X E : Type 0} (r : Result X E) (P Q : Type 0) → OnOk r P → OnOk r Q → OnOk r (P × Q)
+both_ok (Ok x) P Q p q = (p, q)
+both_ok (Err e) P Q p q = p
+
 pub net_stays : (net net' : Between) → OnlyRoom net net' → IsNet net → IsNet net'
 net_stays net net' only is =
     let directory = only.directory in

@@ -132,7 +132,7 @@ renewed_timers parts left place can is has by =
     can_set_timers left place new (renewed_stage parts left place can is by)
     (stands_there parts left place can.station new can.here by)
     (λ live. covered (for_start new.system) (for_all_timers new.system) left.net
-    (record { entries = omega arith; buffers = omega arith; frames = λ port. omega arith })
+    (record { entries = omega arith; buffers = omega arith })
     (renewed_room parts left place can has by))
 
 -- once they are set, there is room for its ports

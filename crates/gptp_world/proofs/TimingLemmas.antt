@@ -41,10 +41,9 @@ pub only_more : (m n : ℕ) (first second third : Between) → OnlyEntries m fir
     → OnlyEntries (m + n) first third
 only_more m n first second third a b = record {
   directory = b.directory ∙ a.directory;
-  cables = b.cables ∙ a.cables;
+  channels = b.channels ∙ a.channels;
   buffers = b.buffers ∙ a.buffers;
   systems = b.systems ∙ a.systems;
-  links = b.links ∙ a.links;
   room = let r = a.room in let q = b.room in omega arith;
 }
 

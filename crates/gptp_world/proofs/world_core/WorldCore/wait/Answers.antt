@@ -20,5 +20,4 @@ invariant_of-self c =
       stage_kept = stage_later parts until c.requires.moment c.self.invariant.stage_kept;
       sound = later_sound (world_of parts) until parts.last_change c.self.invariant.sound first;
       claimed = all_later (world_of parts) until early first c.self.invariant.claimed;
-      covered = c.self.invariant.covered;
     }
