@@ -1,5 +1,6 @@
 -- What is listed for each direction of a link.
-use Rattle.std.proofs.Common.{◌≡◌, ℕ, ◌<◌, List, [], ◌∷◌, length, Option, Some, None, slice_get, refl, sym, ap, arith}
+use Rattle.std.proofs.Common.{◌≡◌, ℕ, ◌<◌, List, [], ◌∷◌, length, Option, Some, None, is_some, false, slice_get, refl, sym, ap, arith}
+use Rattle.std.specs.Prelude.{IfNone}
 use Rattle.std.proofs.lemmas.Option.{none-some, same_Some}
 use Rattle.std.proofs.lemmas.List.{get_or-set_same, get_or-set_other}
 use Rattle.gptp_chain.specs.Queues.{QueuesState, queue_at, with_queue_at}
@@ -23,3 +24,7 @@ front_is (y ∷ xs) x is = (xs, ap (λ z. z ∷ xs) (same_Some y x (sym is)))
 pub no_front : {X : Type 0} (xs : List X) → None ≡ slice_get xs 0 → xs ≡ []
 no_front [] is = refl
 no_front (y ∷ xs) is = absurd (none-some y is)
+
+pub if_none : {X : Type 0} (o : Option X) (P : Type 0) → is_some o ≡ false → IfNone o P → P
+if_none None P none p = p
+if_none (Some x) P none p = absurd cc

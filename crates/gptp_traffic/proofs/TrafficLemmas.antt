@@ -311,7 +311,7 @@ module _ (links : List JoinedLink) (pending after : PendingView) (i : ℕ) (dire
 pub frame_there : {X : Type 0} (o : Option X) (links : List JoinedLink) (frames : List (List Frame)) (i : ℕ)
     (direction : Direction) (now : ℕ) (n : Net) → n.channels ≡ channels_from frames 0 links
     → AtPlace i n (IsOldestDue direction now) → IfNone o (frames_at i direction frames ≡ []) → IsSome o
-frame_there (Some x) links frames i direction now n is at none = tt
+frame_there (Some x) links frames i direction now n is at none = refl
 frame_there None links frames i direction now n is at none =
     let here = ap (λ cs. slice_get cs i) (sym is) ∙ at.here in
     let front : at.so.oldest ∷ at.so.rest ≡ [] =
