@@ -7,7 +7,7 @@ use Rattle.gptp_world.proofs.world_parts.WorldParts.count_used.Goals.{then-is_in
 pub loop-link-preserved : goal.loop-link-preserved
 loop-link-preserved c =
     let parts = c.args.self.now in let link = c.loop-link.link in let test = c.loop-link-test.true in
-    let all = c.len-link-end.ensures in let known = parts.net.cables.ok.0 in
+    let all = c.links-link-end.ensures in
     let within : link < length parts.net.traffic.net.channels = omega arith in
     let (channel, here) = member_there parts.net.traffic.net.channels link within in
     let so_far = c.loop-link.invariant.is in let few = c.loop-link.invariant.few in

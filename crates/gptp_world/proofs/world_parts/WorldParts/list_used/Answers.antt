@@ -9,7 +9,7 @@ use Rattle.gptp_world.proofs.world_parts.WorldParts.list_used.Goals as goal
 pub loop-link-preserved : goal.loop-link-preserved
 loop-link-preserved c =
     let parts = c.args.self.now in let link = c.loop-link.link in let test = c.loop-link-test.true in
-    let all = c.len-link-end.ensures in let known = parts.net.cables.ok.0 in
+    let all = c.links-link-end.ensures in
     let within : link < length parts.net.traffic.net.channels = omega arith in
     let (channel, here) = member_there parts.net.traffic.net.channels link within in
     let last = used_if (live_stations parts.stations.items) channel in

@@ -11,7 +11,7 @@ use Rattle.gptp_world.proofs.world_parts.WorldParts.used_at.Goals.{then-is_in_us
 pub returns-then-before-place : goal.returns-then-before-place
 returns-then-before-place c =
     let parts = c.args.self.now in let link = c.loop-link.link in let test = c.loop-link-test.true in
-    let all = c.len-link-end.ensures in let known = parts.net.cables.ok.0 in
+    let all = c.links-link-end.ensures in
     let within : link < length parts.net.traffic.net.channels = omega arith in
     let (channel, here) = member_there parts.net.traffic.net.channels link within in
     let so_far = c.loop-link.invariant.is in let at = c.if-before-place.true in
@@ -23,7 +23,7 @@ returns-then-before-place c =
 pub loop-link-preserved : goal.loop-link-preserved
 loop-link-preserved c =
     let parts = c.args.self.now in let link = c.loop-link.link in let test = c.loop-link-test.true in
-    let all = c.len-link-end.ensures in let known = parts.net.cables.ok.0 in
+    let all = c.links-link-end.ensures in
     let within : link < length parts.net.traffic.net.channels = omega arith in
     let (channel, here) = member_there parts.net.traffic.net.channels link within in
     let so_far = c.loop-link.invariant.is in let few = c.loop-link.invariant.few in
@@ -44,7 +44,7 @@ loop-link-preserved c =
 pub returns : goal.returns
 returns c =
     let parts = c.args.self.now in let link = c.loop-link.link in let test = c.loop-link-test.false in
-    let all = c.len-link-end.ensures in let known = parts.net.cables.ok.0 in
+    let all = c.links-link-end.ensures in
     let so_far = c.loop-link.invariant.is in let sooner = c.loop-link.invariant.sooner in
     let long = ap (λ (ls : List Link). length ls) (used_all parts link (omega arith)) in
     sym (slice_get_past (used_in parts) c.args.place (omega arith))
