@@ -1,5 +1,5 @@
 -- Frames in flight by lane, as their places and as their frames.
-use Rattle.std.proofs.Common.{◌≡◌, ℕ, zero, suc, ◌-◌, List, [], ◌∷◌, ◌++◌, drop, length, map, Option, Some, None, slice_get, slice_set, slice_index_or, refl, sym, ap, ◌∙◌, arith}
+use Rattle.std.proofs.Common.{◌≡◌, ℕ, zero, suc, ◌-◌, List, [], ◌∷◌, ◌++◌, drop, length, map, Some, slice_get, slice_set, slice_index_or, refl, sym, ap, ◌∙◌, arith}
 use Rattle.std.specs.Option.{option_map, option_map_or}
 use Rattle.std.proofs.lemmas.List.{length-map}
 use Rattle.gptp_chain.specs.Queues.{QueuesState, queue_at, with_queue_at}
@@ -157,5 +157,5 @@ first-due_at flights lane =
 pub last-due_at : (flights : QueuesState FlightState) (lane : ℕ)
     → option_map_or due_of (slice_get (queue_at lane flights) (length (queue_at lane flights) - 1)) 0
     ≡ newest_due (slice_index_or (frames_of flights) lane [])
-last-due_at flights lane = 
+last-due_at flights lane =
     last-due (queue_at lane flights) ∙ ap newest_due (sym (at-mapped flight_frame flights.queues lane))

@@ -281,9 +281,9 @@ impl Pending {
         requires link { link < self.old.links }
         requires room { 0 < self.old.room }
         ensures kept { self.new ≡ record self.old {
-            entries = put due (Arrival link direction) self.old.entries;
-            frames = slice_set self.old.frames (arrival_place link direction) (frames_at link direction self.old.frames ++ frame due octets.items ∷ []);
-            room = self.new.room
+          entries = put due (Arrival link direction) self.old.entries;
+          frames = slice_set self.old.frames (arrival_place link direction) (frames_at link direction self.old.frames ++ frame due octets.items ∷ []);
+          room = self.new.room;
         } }
         ensures room { self.old.room ≤ self.new.room + 1 }
     {
@@ -308,9 +308,9 @@ impl Pending {
     pub fn take_arrival(&mut self, link: usize, direction: Direction) -> Option<Vec<u8>>
         requires { link < self.old.links }
         ensures kept { self.new ≡ record self.old {
-            entries = without_first_entry (Arrival link direction) self.old.entries;
-            frames = slice_set self.old.frames (arrival_place link direction) (drop 1 (frames_at link direction self.old.frames));
-            room = self.new.room
+          entries = without_first_entry (Arrival link direction) self.old.entries;
+          frames = slice_set self.old.frames (arrival_place link direction) (drop 1 (frames_at link direction self.old.frames));
+          room = self.new.room;
         } }
         ensures room { self.old.room ≤ self.new.room }
         ensures taken { IfSome result (λ octets. IsTaken (frames_at link direction self.old.frames) octets.items (drop 1 (frames_at link direction self.old.frames))) }
@@ -333,9 +333,9 @@ impl Pending {
     pub fn cancel_arrivals(&mut self, link: usize)
         requires { link < self.old.links }
         ensures kept { self.new ≡ record self.old {
-            entries = without (Arrival link FromB) (without (Arrival link FromA) self.old.entries);
-            frames = slice_set (slice_set self.old.frames (arrival_place link FromA) []) (arrival_place link FromB) [];
-            room = self.new.room
+          entries = without (Arrival link FromB) (without (Arrival link FromA) self.old.entries);
+          frames = slice_set (slice_set self.old.frames (arrival_place link FromA) []) (arrival_place link FromB) [];
+          room = self.new.room;
         } }
         ensures room { self.old.room ≤ self.new.room }
     {
@@ -347,9 +347,9 @@ impl Pending {
     fn cancel_direction(&mut self, link: usize, direction: Direction)
         requires { link < self.old.links }
         ensures kept { self.new ≡ record self.old {
-            entries = without (Arrival link direction) self.old.entries;
-            frames = slice_set self.old.frames (arrival_place link direction) [];
-            room = self.new.room
+          entries = without (Arrival link direction) self.old.entries;
+          frames = slice_set self.old.frames (arrival_place link direction) [];
+          room = self.new.room;
         } }
         ensures room { self.old.room ≤ self.new.room }
     {

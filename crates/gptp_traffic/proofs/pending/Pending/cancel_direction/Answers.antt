@@ -28,7 +28,7 @@ returns-clause-kept c =
     let item = Arrival c.args.link c.args.direction in let lane = arrival_place c.args.link c.args.direction in
     let so_far = c.loop.invariant in
     let took = c.take_arrival.ensures in
-    let over = sym c.is_some.ensures ∙ c.loop-test.false in
+    let over = sym c.is_some.ensures ∙ c.if-is_some.false in
     let none = if_none c.take_arrival.result _ over took.none in
     let no_frame = if_none c.take_arrival.result _ over took.no_frame in
     same_state _ _ (ap (λ (p : PendingView). p.systems) took.kept ∙ so_far.systems)

@@ -1,4 +1,4 @@
-use Rattle.std.proofs.Common.{◌≡◌, map, refl, ap, ◌∙◌, arith}
+use Rattle.std.proofs.Common.{map, refl, ap, arith}
 use Rattle.gptp_traffic.specs.Flight.{flight_frame, flight_place, places_of}
 use Rattle.gptp_traffic.specs.PendingIndex.{placed_items}
 use Rattle.gptp_traffic.proofs.PendingLemmas.{same_state}

@@ -1,4 +1,4 @@
-use Rattle.std.proofs.Common.{◌∙◌, map, refl, sym, arith}
+use Rattle.std.proofs.Common.{◌∙◌, map, sym, arith}
 use Rattle.std.proofs.lemmas.List.{length-map}
 use Rattle.gptp_model.specs.Pending.{arrival_place}
 use Rattle.gptp_traffic.specs.Flight.{flight_place}

@@ -1,10 +1,10 @@
-use Rattle.std.proofs.Common.{◌≡◌, ◌-◌, ◌*◌, ◌++◌, ◌∷◌, [], ℕ, List, length, refl, ap, sym, subst, arith}
+use Rattle.std.proofs.Common.{◌≡◌, ◌-◌, ◌*◌, ◌++◌, ◌∷◌, [], ℕ, length, refl, ap, subst, arith}
 use Rattle.std.proofs.lemmas.List.{length-append}
 use Rattle.gptp_chain.specs.Queues.{QueuesState}
 use Rattle.gptp_model.specs.Pending.{arrival_place}
 use Rattle.gptp_traffic.specs.declared.pending_index.TheConstants.{TIMER_SPAN}
 use Rattle.gptp_traffic.specs.Flight.{places_of}
-use Rattle.gptp_traffic.specs.PendingIndex.{placed_items, AreFree, PendingIsIndexed}
+use Rattle.gptp_traffic.specs.PendingIndex.{placed_items, AreFree}
 use Rattle.gptp_traffic.proofs.FlightLemmas.{frames-put, many-lanes, places-put}
 use Rattle.gptp_traffic.proofs.PendingLemmas.{same_state}
 use Rattle.gptp_traffic.proofs.PendingIndexLemmas.{arrival_within, last_free, index-arrival, plain-arrival}

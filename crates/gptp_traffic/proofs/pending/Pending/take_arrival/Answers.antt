@@ -1,4 +1,4 @@
-use Rattle.std.proofs.Common.{◌≡◌, Some, None, slice_get, refl, sym, ap, ◌∙◌, ◌<◌, arith}
+use Rattle.std.proofs.Common.{refl, sym, ap, ◌∙◌, ◌<◌, arith}
 use Rattle.gptp_chain.specs.Queues.{queue_at}
 use Rattle.gptp_model.specs.Pending.{arrival_place}
 use Rattle.gptp_model.specs.declared.item.Item.TheVariants.{Arrival}

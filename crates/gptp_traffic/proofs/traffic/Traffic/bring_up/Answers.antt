@@ -1,4 +1,4 @@
-use Rattle.std.proofs.Common.{◌≡◌, ℕ, true, Some, map, refl, ap, sym, ◌∙◌, arith}
+use Rattle.std.proofs.Common.{ℕ, true, refl, ap, sym, ◌∙◌, arith}
 use Rattle.gptp_lists.proofs.PlaceLemmas.{map-set_same}
 use Rattle.gptp_model.specs.World.{Net}
 use Rattle.gptp_model.specs.Changing.{brought_up}

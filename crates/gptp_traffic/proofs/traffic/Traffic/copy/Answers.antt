@@ -1,4 +1,3 @@
-use Rattle.std.proofs.Common.{◌∙◌}
 use Rattle.gptp_traffic.proofs.traffic.Traffic.copy.Goals as goal
 
 pub invariant_of-result : goal.invariant_of-result

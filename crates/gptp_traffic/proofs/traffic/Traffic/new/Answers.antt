@@ -1,4 +1,4 @@
-use Rattle.std.proofs.Common.{sym, ◌∙◌, arith}
+use Rattle.std.proofs.Common.{arith}
 use Rattle.gptp_traffic.proofs.TrafficLemmas.{channels-idle}
 use Rattle.gptp_traffic.proofs.traffic.Traffic.new.Goals as goal
 

@@ -1,4 +1,4 @@
-use Rattle.std.proofs.Common.{◌≡◌, ◌+◌, max, Some, None, refl, ap, sym, ◌∙◌, arith}
+use Rattle.std.proofs.Common.{◌+◌, max, Some, None, refl, ap, sym, ◌∙◌, arith}
 use Rattle.gptp_model.specs.World.{Channel}
 use Rattle.gptp_traffic.specs.Pending.{PendingView}
 use Rattle.gptp_traffic.proofs.TrafficLemmas.{channel_is, joins-stay, lane_within, lent_link, many-channels, net-sent}
@@ -14,7 +14,7 @@ fate-requires g c =
     let t = c.self.inside in let one = c.index.result.now in
     let there = lent_link t.pending.frames t.links.items c.args.lane.link one
     (rw (← c.self.view_is) at c.requires.link) c.index.ensures in
-    c.self.invariant.fit c.args.lane.link one there
+    record { fit = c.self.invariant.fit c.args.lane.link one there }
 
 pub newest_due-requires : goal.newest_due-requires
 newest_due-requires g c =

@@ -1,11 +1,8 @@
-use Rattle.std.proofs.Common.{◌≡◌, Some, refl, ap, sym, subst, ◌∙◌, arith}
-use Rattle.std.specs.Prelude.{IfSome}
+use Rattle.std.proofs.Common.{refl, ap, sym, arith}
 use Rattle.std.proofs.lemmas.Option.{slice_get_within}
-use Rattle.gptp_links.specs.Queue.{IsTaken}
-use Rattle.gptp_model.specs.World.{Net}
-use Rattle.gptp_traffic.specs.Pending.{frames_at, PendingView}
+use Rattle.gptp_traffic.specs.Pending.{PendingView}
 use Rattle.gptp_traffic.specs.Traffic.{TrafficState}
-use Rattle.gptp_traffic.proofs.TrafficLemmas.{frame_there, joins-stay, lane_within, link_of, many-channels, net-taken}
+use Rattle.gptp_traffic.proofs.TrafficLemmas.{frame_there, joins-stay, lane_within, link_of, net-taken}
 use Rattle.gptp_traffic.proofs.traffic.Traffic.take.Goals as goal
 
 pub take_arrival-requires : goal.take_arrival-requires

@@ -1,4 +1,4 @@
-use Rattle.std.proofs.Common.{◌≡◌, ℕ, false, Some, map, refl, ap, sym, ◌∙◌, arith}
+use Rattle.std.proofs.Common.{false, refl, ap, sym, ◌∙◌, arith}
 use Rattle.gptp_lists.proofs.PlaceLemmas.{map-set_same}
 use Rattle.gptp_model.specs.Changing.{taken_down}
 use Rattle.gptp_traffic.specs.declared.joined_link.JoinedLink.{JoinedLink}
