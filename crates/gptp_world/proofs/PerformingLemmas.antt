@@ -35,7 +35,7 @@ use Rattle.gptp_world.specs.Memory.{AsksForNoMemory, ChangesWithoutMemory}
 use Rattle.gptp_world.specs.Net.{between, LinkIs}
 use Rattle.gptp_world.specs.Performing.{octets_of, ActIsDone, CanChange, HasRoomForTarget, Injected, OfLink, OfSystem, Turned, TurnsOver}
 use Rattle.gptp_model.specs.Sound.{AreLinked, Flows, IsSound, IsWired}
-use Rattle.gptp_world.specs.WorldParts.{clock_at_place, world_of, HasRoomToCall, HasTimerAt, IsWorldParts, SystemIs}
+use Rattle.gptp_world.specs.WorldParts.{clock_at_place, world_of, HasRoomToCall, IsWorldParts, SystemIs}
 use Rattle.gptp_world.specs.Telling.{HasRoomAtEnds}
 use Rattle.gptp_model.specs.World.{Channel, WorldState, port_id, receiver, sender}
 use Rattle.gptp_world.proofs.ActTargetLemmas.{lane_joins}
@@ -145,14 +145,6 @@ pub free_aim : (act : Act) (target : ActTarget) (parts : WorldParts) → IsTarge
     → AsksForNoMemory act (world_of parts) → AsksForNone target parts
 free_aim (Changing change) target parts at asks = free_change change target parts at asks
 free_aim act target parts at asks = absurd asks
-
--- a timer that an act is about is one of the system
-pub timer_there : (act : Act) (place : ℕ) (timer : Timer) (parts : WorldParts)
-    → IsTargetOf act (world_of parts) (aims.Timer place timer) → HasTimerAt place timer parts
-timer_there (Expire number own) place timer parts (at, same) =
-    record { station = at.station; here = at.is.here; timer_of = rw same at.timer_of }
-timer_there (Changing (changes.LinkDown number port)) place timer parts at = absurd at
-timer_there act place timer parts at = absurd at
 
 -- ---- a frame that arrives
 

@@ -45,7 +45,7 @@ net_kept used net net' only is =
     record { joins = rw (channels, directory) is.joins }
 
 pub timers_set : (used place : ℕ) (station : Station) (net net' : Between) → OnlyEntries used net net'
-    → net'.pending.entries ≡ set_timers place station (timers_from 1 station.system.ports) net.traffic.net.pending
+    → net'.traffic.net.pending ≡ set_timers place station (timers_from 1 station.system.ports) net.traffic.net.pending
     → between net' ≡ all_timers place station (between net)
 timers_set used place station net net' only entries = ap₂ made only.channels entries
   where

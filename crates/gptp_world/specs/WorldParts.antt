@@ -6,10 +6,9 @@ use Rattle.gptp_system.specs.declared.answer.Answer.{Answer}
 use Rattle.gptp_system.specs.declared.sending.Sending.{Sending}
 use Rattle.gptp_setup.specs.Intervals.{IsMoment}
 use Rattle.gptp_setup.specs.declared.limits.TheConstants.{MOST_PORTS}
-use Rattle.gptp_setup.specs.declared.timer.Timer.{Timer}
 use Rattle.gptp_system.specs.Input.{Input, IsTimely, Steps}
 use Rattle.gptp_system.specs.State.{SystemState, clock}
-use Rattle.gptp_system.specs.Steps.{HasPortNumber, IsTimerOf}
+use Rattle.gptp_system.specs.Steps.{HasPortNumber}
 use Rattle.gptp_traffic.specs.declared.joined_link.Lane.{Lane}
 use Rattle.gptp_model.specs.declared.item.Item.{Item}
 use Rattle.gptp_model.specs.declared.item.Item.TheVariants.{Expiry, Arrival}
@@ -60,12 +59,6 @@ pub record IsLiveAt (place : ℕ) (parts : WorldParts) : Type 0 where
 abbrev pub SystemIs : Bool → ℕ → WorldParts → Type 0
 SystemIs live place parts =
     (station : Station) → slice_get parts.stations.items place ≡ Some station → station.live ≡ live
-
--- a timer of the system at a place
-pub record HasTimerAt (place : ℕ) (timer : Timer) (parts : WorldParts) : Type 0 where
-  pub station : Station
-  pub here : slice_get parts.stations.items place ≡ Some station
-  pub timer_of : IsTimerOf station.system timer
 
 -- there is room for whatever a call of the system at a place can leave
 pub record HasRoomToCall (place : ℕ) (parts : WorldParts) : Type 0 where

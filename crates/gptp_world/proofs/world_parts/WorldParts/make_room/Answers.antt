@@ -1,7 +1,7 @@
-use Rattle.std.proofs.Common.{◌≡◌, ◌*◌, ◌+◌, ◌≤◌, length, Some, slice_get, refl, ap, sym, ◌∙◌, arith}
-use Rattle.std.specs.Prelude.{OnOk}
+use Rattle.std.proofs.Common.{◌≡◌, Some, slice_get, refl, ap, sym, ◌∙◌, arith}
 use Rattle.std.proofs.lemmas.Option.{slice_get-get_or}
-use Rattle.gptp_world.proofs.RoomLemmas.{both_ok, on_ok, room_to_call, stage_stays}
+use Rattle.gptp_world.specs.WorldParts.{HasRoomToCall}
+use Rattle.gptp_world.proofs.RoomLemmas.{both_ok, room_to_call, stage_stays}
 use Rattle.gptp_world.proofs.world_parts.WorldParts.make_room.Goals as goal
 
 pub returns-clause-parts : goal.returns-clause-parts
@@ -13,7 +13,7 @@ returns-clause-room c =
     let here : slice_get parts.stations.items c.args.place ≡ Some one =
     slice_get-get_or parts.stations.items c.args.place one c.requires.place ∙ ap Some (sym c.index.ensures) in
     let count = c.ports-ports.ensures in let ports = c.from-count.ensures in
-    on_ok c.reserve.result _ _
-    (λ made. room_to_call _ c.args.place one here (omega (arith, count, ports, made.0))
-    (omega (arith, count, ports, made.1)))
-    (both_ok c.reserve.result _ _ c.reserve.ensures.entries c.reserve.ensures.buffers)
+    both_ok c.reserve.result _ _ (HasRoomToCall c.args.place (record parts { net = c.reserve.new.self }))
+    c.reserve.ensures.entries c.reserve.ensures.buffers
+    (λ entries buffers. room_to_call (record parts { net = c.reserve.new.self }) c.args.place one here
+    (omega (arith, count, ports, entries)) (omega (arith, count, ports, buffers)))

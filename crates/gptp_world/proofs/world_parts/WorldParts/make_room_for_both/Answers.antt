@@ -1,6 +1,7 @@
 use Rattle.std.proofs.Common.{◌≡◌, Some, slice_get, refl, ap, sym, ◌∙◌, arith}
 use Rattle.std.proofs.lemmas.Option.{slice_get-get_or}
-use Rattle.gptp_world.proofs.RoomLemmas.{both_ok, on_ok, room_to_call_both, stage_stays}
+use Rattle.gptp_world.specs.WorldParts.{HasRoomToCallBoth}
+use Rattle.gptp_world.proofs.RoomLemmas.{both_ok, room_to_call_both, stage_stays}
 use Rattle.gptp_world.proofs.world_parts.WorldParts.make_room_for_both.Goals as goal
 
 pub returns-clause-parts : goal.returns-clause-parts
@@ -14,7 +15,8 @@ returns-clause-room c =
     let there : slice_get parts.stations.items c.args.second ≡ Some far =
     slice_get-get_or parts.stations.items c.args.second far c.requires.second ∙ ap Some (sym c.index-2.ensures) in
     let near_count = c.ports-near.ensures in let far_count = c.ports-far.ensures in
-    on_ok c.reserve.result _ _
-    (λ made. room_to_call_both _ c.args.first c.args.second near far here there
-    (omega (arith, near_count, far_count, made.0)) (omega (arith, near_count, far_count, made.1)))
-    (both_ok c.reserve.result _ _ c.reserve.ensures.entries c.reserve.ensures.buffers)
+    both_ok c.reserve.result _ _
+    (HasRoomToCallBoth c.args.first c.args.second (record parts { net = c.reserve.new.self }))
+    c.reserve.ensures.entries c.reserve.ensures.buffers
+    (λ entries buffers. room_to_call_both (record parts { net = c.reserve.new.self }) c.args.first c.args.second near far
+    here there (omega (arith, near_count, far_count, entries)) (omega (arith, near_count, far_count, buffers)))

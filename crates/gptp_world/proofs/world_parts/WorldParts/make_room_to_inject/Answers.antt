@@ -1,5 +1,7 @@
-use Rattle.std.proofs.Common.{refl}
-use Rattle.gptp_world.proofs.RoomLemmas.{both_ok, on_ok, stage_stays}
+use Rattle.std.proofs.Common.{true, refl}
+use Rattle.gptp_world.specs.Net.{LinkIs}
+use Rattle.gptp_world.specs.Room.{for_frame, WorldHasRoom}
+use Rattle.gptp_world.proofs.RoomLemmas.{both_ok, stage_stays}
 use Rattle.gptp_world.proofs.PerformingLemmas.{never_both}
 use Rattle.gptp_world.proofs.world_parts.WorldParts.make_room_to_inject.Goals as goal
 
@@ -8,8 +10,9 @@ returns-in-true-clause-parts c = stage_stays c.args.self.now _ refl refl refl c.
 
 pub returns-in-true-clause-room : goal.returns-in-true-clause-room
 returns-in-true-clause-room c =
-    on_ok c.reserve.result _ _ (λ made up. record { entries = made.0; buffers = made.1 })
-    (both_ok c.reserve.result _ _ c.reserve.ensures.entries c.reserve.ensures.buffers)
+    both_ok c.reserve.result _ _ (LinkIs true c.args.lane.link c.reserve.new.self → WorldHasRoom for_frame c.reserve.new.self)
+    c.reserve.ensures.entries c.reserve.ensures.buffers
+    (λ entries buffers up. record { entries = entries; buffers = buffers })
 
 pub returns-in-true-clause-free : goal.returns-in-true-clause-free
 returns-in-true-clause-free c = λ down. absurd

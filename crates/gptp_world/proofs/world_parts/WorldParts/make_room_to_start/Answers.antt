@@ -1,6 +1,7 @@
-use Rattle.std.proofs.Common.{◌≡◌, ◌*◌, ◌+◌, ◌≤◌, Some, slice_get, refl, ap, sym, ◌∙◌, arith}
+use Rattle.std.proofs.Common.{◌≡◌, Some, slice_get, refl, ap, sym, ◌∙◌}
 use Rattle.std.proofs.lemmas.Option.{slice_get-get_or}
-use Rattle.gptp_world.proofs.RoomLemmas.{both_ok, on_ok, room_to_start, stage_stays}
+use Rattle.gptp_world.specs.Starting.{HasRoomToStart}
+use Rattle.gptp_world.proofs.RoomLemmas.{both_ok, room_to_start, stage_stays}
 use Rattle.gptp_world.proofs.world_parts.WorldParts.make_room_to_start.Goals as goal
 
 pub returns-clause-parts : goal.returns-clause-parts
@@ -12,6 +13,7 @@ returns-clause-room c =
     let here : slice_get parts.stations.items c.args.place ≡ Some one =
     slice_get-get_or parts.stations.items c.args.place one c.requires.place ∙ ap Some (sym c.index.ensures) in
     let same = c.from-count.ensures ∙ c.ports-ports.ensures in
-    on_ok c.reserve.result _ _
-    (λ made. room_to_start _ c.args.place one here (rw (← same) made.0) (rw (← same) made.1))
-    (both_ok c.reserve.result _ _ c.reserve.ensures.entries c.reserve.ensures.buffers)
+    both_ok c.reserve.result _ _ (HasRoomToStart c.args.place (record parts { net = c.reserve.new.self }))
+    c.reserve.ensures.entries c.reserve.ensures.buffers
+    (λ entries buffers. room_to_start (record parts { net = c.reserve.new.self }) c.args.place one here
+    (rw (← same) entries) (rw (← same) buffers))
