@@ -33,7 +33,8 @@ many-channels frames first (link ∷ links) = ap suc (many-channels frames (firs
 
 -- the link at a place, and its channel
 pub channel_there : (frames : List (List Frame)) (first : ℕ) (links : List JoinedLink) (i : ℕ) (link : JoinedLink)
-    → slice_get links i ≡ Some link → slice_get (channels_from frames first links) i ≡ Some (channel_at frames (first + i) link)
+    → slice_get links i ≡ Some link
+    → slice_get (channels_from frames first links) i ≡ Some (channel_at frames (first + i) link)
 channel_there frames first [] i link there = absurd (none-some link there)
 channel_there frames first (x ∷ links) zero link there =
     ap₂ (λ n l. Some (channel_at frames n l)) (omega arith) (same_Some x link there)

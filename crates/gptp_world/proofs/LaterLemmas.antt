@@ -10,9 +10,6 @@ use Rattle.gptp_scenario.specs.declared.change.Change.TheVariants as changes
 use Rattle.gptp_world.specs.declared.world_parts.WorldParts.{WorldParts}
 use Rattle.gptp_model.specs.Acts.{at}
 use Rattle.gptp_world.specs.ActTarget.{IsTargetOf, IsTargetOfChange}
-use Rattle.gptp_system.specs.declared.reach.Reach.{Reach}
-use Rattle.gptp_system.specs.declared.reach.Reach.TheVariants as reaches
-use Rattle.gptp_system.specs.Reach.{frame_reach, timer_reach}
 use Rattle.gptp_world.specs.Performing.{HasRoomForTarget}
 use Rattle.gptp_world.specs.WorldParts.{HasRoomToCall, IsWorldParts}
 use Rattle.gptp_world.specs.Starting.{HasRoomToStart}

@@ -1,5 +1,5 @@
 -- Whether a link that is up is at a port, and that calls leave it so.
-use Rattle.std.proofs.Common.{◌≡◌, ◌≢◌, ◌⊎◌, ℕ, zero, suc, Bool, true, false, ◌&&◌, ◌||◌, List, [], ◌∷◌, Option, Some, None, slice_get, slice_set, map, IfSome, IfNone, is_some, refl, ap, sym, ◌∙◌, inl, inr}
+use Rattle.std.proofs.Common.{◌≡◌, ◌≢◌, ◌⊎◌, ℕ, zero, suc, Bool, true, false, ◌&&◌, ◌||◌, List, [], ◌∷◌, Option, Some, None, slice_get, slice_set, IfSome, IfNone, is_some, refl, ap, sym, ◌∙◌, inl, inr}
 use Rattle.std.proofs.lemmas.Bool.Decides.{eqb_tells}
 use Rattle.std.proofs.lemmas.Option.{none-some, same_Some}
 use Rattle.std.proofs.Math.Dec.{eqb}
@@ -21,7 +21,6 @@ use Rattle.gptp_model.specs.World.{port_id}
 use Rattle.gptp_model.specs.Sends.{entered, IsUnlinkedPort, SendsAll, SendsOne}
 use Rattle.gptp_model.specs.World.{Channel, Net, WorldState, sender, with_queue}
 use Rattle.gptp_world.proofs.NetLemmas.{known_channel}
-use Rattle.gptp_lists.proofs.MappedLemmas.{mapped_there}
 
 -- ---- the ends of a link
 

@@ -1,10 +1,10 @@
 -- The links that are up between two live systems, counted and listed one after another.
-use Rattle.std.proofs.Common.{◌≡◌, ◌≤◌, ◌+◌, ℕ, zero, suc, Bool, true, false, List, [], ◌∷◌, ◌++◌, map, length, take, Some, None, slice_get, refl, sym, ap, subst, ◌∙◌, arith, append-nil, length-append}
+use Rattle.std.proofs.Common.{◌≡◌, ◌≤◌, ◌+◌, ℕ, zero, suc, Bool, true, false, List, [], ◌∷◌, ◌++◌, length, take, Some, None, slice_get, refl, sym, ap, subst, ◌∙◌, arith, append-nil, length-append}
 use Rattle.std.proofs.lemmas.Option.{none-some, same_Some}
 use Rattle.gptp_graph.specs.Snapshot.{Link, System}
 use Rattle.gptp_vector.specs.declared.port.PortId.{PortId}
-use Rattle.std.proofs.lemmas.List.{length-map, take_all}
-use Rattle.gptp_lists.proofs.MappedLemmas.{mapped_there, taken}
+use Rattle.std.proofs.lemmas.List.{take_all}
+use Rattle.gptp_lists.proofs.MappedLemmas.{taken}
 use Rattle.gptp_lists.proofs.SystemSpecLemmas.{In-map}
 use Rattle.gptp_model.specs.World.{Channel, receiver}
 use Rattle.gptp_model.specs.declared.station.Station.{Station}

@@ -1,4 +1,4 @@
-use Rattle.std.proofs.Common.{◌∙◌, refl, map, ap, arith}
+use Rattle.std.proofs.Common.{◌∙◌, map, ap}
 use Rattle.gptp_traffic.specs.Traffic.{join_of, TrafficState}
 use Rattle.gptp_world.proofs.net.Net.reserve.Goals as goal
 

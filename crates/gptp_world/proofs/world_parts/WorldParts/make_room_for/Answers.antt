@@ -73,8 +73,8 @@ make_room_to_hear-requires-clause-link c =
     subst (λ target. IsWithin target parts) c.in-Arrival.is
     (aim_within c.args.act.now c.args.target parts c.requires.target)
 
-pub make_room-requires-2-clause-place : goal.make_room-requires-2-clause-place
-make_room-requires-2-clause-place c =
+pub make_room-requires-in-Timer-clause-place : goal.make_room-requires-in-Timer-clause-place
+make_room-requires-in-Timer-clause-place c =
     let parts = c.args.self.now in
     subst (λ target. IsWithin target parts) c.in-Timer.is
     (aim_within c.args.act.now c.args.target parts c.requires.target)

@@ -1,4 +1,4 @@
-use Rattle.std.proofs.Common.{subst, sym}
+use Rattle.std.proofs.Common.{subst}
 use Rattle.gptp_scenario.specs.Allowed.{IsFitAct}
 use Rattle.gptp_world.specs.ActTarget.{IsTargetOf}
 use Rattle.gptp_world.specs.Performing.{HasRoomForTarget}

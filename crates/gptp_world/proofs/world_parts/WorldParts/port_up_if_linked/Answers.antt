@@ -1,5 +1,4 @@
 use Rattle.std.proofs.Common.{true, sym, ◌∙◌}
-use Rattle.gptp_system.specs.Input.{PortUp}
 use Rattle.gptp_world.specs.Room.{for_call}
 use Rattle.gptp_world.proofs.ComingUpLemmas.{linked, none_up, one_came}
 use Rattle.gptp_world.proofs.NeedLemmas.{unsent}

@@ -1,4 +1,4 @@
-use Rattle.std.proofs.Common.{◌≡◌, Some, ap, sym, ◌∙◌}
+use Rattle.std.proofs.Common.{Some, ap, sym, ◌∙◌}
 use Rattle.gptp_invariants.specs.WorldStanding.{live_stations}
 use Rattle.gptp_traffic.specs.declared.joined_link.Join.{Join}
 use Rattle.gptp_world.specs.Used.{snapshot_link}
