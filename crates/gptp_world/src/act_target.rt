@@ -3,12 +3,12 @@
 ghost use Rattle.std.specs.Prelude.{◌≡◌, ◌↔◌, ◌≤◌, IsTrue, Some};
 
 use crate::delivering::narrowed;
-use gptp_traffic::Lane;
 use crate::world_parts::WorldParts;
 use gptp_links::{Bounds, Direction};
 use gptp_model::{Act, Change};
 use gptp_setup::MOST_PORTS;
 use gptp_system::Timer;
+use gptp_traffic::Lane;
 use gptp_vector::ClockId;
 
 /// What an act is about: links and systems by place.

@@ -56,8 +56,7 @@ impl WorldParts {
     {
         let ports = self.stations[place].system.ports();
         let count = usize::from(ports);
-        self.net
-            .reserve(4 * count + 3 + count * (6 * count + 3), count * (2 * count))
+        self.net.reserve(4 * count + 3 + count * (6 * count + 3), count * (2 * count))
     }
 
     /// Makes room for the system at a place to start again, where it has failed. Refused where there is no memory for

@@ -6,10 +6,10 @@ ghost use Rattle.gptp_system.specs.Input.{given};
 ghost use Rattle.gptp_world.specs.Telling.{link_input, AreEndsOf, IsEndAt};
 
 use crate::directory::Directory;
-use gptp_traffic::Lane;
 use crate::world_parts::WorldParts;
 use gptp_links::{Direction, Fate};
 use gptp_system::Input;
+use gptp_traffic::Lane;
 use std::alloc::AllocError;
 
 /// An end of a link: a port of the system at a place.

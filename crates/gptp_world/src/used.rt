@@ -3,10 +3,10 @@
 ghost use Rattle.std.specs.Prelude.{◌≡◌, ◌<◌, ◌++◌, length, map, option_map, slice_get, IfOk, OnOk, Some};
 ghost use Rattle.gptp_invariants.specs.WorldStanding.{snapshot_of};
 
-use gptp_traffic::Lane;
 use crate::world_core::WorldCore;
 use crate::world_parts::WorldParts;
 use gptp_links::Direction;
+use gptp_traffic::Lane;
 use gptp_vector::PortId;
 use std::alloc::{AllocError, Global};
 
