@@ -233,3 +233,20 @@ module _ {T : Type 0} where
           | inl old ↦ apart k old was
           | inr vacant ↦ stands s other.count other.head k was vacant
         ]
+
+  -- ---- a value by its key
+
+  -- the value that stands at a key of a chain
+  pub value_at : (s : ℕ → Option (Node T)) (n key i k : ℕ) → slice_get (keys s n key) i ≡ Some k
+      → option_map (λ (m : Node T). m.value) (s k) ≡ slice_get (map (λ (p : ℕ × T). p.1) (keyed_values s n key)) i
+  value_at s zero key i k there = absurd (none-some k there)
+  value_at s (suc n) key i k there = by (s key) refl (value_at s n) i there where
+    by : (o : Option (Node T)) → s key ≡ o
+        → ((next j l : ℕ) → slice_get (keys s n next) j ≡ Some l
+        → option_map (λ (m : Node T). m.value) (s l) ≡ slice_get (map (λ (p : ℕ × T). p.1) (keyed_values s n next)) j)
+        → (j : ℕ) → slice_get (keys_in (keyed_from s n key o)) j ≡ Some k
+        → option_map (λ (m : Node T). m.value) (s k) ≡ slice_get (map (λ (p : ℕ × T). p.1) (keyed_from s n key o)) j
+    by None is ih j there = absurd (none-some k there)
+    by (Some m) is ih zero there =
+        let same : key ≡ k = same_Some key k there in rw (← same, is) refl
+    by (Some m) is ih (suc j) there = ih m.next j k there

@@ -10,7 +10,7 @@ use Rattle.slab.specs.Slab.{Slab, get, slab_len, IsSlabClone, IsSlotClone}
 use Rattle.gptp_lists.specs.Members.{In}
 use Rattle.gptp_lists.proofs.MappedLemmas.{mapped_there}
 use Rattle.gptp_lists.proofs.PlaceLemmas.{member_there, read, set_each}
-use Rattle.gptp_chain.specs.Chain.{no_chain, keyed_values, chain_keys, chain_values, IsChained, ChainsAreApart, ChangesOne, AreChained}
+use Rattle.gptp_chain.specs.Chain.{no_chain, keyed_values, chain_keys, chain_values, IsChained, IsNodeClone, ChainsAreApart, ChangesOne, AreChained}
 use Rattle.gptp_chain.specs.Queues.{QueuesState, queue_at, with_queue_at}
 use Rattle.gptp_chain.specs.declared.chain.Chain.{Chain}
 use Rattle.gptp_chain.specs.declared.chain.Node.{Node}
@@ -77,6 +77,14 @@ module _ {T : Type 0} where
         λ none. sym many ∙ ap length (sym queue ∙ none),
       )
 
+  -- the last value of a queue, by the count of its chain
+  pub last_there : (s : Slab (Node T)) (chains : List Chain) (place : ℕ) (c : Chain) → AreChained s chains
+      → slice_get chains place ≡ Some c
+      → slice_get (chain_values (get s) c) (c.count - 1)
+      ≡ slice_get (queue_at place (state s chains)) (length (queue_at place (state s chains)) - 1)
+  last_there s chains place c are there =
+      rw (queue_there s chains place c there, counted (get s) c (are.each place c there)) refl
+
   few_there : (s : Slab (Node T)) (chains : List Chain) (place : ℕ) (c : Chain) → AreChained s chains
       → slice_get chains place ≡ Some c → c.count ≤ slab_len s
   few_there s chains place c are there =
@@ -134,20 +142,24 @@ module _ {T : Type 0} where
 
   -- ---- a copy
 
-  -- the nodes of a slab of which each is a clone, where a clone is the same
-  slots-copied : (xs ys : List (Option (Node T))) → AllZip (IsSlotClone (λ (node copy : Node T). copy ≡ node)) xs ys
-      → ys ≡ xs
-  slots-copied [] [] same = refl
-  slots-copied [] (y ∷ ys) same = absurd same
-  slots-copied (x ∷ xs) [] same = absurd same
-  slots-copied (x ∷ xs) (y ∷ ys) same = ap₂ (λ z zs. z ∷ zs) (by x y same.0) (slots-copied xs ys same.1) where
-    by : (a b : Option (Node T)) → IsSlotClone (λ (node copy : Node T). copy ≡ node) a b → b ≡ a
-    by None b same = same
-    by (Some node) None same = absurd same
-    by (Some node) (Some copy) same = ap Some same
-
-  module _ (s copy t : Slab (Node T)) (clones : IsSlabClone (λ (node copy : Node T). copy ≡ node) s copy)
+  -- where the clone of a value is the same
+  module _ (is_clone : T → T → Type 0) (equal : (value copy : T) → is_clone value copy → copy ≡ value)
+      (s copy t : Slab (Node T)) (clones : IsSlabClone (IsNodeClone is_clone) s copy)
       (kept : t ≡ record copy { capacity = t.capacity }) where
+    abbrev made : T → ℕ → Node T
+    made value next = record { value = value; next = next }
+
+    -- nodes of which each is a clone
+    slots-copied : (xs ys : List (Option (Node T))) → AllZip (IsSlotClone (IsNodeClone is_clone)) xs ys → ys ≡ xs
+    slots-copied [] [] same = refl
+    slots-copied [] (y ∷ ys) same = absurd same
+    slots-copied (x ∷ xs) [] same = absurd same
+    slots-copied (x ∷ xs) (y ∷ ys) same = ap₂ (λ z zs. z ∷ zs) (by x y same.0) (slots-copied xs ys same.1) where
+      by : (a b : Option (Node T)) → IsSlotClone (IsNodeClone is_clone) a b → b ≡ a
+      by None b same = same
+      by (Some node) None same = absurd same
+      by (Some node) (Some copied) same = ap Some (ap₂ made (equal node.value copied.value same.value) same.next)
+
     slots-kept : t.slots ≡ s.slots
     slots-kept = ap (λ (u : Slab (Node T)). u.slots) kept ∙ slots-copied s.slots copy.slots clones.slots
 

@@ -26,6 +26,11 @@ module _ {T : Type 0} where
   abbrev pub with_next : ℕ → Node T → Node T
   with_next next node = record node { next = next }
 
+  -- its value is a clone of that of another, and it leads to the same
+  pub record IsNodeClone (is_clone : T → T → Type 0) (node copy : Node T) : Type 0 where
+    pub value : is_clone node.value copy.value
+    pub next : copy.next ≡ node.next
+
   -- so many values from a key on, each with its key; each but the first has the key to which the one before it leads
   abbrev pub keyed_values : (ℕ → Option (Node T)) → ℕ → ℕ → List (ℕ × T)
   keyed_values nodes zero key = []

@@ -1,6 +1,6 @@
 //! Values in order of putting, chained through a slab.
 
-ghost use Rattle.std.specs.Prelude.{◌≡◌, ◌+◌, ◌^◌, ◌<◌, ◌≤◌, ◌==◌, [], ◌∷◌, ◌++◌, slice_get};
+ghost use Rattle.std.specs.Prelude.{◌≡◌, ◌+◌, ◌-◌, ◌^◌, ◌<◌, ◌≤◌, ◌==◌, [], ◌∷◌, ◌++◌, slice_get};
 ghost use Rattle.std.specs.Option.{option_copied, option_map};
 ghost use Rattle.slab.specs.Slab.{get, slab_len, HasRoomFor, Updates};
 ghost use Rattle.gptp_chain.specs.Chain.{no_chain, chain_values, with_last, with_next, ChangesOne, IsChained, JoinsValue, SameNodeRoom};
@@ -16,14 +16,14 @@ pub(crate) struct Node<T> {
     next: usize,
 }
 
-impl<T: Copy> Clone for Node<T> {
-    ghost use Rattle.std.specs.Prelude.{◌≡◌};
+impl<T: Clone> Clone for Node<T> {
+    ghost use Rattle.gptp_chain.specs.Chain.{IsNodeClone};
 
-    ghost is_clone = { λ node copy. copy ≡ node };
+    ghost is_clone = { IsNodeClone T.is_clone };
 
     fn clone(&self) -> Result<Self, AllocError> {
         Ok(Node {
-            value: self.value,
+            value: self.value.clone()?,
             next: self.next,
         })
     }
@@ -139,6 +139,20 @@ impl Chain {
             return None;
         }
         match nodes.get(self.head) {
+            Some(node) => Some(&node.value),
+            None => None,
+        }
+    }
+
+    /// The last value, if there is one.
+    pub(crate) fn last<'a, T>(&self, nodes: &'a Slab<Node<T>>) -> Option<&'a T>
+        requires { IsChained (get nodes.now) self.now }
+        ensures { option_copied result ≡ slice_get (chain_values (get nodes.now) self.now) (self.now.count - 1) }
+    {
+        if self.count == 0 {
+            return None;
+        }
+        match nodes.get(self.tail) {
             Some(node) => Some(&node.value),
             None => None,
         }

@@ -111,13 +111,23 @@ impl<T> Queues<T> {
     {
         self.chains[place].first(&self.nodes)
     }
+
+    /// The last value at a place, if there is one.
+    pub fn last(&self, place: usize) -> Option<&T>
+        requires { place < length self.now.queues }
+        ensures { option_copied result ≡ slice_get (queue_at place self.now) (length (queue_at place self.now) - 1) }
+    {
+        self.chains[place].last(&self.nodes)
+    }
 }
 
-impl<T: Copy> Queues<T> {
+impl<T: Clone> Queues<T> {
     ghost use Rattle.std.specs.Prelude.{◌≡◌, ◌≤◌, IfOk};
 
-    /// Queues with the same values, and with no less room. Refused for want of memory alone.
+    /// Queues with the same values, where a clone is the same, and with no less room. Refused where a value can't be
+    /// cloned, or for want of memory.
     pub fn copy(&self, alloc: Global) -> Result<Self, AllocError>
+        requires { (value copy : T) → T.is_clone value copy → copy ≡ value }
         ensures queues { IfOk result (λ queues. queues.queues ≡ self.now.queues) }
         ensures room { IfOk result (λ queues. self.now.room ≤ queues.room) }
     {

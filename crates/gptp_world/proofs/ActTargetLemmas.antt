@@ -8,7 +8,7 @@ use Rattle.gptp_links.specs.declared.link.Direction.TheVariants.{FromA, FromB}
 use Rattle.gptp_setup.specs.declared.timer.Timer.{Timer}
 use Rattle.gptp_system.specs.Steps.{IsTimerOf}
 use Rattle.gptp_vector.specs.declared.port.PortId.{PortId}
-use Rattle.gptp_world.specs.declared.joined_link.Lane.{Lane}
+use Rattle.gptp_traffic.specs.declared.joined_link.Lane.{Lane}
 use Rattle.gptp_world.specs.declared.net.Net.{Net as Between}
 use Rattle.gptp_world.specs.declared.world_parts.WorldParts.{WorldParts}
 use Rattle.gptp_model.specs.declared.station.Station.{Station}
@@ -21,14 +21,13 @@ use Rattle.gptp_model.specs.Sound.{IsSound}
 use Rattle.gptp_model.specs.Views.{IsActOf}
 use Rattle.gptp_model.specs.Acts.{AnyLink, AnySystem, AtLink, AtSystem, IsOldestDue}
 use Rattle.gptp_world.specs.ActTarget.{aim_of, IsTargetOf, IsLaneAt, PlaceHasClock, IsTimerAt}
-use Rattle.gptp_world.specs.JoinedLink.{channel_of}
 use Rattle.gptp_model.specs.Changing.{IsChannel}
 use Rattle.gptp_world.specs.Directory.{direction_start, BeginsAt, DirectoryState, IsDirectory, PortIsPlaced}
 use Rattle.gptp_world.specs.Net.{between, IsNet}
 use Rattle.gptp_world.specs.WorldParts.{clock_at_place, world_of, IsWorldParts}
 use Rattle.gptp_model.specs.World.{Channel, WorldState, world_queue, sender}
 use Rattle.gptp_world.proofs.EndLemmas.{station_at}
-use Rattle.gptp_world.proofs.NetLemmas.{known_cable, known_lane}
+use Rattle.gptp_world.proofs.NetLemmas.{known_channel, known_lane}
 use Rattle.gptp_model.proofs.NextDueLemmas.{next_comes, next_runs_out}
 use Rattle.gptp_lists.proofs.MappedLemmas.{mapped_there}
 
@@ -49,12 +48,8 @@ pub lane_found : (parts : WorldParts) (port : PortId) (lane : Lane) → IsWorldP
     → BeginsAt parts.net.directory.joins port lane
     → IsLaneAt port (world_of parts) lane
 lane_found parts port lane is begins =
-    let known = known_cable parts.net port lane is.net begins in
-    record {
-      channel = channel_of known.0;
-      here = mapped_there channel_of parts.net.cables.items lane.link known.0 known.1;
-      begins = known.2;
-    }
+    let known = known_channel parts.net port lane is.net begins in
+    record { channel = known.0; here = known.1; begins = known.2 }
 
 -- a link at a port has a lane that begins there
 link_lane : (net : Between) (port : PortId) (place : ℕ) (channel : Channel) → IsNet net

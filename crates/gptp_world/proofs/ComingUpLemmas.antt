@@ -1,5 +1,5 @@
 -- Ports that come up, one after another, each whose link is up.
-use Rattle.std.proofs.Common.{◌≡◌, ℕ, zero, suc, ◌+◌, ◌*◌, ◌<◌, ◌==◌, if◌then◌else◌, Bool, true, false, List, [], ◌∷◌, ◌++◌, length, map, Option, Some, slice_get, IfSome, IfNone, is_some, refl, ap, subst, sym, ◌∙◌, arith}
+use Rattle.std.proofs.Common.{◌≡◌, ℕ, zero, suc, ◌+◌, ◌*◌, ◌<◌, Bool, true, false, List, [], ◌∷◌, ◌++◌, length, map, Option, Some, slice_get, IfSome, IfNone, is_some, refl, ap, subst, sym, ◌∙◌, arith}
 use Rattle.std.proofs.lemmas.List.{append-nil, append_assoc, map-append}
 use Rattle.std.specs.List.{filter, range_with_len}
 use Rattle.std.proofs.lemmas.List.Elements.{filter-append}
@@ -10,7 +10,7 @@ use Rattle.gptp_links.proofs.DrawLemmas.{draws-append}
 use Rattle.gptp_system.specs.declared.answer.Answer.{Answer}
 use Rattle.gptp_system.specs.Input.{Input, PortUp}
 use Rattle.gptp_system.specs.State.{SystemState, clock}
-use Rattle.gptp_world.specs.declared.joined_link.Lane.{Lane}
+use Rattle.gptp_traffic.specs.declared.joined_link.Lane.{Lane}
 use Rattle.gptp_world.specs.declared.net.Net.{Net as Between}
 use Rattle.gptp_world.specs.declared.world_parts.WorldParts.{WorldParts}
 use Rattle.gptp_model.specs.declared.station.Station.{Station}
@@ -184,28 +184,23 @@ range-more a (suc n) =
 
 -- ---- room
 
-abbrev call_of : ℕ → ℕ → Need
-call_of ports number = record {
-  entries = 6 * ports + 3;
-  buffers = 2 * ports;
-  frames = λ port. if port.clock == number then 2 else 0;
-}
+abbrev call_of : ℕ → Need
+call_of ports = record { entries = 6 * ports + 3; buffers = 2 * ports }
 
--- a system with the same clock and as many ports needs the same
-pub same_call : (s s' : SystemState) → length s'.ports ≡ length s.ports → clock s' ≡ clock s → for_call s' ≡ for_call s
-same_call s s' ports clocks = ap (λ n. call_of n (clock s')) ports ∙ ap (call_of (length s.ports)) clocks
+-- a system with as many ports needs the same
+pub same_call : (s s' : SystemState) → length s'.ports ≡ length s.ports → for_call s' ≡ for_call s
+same_call s s' ports = ap call_of ports
 
 -- once more
 repeated-more : (few many : ℕ) (need : Need) → few < many → Covers (repeated many need) (both (repeated few need) need)
 repeated-more few zero need less = absurd (omega arith)
 repeated-more zero (suc many) need less =
-    record { entries = omega arith; buffers = omega arith; frames = λ port. omega arith }
+    record { entries = omega arith; buffers = omega arith }
 repeated-more (suc few) (suc many) need less =
     let rest = repeated-more few many need (omega arith) in
     record {
       entries = let e = rest.entries in omega (arith, e);
       buffers = let e = rest.buffers in omega (arith, e);
-      frames = λ port. let e = rest.frames port in omega (arith, e);
     }
 
 -- so many of the calls used no more room than they needed
@@ -225,7 +220,7 @@ more_use calls place parts middle net remain so_far one = λ station here.
     let still = remain station here in
     let need = for_call station.system in
     let used : Uses need middle.net net =
-    subst (λ (n : Need). Uses n middle.net net) (same_call station.system still.station.system still.ports still.clocks)
+    subst (λ (n : Need). Uses n middle.net net) (same_call station.system still.station.system still.ports)
     (one still.station still.here) in
     uses_less (repeated (calls + 1) need) (both (repeated calls need) need) parts.net net
     (repeated-more calls (calls + 1) need (omega arith))
@@ -242,7 +237,7 @@ room_for_next calls place parts middle has still so_far less =
     left_of (repeated calls need) need parts.net middle.net (so_far has.station has.here)
     (covered (repeated (length has.station.system.ports) need) (both (repeated calls need) need) parts.net
     (repeated-more calls (length has.station.system.ports) need less) has.room) in
-    let same = same_call has.station.system still.station.system still.ports still.clocks in
+    let same = same_call has.station.system still.station.system still.ports in
     record {
       station = still.station;
       here = still.here;

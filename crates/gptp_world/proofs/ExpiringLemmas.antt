@@ -35,7 +35,7 @@ timer_few s timers.Lapse few of = omega arith
 -- a timer that is due is one that can be pending
 pub known_timer : (parts : WorldParts) (place : ℕ) (timer : Timer) → IsWorldParts parts
     → IsTimerDue place timer parts.now (world_of parts)
-    → IsKnownItem parts.net.pending.systems parts.net.pending.links (Expiry place timer)
+    → IsKnownItem parts.net.traffic.systems (length parts.net.traffic.net.channels) (Expiry place timer)
 known_timer parts place timer is due =
     let runs = runs_out place timer parts.now (world_of parts) due.station due.here due.due in
     let within = slice_get_within parts.stations.items place due.station due.here in let places = is.systems in (

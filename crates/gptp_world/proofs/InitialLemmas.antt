@@ -18,8 +18,7 @@ use Rattle.gptp_system.proofs.StartLemmas.{length-new_ports}
 use Rattle.gptp_system.proofs.WindowLemmas.{starts_measuring_over}
 use Rattle.gptp_system.specs.State.{clock}
 use Rattle.gptp_vector.specs.declared.port.PortId.{PortId}
-use Rattle.gptp_world.specs.declared.joined_link.JoinedLink.{JoinedLink}
-use Rattle.gptp_world.specs.declared.joined_link.Lane.{Lane}
+use Rattle.gptp_traffic.specs.declared.joined_link.Lane.{Lane}
 use Rattle.gptp_world.specs.declared.net.Net.{Net as Between}
 use Rattle.gptp_scenario.specs.declared.network.SystemSpec.{SystemSpec}
 use Rattle.gptp_scenario.specs.declared.network.LinkSpec.{LinkSpec}
@@ -27,7 +26,7 @@ use Rattle.gptp_world.specs.declared.world_parts.WorldParts.{WorldParts}
 use Rattle.gptp_model.specs.declared.station.Station.{Station}
 use Rattle.gptp_model.specs.Agrees.{Agrees}
 use Rattle.gptp_model.specs.Ahead.{IsOnTime, IsWorldOnTime}
-use Rattle.gptp_world.specs.JoinedLink.{channel_of, join_of}
+use Rattle.gptp_traffic.specs.Traffic.{join_of}
 use Rattle.gptp_world.specs.Directory.{Join, directory_clocks, joins_of, direction_start, BeginsAt}
 use Rattle.gptp_model.specs.Initial.{channel_from, channels_of, initial, setup_of, station_of, stations_of}
 use Rattle.gptp_world.specs.Net.{IsNet}
@@ -253,29 +252,13 @@ initial_sound n is = record {
 -- ---- the code's tables
 
 -- the joins follow from the links
-joined : (cables : List JoinedLink) (wires : List LinkSpec) → map channel_of cables ≡ map channel_from wires
-    → map join_of cables ≡ joins_of wires
-joined [] [] e = refl
-joined [] (w ∷ wires) e = absurd cc
-joined (joined_link ∷ cables) [] e = absurd cc
-joined (joined_link ∷ cables) (w ∷ wires) e =
-    let head : channel_of joined_link ≡ channel_from w = cc in
-    let tail : map channel_of cables ≡ map channel_from wires = cc in
-    let join : Channel → Join = λ channel. record { a = channel.a; b = channel.b } in
-    ap (λ (one : Join). one ∷ map join_of cables) (ap join head)
-    ∙ ap (λ rest. join (channel_from w) ∷ rest) (joined cables wires tail)
+joined : (wires : List LinkSpec) → map join_of (map channel_from wires) ≡ joins_of wires
+joined [] = refl
+joined (w ∷ wires) = ap (λ (joins : List Join). record { a = w.a; b = w.b } ∷ joins) (joined wires)
 
-cables_counted : (cables : List JoinedLink) (wires : List LinkSpec) → map channel_of cables ≡ map channel_from wires
-    → length cables ≡ length wires
-cables_counted cables wires e =
-    sym (length-map cables channel_of) ∙ ap length e ∙ length-map wires channel_from
-
-pub idle_net : (n : NetworkState) (net : Between) → map channel_of net.cables.items ≡ channels_of n
-    → net.directory.joins ≡ joins_of n.links → net.pending.links ≡ length n.links → IsNet net
-idle_net n net cables joins links = record {
-  joins = joined net.cables.items n.links cables ∙ sym joins;
-  links = let count = cables_counted net.cables.items n.links cables in omega (arith, count, links);
-}
+pub idle_net : (n : NetworkState) (net : Between) → net.traffic.net.channels ≡ channels_of n
+    → net.directory.joins ≡ joins_of n.links → IsNet net
+idle_net n net channels joins = record { joins = ap (map join_of) channels ∙ joined n.links ∙ sym joins }
 
 clocks_kept : (n : NetworkState) (systems : List SystemSpec)
     → map clock_at_place (map (station_of n) systems) ≡ directory_clocks systems
@@ -320,7 +303,7 @@ have_few n is = each_station n (λ (station : Station). length station.system.po
 
 pub initial_stage : (n : NetworkState) (parts : WorldParts) → IsNetwork n → IsNet parts.net
     → parts.stations.items ≡ stations_of n → parts.net.directory.clocks ≡ directory_clocks n.systems
-    → parts.net.directory.joins ≡ joins_of n.links → parts.net.pending.systems ≡ length n.systems
+    → parts.net.directory.joins ≡ joins_of n.links → parts.net.traffic.systems ≡ length n.systems
     → parts.outbox.items ≡ [] → parts.now ≡ 0 → IsWorldParts parts
 initial_stage n parts is net stations clocks joins systems empty now =
     let there : (place : ℕ) (station : Station) → slice_get parts.stations.items place ≡ Some station

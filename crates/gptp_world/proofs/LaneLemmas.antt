@@ -9,7 +9,7 @@ use Rattle.gptp_vector.specs.declared.port.PortId.{PortId}
 use Rattle.gptp_links.specs.declared.link.Direction.{Direction}
 use Rattle.gptp_links.specs.declared.link.Direction.TheVariants.{FromA, FromB}
 use Rattle.gptp_world.specs.declared.directory.TheConstants.{PORT_SPAN}
-use Rattle.gptp_world.specs.declared.joined_link.Lane.{Lane}
+use Rattle.gptp_traffic.specs.declared.joined_link.Lane.{Lane}
 use Rattle.gptp_world.specs.declared.directory.Ends.{Ends}
 use Rattle.gptp_world.specs.Directory.{Join, direction_start, direction_number, lane_number, lanes_entered, BeginsAt, IsPlan, IsOut, AreOuts}
 use Rattle.gptp_lists.proofs.MappedLemmas.{same_there}

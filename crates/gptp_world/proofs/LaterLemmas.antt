@@ -10,11 +10,8 @@ use Rattle.gptp_scenario.specs.declared.change.Change.TheVariants as changes
 use Rattle.gptp_world.specs.declared.world_parts.WorldParts.{WorldParts}
 use Rattle.gptp_model.specs.Acts.{at}
 use Rattle.gptp_world.specs.ActTarget.{IsTargetOf, IsTargetOfChange}
-use Rattle.gptp_system.specs.declared.reach.Reach.{Reach}
-use Rattle.gptp_system.specs.declared.reach.Reach.TheVariants as reaches
-use Rattle.gptp_system.specs.Reach.{frame_reach, timer_reach}
 use Rattle.gptp_world.specs.Performing.{HasRoomForTarget}
-use Rattle.gptp_world.specs.WorldParts.{HasRoomWithin, IsWorldParts}
+use Rattle.gptp_world.specs.WorldParts.{HasRoomToCall, IsWorldParts}
 use Rattle.gptp_world.specs.Starting.{HasRoomToStart}
 use Rattle.gptp_world.specs.Telling.{HasRoomAtEnds}
 use Rattle.gptp_model.specs.World.{WorldState}
@@ -125,9 +122,9 @@ aim_later (Changing c) w time target is = change_later c w time target is
 abbrev pub at_time : ℕ → WorldParts → WorldParts
 at_time time parts = record parts { now = time }
 
-room_at : (r : Reach) (place : ℕ) (parts : WorldParts) (time : ℕ) → HasRoomWithin r place parts
-    → HasRoomWithin r place (at_time time parts)
-room_at r place parts time has = record { station = has.station; here = has.here; room = has.room }
+room_at : (place : ℕ) (parts : WorldParts) (time : ℕ) → HasRoomToCall place parts
+    → HasRoomToCall place (at_time time parts)
+room_at place parts time has = record { station = has.station; here = has.here; room = has.room }
 
 ends_at : (link : ℕ) (parts : WorldParts) (time : ℕ) → HasRoomAtEnds link parts
     → HasRoomAtEnds link (at_time time parts)
@@ -151,16 +148,14 @@ start_at place parts time has = record { station = has.station; here = has.here;
 pub room_later : (target : ActTarget) (parts : WorldParts) (time : ℕ) → HasRoomForTarget target parts
     → HasRoomForTarget target (at_time time parts)
 room_later (aims.Arrival lane) parts time has =
-    λ join place octets there named oldest. room_at (frame_reach octets) place parts time
-    (has join place octets there named oldest)
-room_later (aims.Timer place set) parts time has =
-    λ station here. room_at (timer_reach set station.system) place parts time (has station here)
+    λ join place there named. room_at place parts time (has join place there named)
+room_later (aims.Timer place set) parts time has = room_at place parts time has
 room_later (aims.LinkDown link) parts time has = λ up. ends_at link parts time (has up)
 room_later (aims.LinkUp link) parts time has = λ down. ends_at link parts time (has down)
 room_later (aims.LinkSet link bounds) parts time has = has
 room_later (aims.Fail place) parts time has = has
 room_later (aims.Recover place) parts time has = λ failed. start_at place parts time (has failed)
-room_later (aims.Priority1 place set) parts time has = room_at reaches.All place parts time has
+room_later (aims.Priority1 place set) parts time has = room_at place parts time has
 room_later (aims.Inject lane) parts time has = has
 
 pub stage_later : (parts : WorldParts) (time : ℕ) → IsMoment time → IsWorldParts parts

@@ -1,5 +1,4 @@
 pub mod UpPortLemmas
-pub mod SendingLemmas
 pub mod NetLemmas
 pub mod NeedLemmas
 pub mod EndLemmas
@@ -9,7 +8,6 @@ pub mod SettlingInvariantLemmas
 pub mod InitialLemmas
 pub mod SendsLemmas
 pub mod RoomLemmas
-pub mod FrameBudgetLemmas
 pub mod WorldPartsLemmas
 pub mod TellingLemmas
 pub mod StartingLemmas
@@ -17,14 +15,8 @@ pub mod ExpiringLemmas
 pub mod DeliveringLemmas
 pub mod PerformingLemmas
 pub mod ComingUpLemmas
-pub mod PlacedLemmas
-pub mod PendingIndexLemmas
 pub mod FollowLemmas
-pub mod QueueLemmas
-pub mod PendingLemmas
 pub mod TimingLemmas
-pub mod ArrivingLemmas
-pub mod ChangingLemmas
 pub mod DirectoryLemmas
 pub mod LaneLemmas
 pub mod WorldCoreLemmas

@@ -1,25 +1,20 @@
 -- Acts that are there, and due, are carried out.
-use Rattle.std.proofs.Common.{◌≡◌, ◌≢◌, ◌<◌, ℕ, Bool, true, false, not, List, [], ◌∷◌, map, length, Option, Some, slice_get, slice_index_or, refl, ap, sym, subst, ◌∙◌}
+use Rattle.std.proofs.Common.{◌≡◌, ◌≢◌, ◌<◌, ℕ, Bool, true, false, not, List, [], ◌∷◌, length, Option, Some, slice_get, slice_index_or, refl, ap, sym, subst, ◌∙◌}
 use Rattle.std.specs.Prelude.{⊤}
-use Rattle.std.proofs.lemmas.List.{length-map}
 use Rattle.std.proofs.lemmas.Option.{same_Some, slice_get_within}
 use Rattle.gptp_links.specs.declared.bounds.Bounds.{Bounds}
 use Rattle.gptp_links.specs.declared.link.Direction.{Direction}
 use Rattle.gptp_links.specs.declared.link.Direction.TheVariants.{FromA, FromB}
 use Rattle.gptp_links.specs.Fate.{Draw}
 use Rattle.gptp_system.specs.declared.answer.Answer.{Answer}
-use Rattle.gptp_system.specs.declared.reach.Reach.{Reach}
-use Rattle.gptp_system.specs.declared.reach.Reach.TheVariants as reaches
 use Rattle.gptp_setup.specs.declared.timer.Timer.{Timer}
 use Rattle.gptp_system.specs.Input.{Priority}
-use Rattle.gptp_system.specs.Reach.{frame_reach, timer_reach}
 use Rattle.gptp_system.specs.State.{clock}
 use Rattle.gptp_system.specs.Steps.{IsUp}
 use Rattle.gptp_vector.specs.declared.port.PortId.{PortId}
 use Rattle.gptp_world.specs.declared.act_target.ActTarget.{ActTarget}
 use Rattle.gptp_world.specs.declared.act_target.ActTarget.TheVariants as aims
-use Rattle.gptp_world.specs.declared.joined_link.JoinedLink.{JoinedLink}
-use Rattle.gptp_world.specs.declared.joined_link.Lane.{Lane}
+use Rattle.gptp_traffic.specs.declared.joined_link.Lane.{Lane}
 use Rattle.gptp_scenario.specs.declared.change.Act.{Act}
 use Rattle.gptp_scenario.specs.declared.change.Act.TheVariants.{Deliver, Expire, Change as Changing}
 use Rattle.gptp_scenario.specs.declared.change.Change.{Change}
@@ -32,44 +27,40 @@ use Rattle.gptp_model.specs.declared.station.Station.{Station}
 use Rattle.gptp_model.specs.Acts.{Acts, AtPlace, Changes, IsOldestDue, TellsHearing}
 use Rattle.gptp_scenario.specs.Allowed.{IsFitAct}
 use Rattle.gptp_world.specs.ActTarget.{IsTargetOf, IsTargetOfChange}
-use Rattle.gptp_world.specs.JoinedLink.{channel_of, join_of, SentOne}
+use Rattle.gptp_traffic.specs.Traffic.{join_of, SentOne}
 use Rattle.gptp_model.specs.Changing.{with_bounds, with_setup, with_station, CallsIfLive, InjectsIf}
 use Rattle.gptp_world.specs.Delivering.{Delivered, MayHear}
 use Rattle.gptp_world.specs.Directory.{direction_end, Join}
 use Rattle.gptp_world.specs.Memory.{AsksForNoMemory, ChangesWithoutMemory}
-use Rattle.gptp_world.specs.Net.{between, IsFrameDue, LinkIs}
+use Rattle.gptp_world.specs.Net.{between, LinkIs}
 use Rattle.gptp_world.specs.Performing.{octets_of, ActIsDone, CanChange, HasRoomForTarget, Injected, OfLink, OfSystem, Turned, TurnsOver}
 use Rattle.gptp_model.specs.Sound.{AreLinked, Flows, IsSound, IsWired}
-use Rattle.gptp_world.specs.WorldParts.{clock_at_place, world_of, HasRoomWithin, HasTimerAt, IsWorldParts, SystemIs}
+use Rattle.gptp_world.specs.WorldParts.{clock_at_place, world_of, HasRoomToCall, IsWorldParts, SystemIs}
 use Rattle.gptp_world.specs.Telling.{HasRoomAtEnds}
-use Rattle.gptp_model.specs.World.{Channel, WorldState, port_id, world_queue, receiver, sender}
+use Rattle.gptp_model.specs.World.{Channel, WorldState, port_id, receiver, sender}
 use Rattle.gptp_world.proofs.ActTargetLemmas.{lane_joins}
 use Rattle.gptp_world.proofs.EndLemmas.{end_same, known_join}
-use Rattle.gptp_world.proofs.NetLemmas.{from_map}
 use Rattle.gptp_lists.proofs.MappedLemmas.{mapped_there}
 use Rattle.gptp_lists.proofs.PlaceLemmas.{member_there, read}
-use Rattle.gptp_world.proofs.SendingLemmas.{queue_same}
 
 -- ---- where it is
 
 -- what an act is about is among the links, or the systems
 abbrev pub IsWithin : ActTarget → WorldParts → Type 0
-IsWithin (aims.Arrival lane) parts = lane.link < length parts.net.cables.items
+IsWithin (aims.Arrival lane) parts = lane.link < length parts.net.traffic.net.channels
 IsWithin (aims.Timer place timer) parts = place < length parts.stations.items
-IsWithin (aims.LinkDown link) parts = link < length parts.net.cables.items
-IsWithin (aims.LinkUp link) parts = link < length parts.net.cables.items
-IsWithin (aims.LinkSet link bounds) parts = link < length parts.net.cables.items
+IsWithin (aims.LinkDown link) parts = link < length parts.net.traffic.net.channels
+IsWithin (aims.LinkUp link) parts = link < length parts.net.traffic.net.channels
+IsWithin (aims.LinkSet link bounds) parts = link < length parts.net.traffic.net.channels
 IsWithin (aims.Fail place) parts = place < length parts.stations.items
 IsWithin (aims.Recover place) parts = place < length parts.stations.items
 IsWithin (aims.Priority1 place value) parts = place < length parts.stations.items
-IsWithin (aims.Inject lane) parts = lane.link < length parts.net.cables.items
+IsWithin (aims.Inject lane) parts = lane.link < length parts.net.traffic.net.channels
 
 link_within : (parts : WorldParts) (link : ℕ) (channel : Channel)
     → slice_get (world_of parts).net.channels link ≡ Some channel
-    → link < length parts.net.cables.items
-link_within parts link channel here =
-    subst (λ n. link < n) (length-map parts.net.cables.items channel_of)
-    (slice_get_within (map channel_of parts.net.cables.items) link channel here)
+    → link < length parts.net.traffic.net.channels
+link_within parts link channel here = slice_get_within parts.net.traffic.net.channels link channel here
 
 change_within : (change : Change) (target : ActTarget) (parts : WorldParts)
     → IsTargetOfChange change (world_of parts) target
@@ -92,7 +83,7 @@ change_within change target parts at = absurd at
 pub aim_within : (act : Act) (target : ActTarget) (parts : WorldParts) → IsTargetOf act (world_of parts) target
     → IsWithin target parts
 aim_within (Deliver link direction) (aims.Arrival lane) parts (same, (way, at)) =
-    subst (λ i. i < length parts.net.cables.items) (sym same) (link_within parts link at.channel at.here)
+    subst (λ i. i < length parts.net.traffic.net.channels) (sym same) (link_within parts link at.channel at.here)
 aim_within (Expire number timer) (aims.Timer place set) parts (at, same) =
     slice_get_within parts.stations.items place at.station at.is.here
 aim_within (Changing change) target parts at = change_within change target parts at
@@ -101,12 +92,12 @@ aim_within act target parts at = absurd at
 -- ---- what asks for no room
 
 -- a link is up or down, and not both
-pub never_both : (net : Between) (link : ℕ) (up : Bool) → link < length net.cables.items
-    → ((joined_link : JoinedLink) → slice_get net.cables.items link ≡ Some joined_link → up ≡ joined_link.link.up)
+pub never_both : (net : Between) (link : ℕ) (up : Bool) → link < length net.traffic.net.channels
+    → ((channel : Channel) → slice_get net.traffic.net.channels link ≡ Some channel → up ≡ channel.up)
     → LinkIs (not up) link net → ⊥
 never_both net link up within found is =
-    let (joined_link, here) = member_there net.cables.items link within
-    in by up (found joined_link here ∙ is joined_link here)
+    let (channel, here) = member_there net.traffic.net.channels link within
+    in by up (found channel here ∙ is channel here)
   where
     by : (up : Bool) → up ≡ not up → ⊥
     by true same = absurd cc
@@ -124,11 +115,8 @@ AsksForNone target parts = ⊥
 
 link_is : (parts : WorldParts) (link : ℕ) (up : Bool) (channel : Channel)
     → slice_get (world_of parts).net.channels link ≡ Some channel → channel.up ≡ up → LinkIs up link parts.net
-link_is parts link up channel here is = λ joined_link there.
-    let same : channel_of joined_link ≡ channel =
-    same_Some (channel_of joined_link) channel
-    (sym (mapped_there channel_of parts.net.cables.items link joined_link there) ∙ here) in
-    ap (λ (x : Channel). x.up) same ∙ is
+link_is parts link up channel here is = λ other there.
+    ap (λ (x : Channel). x.up) (same_Some other channel (sym there ∙ here)) ∙ is
 
 system_is : (parts : WorldParts) (place : ℕ) (live : Bool) (station : Station)
     → slice_get parts.stations.items place ≡ Some station → station.live ≡ live → SystemIs live place parts
@@ -158,28 +146,7 @@ pub free_aim : (act : Act) (target : ActTarget) (parts : WorldParts) → IsTarge
 free_aim (Changing change) target parts at asks = free_change change target parts at asks
 free_aim act target parts at asks = absurd asks
 
--- a timer that an act is about is one of the system
-pub timer_there : (act : Act) (place : ℕ) (timer : Timer) (parts : WorldParts)
-    → IsTargetOf act (world_of parts) (aims.Timer place timer) → HasTimerAt place timer parts
-timer_there (Expire number own) place timer parts (at, same) =
-    record { station = at.station; here = at.is.here; timer_of = rw same at.timer_of }
-timer_there (Changing (changes.LinkDown number port)) place timer parts at = absurd at
-timer_there act place timer parts at = absurd at
-
 -- ---- a frame that arrives
-
-pub frame_due : (parts : WorldParts) (lane : Lane) (time : ℕ)
-    → AtPlace lane.link (world_of parts).net (IsOldestDue lane.direction time) → IsFrameDue lane time parts.net
-frame_due parts lane time at =
-    let made = from_map channel_of parts.net.cables.items lane.link at.channel at.here in
-    record {
-      joined_link = made.one;
-      here = made.there;
-      oldest = at.so.oldest;
-      rest = at.so.rest;
-      front = sym (queue_same lane.direction made.one) ∙ (ap (world_queue lane.direction) (sym made.is) ∙ at.so.front);
-      due_now = at.so.due;
-    }
 
 -- nothing is in flight on a link that is down
 carries_up : (direction : Direction) (channel : Channel) (time : ℕ) → Flows direction channel
@@ -207,10 +174,9 @@ end_is : (parts : WorldParts) (link : ℕ) (direction : Direction) (join : Join)
     → slice_get parts.net.directory.joins link ≡ Some join → slice_get (world_of parts).net.channels link ≡ Some channel
     → direction_end direction join ≡ receiver direction channel
 end_is parts link direction join channel is there here =
-    let made = from_map channel_of parts.net.cables.items link channel here in
-    let one : join ≡ join_of made.one =
-    same_Some join (join_of made.one) (sym there ∙ known_join parts.net link made.one is.net made.there) in
-    ap (direction_end direction) one ∙ (end_same direction made.one ∙ ap (receiver direction) (sym made.is))
+    let one : join ≡ join_of channel =
+    same_Some join (join_of channel) (sym there ∙ known_join parts.net link channel is.net here) in
+    ap (direction_end direction) one ∙ end_same direction channel
 
 -- the port that a frame reaches is one whose link is up
 pub may_hear : (parts : WorldParts) (lane : Lane) (time : ℕ) → IsWorldParts parts → IsWired (world_of parts)
@@ -256,12 +222,9 @@ arrived answers lane reached answer octets done fate fate_after parts stage' is 
 
 -- what is so of a link with the state in which it was found
 pub of_link : (parts : WorldParts) (link : ℕ) (up : Bool) (So : Bool → Channel → Type 0)
-    → ((joined_link : JoinedLink) → slice_get parts.net.cables.items link ≡ Some joined_link → up ≡ joined_link.link.up)
+    → ((channel : Channel) → slice_get parts.net.traffic.net.channels link ≡ Some channel → up ≡ channel.up)
     → OfLink link (world_of parts) (So up) → OfLink link (world_of parts) (λ channel. So channel.up channel)
-of_link parts link up So found so = λ channel here.
-    let made = from_map channel_of parts.net.cables.items link channel here in
-    let is : up ≡ channel.up = found made.one made.there ∙ ap (λ (x : Channel). x.up) (sym made.is) in
-    subst (λ b. So b channel) is (so channel here)
+of_link parts link up So found so = λ channel here. subst (λ b. So b channel) (found channel here) (so channel here)
 
 -- what is so of one is so of the link there
 pub of_this : (w : WorldState) (link : ℕ) (one : Channel) (So : Channel → Type 0)
@@ -286,29 +249,29 @@ of_that w place one So there so = λ station here. subst So (same_Some one stati
 
 -- a frame went onto a lane whose link is up
 pub injected : {F : Type 0} (answers : Bounds → ℕ → F → Option ℕ → F → Type 0) (lane : Lane) (octets : List ℕ)
-    (fate fate_after : F) (parts : WorldParts) (net : Between) (joined_link : JoinedLink)
-    → slice_get parts.net.cables.items lane.link ≡ Some joined_link → joined_link.link.up ≡ true
-    → SentOne answers parts.now (sender lane.direction (channel_of joined_link)) octets fate fate_after
+    (fate fate_after : F) (parts : WorldParts) (net : Between) (channel : Channel)
+    → slice_get parts.net.traffic.net.channels lane.link ≡ Some channel → channel.up ≡ true
+    → SentOne answers parts.now (sender lane.direction channel) octets fate fate_after
     (between parts.net)
     (between net)
     → Injected answers lane octets fate fate_after parts (record parts { net = net })
-injected answers lane octets fate fate_after parts net joined_link here up sent =
+injected answers lane octets fate fate_after parts net channel here up sent =
     let w = world_of parts in let w' = world_of (record parts { net = net }) in let draws = sent.draw ∷ [] in
     record {
       draws = draws;
       drawn = (fate_after, sent.drawn, refl);
-      injects = of_this w lane.link (channel_of joined_link)
+      injects = of_this w lane.link channel
           (λ channel. InjectsIf channel.up (sender lane.direction channel) octets w draws w')
-          (mapped_there channel_of parts.net.cables.items lane.link joined_link here)
-          (subst (λ b. InjectsIf b (sender lane.direction (channel_of joined_link)) octets w draws w') (sym up)
+          here
+          (subst (λ b. InjectsIf b (sender lane.direction channel) octets w draws w') (sym up)
           (record { draw = sent.draw; net = between net; drawn_once = refl; sent = sent.sends; is = refl }));
     }
 
 -- none went onto one whose link is down
 pub not_injected : {F : Type 0} (answers : Bounds → ℕ → F → Option ℕ → F → Type 0) (lane : Lane) (octets : List ℕ)
     (fate : F) (parts : WorldParts)
-    → ((joined_link : JoinedLink) → slice_get parts.net.cables.items lane.link ≡ Some joined_link
-    → false ≡ joined_link.link.up)
+    → ((channel : Channel) → slice_get parts.net.traffic.net.channels lane.link ≡ Some channel
+    → false ≡ channel.up)
     → Injected answers lane octets fate fate parts parts
 not_injected answers lane octets fate parts down =
     let w = world_of parts in
@@ -420,23 +383,22 @@ same_room_at_ends link parts has =
       };
     }
 
-same_room_within : (r : Reach) (place : ℕ) (parts : WorldParts) → HasRoomWithin r place parts
-    → HasRoomWithin r place (changed_now parts)
-same_room_within r place parts has = record { station = has.station; here = has.here; room = has.room }
+same_room_to_call : (place : ℕ) (parts : WorldParts) → HasRoomToCall place parts
+    → HasRoomToCall place (changed_now parts)
+same_room_to_call place parts has = record { station = has.station; here = has.here; room = has.room }
 
 pub same_room : (target : ActTarget) (parts : WorldParts) → HasRoomForTarget target parts
     → HasRoomForTarget target (changed_now parts)
-same_room (aims.Arrival lane) parts has = λ join place octets there placed oldest.
-    same_room_within (frame_reach octets) place parts (has join place octets there placed oldest)
-same_room (aims.Timer place timer) parts has = λ station here.
-    same_room_within (timer_reach timer station.system) place parts (has station here)
+same_room (aims.Arrival lane) parts has = λ join place there placed.
+    same_room_to_call place parts (has join place there placed)
+same_room (aims.Timer place timer) parts has = same_room_to_call place parts has
 same_room (aims.LinkDown link) parts has = λ up. same_room_at_ends link parts (has up)
 same_room (aims.LinkUp link) parts has = λ down. same_room_at_ends link parts (has down)
 same_room (aims.LinkSet link bounds) parts has = has
 same_room (aims.Fail place) parts has = has
 same_room (aims.Recover place) parts has = λ failed.
     let room = has failed in record { station = room.station; here = room.here; room = room.room }
-same_room (aims.Priority1 place value) parts has = same_room_within reaches.All place parts has
+same_room (aims.Priority1 place value) parts has = same_room_to_call place parts has
 same_room (aims.Inject lane) parts has = has
 
 -- an act that is neither a delivery nor an expiry is a change

@@ -5,7 +5,7 @@ use Rattle.gptp_links.specs.Fate.{Draw, Draws}
 use Rattle.gptp_links.proofs.DrawLemmas as draws
 use Rattle.gptp_system.specs.declared.sending.Sending.{Sending}
 use Rattle.gptp_system.specs.State.{SystemState, own}
-use Rattle.gptp_world.specs.JoinedLink.{SentAll}
+use Rattle.gptp_world.specs.Net.{SentAll}
 use Rattle.gptp_world.specs.Net.{SentNext}
 use Rattle.gptp_model.specs.Sends.{IsUnlinkedPort, SendsOne, SendsAll, written}
 use Rattle.gptp_model.specs.World.{Net}

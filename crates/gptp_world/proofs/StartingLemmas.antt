@@ -101,8 +101,8 @@ fresh_ports station now is =
 pub fresh_need : (station : Station) (now : ℕ) → IsItsSetup station
     → for_start (fresh now station).system ≡ for_start station.system
 fresh_need station now is =
-    let ports = fresh_ports station now is in let named = is.named in
-    let call = same_call station.system (fresh now station).system ports named in
+    let ports = fresh_ports station now is in
+    let call = same_call station.system (fresh now station).system ports in
     ap (λ n. both (for_timers (4 * n + 3)) (repeated n (for_call (fresh now station).system))) ports
     ∙ ap (λ (need : Need). both (for_all_timers station.system) (repeated (length station.system.ports) need)) call
 
@@ -132,7 +132,7 @@ renewed_timers parts left place can is has by =
     can_set_timers left place new (renewed_stage parts left place can is by)
     (stands_there parts left place can.station new can.here by)
     (λ live. covered (for_start new.system) (for_all_timers new.system) left.net
-    (record { entries = omega arith; buffers = omega arith; frames = λ port. omega arith })
+    (record { entries = omega arith; buffers = omega arith })
     (renewed_room parts left place can has by))
 
 -- once they are set, there is room for its ports

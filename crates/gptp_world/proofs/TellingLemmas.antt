@@ -12,27 +12,25 @@ use Rattle.gptp_system.specs.Input.{Input, IsTimely}
 use Rattle.gptp_system.specs.Steps.{HasPortNumber}
 use Rattle.gptp_system.specs.State.{clock}
 use Rattle.gptp_vector.specs.declared.port.PortId.{PortId}
-use Rattle.gptp_world.specs.declared.joined_link.JoinedLink.{JoinedLink}
 use Rattle.gptp_world.specs.declared.net.Net.{Net as Between}
 use Rattle.gptp_world.specs.declared.world_parts.WorldParts.{WorldParts}
 use Rattle.gptp_model.specs.declared.station.Station.{Station}
 use Rattle.gptp_world.specs.declared.telling.End.{End}
 use Rattle.gptp_model.specs.Act.{in_state}
-use Rattle.gptp_world.specs.JoinedLink.{channel_of, join_of}
+use Rattle.gptp_traffic.specs.Traffic.{join_of}
 use Rattle.gptp_model.specs.Changing.{CallsIfLive, TellsEnds}
 use Rattle.gptp_world.specs.Directory.{direction_end, direction_start, DirectoryState, IsDirectory, IsPlan, Join}
 use Rattle.gptp_world.specs.Net.{IsNet}
 use Rattle.gptp_model.specs.World.{port_id}
-use Rattle.gptp_world.specs.Room.{both, for_call, no_room, WorldHasRoom, Need, Uses}
+use Rattle.gptp_world.specs.Room.{both, for_call, no_room, Uses}
 use Rattle.gptp_world.specs.WorldParts.{clock_at_place, world_of, Called, CallUses, HasRoomToCall, HasRoomToCallBoth, IsPortAt, IsWorldParts, IsTimelyAt}
 use Rattle.gptp_world.specs.Telling.{link_input, AreEndsOf, HasRoomAtEnds, IsEndAt, WasTold}
 use Rattle.gptp_world.specs.Timing.{AreSetFor}
 use Rattle.gptp_model.specs.World.{Channel, Net, WorldState}
-use Rattle.gptp_world.proofs.NeedLemmas.{covered, left_of}
-use Rattle.gptp_world.proofs.NetLemmas.{from_map, lane_of, MadeOf}
-use Rattle.gptp_lists.proofs.MappedLemmas.{mapped_there}
+use Rattle.gptp_world.proofs.NeedLemmas.{covered, left_of, still_room}
+use Rattle.gptp_world.proofs.NetLemmas.{lane_of}
+use Rattle.gptp_lists.proofs.MappedLemmas.{mapped, mapped_there}
 use Rattle.gptp_lists.proofs.PlaceLemmas.{get-set_other, read}
-use Rattle.gptp_world.proofs.RoomLemmas.{joins_kept}
 
 -- ---- the ends of a link
 
@@ -101,9 +99,7 @@ pub same_joins : (parts stage' : WorldParts) → IsWorldParts parts → IsWorldP
     → world_of stage' ≡ world_of parts
     → stage'.net.directory.joins ≡ parts.net.directory.joins
 same_joins parts stage' is is' world =
-    sym is'.net.joins
-    ∙ (joins_kept parts.net.cables.items stage'.net.cables.items (ap (λ (w : WorldState). w.net.channels) world)
-    ∙ is.net.joins)
+    sym is'.net.joins ∙ (ap (λ (w : WorldState). map join_of w.net.channels) world ∙ is.net.joins)
 
 -- room was made for the ends of a link
 pub room_at_ends : (parts stage' : WorldParts) (link : ℕ) (a b : End) → IsWorldParts parts → IsWorldParts stage'
@@ -131,7 +127,7 @@ room_at_ends parts stage' link a b is is' world ends room =
 -- what is between the systems becomes another of the same systems and links
 pub net_becomes : (parts : WorldParts) (net : Between) → IsWorldParts parts → IsNet net
     → net.directory ≡ parts.net.directory
-    → net.pending.systems ≡ parts.net.pending.systems → IsWorldParts (record parts { net = net })
+    → net.traffic.systems ≡ parts.net.traffic.systems → IsWorldParts (record parts { net = net })
 net_becomes parts net is after directory systems = record {
   net = after;
   clocks = rw directory is.clocks;
@@ -146,13 +142,6 @@ net_becomes parts net is after directory systems = record {
 pub net_changes : (parts : WorldParts) (net : Between) → IsWorldParts parts → IsNet net → Uses no_room parts.net net
     → IsWorldParts (record parts { net = net })
 net_changes parts net is after uses = net_becomes parts net is after uses.directory uses.systems
-
--- where a link only changes, there is as much room
-room_stays : (need : Need) (net net' : Between) → Uses no_room net net' → WorldHasRoom need net → WorldHasRoom need net'
-room_stays need net net' uses has =
-    uses.left need
-    (covered need (both no_room need) net
-    (record { entries = omega arith; buffers = omega arith; frames = λ port. omega arith }) has)
 
 -- both ends can be told: so it is once the link has changed
 pub record CanTell (a b : End) (parts : WorldParts) : Type 0 where
@@ -177,7 +166,7 @@ can_tell parts net link a b is directory ends has uses =
         station_b = room.station_b;
         here_a = room.here_a;
         here_b = room.here_b;
-        room = room_stays (both (for_call room.station_a.system) (for_call room.station_b.system)) parts.net net uses
+        room = still_room (both (for_call room.station_a.system) (for_call room.station_b.system)) parts.net net uses
             room.room;
       };
       apart = ends.apart;
@@ -233,7 +222,7 @@ room_first first second parts has = record {
   here = has.here_a;
   room = covered (both (for_call has.station_a.system) (for_call has.station_b.system))
       (for_call has.station_a.system) parts.net
-      (record { entries = omega arith; buffers = omega arith; frames = λ port. omega arith }) has.room;
+      (record { entries = omega arith; buffers = omega arith }) has.room;
 }
 
 room_second : (first second : ℕ) (parts stage' : WorldParts)
@@ -282,9 +271,9 @@ can_tell_second answers a b input fate fate_after parts stage' can told uses =
 
 -- a link is among those that the directory knows
 known_link : (net : Between) (link : ℕ) (join : Join) → IsNet net → slice_get net.directory.joins link ≡ Some join
-    → MadeOf join_of net.cables.items link join
+    → (channel : Channel) × (slice_get net.traffic.net.channels link ≡ Some channel) × (join_of channel ≡ join)
 known_link net link join is here =
-    from_map join_of net.cables.items link join (ap (λ js. slice_get js link) is.joins ∙ here)
+    mapped join_of net.traffic.net.channels link join (ap (λ js. slice_get js link) is.joins ∙ here)
 
 -- the link changed in this way, and both its ends were told
 pub record BothTold {F : Type 0} (answers : Bounds → ℕ → F → Option ℕ → F → Type 0) (input : ℕ → Input)
@@ -299,19 +288,18 @@ pub both_told : {F : Type 0} (answers : Bounds → ℕ → F → Option ℕ → 
     (changed : Channel → Net) (link : ℕ) (a b : End) (first second third : F) (parts : WorldParts) (net : Between)
     (between after : WorldParts) → IsWorldParts parts
     → AreEndsOf link a b parts.net.directory → CanTell a b (record parts { net = net })
-    → ((joined_link : JoinedLink) → slice_get parts.net.cables.items link ≡ Some joined_link
-    → (world_of (record parts { net = net })).net ≡ changed (channel_of joined_link))
+    → ((channel : Channel) → slice_get parts.net.traffic.net.channels link ≡ Some channel
+    → (world_of (record parts { net = net })).net ≡ changed channel)
     → WasTold answers a.place (input a.port) first second (record parts { net = net }) between
     → WasTold answers b.place (input b.port) second third between after
     → BothTold answers input changed link first third parts after
 both_told answers input changed link a b first second third parts net between after is ends can changes told_a told_b =
     let made = known_link parts.net link ends.join is.net ends.here in
-    let joined_link = made.one in
-    let channel = channel_of joined_link in
+    let channel = made.0 in
     let at_a : IsEndAt channel.a a parts.net.directory =
-    subst (λ (j : Join). IsEndAt j.a a parts.net.directory) made.is ends.at_a in
+    subst (λ (j : Join). IsEndAt j.a a parts.net.directory) (sym made.2) ends.at_a in
     let at_b : IsEndAt channel.b b parts.net.directory =
-    subst (λ (j : Join). IsEndAt j.b b parts.net.directory) made.is ends.at_b in
+    subst (λ (j : Join). IsEndAt j.b b parts.net.directory) (sym made.2) ends.at_b in
     let room = can.room in
     let start = world_of (record parts { net = net }) in let all = told_a.draws ++ told_b.draws in
     let tells : TellsEnds input channel start all (world_of after) =
@@ -332,9 +320,9 @@ both_told answers input changed link a b first second third parts net between af
     } in
     record {
       channel = channel;
-      here = mapped_there channel_of parts.net.cables.items link joined_link made.there;
+      here = made.1;
       draws = all;
       drawn = draws.draws-append answers first second third told_a.draws told_b.draws told_a.drawn told_b.drawn;
       tells = subst (λ n. TellsEnds input channel (record (world_of parts) { net = n }) all (world_of after))
-          (changes joined_link made.there) tells;
+          (changes channel made.1) tells;
     }

@@ -13,7 +13,7 @@ use Rattle.gptp_system.specs.Reach.{is_of_time, is_selected, same_timer}
 use Rattle.gptp_system.specs.State.{SystemState, due}
 use Rattle.gptp_system.specs.Steps.{IsTimerOf}
 use Rattle.gptp_system.specs.TimersChanged.{IsTouchedOf, Touches}
-use Rattle.gptp_world.specs.declared.joined_link.Lane.{Lane}
+use Rattle.gptp_traffic.specs.declared.joined_link.Lane.{Lane}
 use Rattle.gptp_model.specs.declared.item.Item.TheVariants.{Expiry, Arrival}
 use Rattle.gptp_world.specs.declared.net.Net.{Net as Between}
 use Rattle.gptp_world.specs.declared.world_parts.WorldParts.{WorldParts}
@@ -41,10 +41,9 @@ pub only_more : (m n : ℕ) (first second third : Between) → OnlyEntries m fir
     → OnlyEntries (m + n) first third
 only_more m n first second third a b = record {
   directory = b.directory ∙ a.directory;
-  cables = b.cables ∙ a.cables;
+  channels = b.channels ∙ a.channels;
   buffers = b.buffers ∙ a.buffers;
   systems = b.systems ∙ a.systems;
-  links = b.links ∙ a.links;
   room = let r = a.room in let q = b.room in omega arith;
 }
 
@@ -253,7 +252,7 @@ pub set_for_frame : (parts : WorldParts) (net : Between) (lane : Lane) (octets :
     → AreSetAt (λ timer. false) place (record parts { net = net })
 set_for_frame parts net lane octets channel place agrees takes station here timer off =
     ap (λ (n : Net). times_of_item (Expiry place timer) n.pending) takes.is
-    ∙ times-without_first_other (Arrival lane.link lane.direction) (Expiry place timer) parts.net.pending.entries
+    ∙ times-without_first_other (Arrival lane.link lane.direction) (Expiry place timer) parts.net.traffic.net.pending
     (no_arrival place timer lane.link lane.direction)
     ∙ agrees (Expiry place timer) ∙ ap (running timer) here
 
@@ -274,6 +273,6 @@ pub set_for_timer : (parts : WorldParts) (net : Between) (place : ℕ) (timer : 
     → AreSetAt (same_timer timer) place (record parts { net = net })
 set_for_timer parts net place timer agrees taken station here other off =
     ap (λ (n : Net). times_of_item (Expiry place other) n.pending) taken
-    ∙ times-without_first_other (Expiry place timer) (Expiry place other) parts.net.pending.entries
+    ∙ times-without_first_other (Expiry place timer) (Expiry place other) parts.net.traffic.net.pending
     (differs place timer other off)
     ∙ agrees (Expiry place other) ∙ ap (running other) here

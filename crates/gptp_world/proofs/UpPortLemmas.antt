@@ -1,5 +1,5 @@
 -- Whether a link that is up is at a port, and that calls leave it so.
-use Rattle.std.proofs.Common.{◌≡◌, ◌≢◌, ◌⊎◌, ℕ, zero, suc, Bool, true, false, ◌&&◌, ◌||◌, List, [], ◌∷◌, Option, Some, None, slice_get, slice_set, map, IfSome, IfNone, is_some, refl, ap, sym, ◌∙◌, inl, inr}
+use Rattle.std.proofs.Common.{◌≡◌, ◌≢◌, ◌⊎◌, ℕ, zero, suc, Bool, true, false, ◌&&◌, ◌||◌, List, [], ◌∷◌, Option, Some, None, slice_get, slice_set, IfSome, IfNone, is_some, refl, ap, sym, ◌∙◌, inl, inr}
 use Rattle.std.proofs.lemmas.Bool.Decides.{eqb_tells}
 use Rattle.std.proofs.lemmas.Option.{none-some, same_Some}
 use Rattle.std.proofs.Math.Dec.{eqb}
@@ -12,17 +12,15 @@ use Rattle.gptp_system.specs.declared.sending.Sending.{Sending}
 use Rattle.gptp_system.specs.Input.{Input}
 use Rattle.gptp_system.specs.State.{SystemState}
 use Rattle.gptp_vector.specs.declared.port.PortId.{PortId}
-use Rattle.gptp_world.specs.declared.joined_link.Lane.{Lane}
+use Rattle.gptp_traffic.specs.declared.joined_link.Lane.{Lane}
 use Rattle.gptp_world.specs.declared.net.Net.{Net as Between}
 use Rattle.gptp_model.specs.Act.{all_timers, in_state, Calls}
-use Rattle.gptp_world.specs.JoinedLink.{channel_of}
 use Rattle.gptp_model.specs.Changing.{is_link_end, is_up_at, CallsAll}
 use Rattle.gptp_world.specs.Net.{between, IsNet, IsUpLane}
 use Rattle.gptp_model.specs.World.{port_id}
 use Rattle.gptp_model.specs.Sends.{entered, IsUnlinkedPort, SendsAll, SendsOne}
 use Rattle.gptp_model.specs.World.{Channel, Net, WorldState, sender, with_queue}
-use Rattle.gptp_world.proofs.NetLemmas.{known_cable}
-use Rattle.gptp_lists.proofs.MappedLemmas.{mapped_there}
+use Rattle.gptp_world.proofs.NetLemmas.{known_channel}
 
 -- ---- the ends of a link
 
@@ -119,10 +117,9 @@ pub up_tells : (net : Between) (number port : ℕ) (lane : Option Lane) → IsNe
     → is_up_at (between net).channels number port ≡ is_some lane
 up_tells net number port None is up none = down_where (between net).channels number port none
 up_tells net number port (Some lane) is up none =
-    let known = known_cable net (port_id number port) lane is up.begins in
-    let same : known.0 ≡ up.joined_link = same_Some known.0 up.joined_link (sym known.1 ∙ up.here) in
-    up_where (map channel_of net.cables.items) lane.link lane.direction (channel_of known.0) number port
-    (mapped_there channel_of net.cables.items lane.link known.0 known.1) known.2 (rw same up.up)
+    let known = known_channel net (port_id number port) lane is up.begins in
+    let same : known.0 ≡ up.channel = same_Some known.0 up.channel (sym known.1 ∙ up.here) in
+    up_where net.traffic.net.channels lane.link lane.direction known.0 number port known.1 known.2 (rw same up.up)
 
 -- ---- calls
 

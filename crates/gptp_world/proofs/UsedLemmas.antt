@@ -1,20 +1,19 @@
 -- The links that are up between two live systems, counted and listed one after another.
-use Rattle.std.proofs.Common.{◌≡◌, ◌≤◌, ◌+◌, ℕ, zero, suc, Bool, true, false, List, [], ◌∷◌, ◌++◌, map, length, take, Some, None, slice_get, refl, sym, ap, subst, ◌∙◌, arith, append-nil, length-append}
+use Rattle.std.proofs.Common.{◌≡◌, ◌≤◌, ◌+◌, ℕ, zero, suc, Bool, true, false, List, [], ◌∷◌, ◌++◌, length, take, Some, None, slice_get, refl, sym, ap, subst, ◌∙◌, arith, append-nil, length-append}
 use Rattle.std.proofs.lemmas.Option.{none-some, same_Some}
 use Rattle.gptp_graph.specs.Snapshot.{Link, System}
 use Rattle.gptp_vector.specs.declared.port.PortId.{PortId}
-use Rattle.std.proofs.lemmas.List.{length-map, take_all}
-use Rattle.gptp_lists.proofs.MappedLemmas.{mapped_there, taken}
+use Rattle.std.proofs.lemmas.List.{take_all}
+use Rattle.gptp_lists.proofs.MappedLemmas.{taken}
 use Rattle.gptp_lists.proofs.SystemSpecLemmas.{In-map}
 use Rattle.gptp_model.specs.World.{Channel, receiver}
 use Rattle.gptp_model.specs.declared.station.Station.{Station}
 use Rattle.gptp_system.specs.State.{clock}
 use Rattle.gptp_invariants.specs.WorldStanding.{stations_have_clock, channel_is_used, standing_link, live_stations, standing_system, used_channels}
 use Rattle.gptp_invariants.proofs.WorldSystemLemmas.{OwnClocks, clock_in, clock_lives, clock_there, live_from, live_there}
-use Rattle.gptp_world.specs.declared.joined_link.JoinedLink.{JoinedLink}
-use Rattle.gptp_world.specs.declared.joined_link.Lane.{Lane}
+use Rattle.gptp_traffic.specs.declared.joined_link.Lane.{Lane}
 use Rattle.gptp_world.specs.declared.world_parts.WorldParts.{WorldParts}
-use Rattle.gptp_world.specs.JoinedLink.{channel_of, join_of}
+use Rattle.gptp_traffic.specs.Traffic.{join_of}
 use Rattle.gptp_world.specs.Directory.{direction_end}
 use Rattle.gptp_world.specs.WorldCore.{IsFounded}
 use Rattle.gptp_world.specs.Used.{snapshot_link, used, used_if, used_in}
@@ -46,19 +45,19 @@ lives_by stations place number station false true own here named lives known =
 lives_by stations place number station false false own here named lives known = refl
 
 -- so it is of the system at the end of a lane
-pub lives_there : (parts : WorldParts) (lane : Lane) (place : ℕ) (joined_link : JoinedLink) → IsFounded parts
-    → slice_get parts.net.cables.items lane.link ≡ Some joined_link → IsReceiver lane place parts.net.directory
+pub lives_there : (parts : WorldParts) (lane : Lane) (place : ℕ) (channel : Channel) → IsFounded parts
+    → slice_get parts.net.traffic.net.channels lane.link ≡ Some channel → IsReceiver lane place parts.net.directory
     → (station : Station) → slice_get parts.stations.items place ≡ Some station
     → station.live ≡ stations_have_clock (live_stations parts.stations.items)
-    (receiver lane.direction (channel_of joined_link)).clock
-lives_there parts lane place joined_link is here receives station there =
-    let known = receives (join_of joined_link) (known_join parts.net lane.link joined_link is.stage_kept.net here) in
-    let at = station_at parts place (direction_end lane.direction (join_of joined_link)).clock is.stage_kept known in
+    (receiver lane.direction channel).clock
+lives_there parts lane place channel is here receives station there =
+    let known = receives (join_of channel) (known_join parts.net lane.link channel is.stage_kept.net here) in
+    let at = station_at parts place (direction_end lane.direction (join_of channel)).clock is.stage_kept known in
     let one : at.station ≡ station = same_Some at.station station (sym at.here ∙ there) in
-    let named : clock station.system ≡ (receiver lane.direction (channel_of joined_link)).clock =
+    let named : clock station.system ≡ (receiver lane.direction channel).clock =
     ap (λ (x : Station). clock x.system) (sym one) ∙ (at.named
-    ∙ ap (λ port. port.clock) (end_same lane.direction joined_link)) in
-    lives_by parts.stations.items place (receiver lane.direction (channel_of joined_link)).clock station station.live _
+    ∙ ap (λ port. port.clock) (end_same lane.direction channel)) in
+    lives_by parts.stations.items place (receiver lane.direction channel).clock station station.live _
     is.sound.wired.clocks there named refl refl
 
 -- ---- one link more
@@ -138,45 +137,41 @@ used_none systems channel same = by (channel_is_used systems channel) refl
 -- those before a place
 abbrev pub used_before : WorldParts → ℕ → List Link
 used_before parts link =
-    used_channels (live_stations parts.stations.items) (take link (map channel_of parts.net.cables.items))
+    used_channels (live_stations parts.stations.items) (take link parts.net.traffic.net.channels)
 
-module _ (parts : WorldParts) (link : ℕ) (joined_link : JoinedLink)
-    (here : slice_get parts.net.cables.items link ≡ Some joined_link) where
+module _ (parts : WorldParts) (link : ℕ) (channel : Channel)
+    (here : slice_get parts.net.traffic.net.channels link ≡ Some channel) where
   abbrev systems : List System
   systems = live_stations parts.stations.items
 
-  there : slice_get (map channel_of parts.net.cables.items) link ≡ Some (channel_of joined_link)
-  there = mapped_there channel_of parts.net.cables.items link joined_link here
+  pub one_more : used_before parts (link + 1) ≡ used_before parts link ++ used_if systems channel
+  one_more = used_more systems parts.net.traffic.net.channels link channel here
 
-  pub one_more : used_before parts (link + 1) ≡ used_before parts link ++ used_if systems (channel_of joined_link)
-  one_more = used_more systems (map channel_of parts.net.cables.items) link (channel_of joined_link) there
-
-  pub counted_more : channel_is_used systems (channel_of joined_link) ≡ true
+  pub counted_more : channel_is_used systems channel ≡ true
       → length (used_before parts (link + 1)) ≡ length (used_before parts link) + 1
   counted_more is =
-      let if_used : used_if systems (channel_of joined_link) ≡ standing_link
-      (channel_of joined_link) ∷ [] = rw is refl in
+      let if_used : used_if systems channel ≡ standing_link
+      channel ∷ [] = rw is refl in
       let more = ap (λ (ls : List Link). length ls)
       (one_more ∙ ap (λ (ls : List Link). used_before parts link ++ ls) if_used) in
-      omega (arith, more, length-append (used_before parts link) (standing_link (channel_of joined_link) ∷ []))
+      omega (arith, more, length-append (used_before parts link) (standing_link channel ∷ []))
 
-  pub counted_same : channel_is_used systems (channel_of joined_link) ≡ false
+  pub counted_same : channel_is_used systems channel ≡ false
       → length (used_before parts (link + 1)) ≡ length (used_before parts link)
   counted_same is =
-      let if_used : used_if systems (channel_of joined_link) ≡ [] = rw is refl in
+      let if_used : used_if systems channel ≡ [] = rw is refl in
       ap (λ (ls : List Link). length ls) (one_more
       ∙ (ap (λ (ls : List Link). used_before parts link ++ ls) if_used ∙ append-nil (used_before parts link)))
 
-  pub stands_here : channel_is_used systems (channel_of joined_link) ≡ true
-      → slice_get (used_in parts) (length (used_before parts link)) ≡ used systems (channel_of joined_link)
+  pub stands_here : channel_is_used systems channel ≡ true
+      → slice_get (used_in parts) (length (used_before parts link)) ≡ used systems channel
   stands_here is =
-      used_here systems (map channel_of parts.net.cables.items) link (channel_of joined_link) there is
-      ∙ sym (used_yes systems (channel_of joined_link) is)
+      used_here systems parts.net.traffic.net.channels link channel here is
+      ∙ sym (used_yes systems channel is)
 
 -- before the end all stand
-pub used_all : (parts : WorldParts) (link : ℕ) → length parts.net.cables.items ≤ link
+pub used_all : (parts : WorldParts) (link : ℕ) → length parts.net.traffic.net.channels ≤ link
     → used_before parts link ≡ used_in parts
 used_all parts link past =
     ap (used_channels (live_stations parts.stations.items))
-    (take_all link (map channel_of parts.net.cables.items)
-    (let long = length-map parts.net.cables.items channel_of in omega arith))
+    (take_all link parts.net.traffic.net.channels (omega arith))

@@ -21,7 +21,7 @@ use Rattle.gptp_model.proofs.NextDueLemmas.{next_runs_out}
 
 -- the system of what is next is there
 pub next_placed : (parts : WorldParts) (time : ℕ) (item : Item) → Agrees (world_of parts)
-    → IsNext parts.net.pending.entries time item → IsPlacedItem item parts
+    → IsNext parts.net.traffic.net.pending time item → IsPlacedItem item parts
 next_placed parts time (Arrival link direction) agrees next = tt
 next_placed parts time (Expiry place timer) agrees next =
     let out = next_runs_out place timer time (world_of parts) agrees next in

@@ -1,28 +1,25 @@
 -- How a call of a system is carried out.
-use Rattle.std.proofs.Common.{◌≡◌, ◌≢◌, ◌⊎◌, ℕ, ◌*◌, ◌≤◌, ◌==◌, if◌then◌else◌, Bool, true, false, ◌&&◌, List, [], ◌∷◌, length, map, Option, Some, slice_get, slice_set, slice_index_or, refl, ap, subst, sym, ◌∙◌, inl, inr, arith}
-use Rattle.std.proofs.lemmas.Bool.{eq-eqb, eqb-true}
+use Rattle.std.proofs.Common.{◌≡◌, ◌≢◌, ◌⊎◌, ℕ, ◌*◌, ◌≤◌, if◌then◌else◌, Bool, true, false, List, [], length, map, Option, Some, slice_get, slice_set, slice_index_or, refl, ap, ap₂, subst, sym, ◌∙◌, inl, inr, arith}
 use Rattle.std.proofs.lemmas.Option.{same_Some}
 use Rattle.std.proofs.lemmas.List.{length-set}
 use Rattle.gptp_links.specs.declared.bounds.Bounds.{Bounds}
-use Rattle.gptp_lists.specs.Members.{In}
 use Rattle.gptp_messages.specs.Head.{message_type}
 use Rattle.gptp_system.specs.declared.answer.Answer.{Answer}
 use Rattle.gptp_system.specs.declared.reach.Reach.{Reach}
 use Rattle.gptp_system.specs.declared.reach.Reach.TheVariants as reaches
 use Rattle.gptp_system.specs.declared.sending.Sending.{Sending}
 use Rattle.gptp_system.specs.Input.{Input, IsTimely, Steps, PortUp, PortDown, Frame, Expires, Priority}
-use Rattle.gptp_system.specs.Reach.{count_sends_at, SendsWithin}
+use Rattle.gptp_system.specs.Reach.{SendsWithin}
 use Rattle.gptp_system.specs.State.{SystemState, clock}
-use Rattle.gptp_vector.specs.declared.port.PortId.{PortId}
-use Rattle.gptp_world.specs.declared.joined_link.Lane.{Lane}
+use Rattle.gptp_traffic.specs.declared.joined_link.Lane.{Lane}
 use Rattle.gptp_world.specs.declared.net.Net.{Net as Between}
 use Rattle.gptp_model.specs.declared.station.Station.{Station}
 use Rattle.gptp_model.specs.Act.{set_timers, all_timers, in_state}
-use Rattle.gptp_world.specs.JoinedLink.{SentAll}
+use Rattle.gptp_world.specs.Net.{SentAll}
 use Rattle.gptp_world.specs.Directory.{BeginsAt}
 use Rattle.gptp_world.specs.Net.{between, IsNet, OnlyEntries}
 use Rattle.gptp_model.specs.World.{port_id}
-use Rattle.gptp_world.specs.Room.{both, for_call, for_reach, is_reached, no_room, sends_from, WorldHasRoom, Uses}
+use Rattle.gptp_world.specs.Room.{for_call, no_room, WorldHasRoom, Uses}
 use Rattle.gptp_system.specs.Reach.{may_select, reach, timer_reach}
 use Rattle.gptp_setup.specs.declared.limits.TheConstants.{MOST_PORTS}
 use Rattle.gptp_setup.specs.declared.timer.Timer.{Timer}
@@ -31,9 +28,10 @@ use Rattle.gptp_system.specs.Steps.{IsTimerOf}
 use Rattle.gptp_system.proofs.ReachLemmas.{steps_reach}
 use Rattle.gptp_system.proofs.TimelyLemmas.{timely_timer}
 use Rattle.gptp_world.specs.declared.world_parts.WorldParts.{WorldParts}
-use Rattle.gptp_world.specs.WorldParts.{clock_at_place, for_left, Called, CallUses, CarriesOut, GiveUses, HasRoomToCall, HasRoomToGive, HasRoomWithin, HasStepped, IsLiveAt, IsWorldParts, IsTimelyAt}
-use Rattle.gptp_model.specs.World.{timers_from}
-use Rattle.gptp_world.proofs.NeedLemmas.{covered, nothing_with, uses_less, Covers}
+use Rattle.gptp_world.specs.WorldParts.{clock_at_place, for_left, Called, CallUses, CarriesOut, HasRoomToCall, HasStepped, IsLiveAt, IsWorldParts, IsTimelyAt}
+use Rattle.gptp_model.specs.Pending.{Entry}
+use Rattle.gptp_model.specs.World.{timers_from, Channel, Net}
+use Rattle.gptp_world.proofs.NeedLemmas.{covered, still_room, uses_less, Covers}
 use Rattle.gptp_model.proofs.SteadyLemmas.{same_clock, same_ports}
 use Rattle.gptp_lists.proofs.PlaceLemmas.{read, get-set_same, get-set_other, map-set_same, same_place}
 
@@ -41,56 +39,26 @@ use Rattle.gptp_lists.proofs.PlaceLemmas.{read, get-set_same, get-set_other, map
 
 pub net_kept : (used : ℕ) (net net' : Between) → OnlyEntries used net net' → IsNet net → IsNet net'
 net_kept used net net' only is =
-    let cables = only.cables in let directory = only.directory in let links = only.links in
-    record { joins = rw (cables, directory) is.joins; links = rw (cables, links) is.links }
+    let channels = only.channels in let directory = only.directory in
+    record { joins = rw (channels, directory) is.joins }
 
 pub timers_set : (used place : ℕ) (station : Station) (net net' : Between) → OnlyEntries used net net'
-    → net'.pending.entries ≡ set_timers place station (timers_from 1 station.system.ports) net.pending.entries
+    → net'.traffic.net.pending ≡ set_timers place station (timers_from 1 station.system.ports) net.traffic.net.pending
     → between net' ≡ all_timers place station (between net)
-timers_set used place station net net' only entries = let cables = only.cables in rw (cables, entries) refl
+timers_set used place station net net' only entries = ap₂ made only.channels entries
+  where
+    made : List Channel → List Entry → Net
+    made channels pending = record { channels = channels; pending = pending }
 
 -- ---- what a call sends has room
 
-at_most_all : (p : ℕ) (xs : List Sending) → count_sends_at p xs ≤ length xs
-at_most_all p [] = omega arith
-at_most_all p (x ∷ xs) = by (x.port == p) refl (at_most_all p xs)
-  where
-    by : (test : Bool) → (x.port == p) ≡ test → count_sends_at p xs ≤ length xs
-        → count_sends_at p (x ∷ xs) ≤ length (x ∷ xs)
-    by true is ih = rw is (omega (arith, ih))
-    by false is ih = rw is (omega (arith, ih))
-
-none_elsewhere : (p one : ℕ) (xs : List Sending) → (p == one) ≡ false → ((x : Sending) → In x xs → x.port ≡ one)
-    → count_sends_at p xs ≡ 0
-none_elsewhere p one [] test at = refl
-none_elsewhere p one (x ∷ xs) test at =
-    by (x.port == p) refl (none_elsewhere p one xs test (λ y there. at y (inr there)))
-  where
-    by : (same : Bool) → (x.port == p) ≡ same → count_sends_at p xs ≡ 0 → count_sends_at p (x ∷ xs) ≡ 0
-    by true same ih =
-        let is : (p == one) ≡ true = eq-eqb p one (sym (eqb-true x.port p same) ∙ at x (inl refl)) in
-        absurd cc
-    by false same ih = rw same ih
-
--- at most two sends at each port that is reached, and none at others
-pub record AreFew (r : Reach) (ports : ℕ) (xs : List Sending) : Type 0 where
-  pub all : length xs ≤ 2 * ports
-  pub each : (p : ℕ) → count_sends_at p xs ≤ (if is_reached r p then 2 else 0)
-
--- a step that sends at a port is of a system that has one
-pub within_few : (r : Reach) (ports : ℕ) (xs : List Sending) → SendsWithin r ports xs
-    → ((p : ℕ) → r ≡ reaches.Port p → 1 ≤ ports)
-    → AreFew r ports xs
-within_few reaches.Nothing ports xs within has =
-    rw within (record { all = omega arith; each = λ p. omega arith })
-within_few (reaches.Port one) ports xs within has =
-    let few = within.few in let some = has one refl in
-    record { all = omega arith; each = λ p. by p (p == one) refl }
-  where
-    by : (p : ℕ) (test : Bool) → (p == one) ≡ test → count_sends_at p xs ≤ (if p == one then 2 else 0)
-    by p true test = let at = at_most_all p xs in let few = within.few in rw test (omega (arith, at, few))
-    by p false test = let no = none_elsewhere p one xs test within.port in rw test (omega (arith, no))
-within_few reaches.All ports xs within has = record { all = within.few; each = within.each }
+-- a step that sends at a port is of a system that has one, and so sends at most two frames at each
+pub few_sends : (r : Reach) (ports : ℕ) (xs : List Sending) → SendsWithin r ports xs
+    → ((p : ℕ) → r ≡ reaches.Port p → 1 ≤ ports) → length xs ≤ 2 * ports
+few_sends reaches.Nothing ports xs within has = rw within (omega arith)
+few_sends (reaches.Port one) ports xs within has =
+    let few = within.few in let some = has one refl in omega (arith, few, some)
+few_sends reaches.All ports xs within has = within.few
 
 -- ---- one call
 
@@ -164,51 +132,18 @@ has_port (Frame q octets) s now is p at = absurd (frame_reaches (may_select (mes
 has_port (Expires timer) s now is p at = timer_has_port timer s (timely_timer timer s now is) p at
 has_port (Priority value) s now is p at = absurd cc
 
--- what a call leaves that reaches so far needs no more than such a call can
-pub call_covers : (r : Reach) (s s' : SystemState) (sends : List Sending) → length s'.ports ≡ length s.ports
-    → clock s' ≡ clock s
-    → AreFew r (length s.ports) sends → Covers (for_reach r s) (for_left s' sends)
-call_covers r s s' sends ports clocks few = record {
-  entries = let all = few.all in omega (arith, ports, all);
-  buffers = let all = few.all in omega (arith, all);
-  frames = λ port. let at = by port (is_reached r port.port) refl (port.clock == clock s) refl (few.each port.port) in
-      omega (arith, at);
-}
-  where
-    by : (port : PortId) (reached : Bool) → is_reached r port.port ≡ reached → (test : Bool)
-        → (port.clock == clock s) ≡ test
-        → count_sends_at port.port sends ≤ (if is_reached r port.port then 2 else 0)
-        → sends_from (clock s') sends port ≤ (if is_reached r port.port && (port.clock == clock s) then 2 else 0)
-    by port true reached true test each = rw (clocks, test, reached) (subst
-        (λ (b : Bool). count_sends_at port.port sends ≤ (if b then 2 else 0)) reached each)
-    by port false reached true test each = rw (clocks, test, reached) (subst
-        (λ (b : Bool). count_sends_at port.port sends ≤ (if b then 2 else 0)) reached each)
-    by port here reached false test each = rw (clocks, test) (omega arith)
+-- what a call leaves needs no more than any call can
+call_covers : (s s' : SystemState) (sends : List Sending) → length s'.ports ≡ length s.ports
+    → length sends ≤ 2 * length s.ports → Covers (for_call s) (for_left s' sends)
+call_covers s s' sends ports few = record { entries = omega (arith, ports, few); buffers = omega (arith, few) }
 
--- a call that reaches so far needs no more than any call can
-pub reach_covers : (r : Reach) (s : SystemState) → Covers (for_call s) (for_reach r s)
-reach_covers r s = record {
-  entries = omega arith;
-  buffers = omega arith;
-  frames = λ port. by port (is_reached r port.port) (port.clock == clock s);
-}
-  where
-    by : (port : PortId) (reached test : Bool) → (if reached && test then 2 else 0) ≤ (if test then 2 else 0)
-    by port true true = omega arith
-    by port true false = omega arith
-    by port false true = omega arith
-    by port false false = omega arith
-
--- where there is room for any call, there is room for this
-pub gives : (input : Input) (place : ℕ) (parts : WorldParts) → HasRoomToCall place parts
-    → HasRoomToGive input place parts
-gives input place parts has = λ station here.
-    let s = has.station.system in let r = reach input station.system in
-    record {
-      station = has.station;
-      here = has.here;
-      room = covered (for_call s) (for_reach r s) parts.net (reach_covers r s) has.room;
-    }
+-- a step of a system leaves no more
+step_covers : (input : Input) (now : ℕ) (s s' : SystemState) (sends : List Sending) (answer : Answer)
+    → IsTimely s now input → Steps input now s s' sends answer → Covers (for_call s) (for_left s' sends)
+step_covers input now s s' sends answer timely steps =
+    call_covers s s' sends (same_ports input now s s' sends answer steps)
+    (few_sends (reach input s) (length s.ports) sends (steps_reach input now s s' sends answer steps).within
+    (has_port input s now timely))
 
 -- ---- one call
 
@@ -235,7 +170,7 @@ stepped parts stage' place input answer one after live value steps stations net 
 
 -- what it left can be carried out
 pub carries : (parts stage' : WorldParts) (place : ℕ) (input : Input) (answer : Answer) → IsWorldParts parts
-    → HasRoomToGive input place parts
+    → HasRoomToCall place parts
     → HasStepped place input answer parts stage' → IsTimelyAt input place parts → CarriesOut place stage'
 carries parts stage' place input answer is room step timely =
     let old = step.station in let after = step.after in let sends = stage'.outbox.items in
@@ -243,13 +178,9 @@ carries parts stage' place input answer is room step timely =
     let steps = step.steps in let stations = step.stations in let net = step.net in let now = step.now in
     let ports = same_ports input parts.now old.system after sends answer steps in
     let clocks = same_clock input parts.now old.system after sends answer steps in
-    let few = within_few (reach input old.system) (length old.system.ports) sends
-    (steps_reach input parts.now old.system after sends answer steps).within
-    (has_port input old.system parts.now (timely old step.here)) in
-    let r = reach input old.system in let made = room old step.here in
-    let same : made.station ≡ old = same_Some made.station old (sym made.here ∙ step.here) in
-    let has : WorldHasRoom (for_reach r old.system) parts.net =
-    subst (λ (x : Station). WorldHasRoom (for_reach r x.system) parts.net) same made.room in
+    let same : room.station ≡ old = same_Some room.station old (sym room.here ∙ step.here) in
+    let has : WorldHasRoom (for_call old.system) parts.net =
+    subst (λ (x : Station). WorldHasRoom (for_call x.system) parts.net) same room.room in
     let places = is.systems in
     let small = is.few place old step.here in
     record {
@@ -261,8 +192,8 @@ carries parts stage' place input answer is room step timely =
       moment = rw now is.moment;
       few = rw ports small;
       room = rw net
-          (covered (for_reach r old.system) (for_left after sends) parts.net
-          (call_covers r old.system after sends ports clocks few) has);
+          (covered (for_call old.system) (for_left after sends) parts.net
+          (step_covers input parts.now old.system after sends answer (timely old step.here) steps) has);
     }
 
 -- a stage in which a system became another with the same clock and as many ports
@@ -271,7 +202,7 @@ pub becomes : (parts stage' : WorldParts) (place : ℕ) (old new : Station) → 
     → length new.system.ports ≡ length old.system.ports → clock new.system ≡ clock old.system
     → stage'.stations.items ≡ slice_set parts.stations.items place new → IsNet stage'.net
     → stage'.net.directory ≡ parts.net.directory
-    → stage'.net.pending.systems ≡ parts.net.pending.systems → stage'.now ≡ parts.now → stage'.outbox.items ≡ []
+    → stage'.net.traffic.systems ≡ parts.net.traffic.systems → stage'.now ≡ parts.now → stage'.outbox.items ≡ []
     → IsWorldParts stage'
 becomes parts stage' place old new is here ports clocks list net directory systems now outbox =
     let places = is.systems in
@@ -288,7 +219,7 @@ becomes parts stage' place old new is here ports clocks list net directory syste
 -- the stage after it was carried out, from the one that it left
 pub stays : (parts left stage' : WorldParts) (place : ℕ) (input : Input) (answer : Answer) → IsWorldParts parts
     → HasStepped place input answer parts left → stage'.stations ≡ left.stations → IsNet stage'.net
-    → stage'.net.directory ≡ left.net.directory → stage'.net.pending.systems ≡ left.net.pending.systems
+    → stage'.net.directory ≡ left.net.directory → stage'.net.traffic.systems ≡ left.net.traffic.systems
     → stage'.now ≡ left.now
     → stage'.outbox.items ≡ [] → IsWorldParts stage'
 stays parts left stage' place input answer is step stations net directory systems now outbox =
@@ -298,7 +229,7 @@ stays parts left stage' place input answer is step stations net directory system
     (same_clock input parts.now old.system step.after left.outbox.items answer step.steps)
     (ap (λ xs. xs.items) stations ∙ step.stations) net
     (directory ∙ ap (λ (n : Between). n.directory) step.net)
-    (systems ∙ ap (λ (n : Between). n.pending.systems) step.net)
+    (systems ∙ ap (λ (n : Between). n.traffic.systems) step.net)
     (now ∙ step.now) outbox
 
 -- it was one call of the system
@@ -327,44 +258,31 @@ called answers fate fate_after parts left stage' place input answer step sent st
       };
     }
 
--- it used no more room than one that reaches as far can
-pub give_uses : (parts left : WorldParts) (net : Between) (place : ℕ) (input : Input) (answer : Answer)
+-- it used no more room than any call can
+pub call_uses : (parts left : WorldParts) (net : Between) (place : ℕ) (input : Input) (answer : Answer)
     → HasStepped place input answer parts left
     → IsTimelyAt input place parts
     → ((station : Station) → slice_get left.stations.items place ≡ Some station
     → Uses (for_left station.system left.outbox.items) left.net net)
-    → GiveUses input place parts net
-give_uses parts left net place input answer step timely uses = λ station here.
+    → CallUses place parts net
+call_uses parts left net place input answer step timely uses = λ station here.
     let old = step.station in let after = step.after in let sends = left.outbox.items in
     let new = in_state after old in
-    let ports = same_ports input parts.now old.system after sends answer step.steps in
-    let clocks = same_clock input parts.now old.system after sends answer step.steps in
     let one : station ≡ old = same_Some station old (sym here ∙ step.here) in
-    let few = within_few (reach input old.system) (length old.system.ports) sends
-    (steps_reach input parts.now old.system after sends answer step.steps).within
-    (has_port input old.system parts.now (timely old step.here)) in
     let now_here : slice_get left.stations.items place ≡ Some new =
     ap (λ xs. slice_get xs place) step.stations ∙ get-set_same parts.stations.items place old new step.here in
     let between = step.net in
     let used : Uses (for_left after sends) parts.net net = rw (← between) (uses new now_here) in
-    let r = reach input old.system in
     rw one
-    (uses_less (for_reach r old.system) (for_left after sends) parts.net net
-    (call_covers r old.system after sends ports clocks few) used)
-
--- so it used no more than any call can
-pub call_uses : (input : Input) (place : ℕ) (parts : WorldParts) (net : Between) → GiveUses input place parts net
-    → CallUses place parts net
-call_uses input place parts net uses = λ station here.
-    let s = station.system in let r = reach input s in
-    uses_less (for_call s) (for_reach r s) parts.net net (reach_covers r s) (uses station here)
+    (uses_less (for_call old.system) (for_left after sends) parts.net net
+    (step_covers input parts.now old.system after sends answer (timely old step.here) step.steps) used)
 
 -- ---- another net
 
 -- a stage whose net became another, with everything where it was
 pub net_replaced : (parts : WorldParts) (net : Between) → IsWorldParts parts → IsNet net
     → net.directory ≡ parts.net.directory
-    → net.pending.systems ≡ parts.net.pending.systems → IsWorldParts (record parts { net = net })
+    → net.traffic.systems ≡ parts.net.traffic.systems → IsWorldParts (record parts { net = net })
 net_replaced parts net is still directory systems = record {
   net = still;
   clocks = rw directory is.clocks;
@@ -376,13 +294,10 @@ net_replaced parts net is still directory systems = record {
 }
 
 -- there is still room for a call
-pub room_kept : (r : Reach) (place : ℕ) (parts : WorldParts) (net : Between) → Uses no_room parts.net net
-    → HasRoomWithin r place parts
-    → HasRoomWithin r place (record parts { net = net })
-room_kept r place parts net uses has =
-    let need = for_reach r has.station.system in
-    record {
-      station = has.station;
-      here = has.here;
-      room = uses.left need (covered need (both no_room need) parts.net (nothing_with need) has.room);
-    }
+pub room_kept : (place : ℕ) (parts : WorldParts) (net : Between) → Uses no_room parts.net net
+    → HasRoomToCall place parts → HasRoomToCall place (record parts { net = net })
+room_kept place parts net uses has = record {
+  station = has.station;
+  here = has.here;
+  room = still_room (for_call has.station.system) parts.net net uses has.room;
+}

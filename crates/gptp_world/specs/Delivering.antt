@@ -3,16 +3,14 @@ use Rattle.std.specs.Prelude.{◌≡◌, ℕ, true, List, Option, Some, slice_ge
 use Rattle.gptp_links.specs.declared.bounds.Bounds.{Bounds}
 use Rattle.gptp_links.specs.Fate.{Draw, Draws}
 use Rattle.gptp_system.specs.declared.answer.Answer.{Answer}
-use Rattle.gptp_system.specs.Reach.{frame_reach}
 use Rattle.gptp_system.specs.Steps.{IsUp}
 use Rattle.gptp_vector.specs.declared.port.PortId.{PortId}
-use Rattle.gptp_world.specs.declared.joined_link.Lane.{Lane}
+use Rattle.gptp_traffic.specs.declared.joined_link.Lane.{Lane}
 use Rattle.gptp_world.specs.declared.world_parts.WorldParts.{WorldParts}
 use Rattle.gptp_model.specs.declared.station.Station.{Station}
 use Rattle.gptp_model.specs.Act.{Delivers, Hears}
 use Rattle.gptp_world.specs.Directory.{direction_end, Join}
-use Rattle.gptp_world.specs.Net.{IsOldest}
-use Rattle.gptp_world.specs.WorldParts.{world_of, HasRoomWithin}
+use Rattle.gptp_world.specs.WorldParts.{world_of, HasRoomToCall}
 
 -- where the system at a place is live, the link of this port is up
 abbrev pub IsHeardAt : ℕ → ℕ → WorldParts → Type 0
@@ -33,13 +31,11 @@ MayHear lane parts = (join : Join) (place : ℕ) → slice_get parts.net.directo
     → slice_get parts.net.directory.clocks place ≡ Some (direction_end lane.direction join).clock
     → IsHeardAt place (direction_end lane.direction join).port parts
 
--- there is room for whatever the system there can leave when it hears the oldest frame of the lane
+-- there is room for whatever the system there can leave when it hears a frame
 abbrev pub HasRoomToHear : Lane → WorldParts → Type 0
-HasRoomToHear lane parts = (join : Join) (place : ℕ) (octets : List ℕ)
-    → slice_get parts.net.directory.joins lane.link ≡ Some join
+HasRoomToHear lane parts = (join : Join) (place : ℕ) → slice_get parts.net.directory.joins lane.link ≡ Some join
     → slice_get parts.net.directory.clocks place ≡ Some (direction_end lane.direction join).clock
-    → IsOldest lane octets parts.net
-    → HasRoomWithin (frame_reach octets) place parts
+    → HasRoomToCall place parts
 
 -- a frame reached a port, and was answered there so
 pub record Delivered {F : Type 0} (answers : Bounds → ℕ → F → Option ℕ → F → Type 0) (lane : Lane) (at : PortId)

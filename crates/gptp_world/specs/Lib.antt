@@ -1,15 +1,11 @@
 pub mod ActTarget
 pub mod Buffers
-pub mod JoinedLink
-pub mod FrameBudget
 pub mod Delivering
 pub mod Directory
-pub mod PendingIndex
 pub mod Following
 pub mod Memory
 pub mod Net
 pub mod Observing
-pub mod Pending
 pub mod Performing
 pub mod Room
 pub mod WorldCore

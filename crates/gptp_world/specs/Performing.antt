@@ -4,10 +4,10 @@ use Rattle.gptp_links.specs.declared.bounds.Bounds.{Bounds}
 use Rattle.gptp_links.specs.Bounds.{Fit}
 use Rattle.gptp_links.specs.Fate.{Draw, Draws}
 use Rattle.gptp_setup.specs.declared.timer.Timer.{Timer}
-use Rattle.gptp_system.specs.Input.{Expires as TimerExpires, Priority}
+use Rattle.gptp_system.specs.Input.{Priority}
 use Rattle.gptp_world.specs.declared.act_target.ActTarget.{ActTarget}
 use Rattle.gptp_world.specs.declared.act_target.ActTarget.TheVariants as aims
-use Rattle.gptp_world.specs.declared.joined_link.Lane.{Lane}
+use Rattle.gptp_traffic.specs.declared.joined_link.Lane.{Lane}
 use Rattle.gptp_scenario.specs.declared.change.Act.{Act}
 use Rattle.gptp_scenario.specs.declared.change.Act.TheVariants.{Change as Changing}
 use Rattle.gptp_scenario.specs.declared.change.Change.TheVariants as changes
@@ -19,8 +19,8 @@ use Rattle.gptp_model.specs.Acts.{Acts}
 use Rattle.gptp_model.specs.Changing.{with_bounds, with_setup, with_station, CallsIfLive, ComesUpIf, FailsIf, GoesDownIf, InjectsIf, RecoversIf}
 use Rattle.gptp_world.specs.Delivering.{HasRoomToHear}
 use Rattle.gptp_world.specs.Net.{LinkIs}
-use Rattle.gptp_world.specs.Room.{HasRoomToInject}
-use Rattle.gptp_world.specs.WorldParts.{world_of, HasRoomToCall, HasRoomToGive, SystemIs}
+use Rattle.gptp_world.specs.Room.{for_frame, WorldHasRoom}
+use Rattle.gptp_world.specs.WorldParts.{world_of, HasRoomToCall, SystemIs}
 use Rattle.gptp_world.specs.Starting.{CanStart, HasRoomToStart}
 use Rattle.gptp_world.specs.Telling.{HasRoomAtEnds}
 use Rattle.gptp_model.specs.World.{Channel, WorldState, sender}
@@ -30,22 +30,22 @@ use Rattle.gptp_model.specs.World.{Channel, WorldState, sender}
 -- a failure leaves nothing, nor does what changes nothing
 abbrev pub HasRoomForTarget : ActTarget → WorldParts → Type 0
 HasRoomForTarget (aims.Arrival lane) parts = HasRoomToHear lane parts
-HasRoomForTarget (aims.Timer place timer) parts = HasRoomToGive (TimerExpires timer) place parts
+HasRoomForTarget (aims.Timer place timer) parts = HasRoomToCall place parts
 HasRoomForTarget (aims.LinkDown link) parts = LinkIs true link parts.net → HasRoomAtEnds link parts
 HasRoomForTarget (aims.LinkUp link) parts = LinkIs false link parts.net → HasRoomAtEnds link parts
 HasRoomForTarget (aims.LinkSet link bounds) parts = ⊤
 HasRoomForTarget (aims.Fail place) parts = ⊤
 HasRoomForTarget (aims.Recover place) parts = SystemIs false place parts → HasRoomToStart place parts
 HasRoomForTarget (aims.Priority1 place value) parts = HasRoomToCall place parts
-HasRoomForTarget (aims.Inject lane) parts = LinkIs true lane.link parts.net → HasRoomToInject lane parts.net
+HasRoomForTarget (aims.Inject lane) parts = LinkIs true lane.link parts.net → WorldHasRoom for_frame parts.net
 
 -- ---- what is done, by place
 
 -- what is changed is there, and the bounds of a link that is set are such as a link can have
 abbrev pub CanChange : ActTarget → WorldParts → Type 0
-CanChange (aims.LinkDown link) parts = link < length parts.net.cables.items
-CanChange (aims.LinkUp link) parts = link < length parts.net.cables.items
-CanChange (aims.LinkSet link bounds) parts = (link < length parts.net.cables.items) × Fit bounds
+CanChange (aims.LinkDown link) parts = link < length parts.net.traffic.net.channels
+CanChange (aims.LinkUp link) parts = link < length parts.net.traffic.net.channels
+CanChange (aims.LinkSet link bounds) parts = (link < length parts.net.traffic.net.channels) × Fit bounds
 CanChange (aims.Fail place) parts = place < length parts.stations.items
 CanChange (aims.Recover place) parts = CanStart place parts
 CanChange (aims.Priority1 place value) parts = place < length parts.stations.items

@@ -36,9 +36,9 @@ for_all_timers s = for_timers (4 * length s.ports + 3)
 pub record CanSetTimers (place : ℕ) (parts : WorldParts) : Type 0 where
   pub station : Station
   pub here : slice_get parts.stations.items place ≡ Some station
-  pub known : place < parts.net.pending.systems
+  pub known : place < parts.net.traffic.systems
   pub few : length station.system.ports ≤ MOST_PORTS
-  pub room : station.live ≡ true → 4 * length station.system.ports + 3 ≤ parts.net.pending.room
+  pub room : station.live ≡ true → 4 * length station.system.ports + 3 ≤ parts.net.traffic.room
 
 -- they were set, and nothing else has changed
 pub record HasSetTimers (place : ℕ) (parts stage_after : WorldParts) : Type 0 where

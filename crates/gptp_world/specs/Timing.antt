@@ -28,7 +28,7 @@ AreSetBut otherwise place station es =
 -- each timer of the system at a place is pending when it is due, those aside that may be otherwise
 abbrev pub AreSetAt : (Timer → Bool) → ℕ → WorldParts → Type 0
 AreSetAt otherwise place parts = (station : Station) → slice_get parts.stations.items place ≡ Some station
-    → AreSetBut otherwise place station parts.net.pending.entries
+    → AreSetBut otherwise place station parts.net.traffic.net.pending
 
 -- before a step by this input each timer of the system at a place is pending when it is due, those aside that count as
 -- touched in any case
@@ -40,4 +40,4 @@ pub record HasTouched (touched : TimersChanged) (place : ℕ) (parts : WorldPart
   pub station : Station
   pub here : slice_get parts.stations.items place ≡ Some station
   pub own : IsTouchedOf station.system touched
-  pub set : AreSetBut (holds touched) place station parts.net.pending.entries
+  pub set : AreSetBut (holds touched) place station parts.net.traffic.net.pending

@@ -1,12 +1,11 @@
 -- The links of a world's snapshot, as the code lists them.
-use Rattle.std.specs.Prelude.{List, [], ◌∷◌, map, Option, Some, None, if◌then◌else◌}
+use Rattle.std.specs.Prelude.{List, [], ◌∷◌, Option, Some, None, if◌then◌else◌}
 use Rattle.gptp_graph.specs.Snapshot.{Link, System}
 use Rattle.gptp_vector.specs.declared.port.PortId.{PortId}
 use Rattle.gptp_model.specs.World.{Channel}
 use Rattle.gptp_invariants.specs.WorldStanding.{channel_is_used, standing_link, live_stations, used_channels}
 use Rattle.gptp_invariants.specs.ChoiceView.{port_identity_number}
 use Rattle.gptp_world.specs.declared.world_parts.WorldParts.{WorldParts}
-use Rattle.gptp_world.specs.JoinedLink.{channel_of}
 
 -- a link as a snapshot has it, by its two ports, that of its end a first
 abbrev pub snapshot_link : PortId × PortId → Link
@@ -22,4 +21,4 @@ used_if systems channel = if channel_is_used systems channel then standing_link 
 
 -- all that are
 abbrev pub used_in : WorldParts → List Link
-used_in parts = used_channels (live_stations parts.stations.items) (map channel_of parts.net.cables.items)
+used_in parts = used_channels (live_stations parts.stations.items) parts.net.traffic.net.channels

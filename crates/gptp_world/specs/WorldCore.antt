@@ -6,7 +6,6 @@ use Rattle.gptp_links.specs.Fate.{Draw, Draws}
 use Rattle.gptp_world.specs.declared.world_parts.WorldParts.{WorldParts}
 use Rattle.gptp_model.specs.Changing.{StartsAll}
 use Rattle.gptp_model.specs.Sound.{IsSound}
-use Rattle.gptp_world.specs.FrameBudget.{IsCovered}
 use Rattle.gptp_world.specs.WorldParts.{world_of, IsWorldParts}
 use Rattle.gptp_invariants.specs.SyncTimedClaim.{WorldInvariant}
 
@@ -16,12 +15,11 @@ pub record IsFounded (parts : WorldParts) : Type 0 where
   pub sound : IsSound (world_of parts)
 
 -- what it keeps between acts: also what every world of a network keeps, from which it follows that the world settles
--- and how exact its offsets are; and there is room for the credit of each system
-pub record IsWorldCore (frame_budget : List ℕ) (parts : WorldParts) : Type 0 where
+-- and how exact its offsets are
+pub record IsWorldCore (parts : WorldParts) : Type 0 where
   pub stage_kept : IsWorldParts parts
   pub sound : IsSound (world_of parts)
   pub claimed : WorldInvariant (world_of parts)
-  pub covered : IsCovered frame_budget parts.net
 
 -- the systems at the first places, as many as this, started one after another
 pub record SystemsStarted {F : Type 0} (answers : Bounds → ℕ → F → Option ℕ → F → Type 0) (count : ℕ)

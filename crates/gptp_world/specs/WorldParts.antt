@@ -3,17 +3,13 @@ use Rattle.std.specs.Prelude.{◌≡◌, ◌<◌, ◌≤◌, ◌+◌, ◌*◌, �
 use Rattle.gptp_links.specs.declared.bounds.Bounds.{Bounds}
 use Rattle.gptp_links.specs.Fate.{Draw, Draws}
 use Rattle.gptp_system.specs.declared.answer.Answer.{Answer}
-use Rattle.gptp_system.specs.declared.reach.Reach.{Reach}
-use Rattle.gptp_system.specs.declared.reach.Reach.TheVariants as reaches
 use Rattle.gptp_system.specs.declared.sending.Sending.{Sending}
 use Rattle.gptp_setup.specs.Intervals.{IsMoment}
 use Rattle.gptp_setup.specs.declared.limits.TheConstants.{MOST_PORTS}
-use Rattle.gptp_setup.specs.declared.timer.Timer.{Timer}
 use Rattle.gptp_system.specs.Input.{Input, IsTimely, Steps}
-use Rattle.gptp_system.specs.Reach.{reach}
 use Rattle.gptp_system.specs.State.{SystemState, clock}
-use Rattle.gptp_system.specs.Steps.{HasPortNumber, IsTimerOf}
-use Rattle.gptp_world.specs.declared.joined_link.Lane.{Lane}
+use Rattle.gptp_system.specs.Steps.{HasPortNumber}
+use Rattle.gptp_traffic.specs.declared.joined_link.Lane.{Lane}
 use Rattle.gptp_model.specs.declared.item.Item.{Item}
 use Rattle.gptp_model.specs.declared.item.Item.TheVariants.{Expiry, Arrival}
 use Rattle.gptp_world.specs.declared.net.Net.{Net as Between}
@@ -23,7 +19,7 @@ use Rattle.gptp_model.specs.Act.{in_state, Calls}
 use Rattle.gptp_world.specs.Directory.{BeginsAt}
 use Rattle.gptp_world.specs.Net.{between, IsNet}
 use Rattle.gptp_model.specs.World.{port_id}
-use Rattle.gptp_world.specs.Room.{both, for_call, for_reach, for_sends, for_timers, WorldHasRoom, Need, Uses}
+use Rattle.gptp_world.specs.Room.{both, for_call, for_sends, for_timers, WorldHasRoom, Need, Uses}
 use Rattle.gptp_model.specs.World.{WorldState}
 
 -- the state of the world
@@ -43,7 +39,7 @@ clock_at_place station = clock station.system
 pub record IsWorldParts (parts : WorldParts) : Type 0 where
   pub net : IsNet parts.net
   pub clocks : map clock_at_place parts.stations.items ≡ parts.net.directory.clocks
-  pub systems : length parts.stations.items ≤ parts.net.pending.systems
+  pub systems : length parts.stations.items ≤ parts.net.traffic.systems
   pub few : (place : ℕ) (station : Station) → slice_get parts.stations.items place ≡ Some station
       → length station.system.ports ≤ MOST_PORTS
   pub ports : (place : ℕ) (station : Station) (p : ℕ) (lane : Lane)
@@ -64,26 +60,11 @@ abbrev pub SystemIs : Bool → ℕ → WorldParts → Type 0
 SystemIs live place parts =
     (station : Station) → slice_get parts.stations.items place ≡ Some station → station.live ≡ live
 
--- a timer of the system at a place
-pub record HasTimerAt (place : ℕ) (timer : Timer) (parts : WorldParts) : Type 0 where
+-- there is room for whatever a call of the system at a place can leave
+pub record HasRoomToCall (place : ℕ) (parts : WorldParts) : Type 0 where
   pub station : Station
   pub here : slice_get parts.stations.items place ≡ Some station
-  pub timer_of : IsTimerOf station.system timer
-
--- there is room for whatever a call of the system at a place can leave, where it reaches so far
-pub record HasRoomWithin (r : Reach) (place : ℕ) (parts : WorldParts) : Type 0 where
-  pub station : Station
-  pub here : slice_get parts.stations.items place ≡ Some station
-  pub room : WorldHasRoom (for_reach r station.system) parts.net
-
--- whatever it is given
-abbrev pub HasRoomToCall : ℕ → WorldParts → Type 0
-HasRoomToCall place parts = HasRoomWithin reaches.All place parts
-
--- where it is given this input
-abbrev pub HasRoomToGive : Input → ℕ → WorldParts → Type 0
-HasRoomToGive input place parts = (station : Station) → slice_get parts.stations.items place ≡ Some station
-    → HasRoomWithin (reach input station.system) place parts
+  pub room : WorldHasRoom (for_call station.system) parts.net
 
 -- there is room for one call of each of two systems
 pub record HasRoomToCallBoth (first second : ℕ) (parts : WorldParts) : Type 0 where
@@ -118,7 +99,7 @@ pub record HasStepped (place : ℕ) (input : Input) (answer : Answer) (parts sta
 
 -- what a call left: each timer of the system, and what stands in the outbox
 abbrev pub for_left : SystemState → List Sending → Need
-for_left s sends = both (for_timers (4 * length s.ports + 3)) (for_sends (clock s) sends)
+for_left s sends = both (for_timers (4 * length s.ports + 3)) (for_sends sends)
 
 -- it can be carried out
 pub record CarriesOut (place : ℕ) (parts : WorldParts) : Type 0 where
@@ -126,7 +107,7 @@ pub record CarriesOut (place : ℕ) (parts : WorldParts) : Type 0 where
   pub here : slice_get parts.stations.items place ≡ Some station
   pub net : IsNet parts.net
   pub clocks : map clock_at_place parts.stations.items ≡ parts.net.directory.clocks
-  pub systems : length parts.stations.items ≤ parts.net.pending.systems
+  pub systems : length parts.stations.items ≤ parts.net.traffic.systems
   pub moment : IsMoment parts.now
   pub few : length station.system.ports ≤ MOST_PORTS
   pub room : WorldHasRoom (for_left station.system parts.outbox.items) parts.net
@@ -135,11 +116,6 @@ pub record CarriesOut (place : ℕ) (parts : WorldParts) : Type 0 where
 abbrev pub CallUses : ℕ → WorldParts → Between → Type 0
 CallUses place parts net = (station : Station) → slice_get parts.stations.items place ≡ Some station
     → Uses (for_call station.system) parts.net net
-
--- a call by this input uses no more room than one that reaches as far can
-abbrev pub GiveUses : Input → ℕ → WorldParts → Between → Type 0
-GiveUses input place parts net = (station : Station) → slice_get parts.stations.items place ≡ Some station
-    → Uses (for_reach (reach input station.system) station.system) parts.net net
 
 -- A live system was called and answered so, and what it left was carried out: the fate drew once for each send that a
 -- link carries.

@@ -3,12 +3,12 @@
 ghost use Rattle.std.specs.Prelude.{◌≡◌, ◌↔◌, ◌≤◌, IsTrue, Some};
 
 use crate::delivering::narrowed;
-use crate::joined_link::Lane;
 use crate::world_parts::WorldParts;
 use gptp_links::{Bounds, Direction};
 use gptp_model::{Act, Change};
 use gptp_setup::MOST_PORTS;
 use gptp_system::Timer;
+use gptp_traffic::Lane;
 use gptp_vector::ClockId;
 
 /// What an act is about: links and systems by place.
@@ -142,14 +142,14 @@ impl WorldParts {
 
     /// The bounds of a link with other delays and another loss.
     fn set_to(&self, link: usize, min: u64, max: u64, loss: u16) -> Bounds
-        requires { link < length self.now.net.cables.items }
+        requires { link < length self.now.net.traffic.net.channels }
         ensures { (channel : Channel) → slice_get (world_of self.entry.now).net.channels link ≡ Some channel → result ≡ set_to min max loss channel }
     {
         Bounds {
             min,
             max,
             loss,
-            ..self.net.cables[link].link.bounds()
+            ..self.net.traffic.bounds(link)
         }
     }
 
@@ -188,7 +188,7 @@ impl WorldParts {
         ensures some { IfSome result (IsTargetOf (Deliver link direction) (world_of self.entry.now)) }
         ensures none { IfNone result (IsThere (Deliver link direction) (world_of self.entry.now) → ⊥) }
     {
-        if self.net.cables.len() <= link {
+        if self.net.traffic.links() <= link {
             return None;
         }
         Some(ActTarget::Arrival(Lane { link, direction }))
@@ -222,13 +222,10 @@ impl WorldParts {
 
     /// Whether the oldest frame of a lane is due at a time.
     pub(crate) fn is_frame_due(&self, lane: Lane, time: u64) -> bool
-        requires { lane.link < length self.now.net.cables.items }
+        requires { lane.link < length self.now.net.traffic.net.channels }
         ensures { (channel : Channel) → slice_get (world_of self.entry.now).net.channels lane.link ≡ Some channel → IsTrue result ↔ IsOldestDue lane.direction time channel }
     {
-        is_then(
-            self.net.cables[lane.link].link.next_due(lane.direction),
-            time,
-        )
+        is_then(self.net.traffic.next_due(lane), time)
     }
 
     /// Whether a timer of the system at a place is due at a time.

@@ -5,7 +5,6 @@ ghost use Rattle.gptp_setup.specs.Intervals.{IsMoment};
 ghost use Rattle.gptp_world.specs.ActTarget.{aim_of};
 
 use crate::act_target::ActTarget;
-use crate::joined_link::Lane;
 use crate::observer::Observer;
 use crate::views::act_of;
 use crate::world::World;
@@ -14,6 +13,7 @@ use gptp_links::Fate;
 use gptp_model::{Done, Item, Timed};
 use gptp_sink::Cut;
 use gptp_sink::sink::Sink;
+use gptp_traffic::Lane;
 use std::alloc::Global;
 
 /// What an item is about.
@@ -43,7 +43,7 @@ impl WorldCore {
     fn upcoming(&self) -> Option<(u64, Item)>
         ensures { IsUpcoming result self.now.net.pending }
     {
-        self.parts.net.pending.next()
+        self.parts.net.traffic.next()
     }
 
     /// What is next, which is this, where its time is at most that.

@@ -1,20 +1,17 @@
 //! A world made of a network.
 
-ghost use Rattle.std.specs.Prelude.{◌≡◌, ◌≤◌, ◌<◌, [], length, map, IfOk, Some, slice_get};
-ghost use Rattle.gptp_links.specs.Bounds.{Fit};
-ghost use Rattle.gptp_world.specs.JoinedLink.{channel_of};
+ghost use Rattle.std.specs.Prelude.{◌≡◌, ◌<◌, length, map, IfOk, Some, slice_get};
 ghost use Rattle.gptp_model.specs.Initial.{channels_of, stations_of};
 ghost use Rattle.gptp_scenario.specs.Network.{seeded};
+ghost use Rattle.gptp_traffic.specs.Traffic.{idle_channel};
 
 use crate::buffers::Buffers;
 use crate::directory::Directory;
-use crate::joined_link::JoinedLink;
 use crate::net::Net;
-use crate::pending::Pending;
 use crate::world_parts::WorldParts;
-use gptp_links::{Bounds, Link};
 use gptp_model::{Network, Station};
 use gptp_system::{Outbox, Setup, System};
+use gptp_traffic::{Join, JoinedLink, Traffic};
 use std::alloc::{AllocError, Global};
 
 impl WorldParts {
@@ -53,16 +50,15 @@ impl Net {
         ensures between { IfOk result (λ net. between net ≡ idle network.now) }
         ensures clocks { IfOk result (λ net. net.directory.clocks ≡ directory_clocks network.now.systems) }
         ensures joins { IfOk result (λ net. net.directory.joins ≡ joins_of network.now.links) }
-        ensures systems { IfOk result (λ net. net.pending.systems ≡ length network.now.systems) }
+        ensures systems { IfOk result (λ net. net.traffic.systems ≡ length network.now.systems) }
     {
         network.well_formed();
         let directory = Directory::new(alloc, network)?;
-        let cables = list_cables(alloc, network)?;
-        let pending = Pending::new(alloc, network.systems(), network.links())?;
+        let links = list_links(alloc, network)?;
+        let traffic = Traffic::new(alloc, network.systems(), links)?;
         Ok(Net {
             directory,
-            cables,
-            pending,
+            traffic,
             buffers: Buffers::new(alloc),
         })
     }
@@ -113,42 +109,26 @@ fn station_in(
     })
 }
 
-/// The links of a network, with nothing in flight.
-fn list_cables(alloc: Global, network: &Network) -> Result<Vec<JoinedLink>, AllocError>
-    ensures { IfOk result (λ v. map channel_of v.items ≡ channels_of network.now) }
+/// The links of a network.
+fn list_links(alloc: Global, network: &Network) -> Result<Vec<JoinedLink>, AllocError>
+    ensures { IfOk result (λ v. map idle_channel v.items ≡ channels_of network.now) }
 {
-    let mut cables = Vec::with_capacity(alloc, network.links())?;
+    let mut links = Vec::with_capacity(alloc, network.links())?;
     for place in 0..network.links() {
-        cables.push(cable_in(alloc, network, place))?;
+        links.push(link_in(network, place))?;
     }
-    Ok(cables)
+    Ok(links)
 }
 
-/// The link at a place of a network, with nothing in flight.
-fn cable_in(alloc: Global, network: &Network, place: usize) -> JoinedLink
+/// The link at a place of a network.
+fn link_in(network: &Network, place: usize) -> JoinedLink
     requires { place < length network.now.links }
-    ensures { slice_get (channels_of network.now) place ≡ Some (channel_of result) }
+    ensures { slice_get (channels_of network.now) place ≡ Some (idle_channel result) }
 {
-    network.well_formed();
     let (a, b, bounds, up) = network.link_at(place).unwrap();
     JoinedLink {
-        a,
-        b,
-        link: new_link(alloc, bounds, up),
+        join: Join { a, b },
+        bounds,
+        up,
     }
-}
-
-/// A link that is up or down, with nothing in flight. Takes no memory.
-fn new_link(alloc: Global, bounds: Bounds, up: bool) -> Link
-    requires { Fit bounds }
-    ensures bounds { result.bounds ≡ bounds }
-    ensures up { result.up ≡ up }
-    ensures from_a { result.from_a.frames ≡ [] }
-    ensures from_b { result.from_b.frames ≡ [] }
-{
-    let mut link = Link::new(alloc, bounds);
-    if !up {
-        link.down();
-    }
-    link
 }

@@ -45,7 +45,7 @@ impl WorldParts {
         ensures first { result ≡ true → NothingBefore time (world_of self.entry.now).net.pending }
         ensures earlier { result ≡ false → IsEarlier time (world_of self.entry.now).net.pending }
     {
-        match self.net.pending.next() {
+        match self.net.traffic.next() {
             Some((due, _)) => time <= due,
             None => true,
         }

@@ -3,8 +3,6 @@
 ghost use Rattle.std.specs.Prelude.{◌≡◌, ◌++◌, ◌∷◌, [], IfOk, OnOk};
 
 use crate::buffers::Buffers;
-use crate::frame_budget::FrameBudget;
-use crate::joined_link::JoinedLink;
 use crate::net::Net;
 use crate::world::World;
 use crate::world_core::WorldCore;
@@ -49,42 +47,17 @@ fn copy_stations(alloc: Global, stations: &[Station]) -> Result<Vec<Station>, Al
     Ok(copies)
 }
 
-/// Puts an equal link behind others.
-fn push_link(cables: &mut Vec<JoinedLink>, cable: &JoinedLink) -> Result<(), AllocError>
-    ensures { OnOk result (cables.new.items ≡ cables.old.items ++ cable.now ∷ []) }
-{
-    cables.push(JoinedLink {
-        a: cable.a,
-        b: cable.b,
-        link: cable.link.copy()?,
-    })?;
-    Ok(())
-}
-
-/// Equal links. Refused for want of memory alone.
-fn copy_cables(alloc: Global, cables: &[JoinedLink]) -> Result<Vec<JoinedLink>, AllocError>
-    ensures { IfOk result (λ copies. copies.items ≡ cables.now) }
-{
-    let mut copies = Vec::with_capacity(alloc, cables.len())?;
-    for cable in cables {
-        push_link(&mut copies, cable)?;
-    }
-    Ok(copies)
-}
-
 impl Net {
     ghost use Rattle.std.specs.Prelude.{◌≡◌, IfOk};
 
     /// The same is between the systems, but for the room that there is. Refused for want of memory alone.
     fn copy(&self, alloc: Global) -> Result<Self, AllocError>
         ensures directory { IfOk result (λ net. net.directory ≡ self.now.directory) }
-        ensures cables { IfOk result (λ net. net.cables.items ≡ self.now.cables.items) }
-        ensures pending { IfOk result (λ net. net.pending ≡ record self.now.pending { room = 0 }) }
+        ensures traffic { IfOk result (λ net. net.traffic ≡ record self.now.traffic { room = 0 }) }
     {
         Ok(Net {
             directory: self.directory.copy(alloc)?,
-            cables: copy_cables(alloc, &self.cables)?,
-            pending: self.pending.copy(alloc)?,
+            traffic: self.traffic.copy(alloc)?,
             buffers: Buffers::new(alloc),
         })
     }
@@ -119,11 +92,7 @@ impl WorldCore {
     {
         let alloc = self.alloc();
         let parts = self.parts.copy(alloc)?;
-        let frame_budget = FrameBudget::new(alloc, parts.stations.len())?;
-        Ok(WorldCore {
-            parts,
-            frame_budget,
-        })
+        Ok(WorldCore { parts })
     }
 }
 

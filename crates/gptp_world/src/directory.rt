@@ -6,23 +6,14 @@ ghost use Rattle.std.specs.List.Sorted.{IsNonDecreasing};
 ghost use Rattle.gptp_world.specs.Directory.{directory_clocks, joins_of, direction_end, lanes_entered, BeginsAt, IsPlan, IsDirectory, AreRising, ArePlacesOfClocks, AreEndPlaces, AreOuts, AreNamed};
 ghost use Rattle.gptp_model.specs.Views.{rising};
 
-use crate::joined_link::Lane;
 use gptp_hints::ClockHints;
 use gptp_links::Direction;
 use gptp_model::Network;
 use gptp_setup::MOST_PORTS;
+use gptp_traffic::{Join, Lane};
 use gptp_vector::{ClockId, PortId};
 use std::alloc::{AllocError, Global};
 use std::marker::Model;
-
-/// The two ports that a link joins.
-#[derive(Clone, Copy, Debug)]
-pub(crate) struct Join {
-    /// The port at its end a.
-    pub a: PortId,
-    /// The port at its end b.
-    pub b: PortId,
-}
 
 /// The places of the systems at the two ends of a link.
 #[derive(Clone, Copy, Debug)]

@@ -8,7 +8,6 @@
 
 mod act_target;
 mod advancing;
-mod arriving;
 mod buffers;
 mod building;
 mod changing;
@@ -17,18 +16,13 @@ mod copying;
 mod delivering;
 mod directory;
 mod expiring;
-mod frame_budget;
-mod joined_link;
 mod net;
 mod no_observer;
 mod observer;
 mod octets;
-mod pending;
-mod pending_index;
 mod performing;
 mod pool;
 mod room;
-mod sending;
 mod starting;
 mod telling;
 mod timing;

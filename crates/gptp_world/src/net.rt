@@ -2,19 +2,16 @@
 
 use crate::buffers::Buffers;
 use crate::directory::Directory;
-use crate::joined_link::{JoinedLink, Lane};
 use crate::octets::{write_octets, write_send};
-use crate::pending::Pending;
-use crate::sending::send_one;
 use gptp_links::Fate;
 use gptp_system::{Sending, System};
+use gptp_traffic::{Lane, Traffic};
 
 /// What is between the systems, with the buffers that frames are written into.
 #[derive(Drop)]
 pub(crate) struct Net {
     pub directory: Directory,
-    pub cables: Vec<JoinedLink>,
-    pub pending: Pending,
+    pub traffic: Traffic,
     pub buffers: Buffers,
 }
 
@@ -22,13 +19,11 @@ impl Net {
     ghost use Rattle.std.specs.Prelude.{◌≡◌, ℕ, ◌*◌, ◌<◌, ◌≤◌, List, [], ◌∷◌, length, Some, slice_get, IfSome, IfNone, true};
     ghost use Rattle.gptp_setup.specs.Intervals.{IsMoment};
     ghost use Rattle.gptp_system.specs.State.{clock, own};
-    ghost use Rattle.gptp_world.specs.declared.joined_link.JoinedLink.{JoinedLink};
     ghost use Rattle.gptp_model.specs.Sends.{written, IsUnlinkedPort};
-    ghost use Rattle.gptp_model.specs.World.{sender};
-    ghost use Rattle.gptp_world.specs.JoinedLink.{channel_of, SentAll, SentOne};
-    ghost use Rattle.gptp_world.specs.Net.{between, IsNet, IsUpLane, SentNext};
-    ghost use Rattle.gptp_model.specs.World.{port_id};
-    ghost use Rattle.gptp_world.specs.Room.{for_sends, WorldHasRoom, HasRoomToInject, Uses};
+    ghost use Rattle.gptp_model.specs.World.{port_id, sender, Channel};
+    ghost use Rattle.gptp_traffic.specs.Traffic.{SentOne};
+    ghost use Rattle.gptp_world.specs.Net.{between, IsNet, IsUpLane, SentAll, SentNext};
+    ghost use Rattle.gptp_world.specs.Room.{for_frame, for_sends, WorldHasRoom, Uses};
 
     /// The lane that begins at a port of the system at a place, where that link is up.
     pub(crate) fn up_lane(&self, place: usize, port: u8) -> Option<Lane>
@@ -46,10 +41,10 @@ impl Net {
 
     /// Whether a link is up.
     pub(crate) fn is_up(&self, link: usize) -> bool
-        requires { link < length self.now.cables.items }
-        ensures { (joined_link : JoinedLink) → slice_get self.now.cables.items link ≡ Some joined_link → result ≡ joined_link.link.up }
+        requires { link < length self.now.traffic.net.channels }
+        ensures { (channel : Channel) → slice_get self.now.traffic.net.channels link ≡ Some channel → result ≡ channel.up }
     {
-        self.cables[link].link.is_up()
+        self.traffic.is_up(link)
     }
 
     /// A frame with these octets goes onto a lane whose link is up, as if the port at its beginning had sent it.
@@ -57,23 +52,17 @@ impl Net {
         requires net { IsNet self.old }
         requires early { IsMoment now }
         requires few { length octets.now ≤ 2116 }
-        requires room { HasRoomToInject lane self.old }
-        requires up { (joined_link : JoinedLink) → slice_get self.old.cables.items lane.link ≡ Some joined_link → joined_link.link.up ≡ true }
+        requires link { lane.link < length self.old.traffic.net.channels }
+        requires room { WorldHasRoom for_frame self.old }
+        requires up { (channel : Channel) → slice_get self.old.traffic.net.channels lane.link ≡ Some channel → channel.up ≡ true }
         ensures net { IsNet self.new }
         ensures directory { self.new.directory ≡ self.old.directory }
-        ensures systems { self.new.pending.systems ≡ self.old.pending.systems }
-        ensures sent { (joined_link : JoinedLink) → slice_get self.old.cables.items lane.link ≡ Some joined_link → SentOne F.answers now (sender lane.direction (channel_of joined_link)) octets.now fate.old fate.new (between self.old) (between self.new) }
+        ensures systems { self.new.traffic.systems ≡ self.old.traffic.systems }
+        ensures sent { (channel : Channel) → slice_get self.old.traffic.net.channels lane.link ≡ Some channel → SentOne F.answers now (sender lane.direction channel) octets.now fate.old fate.new (between self.old) (between self.new) }
     {
         let mut frame = self.buffers.take_long();
         write_octets(octets, &mut frame);
-        send_one(
-            self.cables.as_mut_slice(),
-            &mut self.pending,
-            fate,
-            lane,
-            frame,
-            now,
-        );
+        self.traffic.send(lane, frame, now, fate);
     }
 
     /// One send of the system at a place goes onto its link, where that is up.
@@ -88,22 +77,15 @@ impl Net {
         requires net { IsNet self.old }
         requires place { slice_get self.old.directory.clocks place ≡ Some (clock system.now) }
         requires early { IsMoment now }
-        requires room { WorldHasRoom (for_sends (clock system.now) (send.now ∷ [])) self.old }
+        requires room { WorldHasRoom (for_sends (send.now ∷ [])) self.old }
         ensures net { IsNet self.new }
-        ensures uses { Uses (for_sends (clock system.now) (send.now ∷ [])) self.old self.new }
+        ensures uses { Uses (for_sends (send.now ∷ [])) self.old self.new }
         ensures sent { SentNext F.answers now (own system.now send.now.port) (written system.now send.now) fate.old fate.new (between self.old) (between self.new) }
     {
         if let Some(lane) = self.up_lane(place, send.port) {
             let mut octets = self.buffers.take_for(&send.body);
             write_send(system, send, &mut octets);
-            send_one(
-                self.cables.as_mut_slice(),
-                &mut self.pending,
-                fate,
-                lane,
-                octets,
-                now,
-            );
+            self.traffic.send(lane, octets, now, fate);
         }
     }
 
@@ -119,9 +101,9 @@ impl Net {
         requires net { IsNet self.old }
         requires place { slice_get self.old.directory.clocks place ≡ Some (clock system.now) }
         requires early { IsMoment now }
-        requires room { WorldHasRoom (for_sends (clock system.now) sends.now) self.old }
+        requires room { WorldHasRoom (for_sends sends.now) self.old }
         ensures net { IsNet self.new }
-        ensures uses { Uses (for_sends (clock system.now) sends.now) self.old self.new }
+        ensures uses { Uses (for_sends sends.now) self.old self.new }
         ensures sent { SentAll F.answers now system.now sends.now fate.old fate.new (between self.old) (between self.new) }
     {
         for send in sends {

@@ -5,11 +5,10 @@ ghost use Rattle.gptp_world.specs.Performing.{octets_of};
 
 use crate::act_target::ActTarget;
 use crate::delivering::Reached;
-use crate::frame_budget::FrameBudget;
-use crate::joined_link::Lane;
 use crate::world_parts::WorldParts;
 use gptp_links::{Bounds, Fate};
 use gptp_model::{Act, Change, Done};
+use gptp_traffic::Lane;
 use std::alloc::AllocError;
 
 /// What an act injects; no other injects anything.
@@ -36,12 +35,11 @@ impl WorldParts {
     ghost use Rattle.gptp_scenario.specs.declared.change.Act.TheVariants.{Deliver};
     ghost use Rattle.gptp_model.specs.Acts.{AtPlace, IsOldestDue};
     ghost use Rattle.gptp_model.specs.Agrees.{Agrees};
-    ghost use Rattle.gptp_world.specs.FrameBudget.{HearUses};
     ghost use Rattle.gptp_world.specs.Delivering.{HasRoomToHear};
     ghost use Rattle.gptp_world.specs.Net.{LinkIs};
     ghost use Rattle.gptp_world.specs.Performing.{ActIsDone, CanChange, HasRoomForTarget, Injected, Turned, TurnsOver};
     ghost use Rattle.gptp_model.specs.Sound.{IsWired};
-    ghost use Rattle.gptp_world.specs.Room.{HasRoomToInject};
+    ghost use Rattle.gptp_world.specs.Room.{for_frame, WorldHasRoom};
     ghost use Rattle.gptp_world.specs.WorldParts.{world_of, IsWorldParts, SystemIs};
     ghost use Rattle.gptp_world.specs.Starting.{CanStart, HasRoomToStart};
     ghost use Rattle.gptp_world.specs.Telling.{HasRoomAtEnds};
@@ -55,7 +53,6 @@ impl WorldParts {
         requires room { HasRoomToHear lane self.old }
         ensures parts { IsWorldParts self.new }
         ensures arrived { ActIsDone F.answers (Deliver lane.link lane.direction) result fate.old fate.new self.old self.new }
-        ensures uses { HearUses lane self.old self.new.net }
     {
         let Reached { at, answer, frame } = self.deliver(lane, fate);
         Done::Heard {
@@ -69,7 +66,7 @@ impl WorldParts {
     /// A link goes down, where it is up.
     fn take_link_down<F: Fate>(&mut self, link: usize, fate: &mut F)
         requires parts { IsWorldParts self.old }
-        requires link { link < length self.old.net.cables.items }
+        requires link { link < length self.old.net.traffic.net.channels }
         requires room { LinkIs true link self.old.net → HasRoomAtEnds link self.old }
         ensures parts { IsWorldParts self.new }
         ensures down { Turned F.answers (LinkDown link) fate.old fate.new self.old self.new }
@@ -82,7 +79,7 @@ impl WorldParts {
     /// A link comes up, where it is down.
     fn bring_link_up<F: Fate>(&mut self, link: usize, fate: &mut F)
         requires parts { IsWorldParts self.old }
-        requires link { link < length self.old.net.cables.items }
+        requires link { link < length self.old.net.traffic.net.channels }
         requires room { LinkIs false link self.old.net → HasRoomAtEnds link self.old }
         ensures parts { IsWorldParts self.new }
         ensures up { Turned F.answers (LinkUp link) fate.old fate.new self.old self.new }
@@ -95,7 +92,7 @@ impl WorldParts {
     /// A link gets other bounds.
     fn set_link(&mut self, link: usize, bounds: Bounds)
         requires parts { IsWorldParts self.old }
-        requires link { link < length self.old.net.cables.items }
+        requires link { link < length self.old.net.traffic.net.channels }
         requires fit { Fit bounds }
         ensures parts { IsWorldParts self.new }
         ensures set { TurnsOver (LinkSet link bounds) (world_of self.old) [] (world_of self.new) }
@@ -131,9 +128,9 @@ impl WorldParts {
     /// A frame with these octets goes onto a lane, where its link is up, as if the system at its beginning had sent it.
     fn inject<F: Fate>(&mut self, lane: Lane, octets: &[u8], fate: &mut F)
         requires parts { IsWorldParts self.old }
-        requires link { lane.link < length self.old.net.cables.items }
+        requires link { lane.link < length self.old.net.traffic.net.channels }
         requires few { length octets.now ≤ 2116 }
-        requires room { LinkIs true lane.link self.old.net → HasRoomToInject lane self.old.net }
+        requires room { LinkIs true lane.link self.old.net → WorldHasRoom for_frame self.old.net }
         ensures parts { IsWorldParts self.new }
         ensures injected { Injected F.answers lane octets.now fate.old fate.new self.old self.new }
     {
@@ -169,18 +166,16 @@ impl WorldParts {
     ghost use Rattle.gptp_model.specs.Acts.{IsDueThen};
     ghost use Rattle.gptp_scenario.specs.Allowed.{IsFitAct};
     ghost use Rattle.gptp_world.specs.ActTarget.{IsTargetOf};
-    ghost use Rattle.gptp_world.specs.FrameBudget.{IsChange, IsCovered, LeavesBudget, UsesForTarget};
     ghost use Rattle.gptp_world.specs.Memory.{AsksForNoMemory};
     ghost use Rattle.gptp_world.specs.Performing.{ActIsDone, HasRoomForTarget};
     ghost use Rattle.gptp_model.specs.Sound.{IsSound};
     ghost use Rattle.gptp_world.specs.WorldParts.{world_of, IsWorldParts};
 
-    /// Makes room for whatever a change can leave: none for a failure, or where nothing will change. Refused where
-    /// there is no memory for it. The state of the world doesn't change.
-    fn make_room_to_change(&mut self, act: &Act, target: ActTarget) -> Result<(), AllocError>
+    /// Makes room for whatever an act can leave: none for a failure, or where nothing will change. Refused where there
+    /// is no memory for it. The state of the world doesn't change.
+    pub(crate) fn make_room_for(&mut self, act: &Act, target: ActTarget) -> Result<(), AllocError>
         requires parts { IsWorldParts self.old }
         requires target { IsTargetOf act.now (world_of self.old) target }
-        requires change { IsChange target }
         ensures parts { IsWorldParts self.new }
         ensures world { world_of self.new ≡ world_of self.old }
         ensures room { OnOk result (HasRoomForTarget target self.new) }
@@ -194,40 +189,8 @@ impl WorldParts {
             ActTarget::Recover(place) => self.make_room_to_recover(place),
             ActTarget::Priority1 { place, value: _ } => self.make_room(place),
             ActTarget::Inject(lane) => self.make_room_to_inject(lane),
-            ActTarget::Arrival(_) => Ok(()),
-            ActTarget::Timer { place: _, timer: _ } => Ok(()),
-        }
-    }
-
-    /// Makes room for whatever an act can leave, beyond the credit that is left then; a change gives all credit up.
-    /// Refused where there is no memory for it. The state of the world doesn't change.
-    pub(crate) fn make_room_for(
-        &mut self,
-        act: &Act,
-        target: ActTarget,
-        frame_budget: &mut FrameBudget,
-    ) -> Result<(), AllocError>
-        requires parts { IsWorldParts self.old }
-        requires target { IsTargetOf act.now (world_of self.old) target }
-        requires covered { IsCovered frame_budget.old self.old.net }
-        ensures parts { IsWorldParts self.new }
-        ensures world { world_of self.new ≡ world_of self.old }
-        ensures covered { IsCovered frame_budget.new self.new.net }
-        ensures room { OnOk result (HasRoomForTarget target self.new) }
-        ensures left { OnOk result (LeavesBudget target frame_budget.new self.new) }
-        ensures free { AsksForNoMemory act.now (world_of self.old) → IsOk result }
-    {
-        match target {
-            ActTarget::Arrival(lane) => self.make_room_to_hear(lane, frame_budget),
-            ActTarget::Timer { place, timer } => self.make_room_to_expire(
-                place,
-                timer,
-                frame_budget,
-            ),
-            _ => {
-                frame_budget.give_up();
-                self.make_room_to_change(act, target)
-            }
+            ActTarget::Arrival(lane) => self.make_room_to_hear(lane),
+            ActTarget::Timer { place, timer: _ } => self.make_room(place),
         }
     }
 
@@ -241,7 +204,6 @@ impl WorldParts {
         requires room { HasRoomForTarget target self.old }
         ensures parts { IsWorldParts self.new }
         ensures acted { ActIsDone F.answers act.now result fate.old fate.new self.old self.new }
-        ensures uses { UsesForTarget target self.old self.new.net }
     {
         match target {
             ActTarget::Arrival(lane) => self.arrive(lane, fate),

@@ -6,10 +6,10 @@ ghost use Rattle.gptp_system.specs.Input.{given};
 ghost use Rattle.gptp_world.specs.Telling.{link_input, AreEndsOf, IsEndAt};
 
 use crate::directory::Directory;
-use crate::joined_link::Lane;
 use crate::world_parts::WorldParts;
 use gptp_links::{Direction, Fate};
 use gptp_system::Input;
+use gptp_traffic::Lane;
 use std::alloc::AllocError;
 
 /// An end of a link: a port of the system at a place.
@@ -88,7 +88,7 @@ impl WorldParts {
     /// end a first.
     pub(crate) fn link_down<F: Fate>(&mut self, link: usize, fate: &mut F)
         requires parts { IsWorldParts self.old }
-        requires link { link < length self.old.net.cables.items }
+        requires link { link < length self.old.net.traffic.net.channels }
         requires room { HasRoomAtEnds link self.old }
         ensures parts { IsWorldParts self.new }
         ensures down { GoneDown F.answers link fate.old fate.new self.old self.new }
@@ -103,7 +103,7 @@ impl WorldParts {
     /// The link at a place, which is down, comes up, and then its ends are told, its end a first.
     pub(crate) fn link_up<F: Fate>(&mut self, link: usize, fate: &mut F)
         requires parts { IsWorldParts self.old }
-        requires link { link < length self.old.net.cables.items }
+        requires link { link < length self.old.net.traffic.net.channels }
         requires room { HasRoomAtEnds link self.old }
         ensures parts { IsWorldParts self.new }
         ensures up { ComeUp F.answers link fate.old fate.new self.old self.new }
@@ -119,7 +119,7 @@ impl WorldParts {
     /// The state of the world doesn't change.
     fn make_room_at_ends(&mut self, link: usize) -> Result<(), AllocError>
         requires parts { IsWorldParts self.old }
-        requires link { link < length self.old.net.cables.items }
+        requires link { link < length self.old.net.traffic.net.channels }
         ensures parts { IsWorldParts self.new }
         ensures world { world_of self.new ≡ world_of self.old }
         ensures room { OnOk result (HasRoomAtEnds link self.new) }
@@ -132,7 +132,7 @@ impl WorldParts {
     /// where there is no memory for it. The state of the world doesn't change.
     pub(crate) fn make_room_to_take_down(&mut self, link: usize) -> Result<(), AllocError>
         requires parts { IsWorldParts self.old }
-        requires link { link < length self.old.net.cables.items }
+        requires link { link < length self.old.net.traffic.net.channels }
         ensures parts { IsWorldParts self.new }
         ensures world { world_of self.new ≡ world_of self.old }
         ensures room { OnOk result (LinkIs true link self.new.net → HasRoomAtEnds link self.new) }
@@ -148,7 +148,7 @@ impl WorldParts {
     /// where there is no memory for it. The state of the world doesn't change.
     pub(crate) fn make_room_to_bring_up(&mut self, link: usize) -> Result<(), AllocError>
         requires parts { IsWorldParts self.old }
-        requires link { link < length self.old.net.cables.items }
+        requires link { link < length self.old.net.traffic.net.channels }
         ensures parts { IsWorldParts self.new }
         ensures world { world_of self.new ≡ world_of self.old }
         ensures room { OnOk result (LinkIs false link self.new.net → HasRoomAtEnds link self.new) }

@@ -34,23 +34,23 @@ impl Net {
     /// A timer of the system at a place is pending when it is due, and isn't where it doesn't run. That takes room only
     /// where the system lives.
     fn set_timer(&mut self, place: usize, station: &Station, timer: Timer)
-        requires place { place < self.old.pending.systems }
-        requires room { station.now.live ≡ true → 1 ≤ self.old.pending.room }
+        requires place { place < self.old.traffic.systems }
+        requires room { station.now.live ≡ true → 1 ≤ self.old.traffic.room }
         requires timer { IsTimerOf station.now.system timer }
         requires port { timer_port timer ≤ MOST_PORTS }
-        ensures entries { self.new.pending.entries ≡ set_timers place station.now (timer ∷ []) self.old.pending.entries }
+        ensures entries { self.new.traffic.net.pending ≡ set_timers place station.now (timer ∷ []) self.old.traffic.net.pending }
         ensures only { OnlyEntries 1 self.old self.new }
     {
-        self.pending.set_due(place, timer, due_of(station, timer));
+        self.traffic.set_due(place, timer, due_of(station, timer));
     }
 
     /// Makes the timers of a port pending when they are due. One that doesn't run isn't pending.
     fn set_port_timers(&mut self, place: usize, station: &Station, port: u8)
-        requires place { place < self.old.pending.systems }
-        requires room { station.now.live ≡ true → 4 ≤ self.old.pending.room }
+        requires place { place < self.old.traffic.systems }
+        requires room { station.now.live ≡ true → 4 ≤ self.old.traffic.room }
         requires port { HasPortNumber station.now.system port }
         requires few { port ≤ MOST_PORTS }
-        ensures entries { self.new.pending.entries ≡ set_timers place station.now (timers.Pdelay port ∷ timers.Respond port ∷ timers.Announce port ∷ timers.Age port ∷ []) self.old.pending.entries }
+        ensures entries { self.new.traffic.net.pending ≡ set_timers place station.now (timers.Pdelay port ∷ timers.Respond port ∷ timers.Announce port ∷ timers.Age port ∷ []) self.old.traffic.net.pending }
         ensures only { OnlyEntries 4 self.old self.new }
     {
         self.set_timer(place, station, Timer::Pdelay(port));
@@ -62,9 +62,9 @@ impl Net {
     /// Makes the Relay and the Lapse timer pending when they are due. Time that comes over the Slave port changes
     /// these.
     fn set_of_time(&mut self, place: usize, station: &Station)
-        requires place { place < self.old.pending.systems }
-        requires room { station.now.live ≡ true → 2 ≤ self.old.pending.room }
-        ensures entries { self.new.pending.entries ≡ set_timers place station.now (timers.Relay ∷ timers.Lapse ∷ []) self.old.pending.entries }
+        requires place { place < self.old.traffic.systems }
+        requires room { station.now.live ≡ true → 2 ≤ self.old.traffic.room }
+        ensures entries { self.new.traffic.net.pending ≡ set_timers place station.now (timers.Relay ∷ timers.Lapse ∷ []) self.old.traffic.net.pending }
         ensures only { OnlyEntries 2 self.old self.new }
     {
         self.set_timer(place, station, Timer::Relay);
@@ -74,10 +74,10 @@ impl Net {
     /// Makes all timers of the system pending when they are due: those of each port, by rising port, and then those of
     /// the system.
     pub(crate) fn set_timers(&mut self, place: usize, station: &Station)
-        requires place { place < self.old.pending.systems }
+        requires place { place < self.old.traffic.systems }
         requires few { length station.now.system.ports ≤ MOST_PORTS }
-        requires room { station.now.live ≡ true → 4 * length station.now.system.ports + 3 ≤ self.old.pending.room }
-        ensures entries { self.new.pending.entries ≡ set_timers place station.now (timers_from 1 station.now.system.ports) self.old.pending.entries }
+        requires room { station.now.live ≡ true → 4 * length station.now.system.ports + 3 ≤ self.old.traffic.room }
+        ensures entries { self.new.traffic.net.pending ≡ set_timers place station.now (timers_from 1 station.now.system.ports) self.old.traffic.net.pending }
         ensures only { OnlyEntries (4 * length station.now.system.ports + 3) self.old self.new }
     {
         let mut port = 0;
@@ -91,11 +91,11 @@ impl Net {
 
     /// Makes the timers of a port that selection can change pending when they are due.
     fn set_selected_at(&mut self, place: usize, station: &Station, port: u8)
-        requires place { place < self.old.pending.systems }
-        requires room { 2 ≤ self.old.pending.room }
+        requires place { place < self.old.traffic.systems }
+        requires room { 2 ≤ self.old.traffic.room }
         requires port { HasPortNumber station.now.system port }
         requires few { port ≤ MOST_PORTS }
-        ensures entries { self.new.pending.entries ≡ set_timers place station.now (timers.Announce port ∷ timers.Age port ∷ []) self.old.pending.entries }
+        ensures entries { self.new.traffic.net.pending ≡ set_timers place station.now (timers.Announce port ∷ timers.Age port ∷ []) self.old.traffic.net.pending }
         ensures only { OnlyEntries 2 self.old self.new }
     {
         self.set_timer(place, station, Timer::Announce(port));
@@ -105,10 +105,10 @@ impl Net {
     /// Makes all timers of the system that selection can change pending when they are due: those of each port, by
     /// rising port, and then its own.
     fn set_selected(&mut self, place: usize, station: &Station)
-        requires place { place < self.old.pending.systems }
+        requires place { place < self.old.traffic.systems }
         requires few { length station.now.system.ports ≤ MOST_PORTS }
-        requires room { 2 * length station.now.system.ports + 2 ≤ self.old.pending.room }
-        ensures entries { self.new.pending.entries ≡ set_timers place station.now (selected_from 1 station.now.system.ports) self.old.pending.entries }
+        requires room { 2 * length station.now.system.ports + 2 ≤ self.old.traffic.room }
+        ensures entries { self.new.traffic.net.pending ≡ set_timers place station.now (selected_from 1 station.now.system.ports) self.old.traffic.net.pending }
         ensures only { OnlyEntries (2 * length station.now.system.ports + 2) self.old self.new }
     {
         let mut port = 0;
@@ -121,12 +121,12 @@ impl Net {
 
     /// Makes all timers of the system pending when they are due, where all but the touched ones are so already.
     pub(crate) fn set_touched(&mut self, place: usize, station: &Station, touched: TimersChanged)
-        requires place { place < self.old.pending.systems }
+        requires place { place < self.old.traffic.systems }
         requires few { length station.now.system.ports ≤ MOST_PORTS }
-        requires room { 4 * length station.now.system.ports + 3 ≤ self.old.pending.room }
+        requires room { 4 * length station.now.system.ports + 3 ≤ self.old.traffic.room }
         requires own { IsTouchedOf station.now.system touched }
-        requires set { AreSetBut (holds touched) place station.now self.old.pending.entries }
-        ensures entries { self.new.pending.entries ≡ set_timers place station.now (timers_from 1 station.now.system.ports) self.old.pending.entries }
+        requires set { AreSetBut (holds touched) place station.now self.old.traffic.net.pending }
+        ensures entries { self.new.traffic.net.pending ≡ set_timers place station.now (timers_from 1 station.now.system.ports) self.old.traffic.net.pending }
         ensures only { OnlyEntries (4 * length station.now.system.ports + 3) self.old self.new }
     {
         match touched {

@@ -3,28 +3,26 @@
 ghost use Rattle.std.specs.Prelude.{◌≡◌, ◌<◌, ◌++◌, length, map, option_map, slice_get, IfOk, OnOk, Some};
 ghost use Rattle.gptp_invariants.specs.WorldStanding.{snapshot_of};
 
-use crate::joined_link::Lane;
 use crate::world_core::WorldCore;
 use crate::world_parts::WorldParts;
 use gptp_links::Direction;
+use gptp_traffic::Lane;
 use gptp_vector::PortId;
 use std::alloc::{AllocError, Global};
 
 impl WorldParts {
     ghost use Rattle.std.specs.Prelude.{◌≡◌, ◌<◌, ◌++◌, ◌&&◌, length, map, option_map, slice_get, IfOk, OnOk, Some};
-    ghost use Rattle.gptp_model.specs.World.{receiver};
+    ghost use Rattle.gptp_model.specs.World.{receiver, Channel};
     ghost use Rattle.gptp_invariants.specs.WorldStanding.{stations_have_clock, channel_is_used, live_stations};
-    ghost use Rattle.gptp_world.specs.declared.joined_link.JoinedLink.{JoinedLink};
-    ghost use Rattle.gptp_world.specs.JoinedLink.{channel_of};
     ghost use Rattle.gptp_world.specs.WorldCore.{IsFounded};
     ghost use Rattle.gptp_world.specs.Used.{snapshot_link, used, used_if, used_in};
 
     /// Whether the system lives at which a lane ends.
     fn lives_behind(&self, lane: Lane) -> bool
         requires founded { IsFounded self.now }
-        requires lane { lane.link < length self.now.net.cables.items }
-        ensures { (joined_link : JoinedLink) → slice_get self.entry.now.net.cables.items lane.link ≡ Some joined_link
-            → result ≡ stations_have_clock (live_stations self.entry.now.stations.items) (receiver lane.direction (channel_of joined_link)).clock }
+        requires lane { lane.link < length self.now.net.traffic.net.channels }
+        ensures { (channel : Channel) → slice_get self.entry.now.net.traffic.net.channels lane.link ≡ Some channel
+            → result ≡ stations_have_clock (live_stations self.entry.now.stations.items) (receiver lane.direction channel).clock }
     {
         self.stations[self.net.directory.receiver(lane)].live
     }
@@ -32,10 +30,10 @@ impl WorldParts {
     /// Whether both systems that a link joins live.
     fn joins_live(&self, link: usize) -> bool
         requires founded { IsFounded self.now }
-        requires link { link < length self.now.net.cables.items }
-        ensures { (joined_link : JoinedLink) → slice_get self.entry.now.net.cables.items link ≡ Some joined_link
-            → result ≡ (stations_have_clock (live_stations self.entry.now.stations.items) joined_link.a.clock
-            && stations_have_clock (live_stations self.entry.now.stations.items) joined_link.b.clock) }
+        requires link { link < length self.now.net.traffic.net.channels }
+        ensures { (channel : Channel) → slice_get self.entry.now.net.traffic.net.channels link ≡ Some channel
+            → result ≡ (stations_have_clock (live_stations self.entry.now.stations.items) channel.a.clock
+            && stations_have_clock (live_stations self.entry.now.stations.items) channel.b.clock) }
     {
         let direction = Direction::FromB;
         if !self.lives_behind(Lane { link, direction }) {
@@ -48,9 +46,9 @@ impl WorldParts {
     /// Whether a link is up between two live systems.
     fn is_in_use(&self, link: usize) -> bool
         requires founded { IsFounded self.now }
-        requires link { link < length self.now.net.cables.items }
-        ensures { (joined_link : JoinedLink) → slice_get self.entry.now.net.cables.items link ≡ Some joined_link
-            → result ≡ channel_is_used (live_stations self.entry.now.stations.items) (channel_of joined_link) }
+        requires link { link < length self.now.net.traffic.net.channels }
+        ensures { (channel : Channel) → slice_get self.entry.now.net.traffic.net.channels link ≡ Some channel
+            → result ≡ channel_is_used (live_stations self.entry.now.stations.items) channel }
     {
         if !self.net.is_up(link) {
             return false;
@@ -61,15 +59,15 @@ impl WorldParts {
     /// The two ports of a link that is up between two live systems; none of another.
     fn used_link(&self, link: usize) -> Option<(PortId, PortId)>
         requires founded { IsFounded self.now }
-        requires link { link < length self.now.net.cables.items }
-        ensures { (joined_link : JoinedLink) → slice_get self.entry.now.net.cables.items link ≡ Some joined_link
-            → option_map snapshot_link result ≡ used (live_stations self.entry.now.stations.items) (channel_of joined_link) }
+        requires link { link < length self.now.net.traffic.net.channels }
+        ensures { (channel : Channel) → slice_get self.entry.now.net.traffic.net.channels link ≡ Some channel
+            → option_map snapshot_link result ≡ used (live_stations self.entry.now.stations.items) channel }
     {
         if !self.is_in_use(link) {
             return None;
         }
-        let joined_link = &self.net.cables[link];
-        Some((joined_link.a, joined_link.b))
+        let join = self.net.traffic.join(link);
+        Some((join.a, join.b))
     }
 
     /// How many such links there are.
@@ -78,7 +76,7 @@ impl WorldParts {
         ensures { result ≡ length (used_in self.entry.now) }
     {
         let mut count = 0;
-        for link in 0..self.net.cables.len() {
+        for link in 0..self.net.traffic.links() {
             if self.is_in_use(link) {
                 count += 1;
             }
@@ -92,7 +90,7 @@ impl WorldParts {
         ensures { option_map snapshot_link result ≡ slice_get (used_in self.entry.now) place }
     {
         let mut before = 0;
-        for link in 0..self.net.cables.len() {
+        for link in 0..self.net.traffic.links() {
             if self.is_in_use(link) {
                 if before == place {
                     return self.used_link(link);
@@ -106,10 +104,10 @@ impl WorldParts {
     /// Puts a link after others, where it is up between two live systems.
     fn push_used(&self, link: usize, links: &mut Vec<(PortId, PortId)>) -> Result<(), AllocError>
         requires founded { IsFounded self.now }
-        requires link { link < length self.now.net.cables.items }
-        ensures { (joined_link : JoinedLink) → slice_get self.entry.now.net.cables.items link ≡ Some joined_link
+        requires link { link < length self.now.net.traffic.net.channels }
+        ensures { (channel : Channel) → slice_get self.entry.now.net.traffic.net.channels link ≡ Some channel
             → OnOk result (map snapshot_link links.new.items ≡ map snapshot_link links.old.items
-            ++ used_if (live_stations self.entry.now.stations.items) (channel_of joined_link)) }
+            ++ used_if (live_stations self.entry.now.stations.items) channel) }
     {
         match self.used_link(link) {
             Some(ports) => Ok(links.push(ports)?),
@@ -123,7 +121,7 @@ impl WorldParts {
         ensures { IfOk result (λ links. map snapshot_link links.items ≡ used_in self.entry.now) }
     {
         let mut links = Vec::new(alloc);
-        for link in 0..self.net.cables.len() {
+        for link in 0..self.net.traffic.links() {
             self.push_used(link, &mut links)?;
         }
         Ok(links)

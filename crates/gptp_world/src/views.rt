@@ -74,7 +74,7 @@ impl WorldCore {
         ensures prompt { IfSome result (λ timed. DelaysFitIntervals self.now timed.act) }
         ensures none { IfNone result (self.now.net.pending ≡ []) }
     {
-        match self.parts.net.pending.next() {
+        match self.parts.net.traffic.next() {
             Some((at, item)) => {
                 let act = act_of(&self.parts, item);
                 Some(Timed { at, act })

@@ -7,18 +7,16 @@ ghost use Rattle.gptp_world.specs.WorldCore.{IsFounded, SystemsStarted};
 
 use crate::act_target::ActTarget;
 use crate::checking::sets_an_octet;
-use crate::frame_budget::FrameBudget;
 use crate::world_parts::WorldParts;
 use gptp_links::Fate;
 use gptp_model::{Done, Network, Refused, Timed};
 use std::alloc::{AllocError, Global};
 use std::marker::Model;
 
-/// A world without its fate: its systems, and what is between them; and for how many frames there is room ahead.
+/// A world without its fate: its systems, and what is between them.
 #[derive(Drop)]
 pub(crate) struct WorldCore {
     pub(crate) parts: WorldParts,
-    pub(crate) frame_budget: FrameBudget,
 }
 
 impl Model for WorldCore {
@@ -31,7 +29,7 @@ impl Model for WorldCore {
 
     ghost view = { λ s. world_of s.parts };
 
-    ghost invariant = { λ s. IsWorldCore s.frame_budget s.parts };
+    ghost invariant = { λ s. IsWorldCore s.parts };
 }
 
 /// The system at a place starts, once room is made for it. Refused where there is no memory for that.
@@ -86,11 +84,7 @@ impl WorldCore {
         network.well_formed();
         let mut parts = WorldParts::found(alloc, network, seed)?;
         start_all(&mut parts, fate)?;
-        let frame_budget = FrameBudget::new(alloc, parts.stations.len())?;
-        Ok(WorldCore {
-            parts,
-            frame_budget,
-        })
+        Ok(WorldCore { parts })
     }
 
     /// An act is done at its time, where it can be; otherwise the first test that it fails is answered, and nothing
@@ -137,8 +131,7 @@ impl WorldCore {
         ensures kept { OnErr result (self.new ≡ self.old) }
         ensures fate { OnErr result (fate.new ≡ fate.old) }
     {
-        self.parts
-            .make_room_for(&timed.act, target, &mut self.frame_budget)?;
+        self.parts.make_room_for(&timed.act, target)?;
         self.parts.now = timed.at;
         Ok(self.parts.perform(&timed.act, target, fate))
     }

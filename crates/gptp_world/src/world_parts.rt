@@ -20,7 +20,7 @@ impl WorldParts {
     ghost use Rattle.gptp_system.specs.declared.answer.Answer.{Answer};
     ghost use Rattle.gptp_system.specs.Input.{given, Input as Given};
     ghost use Rattle.gptp_world.specs.declared.world_parts.WorldParts.{WorldParts};
-    ghost use Rattle.gptp_world.specs.WorldParts.{Called, CallUses, CarriesOut, GiveUses, HasRoomToGive, HasStepped, IsLiveAt, IsWorldParts, IsTimelyAt};
+    ghost use Rattle.gptp_world.specs.WorldParts.{Called, CallUses, CarriesOut, HasRoomToCall, HasStepped, IsLiveAt, IsWorldParts, IsTimelyAt};
     ghost use Rattle.gptp_world.specs.Timing.{AreSetFor, HasTouched};
 
     /// What a step of the system at a place left is carried out: its timers follow, of which it touched no others than
@@ -32,8 +32,8 @@ impl WorldParts {
             → HasStepped place input answer before self.old → IsWorldParts self.new }
         ensures called { (before : WorldParts) (input : Given) (answer : Answer) → HasStepped place input answer before self.old
             → Called F.answers place input answer fate.old fate.new before self.new }
-        ensures within { (before : WorldParts) (input : Given) (answer : Answer) → HasStepped place input answer before self.old
-            → IsTimelyAt input place before → GiveUses input place before self.new.net }
+        ensures uses { (before : WorldParts) (input : Given) (answer : Answer) → HasStepped place input answer before self.old
+            → IsTimelyAt input place before → CallUses place before self.new.net }
     {
         let station = &self.stations[place];
         self.net.set_touched(place, station, touched);
@@ -59,10 +59,9 @@ impl WorldParts {
         requires live { IsLiveAt place self.old }
         requires timely { IsTimelyAt (given input) place self.old }
         requires set { AreSetFor (given input) place self.old }
-        requires room { HasRoomToGive (given input) place self.old }
+        requires room { HasRoomToCall place self.old }
         ensures parts { IsWorldParts self.new }
         ensures called { Called F.answers place (given input.entry) result fate.old fate.new self.old self.new }
-        ensures within { GiveUses (given input.entry) place self.old self.new.net }
         ensures uses { CallUses place self.old self.new.net }
     {
         let system = &mut self.stations[place].system;

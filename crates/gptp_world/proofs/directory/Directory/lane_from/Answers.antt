@@ -1,7 +1,7 @@
 use Rattle.std.proofs.Common.{◌≡◌, ◌≤◌, ℕ, None, Some, IfSome, slice_get, subst, arith}
 use Rattle.std.proofs.lemmas.Option.{slice_get_within}
 use Rattle.gptp_setup.specs.declared.limits.TheConstants.{MOST_PORTS}
-use Rattle.gptp_world.specs.declared.joined_link.Lane.{Lane}
+use Rattle.gptp_traffic.specs.declared.joined_link.Lane.{Lane}
 use Rattle.gptp_world.specs.Directory.{DirectoryState, BeginsAt}
 use Rattle.gptp_world.proofs.LaneLemmas.{port_id, at_port, begins, only_lane, small_port}
 use Rattle.gptp_world.proofs.directory.Directory.lane_from.Goals as goal

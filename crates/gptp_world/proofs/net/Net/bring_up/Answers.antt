@@ -1,28 +1,21 @@
-use Rattle.std.proofs.Common.{◌≡◌, Some, refl, ap, sym, ◌∙◌, arith}
-use Rattle.std.proofs.lemmas.Option.{slice_get-get_or}
-use Rattle.gptp_lists.proofs.PlaceLemmas.{read}
-use Rattle.gptp_world.proofs.NeedLemmas.{uses_nothing}
-use Rattle.gptp_world.proofs.RoomLemmas.{kept_on}
-use Rattle.gptp_world.proofs.ChangingLemmas.{net_changed, still_net}
+use Rattle.std.proofs.Common.{refl, ap, ◌∙◌, arith}
+use Rattle.gptp_lists.proofs.PlaceLemmas.{member_there}
+use Rattle.gptp_traffic.specs.Traffic.{TrafficState}
 use Rattle.gptp_world.proofs.net.Net.bring_up.Goals as goal
 
 pub returns-clause-net : goal.returns-clause-net
-returns-clause-net c =
-    let one = c.index_mut.result.now in let cables = c.args.self.now.cables.items in
-    let here = slice_get-get_or cables c.args.link one c.requires.link ∙ ap Some (sym c.index_mut.ensures.value) in
-    still_net c.args.self.now _ c.args.link one _ c.requires.net here refl refl refl refl refl
+returns-clause-net c = record { joins = c.bring_up.ensures.joins ∙ c.requires.net.joins }
 
 pub returns-clause-up : goal.returns-clause-up
-returns-clause-up c = λ joined_link there.
-    let one = c.index_mut.result.now in let cables = c.args.self.now.cables.items in
-    let is : one ≡ joined_link = c.index_mut.ensures.value ∙ read cables c.args.link joined_link one there in
-    rw (← is) (net_changed cables c.args.link _ _ c.args.self.now.pending _ (let link = c.up.ensures in
-    rw link refl) refl)
+returns-clause-up c = λ channel here. ap (λ (t : TrafficState). t.net) (c.bring_up.ensures.up channel here)
 
 pub returns-clause-uses : goal.returns-clause-uses
 returns-clause-uses c =
-    let one = c.index_mut.result.now in let cables = c.args.self.now.cables.items in
-    let here = slice_get-get_or cables c.args.link one c.requires.link ∙ ap Some (sym c.index_mut.ensures.value) in
-    let link = c.up.ensures in
-    uses_nothing c.args.self.now _ refl refl (omega arith) (omega arith)
-    (kept_on cables c.args.link one _ here (rw link (record { from_a = omega arith; from_b = omega arith })))
+    let found = member_there c.args.self.now.traffic.net.channels c.args.link c.requires.link in
+    let is = c.bring_up.ensures.up found.0 found.1 in
+    let room = ap (λ (t : TrafficState). t.room) is in record {
+      directory = refl;
+      systems = ap (λ (t : TrafficState). t.systems) is;
+      entries = omega (arith, room);
+      buffers = omega arith;
+    }

@@ -1,7 +1,5 @@
 use Rattle.std.proofs.Common.{take}
-use Rattle.gptp_system.specs.State.{clock}
-use Rattle.gptp_world.specs.JoinedLink.{SentAll}
-use Rattle.gptp_world.specs.Net.{between, IsNet}
+use Rattle.gptp_world.specs.Net.{between, IsNet, SentAll}
 use Rattle.gptp_world.specs.Room.{for_sends, Uses}
 use Rattle.gptp_world.proofs.net.Net.send_all.Given as goal
 
@@ -9,7 +7,7 @@ use Rattle.gptp_world.proofs.net.Net.send_all.Given as goal
 abbrev pub invariant-loop-send : goal.invariant-loop-send
 invariant-loop-send g l = record {
   net : IsNet l.self;
-  uses : Uses (for_sends (clock l.system) (take l.send-index l.sends)) l.initial.self l.self;
+  uses : Uses (for_sends (take l.send-index l.sends)) l.initial.self l.self;
   sent : SentAll g.F.Fate.answers l.now l.system (take l.send-index l.sends) l.initial.fate l.fate
       (between l.initial.self) (between l.self);
 }

@@ -21,7 +21,7 @@ loop-port-preserved c =
           (only_more (2 * i) 2 c.args.self.now c.loop-port.self c.set_selected_at.new.self before.only e.only);
       entries = rw entries
           (ap (λ qs. set_timers c.args.place c.args.station.now (selected_from (i + 1) qs)
-          c.loop-port.self.pending.entries)
+          c.loop-port.self.traffic.net.pending)
           (sym rest.1)
           ∙ before.entries);
     }

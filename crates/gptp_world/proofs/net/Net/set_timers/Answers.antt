@@ -22,7 +22,7 @@ loop-port-preserved c =
           e.only);
       entries = rw entries
           (ap (λ qs. set_timers c.args.place c.args.station.now (timers_from (i + 1) qs)
-          c.loop-port.self.pending.entries) (sym rest.1) ∙ before);
+          c.loop-port.self.traffic.net.pending) (sym rest.1) ∙ before);
     }
 
 pub set_port_timers-requires-clause-room : goal.set_port_timers-requires-clause-room

@@ -10,8 +10,8 @@ invariant-loop-port l = record {
   within : l.port ≤ length l.station.system.ports;
   only : OnlyEntries (4 * l.port) l.initial.self l.self;
   entries : set_timers l.place l.station (timers_from (l.port + 1) (drop l.port l.station.system.ports))
-      l.self.pending.entries
-      ≡ set_timers l.place l.station (timers_from 1 l.station.system.ports) l.initial.self.pending.entries;
+      l.self.traffic.net.pending
+      ≡ set_timers l.place l.station (timers_from 1 l.station.system.ports) l.initial.self.traffic.net.pending;
 }
 
 abbrev pub decreases-loop-port : goal.decreases-loop-port

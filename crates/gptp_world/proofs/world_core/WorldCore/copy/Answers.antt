@@ -1,6 +1,5 @@
 use Rattle.std.proofs.Common.{subst, sym}
 use Rattle.gptp_invariants.specs.SyncTimedClaim.{WorldInvariant}
-use Rattle.gptp_world.proofs.FrameBudgetLemmas.{none_covered}
 use Rattle.gptp_world.proofs.WorldCoreLemmas.{same_sound}
 use Rattle.gptp_world.proofs.world_core.WorldCore.copy.Goals as goal
 
@@ -11,6 +10,4 @@ invariant_of-result c =
       stage_kept = c.in_ok-parts.ensures.parts;
       sound = same_sound _ _ same c.self.invariant.sound;
       claimed = subst WorldInvariant (sym same) c.self.invariant.claimed;
-      covered = none_covered c.in_ok-frame_budget.frame_budget c.in_ok-parts.parts.net c.in_ok-parts.ensures.parts.net
-          c.in_ok-frame_budget.ensures;
     }

@@ -3,7 +3,6 @@ use Rattle.gptp_scenario.specs.Network.{seeded}
 use Rattle.gptp_scenario.proofs.NetworkLemmas.{seeded_network}
 use Rattle.gptp_world.specs.WorldParts.{world_of}
 use Rattle.gptp_world.proofs.SettlingInvariantLemmas.{begun_claimed, begun_from}
-use Rattle.gptp_world.proofs.FrameBudgetLemmas.{none_covered}
 use Rattle.gptp_world.proofs.InitialLemmas.{initial_sound}
 use Rattle.gptp_world.proofs.WorldCoreLemmas.{same_sound}
 use Rattle.gptp_world.proofs.world_core.WorldCore.new.Goals as goal
@@ -29,6 +28,4 @@ invariant_of-result g c =
           (seeded_network c.args.network.now c.args.seed c.well_formed-2.ensures)
           (begun_from g.F.Fate.answers n c.args.fate.now c.start_all.new.fate c.in_ok-parts.parts after
           c.in_ok-parts.ensures.world done.started);
-      covered = none_covered c.in_ok-frame_budget.frame_budget after.net done.world_core.stage_kept.net
-          c.in_ok-frame_budget.ensures;
     }

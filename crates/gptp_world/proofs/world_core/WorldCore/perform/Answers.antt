@@ -6,8 +6,7 @@ use Rattle.gptp_model.specs.Sound.{IsSound}
 use Rattle.gptp_world.specs.WorldParts.{world_of}
 use Rattle.gptp_invariants.specs.SyncTimedClaim.{WorldInvariant}
 use Rattle.gptp_world.proofs.SettlingInvariantLemmas.{acted_claimed}
-use Rattle.gptp_world.proofs.FrameBudgetLemmas.{covered_after, leaves_later}
-use Rattle.gptp_world.proofs.LaterLemmas.{aim_later, at_time, room_later}
+use Rattle.gptp_world.proofs.LaterLemmas.{aim_later, room_later}
 use Rattle.gptp_world.proofs.WorldCoreLemmas.{ready_sound}
 use Rattle.gptp_model.proofs.SoundLemmas.{acts_sound}
 use Rattle.gptp_world.proofs.world_core.WorldCore.perform.Goals as goal
@@ -49,9 +48,4 @@ invariant_of-self-2 g c =
           (subst WorldInvariant c.self.view_is c.self.invariant.claimed)
           (c.make_room_for.ensures.world ∙ c.self.view_is)
           c.requires.fit c.requires.prompt c.requires.octet c.requires.ready acted.drawn acted.acts;
-      covered = let parts = c.make_room_for.new.self in let frame_budget = c.make_room_for.new.frame_budget in
-          covered_after c.args.target frame_budget
-          (at_time time parts) c.perform.new.self.net c.perform.ensures.parts.net
-          (leaves_later c.args.target frame_budget parts time c.in_ok-make_room_for.ensures.left)
-          c.perform.ensures.uses;
     }

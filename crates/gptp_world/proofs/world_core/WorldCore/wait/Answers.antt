@@ -13,12 +13,11 @@ invariant_of-self c =
     let parts = c.self.inside.parts in let until = c.args.until in
     let none = subst (λ (w : WorldState). NothingBefore (until + 1) w.net.pending) (sym c.self.view_is)
     c.requires.first in
-    let first = nothing_sooner until (until + 1) parts.net.pending.entries (omega arith) none in
+    let first = nothing_sooner until (until + 1) parts.net.traffic.net.pending (omega arith) none in
     let early : parts.now ≤ until =
     subst (λ (w : WorldState). w.time ≤ until) (sym c.self.view_is) c.requires.ahead in
     record {
       stage_kept = stage_later parts until c.requires.moment c.self.invariant.stage_kept;
       sound = later_sound (world_of parts) until parts.last_change c.self.invariant.sound first;
       claimed = all_later (world_of parts) until early first c.self.invariant.claimed;
-      covered = c.self.invariant.covered;
     }

@@ -1,9 +1,6 @@
 use Rattle.std.proofs.Common.{refl}
-use Rattle.gptp_world.proofs.PerformingLemmas.{arrived, frame_due, may_hear}
+use Rattle.gptp_world.proofs.PerformingLemmas.{arrived, may_hear}
 use Rattle.gptp_world.proofs.world_parts.WorldParts.arrive.Goals as goal
-
-pub deliver-at-requires-clause-due : goal.deliver-at-requires-clause-due
-deliver-at-requires-clause-due g c = frame_due c.args.self.now c.args.lane c.args.self.now.now c.requires.due
 
 pub deliver-at-requires-clause-hears : goal.deliver-at-requires-clause-hears
 deliver-at-requires-clause-hears g c =

@@ -6,7 +6,7 @@ use Rattle.gptp_world.proofs.world_parts.WorldParts.bring_link_up.Goals as goal
 
 pub link_up-requires-clause-room : goal.link_up-requires-clause-room
 link_up-requires-clause-room g c =
-    c.requires.room (λ joined_link here. sym (c.is_up.ensures joined_link here) ∙ c.if-not-is_up.true)
+    c.requires.room (λ channel here. sym (c.is_up.ensures channel here) ∙ c.if-not-is_up.true)
 
 pub returns-then-not-is_up-clause-up : goal.returns-then-not-is_up-clause-up
 returns-then-not-is_up-clause-up g c =
@@ -15,7 +15,7 @@ returns-then-not-is_up-clause-up g c =
       draws = up.draws;
       drawn = up.drawn;
       turns = of_link c.args.self.now c.args.link false (λ is channel. ComesUpIf is c.args.link channel w up.draws w')
-          (λ joined_link here. sym c.if-not-is_up.true ∙ c.is_up.ensures joined_link here)
+          (λ channel here. sym c.if-not-is_up.true ∙ c.is_up.ensures channel here)
           (of_this w c.args.link up.channel (λ channel. ComesUpIf false c.args.link channel w up.draws w') up.here
           up.up);
     }
@@ -27,6 +27,6 @@ returns-else-not-is_up-clause-up g c =
       draws = [];
       drawn = refl;
       turns = of_link c.args.self.now c.args.link true (λ is channel. ComesUpIf is c.args.link channel w [] w)
-          (λ joined_link here. sym c.if-not-is_up.false ∙ c.is_up.ensures joined_link here)
+          (λ channel here. sym c.if-not-is_up.false ∙ c.is_up.ensures channel here)
           (λ channel here. (refl, refl));
     }

@@ -1,14 +1,12 @@
 use Rattle.std.proofs.Common.{◌≡◌, ◌+◌, ◌*◌, length, Some, slice_get, refl, ap, ◌∙◌}
-use Rattle.gptp_system.specs.State.{clock}
 use Rattle.gptp_model.specs.Act.{all_timers, in_state}
-use Rattle.gptp_world.specs.JoinedLink.{SentAll}
 use Rattle.gptp_model.specs.declared.station.Station.{Station}
-use Rattle.gptp_world.specs.Net.{between}
+use Rattle.gptp_world.specs.Net.{between, SentAll}
 use Rattle.gptp_world.specs.Room.{for_sends, for_timers, WorldHasRoom, Uses}
 use Rattle.gptp_world.specs.WorldParts.{for_left}
 use Rattle.gptp_world.proofs.NeedLemmas.{left_of, uses_both, uses_timers}
 use Rattle.gptp_lists.proofs.PlaceLemmas.{read, get-set_same}
-use Rattle.gptp_world.proofs.WorldPartsLemmas.{called, give_uses, stays, timers_set}
+use Rattle.gptp_world.proofs.WorldPartsLemmas.{call_uses, called, stays, timers_set}
 use Rattle.gptp_world.proofs.world_parts.WorldParts.carry_out.Goals as goal
 
 pub send_all-requires-clause-room : goal.send_all-requires-clause-room
@@ -20,19 +18,19 @@ send_all-requires-clause-room g c =
     let used = 4 * length one.system.ports + 3 in
     let room : WorldHasRoom (for_left one.system c.args.self.now.outbox.items) net = rw is c.requires.carries.room in
     rw c.as_slice.ensures.value
-    (left_of (for_timers used) (for_sends (clock one.system) c.args.self.now.outbox.items) net
+    (left_of (for_timers used) (for_sends c.args.self.now.outbox.items) net
     c.set_touched.new.self (uses_timers used net c.set_touched.new.self c.set_touched.ensures.only) room)
 
-pub returns-clause-within : goal.returns-clause-within
-returns-clause-within g c = λ before input answer step given.
+pub returns-clause-uses : goal.returns-clause-uses
+returns-clause-uses g c = λ before input answer step given.
     let one = c.index-station.result.now in let net = c.args.self.now.net in
     let used = 4 * length one.system.ports + 3 in let sends = c.args.self.now.outbox.items in
-    let sent : Uses (for_sends (clock one.system) sends) c.set_touched.new.self c.send_all.new.self =
+    let sent : Uses (for_sends sends) c.set_touched.new.self c.send_all.new.self =
     rw (← c.as_slice.ensures.value) c.send_all.ensures.uses in
     let all : Uses (for_left one.system sends) net c.send_all.new.self =
-    uses_both (for_timers used) (for_sends (clock one.system) sends) net c.set_touched.new.self c.send_all.new.self
+    uses_both (for_timers used) (for_sends sends) net c.set_touched.new.self c.send_all.new.self
     (uses_timers used net c.set_touched.new.self c.set_touched.ensures.only) sent in
-    give_uses before c.args.self.now c.send_all.new.self c.args.place input answer step given
+    call_uses before c.args.self.now c.send_all.new.self c.args.place input answer step given
     (λ station here.
     let is : one ≡ station = c.index-station.ensures
     ∙ read c.args.self.now.stations.items c.args.place station one here in

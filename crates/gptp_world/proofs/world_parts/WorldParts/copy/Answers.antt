@@ -5,5 +5,4 @@ use Rattle.gptp_world.proofs.world_parts.WorldParts.copy.Goals as goal
 pub returns-clause-parts : goal.returns-clause-parts
 returns-clause-parts c =
     parts_copied c.args.self.now _ refl (c.in_ok-copy_stations.ensures ∙ c.deref.ensures.value)
-    c.in_ok-copy.ensures.cables
-    c.in_ok-copy.ensures.pending c.in_ok-copy.ensures.directory c.new.ensures c.requires
+    c.in_ok-copy.ensures.traffic c.in_ok-copy.ensures.directory c.new.ensures c.requires

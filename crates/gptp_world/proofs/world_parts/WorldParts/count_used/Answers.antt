@@ -7,19 +7,19 @@ use Rattle.gptp_world.proofs.world_parts.WorldParts.count_used.Goals.{then-is_in
 pub loop-link-preserved : goal.loop-link-preserved
 loop-link-preserved c =
     let parts = c.args.self.now in let link = c.loop-link.link in let test = c.loop-link-test.true in
-    let all = c.len-link-end.ensures in let known = parts.net.cables.ok.0 in
-    let within : link < length parts.net.cables.items = omega arith in
-    let (joined_link, here) = member_there parts.net.cables.items link within in
+    let all = c.links-link-end.ensures in
+    let within : link < length parts.net.traffic.net.channels = omega arith in
+    let (channel, here) = member_there parts.net.traffic.net.channels link within in
     let so_far = c.loop-link.invariant.is in let few = c.loop-link.invariant.few in
     elim c.if-is_in_use.branch [
       | then-is_in_use w ↦
-          let more = counted_more parts link joined_link here
-          (sym (c.is_in_use.ensures joined_link here) ∙ w.if-is_in_use.true) in
+          let more = counted_more parts link channel here
+          (sym (c.is_in_use.ensures channel here) ∙ w.if-is_in_use.true) in
           let is = w.count-is in
           record { is = omega arith; few = omega arith }
       | else-is_in_use w ↦
-          let same = counted_same parts link joined_link here
-          (sym (c.is_in_use.ensures joined_link here) ∙ w.if-is_in_use.false) in
+          let same = counted_same parts link channel here
+          (sym (c.is_in_use.ensures channel here) ∙ w.if-is_in_use.false) in
           let is = w.count-is in
           record { is = omega arith; few = omega arith }
     ]

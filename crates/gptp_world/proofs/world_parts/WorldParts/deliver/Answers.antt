@@ -1,13 +1,9 @@
 use Rattle.std.proofs.Common.{◌≡◌, slice_get, ap, sym, ◌∙◌}
-use Rattle.gptp_system.specs.Reach.{frame_reach}
 use Rattle.gptp_system.specs.Steps.{IsUp}
 use Rattle.gptp_vector.specs.declared.port.PortId.{PortId}
-use Rattle.gptp_world.specs.JoinedLink.{channel_of, join_of}
+use Rattle.gptp_traffic.specs.Traffic.{join_of}
 use Rattle.gptp_world.specs.Directory.{direction_end, DirectoryState}
-use Rattle.gptp_world.specs.Net.{between, IsOldest}
-use Rattle.gptp_world.specs.Room.{for_reach}
-use Rattle.gptp_world.proofs.FrameBudgetLemmas.{after_nothing}
-use Rattle.gptp_world.proofs.DeliveringLemmas.{oldest_taken}
+use Rattle.gptp_world.specs.Net.{between}
 use Rattle.gptp_world.proofs.EndLemmas.{end_placed, end_same, known_join, place_within, station_at}
 use Rattle.gptp_world.proofs.WorldPartsLemmas.{net_replaced, room_kept}
 use Rattle.gptp_world.proofs.TimingLemmas.{set_for_frame}
@@ -16,11 +12,14 @@ use Rattle.gptp_world.proofs.world_parts.WorldParts.deliver.Goals as goal
 pub narrowed-requires : goal.narrowed-requires
 narrowed-requires g c =
     let net = c.args.self.now.net in let due = c.requires.due in let lane = c.args.lane in
-    let join = join_of due.joined_link in
-    let there = known_join net lane.link due.joined_link c.requires.parts.net due.here in
+    let join = join_of due.channel in
+    let there = known_join net lane.link due.channel c.requires.parts.net due.here in
     let same = c.take_frame-frame.ensures.uses.directory in
     let at = c.port_at-at.ensures join (ap (λ (d : DirectoryState). slice_get d.joins lane.link) same ∙ there) in
     rw at (end_placed net.directory lane.direction lane.link join c.well_formed-2.ensures there).last
+
+pub take_frame-frame-requires-clause-due : goal.take_frame-frame-requires-clause-due
+take_frame-frame-requires-clause-due g c = (c.args.self.now.now, c.requires.due)
 
 pub hear_if_live-answer-requires-clause-parts : goal.hear_if_live-answer-requires-clause-parts
 hear_if_live-answer-requires-clause-parts g c =
@@ -30,8 +29,8 @@ hear_if_live-answer-requires-clause-parts g c =
 pub hear_if_live-answer-requires-clause-place : goal.hear_if_live-answer-requires-clause-place
 hear_if_live-answer-requires-clause-place g c =
     let net = c.args.self.now.net in let due = c.requires.due in let lane = c.args.lane in
-    let join = join_of due.joined_link in
-    let there = known_join net lane.link due.joined_link c.requires.parts.net due.here in
+    let join = join_of due.channel in
+    let there = known_join net lane.link due.channel c.requires.parts.net due.here in
     let same = c.take_frame-frame.ensures.uses.directory in
     let place = c.receiver-place.ensures join (ap (λ (d : DirectoryState). slice_get d.joins lane.link) same ∙ there) in
     place_within c.args.self.now c.receiver-place.result (direction_end lane.direction join).clock c.requires.parts
@@ -40,8 +39,8 @@ hear_if_live-answer-requires-clause-place g c =
 pub hear_if_live-answer-requires-clause-heard : goal.hear_if_live-answer-requires-clause-heard
 hear_if_live-answer-requires-clause-heard g c = λ station here live.
     let net = c.args.self.now.net in let due = c.requires.due in let lane = c.args.lane in
-    let join = join_of due.joined_link in
-    let there = known_join net lane.link due.joined_link c.requires.parts.net due.here in
+    let join = join_of due.channel in
+    let there = known_join net lane.link due.channel c.requires.parts.net due.here in
     let same = c.take_frame-frame.ensures.uses.directory in
     let after = ap (λ (d : DirectoryState). slice_get d.joins lane.link) same ∙ there in
     let place = c.receiver-place.ensures join after in
@@ -57,32 +56,25 @@ pub hear_if_live-answer-requires-clause-set : goal.hear_if_live-answer-requires-
 hear_if_live-answer-requires-clause-set g c =
     let due = c.requires.due in
     set_for_frame c.args.self.now c.take_frame-frame.new.self c.args.lane c.take_frame-frame.result.items
-    (channel_of due.joined_link) c.receiver-place.result c.requires.agrees
-    (c.take_frame-frame.ensures.takes due.joined_link due.here)
+    due.channel c.receiver-place.result c.requires.agrees
+    (c.take_frame-frame.ensures.takes c.args.self.now.now due.channel due.here due.so)
 
 pub hear_if_live-answer-requires-clause-room : goal.hear_if_live-answer-requires-clause-room
-hear_if_live-answer-requires-clause-room g c = λ station here.
+hear_if_live-answer-requires-clause-room g c =
     let net = c.args.self.now.net in let due = c.requires.due in let lane = c.args.lane in
-    let join = join_of due.joined_link in
-    let there = known_join net lane.link due.joined_link c.requires.parts.net due.here in
+    let join = join_of due.channel in
+    let there = known_join net lane.link due.channel c.requires.parts.net due.here in
     let same = c.take_frame-frame.ensures.uses.directory in
     let place = c.receiver-place.ensures join (ap (λ (d : DirectoryState). slice_get d.joins lane.link) same ∙ there) in
-    let octets = c.deref.result.now in
-    let takes = c.take_frame-frame.ensures.takes due.joined_link due.here in
-    let oldest : IsOldest lane octets net =
-    rw c.deref.ensures.value
-    (oldest_taken net c.take_frame-frame.new.self lane c.args.self.now.now c.take_frame-frame.result.items due takes) in
-    room_kept (frame_reach octets) c.receiver-place.result c.args.self.now c.take_frame-frame.new.self
-    c.take_frame-frame.ensures.uses
-    (c.requires.room join c.receiver-place.result octets there
-    (ap (λ (d : DirectoryState). slice_get d.clocks c.receiver-place.result) (sym same) ∙ place)
-    oldest)
+    room_kept c.receiver-place.result c.args.self.now c.take_frame-frame.new.self c.take_frame-frame.ensures.uses
+    (c.requires.room join c.receiver-place.result there
+    (ap (λ (d : DirectoryState). slice_get d.clocks c.receiver-place.result) (sym same) ∙ place))
 
 pub returns-clause-delivered : goal.returns-clause-delivered
 returns-clause-delivered g c =
     let net = c.args.self.now.net in let due = c.requires.due in let lane = c.args.lane in
-    let join = join_of due.joined_link in
-    let there = known_join net lane.link due.joined_link c.requires.parts.net due.here in
+    let join = join_of due.channel in
+    let there = known_join net lane.link due.channel c.requires.parts.net due.here in
     let same = c.take_frame-frame.ensures.uses.directory in
     let after = ap (λ (d : DirectoryState). slice_get d.joins lane.link) same ∙ there in
     let place = c.receiver-place.ensures join after in
@@ -90,7 +82,7 @@ returns-clause-delivered g c =
     let stands = station_at c.args.self.now c.receiver-place.result
     (direction_end lane.direction join).clock c.requires.parts
     (ap (λ (d : DirectoryState). slice_get d.clocks c.receiver-place.result) (sym same) ∙ place) in
-    let ends = end_same lane.direction due.joined_link in
+    let ends = end_same lane.direction due.channel in
     let port = c.narrowed.ensures ∙ ap (λ (p : PortId). p.port) (at ∙ ends) in
     let heard = c.hear_if_live-answer.ensures.heard in
     record {
@@ -100,42 +92,13 @@ returns-clause-delivered g c =
       draws = heard.draws;
       drawn = heard.drawn;
       delivers = record {
-        channel = channel_of due.joined_link;
+        channel = due.channel;
         net = between c.take_frame-frame.new.self;
         place = c.receiver-place.result;
         station = stands.station;
-        takes = c.take_frame-frame.ensures.takes due.joined_link due.here;
+        takes = c.take_frame-frame.ensures.takes c.args.self.now.now due.channel due.here due.so;
         there = stands.here;
         is_end = stands.named ∙ ap (λ (p : PortId). p.clock) ends;
         hears = rw (← port, ← c.deref.ensures.value) heard.hears;
       };
-    }
-
-pub returns-clause-uses : goal.returns-clause-uses
-returns-clause-uses g c =
-    let net = c.args.self.now.net in let due = c.requires.due in let lane = c.args.lane in
-    let join = join_of due.joined_link in
-    let there = known_join net lane.link due.joined_link c.requires.parts.net due.here in
-    let same = c.take_frame-frame.ensures.uses.directory in
-    let place = c.receiver-place.ensures join (ap (λ (d : DirectoryState). slice_get d.joins lane.link) same ∙ there) in
-    let placed = ap (λ (d : DirectoryState). slice_get d.clocks c.receiver-place.result) (sym same) ∙ place in
-    let octets = c.deref.result.now in
-    let takes = c.take_frame-frame.ensures.takes due.joined_link due.here in
-    let stands = station_at c.args.self.now c.receiver-place.result
-    (direction_end lane.direction join).clock c.requires.parts
-    placed in
-    record {
-      join = join;
-      place = c.receiver-place.result;
-      octets = octets;
-      station = stands.station;
-      there = there;
-      placed = placed;
-      oldest = rw c.deref.ensures.value
-          (oldest_taken net c.take_frame-frame.new.self lane c.args.self.now.now c.take_frame-frame.result.items due
-          takes);
-      here = stands.here;
-      uses = after_nothing (for_reach (frame_reach octets) stands.station.system) net c.take_frame-frame.new.self
-          c.hear_if_live-answer.new.self.net c.take_frame-frame.ensures.uses
-          (c.hear_if_live-answer.ensures.uses stands.station stands.here);
     }

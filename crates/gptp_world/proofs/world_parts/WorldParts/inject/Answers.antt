@@ -1,14 +1,15 @@
 use Rattle.std.proofs.Common.{sym, ◌∙◌}
+use Rattle.gptp_lists.proofs.PlaceLemmas.{member_there}
 use Rattle.gptp_world.proofs.PerformingLemmas.{injected, not_injected}
 use Rattle.gptp_world.proofs.TellingLemmas.{net_becomes}
 use Rattle.gptp_world.proofs.world_parts.WorldParts.inject.Goals as goal
 
 pub inject-requires-clause-room : goal.inject-requires-clause-room
 inject-requires-clause-room g c = c.requires.room
-    (λ joined_link here. sym (c.is_up.ensures joined_link here) ∙ c.if-is_up.true)
+    (λ channel here. sym (c.is_up.ensures channel here) ∙ c.if-is_up.true)
 
 pub inject-requires-clause-up : goal.inject-requires-clause-up
-inject-requires-clause-up g c = λ joined_link here. sym (c.is_up.ensures joined_link here) ∙ c.if-is_up.true
+inject-requires-clause-up g c = λ channel here. sym (c.is_up.ensures channel here) ∙ c.if-is_up.true
 
 pub returns-then-is_up-clause-parts : goal.returns-then-is_up-clause-parts
 returns-then-is_up-clause-parts g c =
@@ -17,14 +18,12 @@ returns-then-is_up-clause-parts g c =
 
 pub returns-then-is_up-clause-injected : goal.returns-then-is_up-clause-injected
 returns-then-is_up-clause-injected g c =
-    let room = c.requires.room (λ joined_link here. sym (c.is_up.ensures joined_link here) ∙ c.if-is_up.true) in
-    let frame = room.frame in
+    let found = member_there c.args.self.now.net.traffic.net.channels c.args.lane.link c.requires.link in
     injected g.F.Fate.answers c.args.lane c.args.octets.now c.args.fate.now c.inject.new.fate c.args.self.now
-    c.inject.new.self frame.joined_link frame.here
-    (sym (c.is_up.ensures frame.joined_link frame.here) ∙ c.if-is_up.true)
-    (c.inject.ensures.sent frame.joined_link frame.here)
+    c.inject.new.self found.0 found.1 (sym (c.is_up.ensures found.0 found.1) ∙ c.if-is_up.true)
+    (c.inject.ensures.sent found.0 found.1)
 
 pub returns-else-is_up-clause-injected : goal.returns-else-is_up-clause-injected
 returns-else-is_up-clause-injected g c =
     not_injected g.F.Fate.answers c.args.lane c.args.octets.now c.args.fate.now c.args.self.now
-    (λ joined_link here. sym c.if-is_up.false ∙ c.is_up.ensures joined_link here)
+    (λ channel here. sym c.if-is_up.false ∙ c.is_up.ensures channel here)

@@ -13,10 +13,10 @@ index-requires c =
     omega arith
 
 pub returns : goal.returns
-returns c = λ joined_link here.
+returns c = λ channel here.
     let parts = c.args.self.now in let place = c.receiver.result in
     let within = receiver_within parts c.args.lane place c.requires.founded.stage_kept c.requires.lane
     c.receiver.ensures in
-    lives_there parts c.args.lane place joined_link c.requires.founded here c.receiver.ensures c.index.result.now
+    lives_there parts c.args.lane place channel c.requires.founded here c.receiver.ensures c.index.result.now
     (slice_get_read parts.stations.items (length parts.stations.items) place c.index.result.now refl within
     c.index.ensures)

@@ -1,35 +1,19 @@
-use Rattle.std.proofs.Common.{◌≡◌, ◌*◌, ◌+◌, ◌≤◌, length, Some, slice_get, refl, ap, sym, ◌∙◌, arith}
+use Rattle.std.proofs.Common.{◌≡◌, Some, slice_get, refl, ap, sym, ◌∙◌, arith}
 use Rattle.std.proofs.lemmas.Option.{slice_get-get_or}
-use Rattle.gptp_world.proofs.QueueLemmas.{on_ok}
-use Rattle.gptp_world.proofs.RoomLemmas.{one_after_another, room_to_call, stage_stays}
+use Rattle.gptp_world.specs.WorldParts.{HasRoomToCall}
+use Rattle.gptp_world.proofs.RoomLemmas.{both_ok, room_to_call, stage_stays}
 use Rattle.gptp_world.proofs.world_parts.WorldParts.make_room.Goals as goal
 
-pub returns-in_err-reserve-clause-parts : goal.returns-in_err-reserve-clause-parts
-returns-in_err-reserve-clause-parts c =
-    stage_stays c.args.self.now _ refl refl refl c.reserve.ensures.only c.requires.parts
-
 pub returns-clause-parts : goal.returns-clause-parts
-returns-clause-parts c =
-    stage_stays c.args.self.now _ refl refl refl
-    (one_after_another c.args.self.now.net c.reserve.new.self c.make_room_at_ports.new.self c.reserve.ensures.only
-    c.make_room_at_ports.ensures.only) c.requires.parts
+returns-clause-parts c = stage_stays c.args.self.now _ refl refl refl c.reserve.ensures.only c.requires.parts
 
 pub returns-clause-room : goal.returns-clause-room
 returns-clause-room c =
     let one = c.index.result.now in let parts = c.args.self.now in
     let here : slice_get parts.stations.items c.args.place ≡ Some one =
     slice_get-get_or parts.stations.items c.args.place one c.requires.place ∙ ap Some (sym c.index.ensures) in
-    let only = one_after_another parts.net c.reserve.new.self c.make_room_at_ports.new.self c.reserve.ensures.only
-    c.make_room_at_ports.ensures.only in
-    let after = record parts { net = c.make_room_at_ports.new.self } in
-    let is = stage_stays parts after refl refl refl only c.requires.parts in
-    let count = c.ports-ports.ensures in
-    let more = c.make_room_at_ports.ensures.only in let entries = more.entries in let buffers = more.buffers in
-    let ports = c.from-count.ensures in let made = c.in_ok-reserve.ensures in
-    let made_entries : 6 * c.ports-ports.result + 3 ≤ c.reserve.new.self.pending.room = rw (← ports) made.entries in
-    let made_buffers : 2 * c.ports-ports.result ≤ c.reserve.new.self.buffers.ready = rw (← ports) made.buffers in
-    let room : 6 * length one.system.ports + 3 ≤ after.net.pending.room = rw (← count) (omega arith) in
-    let ready : 2 * length one.system.ports ≤ after.net.buffers.ready = rw (← count) (omega arith) in
-    on_ok c.make_room_at_ports.result _ _
-    (λ has. room_to_call after c.args.place one is here room ready (rw (← count) has))
-    c.make_room_at_ports.ensures.ok
+    let count = c.ports-ports.ensures in let ports = c.from-count.ensures in
+    both_ok c.reserve.result _ _ (HasRoomToCall c.args.place (record parts { net = c.reserve.new.self }))
+    c.reserve.ensures.entries c.reserve.ensures.buffers
+    (λ entries buffers. room_to_call (record parts { net = c.reserve.new.self }) c.args.place one here
+    (omega (arith, count, ports, entries)) (omega (arith, count, ports, buffers)))

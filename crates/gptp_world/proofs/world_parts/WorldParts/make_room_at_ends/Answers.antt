@@ -1,4 +1,4 @@
-use Rattle.gptp_world.proofs.QueueLemmas.{on_ok}
+use Rattle.gptp_world.proofs.RoomLemmas.{on_ok}
 use Rattle.gptp_world.proofs.TellingLemmas.{room_at_ends}
 use Rattle.gptp_world.proofs.world_parts.WorldParts.make_room_at_ends.Goals as goal
 

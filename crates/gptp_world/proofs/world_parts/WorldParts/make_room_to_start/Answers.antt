@@ -1,38 +1,19 @@
-use Rattle.std.proofs.Common.{◌≡◌, ◌*◌, ◌+◌, ◌≤◌, Some, slice_get, refl, ap, subst, sym, ◌∙◌, arith}
+use Rattle.std.proofs.Common.{◌≡◌, Some, slice_get, refl, ap, sym, ◌∙◌}
 use Rattle.std.proofs.lemmas.Option.{slice_get-get_or}
-use Rattle.gptp_world.specs.Room.{HasRoomAtPorts}
 use Rattle.gptp_world.specs.Starting.{HasRoomToStart}
-use Rattle.gptp_world.proofs.QueueLemmas.{on_ok}
-use Rattle.gptp_world.proofs.RoomLemmas.{one_after_another, room_to_start, stage_stays}
+use Rattle.gptp_world.proofs.RoomLemmas.{both_ok, room_to_start, stage_stays}
 use Rattle.gptp_world.proofs.world_parts.WorldParts.make_room_to_start.Goals as goal
 
-pub returns-in_err-reserve-clause-parts : goal.returns-in_err-reserve-clause-parts
-returns-in_err-reserve-clause-parts c = stage_stays c.args.self.now _ refl refl refl c.reserve.ensures.only
-    c.requires.parts
-
 pub returns-clause-parts : goal.returns-clause-parts
-returns-clause-parts c =
-    stage_stays c.args.self.now _ refl refl refl
-    (one_after_another c.args.self.now.net c.reserve.new.self c.make_room_at_ports.new.self c.reserve.ensures.only
-    c.make_room_at_ports.ensures.only) c.requires.parts
+returns-clause-parts c = stage_stays c.args.self.now _ refl refl refl c.reserve.ensures.only c.requires.parts
 
 pub returns-clause-room : goal.returns-clause-room
 returns-clause-room c =
     let one = c.index.result.now in let parts = c.args.self.now in
     let here : slice_get parts.stations.items c.args.place ≡ Some one =
     slice_get-get_or parts.stations.items c.args.place one c.requires.place ∙ ap Some (sym c.index.ensures) in
-    let only = one_after_another parts.net c.reserve.new.self c.make_room_at_ports.new.self c.reserve.ensures.only
-    c.make_room_at_ports.ensures.only in
-    let after = record parts { net = c.make_room_at_ports.new.self } in
-    let is = stage_stays parts after refl refl refl only c.requires.parts in
-    let count = c.ports-ports.ensures in
-    let more = c.make_room_at_ports.ensures.only in let entries = more.entries in let buffers = more.buffers in
-    let ports = c.from-count.ensures in let made = c.in_ok-reserve.ensures in let n = c.ports-ports.result in
-    let made_entries : 4 * n + 3 + n * (6 * n + 3) ≤ c.reserve.new.self.pending.room = rw (← ports) made.entries in
-    let made_buffers : n * (2 * n) ≤ c.reserve.new.self.buffers.ready = rw (← ports) made.buffers in
-    on_ok c.make_room_at_ports.result (HasRoomAtPorts (2 * c.from-count.result) c.args.place n
-    c.make_room_at_ports.new.self)
-    (HasRoomToStart c.args.place after)
-    (λ has. room_to_start after c.args.place one is here (rw (← count) (omega arith)) (rw (← count) (omega arith))
-    (rw (← count) (subst (λ k. HasRoomAtPorts (2 * k) c.args.place n c.make_room_at_ports.new.self) ports has)))
-    c.make_room_at_ports.ensures.ok
+    let same = c.from-count.ensures ∙ c.ports-ports.ensures in
+    both_ok c.reserve.result _ _ (HasRoomToStart c.args.place (record parts { net = c.reserve.new.self }))
+    c.reserve.ensures.entries c.reserve.ensures.buffers
+    (λ entries buffers. room_to_start (record parts { net = c.reserve.new.self }) c.args.place one here
+    (rw (← same) entries) (rw (← same) buffers))

@@ -1,10 +1,8 @@
-use Rattle.std.proofs.Common.{subst, sym}
+use Rattle.std.proofs.Common.{subst}
 use Rattle.gptp_scenario.specs.Allowed.{IsFitAct}
 use Rattle.gptp_world.specs.ActTarget.{IsTargetOf}
-use Rattle.gptp_world.specs.FrameBudget.{UsesForTarget}
 use Rattle.gptp_world.specs.Performing.{HasRoomForTarget}
 use Rattle.gptp_world.specs.WorldParts.{world_of}
-use Rattle.gptp_world.proofs.FrameBudgetLemmas.{change_uses, is_changing}
 use Rattle.gptp_world.proofs.PerformingLemmas.{aim_within, can_change, change_told, injection_told, is_change, same_room, same_stage, IsWithin}
 use Rattle.gptp_world.proofs.world_parts.WorldParts.perform.Goals as goal
 
@@ -39,7 +37,6 @@ returns-in-Inject g c =
       acted = injection_told g.F.Fate.answers act lane c.args.fate.now c.inject.new.fate parts c.inject.new.self
           (subst (IsTargetOf act (world_of parts)) c.in-Inject.is c.requires.target)
           (rw c.octets_of.ensures.is at c.inject.ensures.injected);
-      uses = subst (λ target. UsesForTarget target parts c.inject.new.self.net) (sym c.in-Inject.is) tt;
     }
 
 pub returns-in_default : goal.returns-in_default
@@ -51,16 +48,4 @@ returns-in_default g c =
       parts = c.change.ensures.parts;
       acted = change_told g.F.Fate.answers c.args.act.now c.args.target c.args.fate.now c.change.new.fate parts
           c.change.new.self is c.change.ensures.changed;
-      uses = change_uses c.args.target parts c.change.new.self.net
-          (is_changing c.args.target c.in_default.not-Arrival c.in_default.not-Timer);
     }
-
-pub returns-in-Arrival-clause-uses : goal.returns-in-Arrival-clause-uses
-returns-in-Arrival-clause-uses g c =
-    subst (λ target. UsesForTarget target c.args.self.now c.arrive.new.self.net)
-    (sym c.in-Arrival.is) c.arrive.ensures.uses
-
-pub returns-in-Timer-clause-uses : goal.returns-in-Timer-clause-uses
-returns-in-Timer-clause-uses g c =
-    subst (λ target. UsesForTarget target c.args.self.now c.run_out.new.self.net)
-    (sym c.in-Timer.is) c.run_out.ensures.uses

@@ -1,9 +1,7 @@
 use Rattle.std.proofs.Common.{true, sym, ◌∙◌}
-use Rattle.gptp_system.specs.Input.{PortUp}
 use Rattle.gptp_world.specs.Room.{for_call}
 use Rattle.gptp_world.proofs.ComingUpLemmas.{linked, none_up, one_came}
 use Rattle.gptp_world.proofs.NeedLemmas.{unsent}
-use Rattle.gptp_world.proofs.WorldPartsLemmas.{gives}
 use Rattle.gptp_world.proofs.TellingLemmas.{link_set, link_timely}
 use Rattle.gptp_world.proofs.world_parts.WorldParts.port_up_if_linked.Goals as goal
 
@@ -12,9 +10,6 @@ step_system-requires-clause-timely g c = link_timely true c.args.place c.args.po
 
 pub step_system-requires-clause-set : goal.step_system-requires-clause-set
 step_system-requires-clause-set g c = link_set true c.args.place c.args.port c.args.self.now
-
-pub step_system-requires-clause-room : goal.step_system-requires-clause-room
-step_system-requires-clause-room g c = gives (PortUp c.args.port) c.args.place c.args.self.now c.requires.room
 
 pub returns-then-is_some-clause-came : goal.returns-then-is_some-clause-came
 returns-then-is_some-clause-came g c =

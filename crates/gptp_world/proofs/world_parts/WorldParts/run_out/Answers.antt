@@ -1,11 +1,8 @@
 use Rattle.std.proofs.Common.{sym, subst, ◌∙◌, arith}
 use Rattle.std.proofs.lemmas.Option.{same_Some}
-use Rattle.gptp_system.specs.Reach.{timer_reach}
 use Rattle.gptp_system.specs.Steps.{IsDue}
 use Rattle.gptp_model.specs.declared.station.Station.{Station}
 use Rattle.gptp_world.specs.WorldParts.{world_of}
-use Rattle.gptp_world.specs.Room.{for_reach}
-use Rattle.gptp_world.proofs.FrameBudgetLemmas.{after_nothing}
 use Rattle.gptp_world.proofs.ExpiringLemmas.{expired, known_timer}
 use Rattle.gptp_model.proofs.NextDueLemmas.{runs_out}
 use Rattle.gptp_world.proofs.WorldPartsLemmas.{room_kept}
@@ -41,22 +38,11 @@ step_system-requires-clause-set g c =
     c.take_timer.ensures.taken
 
 pub step_system-requires-clause-room : goal.step_system-requires-clause-room
-step_system-requires-clause-room g c = λ station here.
-    room_kept (timer_reach c.args.timer station.system) c.args.place c.args.self.now c.take_timer.new.self
-    c.take_timer.ensures.uses (c.requires.room station here)
+step_system-requires-clause-room g c =
+    room_kept c.args.place c.args.self.now c.take_timer.new.self c.take_timer.ensures.uses c.requires.room
 
 pub returns-clause-expired : goal.returns-clause-expired
 returns-clause-expired g c =
     expired g.F.Fate.answers c.args.place c.args.timer c.args.fate.now c.step_system.new.fate c.args.self.now
     c.take_timer.new.self c.step_system.new.self c.requires.due c.take_timer.ensures.taken c.step_system.result
     c.step_system.ensures.called
-
-pub returns-clause-uses : goal.returns-clause-uses
-returns-clause-uses g c =
-    let due = c.requires.due in let s = due.station.system in
-    record {
-      station = due.station;
-      here = due.here;
-      uses = after_nothing (for_reach (timer_reach c.args.timer s) s) c.args.self.now.net c.take_timer.new.self
-          c.step_system.new.self.net c.take_timer.ensures.uses (c.step_system.ensures.within due.station due.here);
-    }

@@ -1,10 +1,8 @@
 use Rattle.std.proofs.Common.{◌≡◌, false, refl, ap, sym, ◌∙◌}
 use Rattle.std.proofs.lemmas.Option.{slice_get_within}
-use Rattle.gptp_system.specs.Input.{Priority}
 use Rattle.gptp_model.specs.declared.station.Station.{Station}
 use Rattle.gptp_model.specs.Changing.{with_setup}
 use Rattle.gptp_lists.proofs.PlaceLemmas.{read}
-use Rattle.gptp_world.proofs.WorldPartsLemmas.{gives}
 use Rattle.gptp_world.proofs.StartingLemmas.{prepared_room, replaced_stage, stands_there, told, untold}
 use Rattle.gptp_world.proofs.world_parts.WorldParts.set_priority1.Goals as goal
 
@@ -32,8 +30,7 @@ step_system-requires-clause-live g c =
 pub step_system-requires-clause-room : goal.step_system-requires-clause-room
 step_system-requires-clause-room g c =
     let old = c.requires.room.station in let here = c.requires.room.here in
-    gives (Priority c.args.value) c.args.place _
-    (prepared_room c.args.self.now _ c.args.place c.args.value c.requires.room (c.prepare_priority1.ensures old here))
+    prepared_room c.args.self.now _ c.args.place c.args.value c.requires.room (c.prepare_priority1.ensures old here)
 
 pub step_system-requires-clause-timely : goal.step_system-requires-clause-timely
 step_system-requires-clause-timely g c = λ station here. tt

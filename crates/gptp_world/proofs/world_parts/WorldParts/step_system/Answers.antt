@@ -1,7 +1,7 @@
 use Rattle.std.proofs.Common.{◌≡◌, refl, ◌∙◌}
 use Rattle.gptp_system.specs.Input.{given}
 use Rattle.gptp_lists.proofs.PlaceLemmas.{read}
-use Rattle.gptp_world.proofs.WorldPartsLemmas.{call_uses, carries, stepped}
+use Rattle.gptp_world.proofs.WorldPartsLemmas.{carries, stepped}
 use Rattle.gptp_world.proofs.TimingLemmas.{has_touched}
 use Rattle.gptp_world.proofs.world_parts.WorldParts.step_system.Goals as goal
 
@@ -41,17 +41,9 @@ returns-clause-called g c =
     (stepped c.args.self.now _ c.args.place (given c.args.input) c.step-answer.result.answer c.index_mut.result.now
     c.step-answer.new.self c.requires.live c.index_mut.ensures.value c.step-answer.ensures.steps refl refl refl refl)
 
-pub returns-clause-within : goal.returns-clause-within
-returns-clause-within g c =
-    c.carry_out.ensures.within c.args.self.now (given c.args.input) c.step-answer.result.answer
+pub returns-clause-uses : goal.returns-clause-uses
+returns-clause-uses g c =
+    c.carry_out.ensures.uses c.args.self.now (given c.args.input) c.step-answer.result.answer
     (stepped c.args.self.now _ c.args.place (given c.args.input) c.step-answer.result.answer c.index_mut.result.now
     c.step-answer.new.self c.requires.live c.index_mut.ensures.value c.step-answer.ensures.steps refl refl refl refl)
     c.requires.timely
-
-pub returns-clause-uses : goal.returns-clause-uses
-returns-clause-uses g c =
-    call_uses (given c.args.input) c.args.place c.args.self.now c.carry_out.new.self.net
-    (c.carry_out.ensures.within c.args.self.now (given c.args.input) c.step-answer.result.answer
-    (stepped c.args.self.now _ c.args.place (given c.args.input) c.step-answer.result.answer c.index_mut.result.now
-    c.step-answer.new.self c.requires.live c.index_mut.ensures.value c.step-answer.ensures.steps refl refl refl refl)
-    c.requires.timely)

@@ -6,7 +6,7 @@ use Rattle.gptp_world.proofs.world_parts.WorldParts.take_link_down.Goals as goal
 
 pub link_down-requires-clause-room : goal.link_down-requires-clause-room
 link_down-requires-clause-room g c = c.requires.room
-    (λ joined_link here. sym (c.is_up.ensures joined_link here) ∙ c.if-is_up.true)
+    (λ channel here. sym (c.is_up.ensures channel here) ∙ c.if-is_up.true)
 
 pub returns-then-is_up-clause-down : goal.returns-then-is_up-clause-down
 returns-then-is_up-clause-down g c =
@@ -15,7 +15,7 @@ returns-then-is_up-clause-down g c =
       draws = down.draws;
       drawn = down.drawn;
       turns = of_link c.args.self.now c.args.link true (λ up channel. GoesDownIf up c.args.link channel w down.draws w')
-          (λ joined_link here. sym c.if-is_up.true ∙ c.is_up.ensures joined_link here)
+          (λ channel here. sym c.if-is_up.true ∙ c.is_up.ensures channel here)
           (of_this w c.args.link down.channel (λ channel. GoesDownIf true c.args.link channel w down.draws w') down.here
           down.down);
     }
@@ -27,5 +27,5 @@ returns-else-is_up-clause-down g c =
       draws = [];
       drawn = refl;
       turns = of_link c.args.self.now c.args.link false (λ up channel. GoesDownIf up c.args.link channel w [] w)
-          (λ joined_link here. sym c.if-is_up.false ∙ c.is_up.ensures joined_link here) (λ channel here. (refl, refl));
+          (λ channel here. sym c.if-is_up.false ∙ c.is_up.ensures channel here) (λ channel here. (refl, refl));
     }

@@ -2,7 +2,6 @@ use Rattle.gptp_system.specs.Input.{given}
 use Rattle.gptp_world.specs.Room.{for_call}
 use Rattle.gptp_world.specs.Telling.{link_input}
 use Rattle.gptp_world.proofs.NeedLemmas.{unsent}
-use Rattle.gptp_world.proofs.WorldPartsLemmas.{gives}
 use Rattle.gptp_world.proofs.TellingLemmas.{link_set, link_timely, not_told, one_told}
 use Rattle.gptp_world.proofs.world_parts.WorldParts.tell.Goals as goal
 
@@ -13,10 +12,6 @@ step_system-requires-clause-timely g c =
 pub step_system-requires-clause-set : goal.step_system-requires-clause-set
 step_system-requires-clause-set g c =
     rw c.link_input.ensures (link_set c.args.up c.args.place c.args.port c.args.self.now)
-
-pub step_system-requires-clause-room : goal.step_system-requires-clause-room
-step_system-requires-clause-room g c =
-    gives (given c.link_input.result) c.args.place c.args.self.now c.requires.room
 
 pub returns-then-index-clause-told : goal.returns-then-index-clause-told
 returns-then-index-clause-told g c =
