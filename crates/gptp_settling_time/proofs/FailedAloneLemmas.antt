@@ -342,8 +342,8 @@ module _ (p : SettlingParams) (number : ℕ) (w : WorldState) (draws : List Draw
         fits_then : EverythingFits says_announce g (left_network p silent w') (view w')
         fits_then =
             subst (λ h. EverythingFits says_announce h (left_network p silent w') (view w')) seen.graph
-            (fits_reduced says_announce seen.n (left_network p silent w') seen.net.graph well' left_seen (view w)
-            (view w') less
+            (fits_reduced says_announce seen.n.graph seen.n (left_network p silent w') seen.net.graph well' left_seen
+            (view w) (view w') less
             (everything_fits says_announce seen.n (view w) seen.net.graph seen.calm.facts
             (subst (λ h. IsSoundEverywhere says_announce h (view w)) (sym seen.graph) sound)))
 

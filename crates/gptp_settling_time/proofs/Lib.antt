@@ -80,6 +80,7 @@ pub mod LeftClaimedLemmas
 pub mod GoesDownLemmas
 pub mod ReducedLemmas
 pub mod LoweredLemmas
+pub mod DeadDownLemmas
 pub mod FailedAloneLemmas
 pub mod LeftToLemmas
 pub mod WellFormedLemmas

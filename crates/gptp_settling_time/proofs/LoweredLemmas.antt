@@ -135,11 +135,11 @@ record CanLose (station : Station) (port : ℕ) : Type 0 where
   steps : left.steps ≡ station.system.steps
 
 -- systems are reduced at most, and links are as they were
-record StandsReduced (w w' : WorldState) : Type 0 where
-  time : w'.time ≡ w.time
-  stations : (i : ℕ) (s : SeenStation) → slice_get (view w').stations i ≡ Some s
+pub record StandsReduced (w w' : WorldState) : Type 0 where
+  pub time : w'.time ≡ w.time
+  pub stations : (i : ℕ) (s : SeenStation) → slice_get (view w').stations i ≡ Some s
       → (old : SeenStation) × (slice_get (view w).stations i ≡ Some old) × IsReducedStation old s
-  channels : w'.net.channels ≡ w.net.channels
+  pub channels : w'.net.channels ≡ w.net.channels
 
 set_reduced : (stations : List Station) (place : ℕ) (old new : Station) → slice_get stations place ≡ Some old
     → IsReducedStation (station_view old) (station_view new) → (i : ℕ) (s : SeenStation)
@@ -216,7 +216,7 @@ module _ (p : SettlingParams) (w : WorldState) (is : IsWorld p w) (place : ℕ) 
     (k : TellsEnds PortDown channel (record w { net = taken_down place channel w.net; last_change = w.time }) draws w')
     (seen : IsSettledSeen p w) (near : AllAreNear (snapshot_of w))
     (unmoved : (v : ℕ) → In v (clocks (snapshot_of w')) → IsUnmoved (snapshot_of w) (snapshot_of w') v) where
-  abbrev taken : WorldState
+  abbrev pub taken : WorldState
   taken = record w { net = taken_down place channel w.net; last_change = w.time }
 
   abbrev g : Snapshot
@@ -345,7 +345,7 @@ module _ (p : SettlingParams) (w : WorldState) (is : IsWorld p w) (place : ℕ) 
   still_b : slice_get k.between.stations k.place_b ≡ Some k.station_b
   still_b = second_still PortDown channel taken draws w' k (is.between place channel here).apart
 
-  told : StandsReduced taken w'
+  pub told : StandsReduced taken w'
   told =
       stands_on taken k.between w'
       (goes_down_reduced k.place_a channel.a.port taken k.first k.between (λ station stands live.
@@ -381,11 +381,11 @@ module _ (p : SettlingParams) (w : WorldState) (is : IsWorld p w) (place : ℕ) 
             ∙ lane_there w.net.channels x.link x.direction x.channel stood ∙ ap (λ m. Some m) (sym x.is))
       ]
 
-  less : IsReduced (view w) (view w')
+  pub less : IsReduced (view w) (view w')
   less = record { time = told.time; stations = λ i s there live. told.stations i s there; lanes = lanes }
 
   -- a network of the world then has the wiring of one that it had
-  wires : (n : Network) → delay_in w' ≡ delay_in w → n ≡ wired_as n (start_network p 0 0 w') → SameWiring seen.n n
+  pub wires : (n : Network) → delay_in w' ≡ delay_in w → n ≡ wired_as n (start_network p 0 0 w') → SameWiring seen.n n
   wires n delay wired =
       let started = same_start p 0 0 taken w' keeps in
       let most = seen.most in
@@ -439,8 +439,8 @@ module _ (p : SettlingParams) (w : WorldState) (is : IsWorld p w) (place : ℕ) 
     fits_then : EverythingFits says_announce g (left_network p next w') (view w')
     fits_then =
         subst (λ h. EverythingFits says_announce h (left_network p next w') (view w')) seen.graph
-        (fits_reduced says_announce seen.n (left_network p next w') seen.net.graph well' left_seen (view w) (view w')
-        less
+        (fits_reduced says_announce seen.n.graph seen.n (left_network p next w') seen.net.graph well' left_seen (view w)
+        (view w') less
         (everything_fits says_announce seen.n (view w) seen.net.graph seen.calm.facts
         (subst (λ h. IsSoundEverywhere says_announce h (view w)) (sym seen.graph) sound)))
 
@@ -508,7 +508,7 @@ module _ (p : SettlingParams) (next owner port : ℕ) (w : WorldState) (draws : 
     stands = told p w is at_link.place at_link.channel at_link.is.here draws w' is' ends seen near unmoved
 
     -- a link that stands then is another
-    other : (at : LinkPlace) → LinkStandsAt at w' → IsOtherLink at (port_id owner port) w
+    pub other : (at : LinkPlace) → LinkStandsAt at w' → IsOtherLink at (port_id owner port) w
     other at s place channel at_port same =
         let (way, begins) = begins_at place channel at_port in
         let (direction, starts) = begins_at at_link.place at_link.channel at_link.is in
