@@ -19,7 +19,7 @@ use Rattle.gptp_scenario.specs.declared.network.SystemSpec.{SystemSpec}
 use Rattle.gptp_scenario.proofs.AfterLemmas.{after_keeps}
 use Rattle.gptp_model.specs.World.{port_id}
 use Rattle.gptp_topology.specs.declared.course.Standing.{Standing}
-use Rattle.gptp_how_soon.specs.Kinds.{identity_with, is_gain, is_idle, is_loss, is_other, is_unused, makes_nothing, kind_of_failure, kind_of_link_down, kind_of_link_up, kind_of_priority1, kind_of_recovery, what_of, is_wider, kind_of_link_set, wider_by}
+use Rattle.gptp_how_soon.specs.Kinds.{identity_with, is_gain, is_idle, is_link_down, is_loss, is_other, is_unused, lowers_unused, makes_nothing, kind_of_failure, kind_of_link_down, kind_of_link_up, kind_of_priority1, kind_of_recovery, what_of, is_wider, kind_of_link_set, wider_by}
 use Rattle.gptp_topology.specs.After.{standings_after, systems_after}
 use Rattle.gptp_topology.specs.Tables.{has_clock}
 use Rattle.gptp_how_soon.specs.Times.{is_standing_named, told_at}
@@ -114,6 +114,16 @@ module _ (clock : ℕ) (what : What) where
       by false live is = absurd cc
       by true true is = absurd cc
       by true false is = refl
+
+  unused_down_up : (o : Option Standing) → is_unused (told clock what (kind_of_link_down o)) ≡ true
+      → (s : Standing) × (o ≡ Some s) × (s.cable.up ≡ true)
+  unused_down_up None is = absurd cc
+  unused_down_up (Some s) is = (s, refl, by s.cable.up (s.a_lives && s.b_lives) is)
+    where
+      by : (up live : Bool)
+          → is_unused (told clock what (if not up then Idle else if live then Loss else Unused)) ≡ true → up ≡ true
+      by false live is = absurd cc
+      by true live is = refl
 
   unused_up : (o : Option Standing) → is_unused (told clock what (kind_of_link_up o)) ≡ true
       → (s : Standing) × (o ≡ Some s) × ((s.a_lives && s.b_lives) ≡ false)
@@ -601,6 +611,46 @@ module _ (n : NetworkState) (network : IsNetwork n) (made : List Timed) where
   unused_turns (acts.Change (changes.Priority1 number value)) is =
       absurd (used_priority1 number (what_of (setting number value)) value (system_at number) is)
   unused_turns (acts.Change (changes.Inject clock port octets)) is = absurd cc
+
+  -- a link that is up goes down of which an end has failed
+  pub unused_lowers : (event : Timed) → lowers_unused (told_at n made event.act) ≡ true → LowersUnused n made event
+  unused_lowers event is = by event.act refl is
+    where
+      no_down : (act : Act) → is_link_down (told_at n made act) ≡ false → lowers_unused (told_at n made act) ≡ true → ⊥
+      no_down act other both =
+          let (unused, lowers) = and_parts (is_unused (told_at n made act)) (is_link_down (told_at n made act)) both in
+          let no : true ≡ false = sym lowers ∙ other in cc
+
+      by : (act : Act) → event.act ≡ act → lowers_unused (told_at n made act) ≡ true → LowersUnused n made event
+      by (acts.Change (changes.LinkDown clock port)) same both =
+          let act = acts.Change (changes.LinkDown clock port) in
+          let unused = (and_parts (is_unused (told_at n made act)) (is_link_down (told_at n made act)) both).0 in
+          let (s, found_is, up) = unused_down_up clock (what_of act) (link_at act) unused in
+          let one = named_link n network made clock port act (λ x passed. passed) s found_is in
+          record {
+            clock = clock;
+            port = port;
+            act = same;
+            up = λ place v there end.
+                ap (λ (w : LinkSpec). (link_after made w).up)
+                (one.only place v there (end_first made (port_id clock port) v end))
+                ∙ ap (λ (x : Standing). x.cable.up) one.is ∙ up;
+            failed = unused_turns act unused;
+          }
+      by (acts.Deliver link direction) same both = absurd (no_down (acts.Deliver link direction) refl both)
+      by (acts.Expire clock timer) same both = absurd (no_down (acts.Expire clock timer) refl both)
+      by (acts.Change (changes.LinkUp clock port)) same both =
+          absurd (no_down (acts.Change (changes.LinkUp clock port)) refl both)
+      by (acts.Change (changes.LinkSet clock port least greatest loss)) same both =
+          absurd (no_down (acts.Change (changes.LinkSet clock port least greatest loss)) refl both)
+      by (acts.Change (changes.Fail clock)) same both =
+          absurd (no_down (acts.Change (changes.Fail clock)) refl both)
+      by (acts.Change (changes.Recover clock)) same both =
+          absurd (no_down (acts.Change (changes.Recover clock)) refl both)
+      by (acts.Change (changes.Priority1 clock value)) same both =
+          absurd (no_down (acts.Change (changes.Priority1 clock value)) refl both)
+      by (acts.Change (changes.Inject clock port octets)) same both =
+          absurd (no_down (acts.Change (changes.Inject clock port octets)) refl both)
 
   -- a link gets wider
 

@@ -81,6 +81,7 @@ pub mod GoesDownLemmas
 pub mod ReducedLemmas
 pub mod LoweredLemmas
 pub mod DeadDownLemmas
+pub mod CalmLessLemmas
 pub mod FailedAloneLemmas
 pub mod LeftToLemmas
 pub mod WellFormedLemmas
