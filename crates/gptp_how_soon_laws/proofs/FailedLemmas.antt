@@ -23,7 +23,6 @@ use Rattle.gptp_scenario.specs.SyncWait.{sync_paths}
 use Rattle.gptp_scenario.specs.declared.change.Act.{Act}
 use Rattle.gptp_scenario.specs.declared.change.Act.TheVariants as acts
 use Rattle.gptp_scenario.specs.declared.change.Change.TheVariants as changes
-use Rattle.gptp_scenario.specs.declared.change.Standing.{Standing}
 use Rattle.gptp_scenario.specs.declared.change.Timed.{Timed}
 use Rattle.gptp_scenario.specs.declared.network.SystemSpec.{SystemSpec}
 use Rattle.gptp_network.specs.Snapshot.{StandsAfter, has_clock}
@@ -38,7 +37,6 @@ use Rattle.gptp_how_soon.specs.Far.{are_far_after, has_lower_clock, is_far_end, 
 use Rattle.gptp_how_soon.specs.Kinds.{fails_one, is_fail, is_failing, is_loss}
 use Rattle.gptp_how_soon.specs.Times.{told_at, told_of}
 use Rattle.gptp_how_soon.specs.declared.chosen.Chosen.{Chosen}
-use Rattle.gptp_how_soon.specs.declared.chosen.Ends.{Ends}
 use Rattle.gptp_how_soon.proofs.ChosenLemmas.{at_clock, chosen_there, place_is, settled_choice, touched}
 use Rattle.gptp_how_soon.proofs.RoundsLemmas.{Touches}
 use Rattle.gptp_settling_time.specs.HowSoon.{FailsOneEnd}
@@ -62,9 +60,6 @@ module _ (n : NetworkState) (network : IsNetwork n) (made : List Timed) (g : Sna
   abbrev cs : List Chosen
   cs = chosen_after n made
 
-  abbrev links : List Ends
-  links = used_ends n made
-
   -- the test of one end
   at_end : (i k place : ℕ) → k ≡ place → (not (k == place) || is_nearer_at systems cs i place) ≡ true
       → is_nearer_at systems cs i place ≡ true
@@ -76,15 +71,15 @@ module _ (n : NetworkState) (network : IsNetwork n) (made : List Timed) (g : Sna
   ]
 
   -- the other end of a link that touches the place is nearer
-  over_link : (i place : ℕ) → is_far_end systems cs links place ≡ true → Touches links place i
+  over_link : (i place : ℕ) → is_far_end systems cs (used_ends n made) place ≡ true → Touches (used_ends n made) place i
       → is_nearer_at systems cs i place ≡ true
   over_link i place far (inl member) =
-      let here = each_is (is_far_over systems cs place) links (record { a = place; b = i }) far member in
+      let here = each_is (is_far_over systems cs place) (used_ends n made) (record { a = place; b = i }) far member in
       at_end i place place refl
       (and_parts (not (place == place) || is_nearer_at systems cs i place)
       (not (i == place) || is_nearer_at systems cs place place) here).0
   over_link i place far (inr member) =
-      let here = each_is (is_far_over systems cs place) links (record { a = i; b = place }) far member in
+      let here = each_is (is_far_over systems cs place) (used_ends n made) (record { a = i; b = place }) far member in
       at_end i place place refl
       (and_parts (not (i == place) || is_nearer_at systems cs place place)
       (not (place == place) || is_nearer_at systems cs i place) here).1
@@ -101,7 +96,7 @@ module _ (n : NetworkState) (network : IsNetwork n) (made : List Timed) (g : Sna
             inr (eqb-true e.steps c.steps same, grind (arith, nat_tests))
       ]
 
-  pub far_so : (v : ℕ) → is_far_end systems cs links (place_of systems v) ≡ true → IsFarEnd g v
+  pub far_so : (v : ℕ) → is_far_end systems cs (used_ends n made) (place_of systems v) ≡ true → IsFarEnd g v
   far_so v test u far near adjacent v_far u_near =
       let v_known = Adjacent-clock g u v well (Adjacent-sym g v u adjacent) in
       let u_known = Adjacent-clock g v u well adjacent in
@@ -114,8 +109,8 @@ module _ (n : NetworkState) (network : IsNetwork n) (made : List Timed) (g : Sna
       let steps_v = IsDistance-unique g v far c.steps well v_far chose_v.far in
       let steps_u = IsDistance-unique g u near e.steps well u_near chose_u.far in
       let place = place_is n network made g stands well made i v at_v in
-      let test_i : is_far_end systems cs links i ≡ true =
-      subst (λ k. is_far_end systems cs links k ≡ true) place test in
+      let test_i : is_far_end systems cs (used_ends n made) i ≡ true =
+      subst (λ k. is_far_end systems cs (used_ends n made) k ≡ true) place test in
       let nearer : is_nearer_at systems cs j i ≡ true =
       over_link j i test_i (touched n network made g stands well v u i j adjacent at_v at_u) in
       let o_v = mapped_there (system_then made) n.systems i at_v.system at_v.there in
@@ -175,7 +170,7 @@ module _ (n : NetworkState) (network : IsNetwork n) (made : List Timed) (event :
   module _ (x : Fails) where
     lived : (m : SystemSpec) → (system_after later m).live ≡ true → (system_after made m).live ≡ true
     lived m live =
-        by (x.clock == clock_of m.identity) (sym (ap (λ (s : Standing). s.live)
+        by (x.clock == clock_of m.identity) (sym (ap (λ s. s.live)
         (system_behind made event (clock_of m.identity) (standing m)
         ∙ ap (λ act. system_acted act (clock_of m.identity) (system_after made m)) x.act)) ∙ live)
       where

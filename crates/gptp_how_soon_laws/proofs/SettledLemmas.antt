@@ -13,4 +13,4 @@ settles_soon answers d time s next until fate first w ts t playable k member tol
 pub chooses_soon : {F : Type 0} (answers : Bounds → ℕ → F → Option ℕ → F → Type 0) → ChoosesSoon answers
 chooses_soon answers d time s next until fate first w ts t playable k member told is none late early =
     choice_alone_bounds_hold answers d time.at s.choice next until fate first w ts t playable k member
-    (settlings_are_choice_bounds d time s playable told is).1.0 none late early
+    (settlings_are_choice_bounds d time s playable told is).1 none late early
