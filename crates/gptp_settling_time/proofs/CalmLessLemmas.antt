@@ -7,7 +7,6 @@ use Rattle.gptp_scenario.specs.Change.{is_at, link_acted, link_after, standing, 
 use Rattle.gptp_scenario.specs.Network.{NetworkState}
 use Rattle.gptp_scenario.specs.declared.change.Act.TheVariants.{Change as Changing}
 use Rattle.gptp_scenario.specs.declared.change.Change.TheVariants.{Fail, LinkDown}
-use Rattle.gptp_scenario.specs.declared.change.Standing.{Standing}
 use Rattle.gptp_scenario.specs.declared.change.Timed.{Timed}
 use Rattle.gptp_scenario.specs.declared.network.LinkSpec.{LinkSpec}
 use Rattle.gptp_scenario.specs.declared.network.SystemSpec.{SystemSpec}
@@ -48,20 +47,22 @@ module _ (n : NetworkState) (made : List Timed) (event : Timed) (off : NothingLa
     pub fails_calm : FailsFarEnd n made event → IsCalm n later
     fails_calm fails =
         less_calm (λ m live.
-        gone (fails.clock == clock_of m.identity) (system_after made m)
-        (sym (ap (λ (s : Standing). s.live)
+        gone m (fails.clock == clock_of m.identity)
+        (sym (ap (λ s. s.live)
         (system_behind made event (clock_of m.identity) (standing m)
         ∙ ap (λ act. system_acted act (clock_of m.identity) (system_after made m)) fails.act)) ∙ live))
         (λ v up. link_behind made event v ∙ ap (λ act. link_acted act (link_after made v)) fails.act)
       where
-        gone : (test : Bool) (s : Standing) → (cond test (with_live false s) s).live ≡ true → s.live ≡ true
-        gone true s none = absurd cc
-        gone false s live = live
+        gone : (m : SystemSpec) (test : Bool)
+            → (cond test (with_live false (system_after made m)) (system_after made m)).live ≡ true
+            → (system_after made m).live ≡ true
+        gone m true none = absurd cc
+        gone m false live = live
 
     pub lowers_calm : LowersUnused n made event → IsCalm n later
     lowers_calm lowers =
         less_calm (λ m live.
-        sym (ap (λ (s : Standing). s.live)
+        sym (ap (λ s. s.live)
         (system_behind made event (clock_of m.identity) (standing m)
         ∙ ap (λ act. system_acted act (clock_of m.identity) (system_after made m)) lowers.act)) ∙ live)
         (λ v up.
