@@ -9,10 +9,7 @@ use Rattle.std.proofs.lemmas.Bool.Decides.{nat_tests}
 use Rattle.gptp_lists.specs.Members.{In}
 use Rattle.gptp_lists.proofs.MappedLemmas.{mapped_there}
 use Rattle.gptp_lists.proofs.SystemSpecLemmas.{from_map, In-map, In-slice_get, slice_get-In}
-use Rattle.gptp_graph.specs.Best.{IsBest}
-use Rattle.gptp_graph.specs.Distance.{IsDistance}
 use Rattle.gptp_graph.specs.Snapshot.{IsWellFormed, Snapshot, System, clocks, Link}
-use Rattle.gptp_graph.proofs.BestLemmas.{IsBest-unique}
 use Rattle.gptp_graph.proofs.DistanceLemmas.{IsDistance-unique}
 use Rattle.gptp_graph.proofs.LinkLemmas.{Adjacent-clock, Adjacent-sym}
 use Rattle.gptp_graph.proofs.SystemLemmas.{In-clocks}
@@ -21,7 +18,6 @@ use Rattle.gptp_scenario.specs.Change.{standing, system_acted, system_after, wit
 use Rattle.gptp_scenario.specs.InUse.{lives}
 use Rattle.gptp_scenario.specs.Network.{IsNetwork, NetworkState}
 use Rattle.gptp_scenario.specs.SyncWait.{sync_paths}
-use Rattle.gptp_scenario.specs.declared.change.Act.{Act}
 use Rattle.gptp_scenario.specs.declared.change.Act.TheVariants as acts
 use Rattle.gptp_scenario.specs.declared.change.Change.TheVariants as changes
 use Rattle.gptp_scenario.specs.declared.change.Timed.{Timed}
@@ -54,8 +50,8 @@ use Rattle.gptp_how_soon.specs.declared.kinds.Told.{Told}
 use Rattle.gptp_how_soon.specs.declared.kinds.What.{What}
 use Rattle.gptp_how_soon.specs.declared.kinds.What.TheVariants as whats
 use Rattle.gptp_settling_time.proofs.SamePathsLemmas.{is_end, lives_not, map_same, turned_paths}
-use Rattle.gptp_how_soon_laws.proofs.KindLemmas.{loss_fails, told, unused_lowers}
-use Rattle.gptp_how_soon_laws.proofs.UnmovedLemmas.{AreWell, chooses_so, same_system}
+use Rattle.gptp_how_soon_laws.proofs.KindLemmas.{failure_is, loss_fails, told, unused_lowers}
+use Rattle.gptp_how_soon_laws.proofs.UnmovedLemmas.{AreWell, is_unmoved}
 
 -- what is so of all is so of each
 each_is : {X : Type 0} (p : X → Bool) (xs : List X) (x : X) → list_all p xs ≡ true → In x xs → p x ≡ true
@@ -151,33 +147,11 @@ module _ (n : NetworkState) (network : IsNetwork n) (made : List Timed) (event :
     pub act : event.act ≡ acts.Change (changes.Fail clock)
     pub loss : is_loss (told_at n made (acts.Change (changes.Fail clock))) ≡ true
 
-  not_failing : (act : Act) → is_fail (told_at n made act) ≡ false → is_failing (told_at n made act) ≡ true → ⊥
-  not_failing act other is =
-      let (loss, fails) = and_parts (is_loss (told_at n made act)) (is_fail (told_at n made act)) is in
-      let no : true ≡ false = sym fails ∙ other in cc
-
-  fails : (act : Act) → event.act ≡ act → is_failing (told_at n made act) ≡ true → Fails
-  fails (acts.Change (changes.Fail clock)) same is =
-      let act = acts.Change (changes.Fail clock) in
-      record {
-        clock = clock;
-        act = same;
-        loss = (and_parts (is_loss (told_at n made act)) (is_fail (told_at n made act)) is).0;
-      }
-  fails (acts.Deliver link direction) same is = absurd (not_failing (acts.Deliver link direction) refl is)
-  fails (acts.Expire clock timer) same is = absurd (not_failing (acts.Expire clock timer) refl is)
-  fails (acts.Change (changes.LinkDown clock port)) same is =
-      absurd (not_failing (acts.Change (changes.LinkDown clock port)) refl is)
-  fails (acts.Change (changes.LinkUp clock port)) same is =
-      absurd (not_failing (acts.Change (changes.LinkUp clock port)) refl is)
-  fails (acts.Change (changes.LinkSet clock port least greatest loss)) same is =
-      absurd (not_failing (acts.Change (changes.LinkSet clock port least greatest loss)) refl is)
-  fails (acts.Change (changes.Recover clock)) same is =
-      absurd (not_failing (acts.Change (changes.Recover clock)) refl is)
-  fails (acts.Change (changes.Priority1 clock value)) same is =
-      absurd (not_failing (acts.Change (changes.Priority1 clock value)) refl is)
-  fails (acts.Change (changes.Inject clock port octets)) same is =
-      absurd (not_failing (acts.Change (changes.Inject clock port octets)) refl is)
+  fails : is_failing (told_at n made event.act) ≡ true → Fails
+  fails is =
+      let (loss, failure) = and_parts (is_loss (told_at n made event.act)) (is_fail (told_at n made event.act)) is in
+      let (clock, act) = failure_is n network made event.act failure in
+      record { clock = clock; act = act; loss = subst (λ a. is_loss (told_at n made a) ≡ true) act loss }
 
   -- who lives then lived before
   module _ (x : Fails) where
@@ -211,46 +185,35 @@ module _ (n : NetworkState) (network : IsNetwork n) (made : List Timed) (event :
 
   -- of it and of those behind it no system is moved, and what stands after it stands after all of them
   module _ (all : List Timed) (well : AreWell n all) (was : (g : Snapshot) → StandsAfter n made g → IsWellFormed g)
-      (so : (h : Snapshot) → StandsAfter n later h → StandsAfter n all h) (unmoved : moves_some n made all ≡ false)
-    where
-      moves_none : Fails → MovesNone n made event
-      moves_none x g h v stands stands' known =
-          let well_g = was g stands in
-          let stands_all = so h stands' in
-          let well_h = well all [] (append-nil all) h stands_all in
-          let was_known = clock_before x g h stands stands' v known in
-          let c = chooses_so n network made all unmoved g h stands stands_all well_g well_h v was_known known in
-          let one =
-          same_system n network made all g h stands stands_all c.was.best c.is.best c.was.is_best.live c.is.is_best.live
-          (sym c.was.root ∙ c.root ∙ c.is.root) in
-          record {
-            best = λ b is. subst (IsBest h v)
-                (sym (IsBest-unique g v b c.was.best well_g is c.was.is_best ∙ one)) c.is.is_best;
-            far = λ d far. subst (IsDistance h v)
-                (sym (IsDistance-unique g v d c.before.steps well_g far c.was.far ∙ c.steps)) c.is.far;
-          }
+      (so : (h : Snapshot) → StandsAfter n later h → StandsAfter n all h)
+      (unmoved : moves_some n made all ≡ false) where
+    moves_none : Fails → MovesNone n made event
+    moves_none x g h v stands stands' known =
+        let stands_all = so h stands' in
+        is_unmoved n network made all unmoved g h stands stands_all (was g stands)
+        (well all [] (append-nil all) h stands_all) v (clock_before x g h stands stands' v known) known
 
-      module _ (delay : (sync_paths n later).delay ≡ (sync_paths n made).delay)
-          (paths : (sync_paths n later).systems ≤ (sync_paths n made).systems)
-          (few : (sync_paths n made).systems ≤ 255) (is : is_failing (told_at n made event.act) ≡ true)
-          (far : is_far_end (systems_after n made) (chosen_after n made) (used_ends n made)
-          (place_of (systems_after n made) (told_at n made event.act).clock) ≡ true) where
-        pub fails_far_end : FailsFarEnd n made event
-        fails_far_end =
-            let x = fails event.act refl is in
-            record {
-              clock = x.clock;
-              act = x.act;
-              live = loss_fails n network made x.clock x.loss;
-              far = λ g stands.
-                  far_so n network made g stands (was g stands) x.clock
-                  (subst (λ act. is_far_end (systems_after n made) (chosen_after n made) (used_ends n made)
-                  (place_of (systems_after n made) (told_at n made act).clock) ≡ true) x.act far);
-              moves = moves_none x;
-              delay = delay;
-              paths = paths;
-              few = few;
-            }
+    module _ (delay : (sync_paths n later).delay ≡ (sync_paths n made).delay)
+        (paths : (sync_paths n later).systems ≤ (sync_paths n made).systems)
+        (few : (sync_paths n made).systems ≤ 255) (is : is_failing (told_at n made event.act) ≡ true)
+        (far : is_far_end (systems_after n made) (chosen_after n made) (used_ends n made)
+        (place_of (systems_after n made) (told_at n made event.act).clock) ≡ true) where
+      pub fails_far_end : FailsFarEnd n made event
+      fails_far_end =
+          let x = fails is in
+          record {
+            clock = x.clock;
+            act = x.act;
+            live = loss_fails n network made x.clock x.loss;
+            far = λ g stands.
+                far_so n network made g stands (was g stands) x.clock
+                (subst (λ act. is_far_end (systems_after n made) (chosen_after n made) (used_ends n made)
+                (place_of (systems_after n made) (told_at n made act).clock) ≡ true) x.act far);
+            moves = moves_none x;
+            delay = delay;
+            paths = paths;
+            few = few;
+          }
 
 -- ---- a link goes down of which an end has failed
 

@@ -19,7 +19,7 @@ use Rattle.gptp_scenario.specs.declared.network.SystemSpec.{SystemSpec}
 use Rattle.gptp_scenario.proofs.AfterLemmas.{after_keeps}
 use Rattle.gptp_model.specs.World.{port_id}
 use Rattle.gptp_topology.specs.declared.course.Standing.{Standing}
-use Rattle.gptp_how_soon.specs.Kinds.{identity_with, is_gain, is_idle, is_link_down, is_loss, is_other, is_unused, lowers_unused, makes_nothing, kind_of_failure, kind_of_link_down, kind_of_link_up, kind_of_priority1, kind_of_recovery, what_of, is_wider, kind_of_link_set, wider_by}
+use Rattle.gptp_how_soon.specs.Kinds.{identity_with, is_fail, is_gain, is_idle, is_link_down, is_loss, is_other, is_unused, lowers_unused, makes_nothing, kind_of_failure, kind_of_link_down, kind_of_link_up, kind_of_priority1, kind_of_recovery, what_of, is_wider, kind_of_link_set, wider_by}
 use Rattle.gptp_topology.specs.After.{standings_after, systems_after}
 use Rattle.gptp_topology.specs.Tables.{has_clock}
 use Rattle.gptp_how_soon.specs.Times.{is_standing_named, told_at}
@@ -427,6 +427,31 @@ module _ (n : NetworkState) (network : IsNetwork n) (made : List Timed) where
       ∙ ap (λ (o : System). o.lives) one.is ∙ failed in
       cc
 
+  -- by an act of this kind a link goes down, or a system fails
+  pub link_down_is : (act : Act) → is_link_down (told_at n made act) ≡ true
+      → (clock : ℕ) × (port : ℕ) × (act ≡ acts.Change (changes.LinkDown clock port))
+  link_down_is (acts.Change (changes.LinkDown clock port)) is = (clock, port, refl)
+  link_down_is (acts.Change (changes.LinkUp clock port)) is = absurd cc
+  link_down_is (acts.Change (changes.LinkSet clock port least greatest loss)) is = absurd cc
+  link_down_is (acts.Change (changes.Fail clock)) is = absurd cc
+  link_down_is (acts.Change (changes.Recover clock)) is = absurd cc
+  link_down_is (acts.Change (changes.Priority1 clock value)) is = absurd cc
+  link_down_is (acts.Change (changes.Inject clock port octets)) is = absurd cc
+  link_down_is (acts.Deliver link direction) is = absurd cc
+  link_down_is (acts.Expire clock timer) is = absurd cc
+
+  pub failure_is : (act : Act) → is_fail (told_at n made act) ≡ true
+      → (clock : ℕ) × (act ≡ acts.Change (changes.Fail clock))
+  failure_is (acts.Change (changes.Fail clock)) is = (clock, refl)
+  failure_is (acts.Change (changes.LinkDown clock port)) is = absurd cc
+  failure_is (acts.Change (changes.LinkUp clock port)) is = absurd cc
+  failure_is (acts.Change (changes.LinkSet clock port least greatest loss)) is = absurd cc
+  failure_is (acts.Change (changes.Recover clock)) is = absurd cc
+  failure_is (acts.Change (changes.Priority1 clock value)) is = absurd cc
+  failure_is (acts.Change (changes.Inject clock port octets)) is = absurd cc
+  failure_is (acts.Deliver link direction) is = absurd cc
+  failure_is (acts.Expire clock timer) is = absurd cc
+
   pub idle_changes : (act : Act) → is_idle (told_at n made act) ≡ true → ChangesNothing n made act
   idle_changes (acts.Deliver link direction) is = absurd cc
   idle_changes (acts.Expire clock timer) is = absurd cc
@@ -615,43 +640,24 @@ module _ (n : NetworkState) (network : IsNetwork n) (made : List Timed) where
 
   -- a link that is up goes down of which an end has failed
   pub unused_lowers : (event : Timed) → lowers_unused (told_at n made event.act) ≡ true → LowersUnused n made event
-  unused_lowers event is = by event.act refl is
-    where
-      no_down : (act : Act) → is_link_down (told_at n made act) ≡ false → lowers_unused (told_at n made act) ≡ true → ⊥
-      no_down act other both =
-          let (unused, lowers) = and_parts (is_unused (told_at n made act)) (is_link_down (told_at n made act)) both in
-          let no : true ≡ false = sym lowers ∙ other in cc
-
-      by : (act : Act) → event.act ≡ act → lowers_unused (told_at n made act) ≡ true → LowersUnused n made event
-      by (acts.Change (changes.LinkDown clock port)) same both =
-          let act = acts.Change (changes.LinkDown clock port) in
-          let unused = (and_parts (is_unused (told_at n made act)) (is_link_down (told_at n made act)) both).0 in
-          let (s, found_is, up) = unused_down_up clock (what_of act) (link_at act) unused in
-          let one = named_link n network made clock port act (λ x passed. passed) s found_is in
-          record {
-            clock = clock;
-            port = port;
-            act = same;
-            up = λ place v there end.
-                ap (λ (w : LinkSpec). (link_after made w).up)
-                (one.only place v there (end_first made (port_id clock port) v end))
-                ∙ ap (λ (x : Standing). x.cable.up) one.is ∙ up;
-            failed = unused_turns act unused;
-          }
-      by (acts.Deliver link direction) same both = absurd (no_down (acts.Deliver link direction) refl both)
-      by (acts.Expire clock timer) same both = absurd (no_down (acts.Expire clock timer) refl both)
-      by (acts.Change (changes.LinkUp clock port)) same both =
-          absurd (no_down (acts.Change (changes.LinkUp clock port)) refl both)
-      by (acts.Change (changes.LinkSet clock port least greatest loss)) same both =
-          absurd (no_down (acts.Change (changes.LinkSet clock port least greatest loss)) refl both)
-      by (acts.Change (changes.Fail clock)) same both =
-          absurd (no_down (acts.Change (changes.Fail clock)) refl both)
-      by (acts.Change (changes.Recover clock)) same both =
-          absurd (no_down (acts.Change (changes.Recover clock)) refl both)
-      by (acts.Change (changes.Priority1 clock value)) same both =
-          absurd (no_down (acts.Change (changes.Priority1 clock value)) refl both)
-      by (acts.Change (changes.Inject clock port octets)) same both =
-          absurd (no_down (acts.Change (changes.Inject clock port octets)) refl both)
+  unused_lowers event both =
+      let (unused_is, lowers) =
+      and_parts (is_unused (told_at n made event.act)) (is_link_down (told_at n made event.act)) both in
+      let (clock, port, same) = link_down_is event.act lowers in
+      let act = acts.Change (changes.LinkDown clock port) in
+      let unused = subst (λ a. is_unused (told_at n made a) ≡ true) same unused_is in
+      let (s, found_is, up) = unused_down_up clock (what_of act) (link_at act) unused in
+      let one = named_link n network made clock port act (λ x passed. passed) s found_is in
+      record {
+        clock = clock;
+        port = port;
+        act = same;
+        up = λ place v there end.
+            ap (λ (w : LinkSpec). (link_after made w).up)
+            (one.only place v there (end_first made (port_id clock port) v end))
+            ∙ ap (λ (x : Standing). x.cable.up) one.is ∙ up;
+        failed = unused_turns act unused;
+      }
 
   -- a link gets wider
 

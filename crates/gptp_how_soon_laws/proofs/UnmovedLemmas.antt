@@ -11,7 +11,9 @@ use Rattle.gptp_lists.proofs.SystemSpecLemmas.{from_map, slice_get-In}
 use Rattle.gptp_graph.specs.Best.{IsBest}
 use Rattle.gptp_graph.specs.Path.{Reaches}
 use Rattle.gptp_graph.specs.Snapshot.{IsWellFormed, Joins, Link, PortIdentity, Snapshot, System, clocks}
+use Rattle.gptp_graph.specs.Distance.{IsDistance}
 use Rattle.gptp_graph.proofs.BestLemmas.{IsBest-unique}
+use Rattle.gptp_graph.proofs.DistanceLemmas.{IsDistance-unique}
 use Rattle.gptp_graph.proofs.SystemLemmas.{In-clocks}
 use Rattle.gptp_roles.specs.Selection.{clock_of}
 use Rattle.gptp_scenario.specs.Change.{standing, system_acted, system_after, with_live, with_priority1}
@@ -40,7 +42,7 @@ use Rattle.gptp_how_soon.specs.declared.chosen.Chosen.{Chosen}
 use Rattle.gptp_how_soon.proofs.ChosenLemmas.{IsAt, IsSettledChoice, at_clock, chosen_there, link_stands, settled_choice, used_then}
 use Rattle.gptp_settling_time.specs.Gains.{ChangesNothing}
 use Rattle.gptp_settling_time.specs.HowSoon.{EachEvent, IsStillEvent, TurnsUnused}
-use Rattle.gptp_settling_time.specs.Losses.{MovesNone}
+use Rattle.gptp_settling_time.specs.Losses.{IsUnmoved, MovesNone}
 use Rattle.gptp_settling_time.proofs.SameBestLemmas.{HaveSameBests, distance_over, route_over}
 use Rattle.gptp_settling_time.proofs.SamePathsLemmas.{StandAlike, idle_alike, lives_same, paths_same, priority_alike, turned_alike}
 use Rattle.gptp_how_soon_laws.proofs.GainedLemmas.{none_any}
@@ -397,6 +399,21 @@ module _ (n : NetworkState) (network : IsNetwork n) (first all : List Timed) (un
       bound (p ∷ os) (suc place) o is = let rest = bound os place o is in omega (arith, rest)
 
 -- ---- where no system is moved between first and last
+
+-- a system that stands at first and at last is unmoved
+pub is_unmoved : (n : NetworkState) (network : IsNetwork n) (first all : List Timed) → moves_some n first all ≡ false
+    → (g h : Snapshot) → StandsAfter n first g → StandsAfter n all h → IsWellFormed g → IsWellFormed h → (v : ℕ)
+    → In v (clocks g) → In v (clocks h) → IsUnmoved g h v
+is_unmoved n network first all unmoved g h stands stands' well well' v was_known known =
+    let c = chooses_so n network first all unmoved g h stands stands' well well' v was_known known in
+    let one = same_system n network first all g h stands stands' c.was.best c.is.best c.was.is_best.live
+    c.is.is_best.live (sym c.was.root ∙ c.root ∙ c.is.root) in
+    record {
+      best = λ b is. subst (IsBest h v)
+          (sym (IsBest-unique g v b c.was.best well is c.was.is_best ∙ one)) c.is.is_best;
+      far = λ d far. subst (IsDistance h v)
+          (sym (IsDistance-unique g v d c.before.steps well far c.was.far ∙ c.steps)) c.is.far;
+    }
 
 module _ (n : NetworkState) (network : IsNetwork n) (first all : List Timed) (worsen : OnlyWorsen n first all)
     (unmoved : moves_some n first all ≡ false) (g0 gk : Snapshot) (stands0 : StandsAfter n first g0)

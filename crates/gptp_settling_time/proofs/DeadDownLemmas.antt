@@ -14,9 +14,7 @@ use Rattle.gptp_model.specs.Changing.{GoesDownIf, IsChannel, TellsEnds, lost, ta
 use Rattle.gptp_model.specs.declared.done.Done.{Done}
 use Rattle.gptp_model.specs.World.{Channel, WorldState, port_id}
 use Rattle.gptp_bmca_machine.specs.LossLaws.{EverythingFits}
-use Rattle.gptp_bmca_machine.specs.Levels.{Invariant}
 use Rattle.gptp_bmca_machine.specs.Network.{Network}
-use Rattle.gptp_bmca_machine.specs.Sound.{RunIsSound}
 use Rattle.gptp_bmca_machine.specs.SoundLaws.{AllAreNear}
 use Rattle.gptp_bmca_machine.specs.Station.{Disabled, Received}
 use Rattle.gptp_invariants.specs.ChoiceCalm.{HaveQuietLinks, delay_in}
@@ -28,12 +26,13 @@ use Rattle.gptp_invariants.proofs.ChoiceCalmKeptLemmas.{KeepsNetwork, delay_kept
 use Rattle.gptp_invariants.proofs.WorldNewsLemmas.{ready_goes_through}
 use Rattle.gptp_invariants.proofs.WorldStandsLemmas.{stands_well}
 use Rattle.gptp_settling_time.specs.Losses.{IsUnmoved}
+use Rattle.gptp_settling_time.proofs.BegunLeftLemmas.{begins_left}
 use Rattle.gptp_settling_time.proofs.AlwaysClaimedLemmas.{IsStanding}
 use Rattle.gptp_settling_time.proofs.FailedUpLemmas.{delay_set, used_set}
-use Rattle.gptp_settling_time.proofs.FitsLemmas.{IsLeftUnmoved, received_still}
-use Rattle.gptp_settling_time.proofs.LeftClaimedLemmas.{HaveAskedLong, IsLeftAlways, left_calm, left_net, left_network, left_seen}
+use Rattle.gptp_settling_time.proofs.FitsLemmas.{IsLeftUnmoved}
+use Rattle.gptp_settling_time.proofs.LeftClaimedLemmas.{HaveAskedLong, IsLeftAlways, left_network, left_seen}
 use Rattle.gptp_settling_time.proofs.LoweredLemmas.{StandsReduced, less, other, told, wires}
-use Rattle.gptp_settling_time.proofs.ReducedLemmas.{IsReduced, fits_reduced, levels_reduced}
+use Rattle.gptp_settling_time.proofs.ReducedLemmas.{IsReduced}
 use Rattle.gptp_settling_time.proofs.SettledSeenLemmas.{IsSettledSeen}
 use Rattle.gptp_settling_time.proofs.TakenDownLemmas.{silent_down, stood_down, told_keeps}
 use Rattle.gptp_settling_time.proofs.UnlinkedLemmas.{IsLeftSeen, LostAreFarther, UnlinkedHoldNothing}
@@ -58,9 +57,6 @@ module _ (p : SettlingParams) (before : Snapshot) (silent owner port : ℕ) (w :
 
   abbrev n : Network
   n = left_network p silent w
-
-  abbrev n' : Network
-  n' = left_network p silent w'
 
   well : IsWellFormed g
   well = stands_well w is.sound is.between is.encodable
@@ -165,10 +161,6 @@ module _ (p : SettlingParams) (before : Snapshot) (silent owner port : ℕ) (w :
           | inr is_off ↦ absurd (let both : Received r ≡ Disabled = sym holds ∙ is_off in cc)
         ]
 
-    fits' : EverythingFits says_announce before n' (view w')
-    fits' =
-        fits_reduced says_announce before n n' well well' unchanged (view w) (view w') reduced claims.fits
-
     still : IsLeftUnmoved before g'
     still = subst (IsLeftUnmoved before) (sym snapshot_now) left.left
 
@@ -179,27 +171,16 @@ module _ (p : SettlingParams) (before : Snapshot) (silent owner port : ℕ) (w :
         subst (λ delay. pred (path_bound g') * delay ≤ w'.time) (sym delay_now)
         (subst (λ h. pred (path_bound h) * delay_in w ≤ w'.time) (sym snapshot_now) (omega (arith, late, time)))
 
-    invariant' : HaveQuietLinks p.params w' → Invariant says_announce n' (view w')
-    invariant' quiet' =
-        let sound' : RunIsSound n' (view w') =
-        λ late. received_still before g' left.well well' still (view w') fits'.stations in
-        record {
-          sound = sound';
-          levels = levels_reduced says_announce seen.n n' seen.net (left_net p silent w' is')
-              (wires p w is k.place k.channel k.is.here draws w' is' tells seen left.near unmoved n' delay_now refl)
-              (subst (λ h. IsLeftUnmoved h g') (sym seen.graph) unchanged) (view w) (view w') reduced seen.calm
-              (left_calm p silent w' standing' asked' quiet' unlinked') seen.invariant seen.late sound'
-              (λ q linked. omega arith);
-        }
+    fits : EverythingFits says_announce before seen.n (view w)
+    fits = record {
+      lanes = λ j l f a at flies said known.
+          claims.fits.lanes j l f a at flies said (subst (λ h. In l.to.clock (clocks h)) seen.graph known);
+      stations = claims.fits.stations;
+    }
 
     pub dead_left : IsLeftAlways p before silent w'
-    dead_left = record {
-      standing = standing';
-      asked = asked';
-      well = left.well;
-      left = still;
-      near = subst AllAreNear (sym snapshot_now) left.near;
-      farther = subst (LostAreFarther before) (sym snapshot_now) left.farther;
-      late = now_late;
-      seen = λ quiet' off'. record { unlinked = unlinked'; fits = fits'; invariant = invariant' quiet' };
-    }
+    dead_left =
+        begins_left p before silent w w' is' left.well seen reduced unchanged still
+        (wires p w is k.place k.channel k.is.here draws w' is' tells seen left.near unmoved (left_network p silent w')
+        delay_now refl) fits standing' asked' (λ quiet'. unlinked') (subst AllAreNear (sym snapshot_now) left.near)
+        (subst (LostAreFarther before) (sym snapshot_now) left.farther) now_late

@@ -79,6 +79,7 @@ pub mod UnlinkedLemmas
 pub mod LeftClaimedLemmas
 pub mod GoesDownLemmas
 pub mod ReducedLemmas
+pub mod BegunLeftLemmas
 pub mod LoweredLemmas
 pub mod DeadDownLemmas
 pub mod CalmLessLemmas

@@ -39,12 +39,8 @@ use Rattle.gptp_model.specs.declared.done.Done.{Done}
 use Rattle.gptp_model.specs.declared.station.Station.{Station}
 use Rattle.gptp_bmca_machine.specs.Calm.{Calm}
 use Rattle.gptp_bmca_machine.specs.Frame.{Lane}
-use Rattle.gptp_bmca_machine.specs.Levels.{Invariant}
-use Rattle.gptp_bmca_machine.specs.LossLaws.{EverythingFits}
 use Rattle.gptp_bmca_machine.specs.Network.{Network}
 use Rattle.gptp_bmca_machine.specs.RestLaws.{SameWiring}
-use Rattle.gptp_bmca_machine.specs.Sound.{RunIsSound}
-use Rattle.gptp_bmca_machine.specs.SoundEverywhere.{IsSoundEverywhere}
 use Rattle.gptp_bmca_machine.specs.SoundLaws.{AllAreNear}
 use Rattle.gptp_bmca_machine.specs.Station.{Disabled, Port as SeenPort, Received, Reception as SeenReception, Station as SeenStation}
 use Rattle.gptp_invariants.specs.ChoiceCalm.{HaveQuietLinks, delay_in}
@@ -65,14 +61,15 @@ use Rattle.gptp_invariants.proofs.WorldStandsLemmas.{stands_well}
 use Rattle.gptp_invariants.proofs.WorldSystemLemmas.{live_there}
 use Rattle.gptp_invariants.proofs.WorldWayLemmas.{one_way, way_of}
 use Rattle.gptp_settling_time.specs.Losses.{IsUnmoved}
+use Rattle.gptp_settling_time.proofs.BegunLeftLemmas.{begins_left}
 use Rattle.gptp_settling_time.proofs.AlwaysClaimedLemmas.{IsStanding, same_start, start_calm, start_network}
-use Rattle.gptp_settling_time.proofs.FitsLemmas.{IsLeftUnmoved, everything_fits, lived, received_still}
+use Rattle.gptp_settling_time.proofs.FitsLemmas.{IsLeftUnmoved, lived}
 use Rattle.gptp_settling_time.proofs.GoesDownLemmas.{GoesDownQuietly, goes_down_quietly, held_among, without}
-use Rattle.gptp_settling_time.proofs.LeftClaimedLemmas.{HaveAskedLong, IsLeftAlways, asked_heard, left_calm, left_net, left_network}
+use Rattle.gptp_settling_time.proofs.LeftClaimedLemmas.{HaveAskedLong, IsLeftAlways, asked_heard, left_network}
 use Rattle.gptp_settling_time.proofs.LinkStoodLemmas.{second_still}
 use Rattle.gptp_settling_time.proofs.LinkUpLemmas.{lane_set}
-use Rattle.gptp_settling_time.proofs.ReducedLemmas.{HoldsAsMuch, IsReduced, IsReducedStation, fits_reduced, holds_as_much, levels_reduced, reduced_itself}
-use Rattle.gptp_settling_time.proofs.SettledSeenLemmas.{IsSettledSeen, wired_as}
+use Rattle.gptp_settling_time.proofs.ReducedLemmas.{HoldsAsMuch, IsReduced, IsReducedStation, holds_as_much, reduced_itself}
+use Rattle.gptp_settling_time.proofs.SettledSeenLemmas.{IsSettledSeen, sound_fits, wired_as}
 use Rattle.gptp_settling_time.proofs.TakenDownLemmas.{silent_down, stood_down, told_keeps, up_apart}
 use Rattle.gptp_settling_time.proofs.UnlinkedLemmas.{LostAreFarther, UnlinkedHoldNothing}
 use Rattle.gptp_settling_time.proofs.WidenedLemmas.{ready_first}
@@ -436,51 +433,18 @@ module _ (p : SettlingParams) (w : WorldState) (is : IsWorld p w) (place : ℕ) 
         let change = keeps.change in
         (first, next, omega (arith, past, change), record { is = by; late = by_now })
 
-    fits_then : EverythingFits says_announce g (left_network p next w') (view w')
-    fits_then =
-        subst (λ h. EverythingFits says_announce h (left_network p next w') (view w')) seen.graph
-        (fits_reduced says_announce seen.n.graph seen.n (left_network p next w') seen.net.graph well' left_seen (view w)
-        (view w') less
-        (everything_fits says_announce seen.n (view w) seen.net.graph seen.calm.facts
-        (subst (λ h. IsSoundEverywhere says_announce h (view w)) (sym seen.graph) sound)))
-
-    module _ (quiet' : HaveQuietLinks p.params w') where
-      -- ports that no link is at are off
-      unlinked_then : UnlinkedHoldNothing g' (view w')
-      unlinked_then i s place r there live none (q, at, holds) =
-          let calm : Calm (start_network p 0 next w') (view w') =
-          start_calm p next w' standing_then (asked_heard p next w' asked_then) quiet' 0 in
-          let off : q.held ≡ Disabled = ((calm.stations i s there live).ports place q at).unlinked by_now none in
-          absurd (let both : Received r ≡ Disabled = sym holds ∙ off in cc)
-
-      settling_then : Invariant says_announce (left_network p next w') (view w')
-      settling_then =
-          let n = left_network p next w' in
-          let sound' : RunIsSound n (view w') =
-          λ late. received_still g g' well well' left (view w') fits_then.stations in
-          record {
-            sound = sound';
-            levels = levels_reduced says_announce seen.n n seen.net (left_net p next w' is') (wires n delay refl)
-                left_seen (view w) (view w') less seen.calm
-                (left_calm p next w' standing_then asked_then quiet' unlinked_then) seen.invariant seen.late sound'
-                (λ q linked. omega arith);
-          }
+    -- ports that no link is at are off
+    unlinked_then : HaveQuietLinks p.params w' → UnlinkedHoldNothing g' (view w')
+    unlinked_then quiet' i s place r there live none (q, at, holds) =
+        let calm : Calm (start_network p 0 next w') (view w') =
+        start_calm p next w' standing_then (asked_heard p next w' asked_then) quiet' 0 in
+        let off : q.held ≡ Disabled = ((calm.stations i s there live).ports place q at).unlinked by_now none in
+        absurd (let both : Received r ≡ Disabled = sym holds ∙ off in cc)
 
     pub lowered_left : IsLeftAlways p g next w'
-    lowered_left = record {
-      standing = standing_then;
-      asked = asked_then;
-      well = well;
-      left = left;
-      near = near_then;
-      farther = farther_then;
-      late = way;
-      seen = λ quiet' off. record {
-        unlinked = unlinked_then quiet';
-        fits = fits_then;
-        invariant = settling_then quiet';
-      };
-    }
+    lowered_left =
+        begins_left p g next w w' is' well seen less left left (wires (left_network p next w') delay refl)
+        (sound_fits p w seen sound) standing_then asked_then unlinked_then near_then farther_then way
 
 -- ---- the act
 
