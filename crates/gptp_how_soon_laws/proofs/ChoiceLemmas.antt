@@ -1,5 +1,5 @@
--- What is told of each time of a document is so: its choice and roles are choice bounds or loss bounds. All that is held
--- is sound by another choice bound.
+-- What is told of each time of a document is so: its choice and roles are choice bounds or loss bounds. All that is
+-- held is sound by another choice bound.
 use Rattle.std.proofs.Common.{◌≡◌, ◌<◌, ◌≤◌, ◌⊎◌, inl, inr, ◌+◌, ◌*◌, max, ℕ, Bool, true, false, cond, List, [], ◌∷◌, ◌++◌, Some, None, refl, sym, ap, subst, ◌∙◌, arith}
 use Rattle.std.specs.Prelude.{◌==◌, nat_le}
 use Rattle.std.proofs.lemmas.Bool.{eqb-false, eqb-true}

@@ -59,8 +59,8 @@ module _ {F : Type 0} (answers : Bounds → ℕ → F → Option ℕ → F → T
 
   -- what its events lead to is so of it
   module _ (So : NetworkState → List Timed → Past → ℕ → Type 0) (d : DocumentState) (settled until : ℕ) (fate : F)
-      (first w : WorldState) (ts : List ActTrace) (playable : IsPlayable d) (k : Unfolds answers d until fate first ts w)
-      (is : ComesByEvents So d until settled) where
+      (first w : WorldState) (ts : List ActTrace) (playable : IsPlayable d)
+      (k : Unfolds answers d until fate first ts w) (is : ComesByEvents So d until settled) where
     ended_after : IsAfter d (events_by until d.events) is.last w
     ended_after =
         end_in_turn d playable (events_by until d.events) is.last until [] is.first (events_by until d.events) ts

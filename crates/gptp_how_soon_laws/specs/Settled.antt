@@ -16,8 +16,8 @@ use Rattle.gptp_settling_time.specs.Documents.{IsSettledAs}
 use Rattle.gptp_settling_time.specs.HowSoon.{NoneBetween}
 use Rattle.gptp_settling_time.specs.Unchanged.{LeavesChoiceShown, LeavesShown}
 
--- Each act that is later than a time of the document by more than its roles, and before the next event, leaves a settled
--- world. Where every live system is near, it leaves no system another.
+-- Each act that is later than a time of the document by more than its roles, and before the next event, leaves a
+-- settled world. Where every live system is near, it leaves no system another.
 abbrev pub SettlesSoon : {F : Type 0} → (Bounds → ℕ → F → Option ℕ → F → Type 0) → Type 0
 SettlesSoon {F} answers = (d : DocumentState) (time : SettlingTime) (s : Settling) (next until : ℕ) (fate : F)
     (first w : WorldState) (ts : List ActTrace) (t : ActTrace)

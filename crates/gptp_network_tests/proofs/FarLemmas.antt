@@ -119,7 +119,8 @@ ring_stands : StandsAfter ring_network [] ring
 ring_stands = record {
   systems = IsPermutation-refl ring.systems;
   rising = (
-    below_all first.clock (second.clock ∷ third.clock ∷ fourth.clock ∷ []) (omega arith, (omega arith, (omega arith, tt))),
+    below_all first.clock (second.clock ∷ third.clock ∷ fourth.clock ∷ [])
+        (omega arith, (omega arith, (omega arith, tt))),
     (
       below_all second.clock (third.clock ∷ fourth.clock ∷ []) (omega arith, (omega arith, tt)),
       (below_all third.clock (fourth.clock ∷ []) (omega arith, tt), ((λ y none. absurd none), tt)),

@@ -264,8 +264,8 @@ module _ (p : SettlingParams) (number : ℕ) (w : WorldState) (draws : List Draw
           let came : CameSound g s.clock (suc place) r = sound.stations i s at live place r holds in
           let port : PortIdentity = port_of s.clock (suc place) in
           let from_known = Joins-clock g came.from port well came.joins in
-          let (d, here, close) = near s.clock (Joins-clock g port came.from well (Joins-sym g came.from port came.joins))
-          in
+          let (d, here, close) =
+          near s.clock (Joins-clock g port came.from well (Joins-sym g came.from port came.joins)) in
           let (e, there_far, close_far) = near came.from.clock from_known in
           elim (lives_still came.from.clock from_known) [
             | inl same ↦
@@ -291,8 +291,8 @@ module _ (p : SettlingParams) (number : ℕ) (w : WorldState) (draws : List Draw
           ∙ map-set_same (λ (x : Station). x.setup) w.stations k.place k.station dead k.is.here refl in
           ap (λ xs. option_map_or (λ (setup : Setup). log_at setup q.port)
           (slice_get xs (clock_place w'.stations q.clock)) (pos 0)) setups
-          ∙ ap (λ i. option_map_or (λ (setup : Setup). log_at setup q.port) (slice_get (setups_of w.stations) i) (pos 0))
-          (place_kept q.clock)
+          ∙ ap (λ i. option_map_or (λ (setup : Setup). log_at setup q.port)
+          (slice_get (setups_of w.stations) i) (pos 0)) (place_kept q.clock)
         where
           place_kept : (v : ℕ) → clock_place w'.stations v ≡ clock_place w.stations v
           place_kept v =

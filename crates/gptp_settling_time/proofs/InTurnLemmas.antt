@@ -836,7 +836,8 @@ acts_find_settled_in_turn answers d until settled fate first w ts t playable k m
     let run = run_to answers d until fate first w ts t playable k member in
     let now = t.told.timed.at in
     let all = events_by now d.events in
-    let step = (passed_in_turn answers SettlesAfter d now settled fate first run.w run.ts playable run.unfolds is).each t
+    let steps = passed_in_turn answers SettlesAfter d now settled fate first run.w run.ts playable run.unfolds is in
+    let step = steps.each t
     run.member later in
     let time = step.time in
     let both = after_settles d playable all is.calm settled t.after (omega (arith, on, time)) is.last step.after
@@ -857,7 +858,8 @@ acts_find_choice_in_turn answers d until settled fate first w ts t playable k me
     let run = run_to answers d until fate first w ts t playable k member in
     let now = t.told.timed.at in
     let all = events_by now d.events in
-    let step = (passed_in_turn answers ChoosesAfter d now settled fate first run.w run.ts playable run.unfolds is).each t
+    let steps = passed_in_turn answers ChoosesAfter d now settled fate first run.w run.ts playable run.unfolds is in
+    let step = steps.each t
     run.member later in
     let time = step.time in
     let keeps = after_keeps d all is.last t.after step.after in

@@ -34,7 +34,8 @@ use Rattle.gptp_settling_time.proofs.KeptToLemmas.{KeepsTo, keeps_act, keeps_lat
 use Rattle.gptp_settling_time.proofs.LeftClaimedLemmas.{IsLeftAlways, left_acts, left_chooses, left_later, left_now, left_settles}
 
 -- the way that is left is no longer
-pub less_way : (systems fewer delay same : ℕ) → fewer ≤ systems → same ≡ delay → pred fewer * same ≤ pred systems * delay
+pub less_way : (systems fewer delay same : ℕ) → fewer ≤ systems → same ≡ delay
+    → pred fewer * same ≤ pred systems * delay
 less_way systems fewer delay same few is =
     subst (λ d. pred fewer * d ≤ pred systems * delay) (sym is) (mul-le-mul_right delay (by fewer systems few))
   where

@@ -278,7 +278,8 @@ module _ {F : Type 0} (answers : Bounds → ℕ → F → Option ℕ → F → T
             choice_left a.before a.after own.0 own.1 (leaves (near_then a member behind)) name
 
         chosen_behind : ChosenBehind (p.from + choice) p.acts
-        chosen_behind = all_behind (p.from + choice) ShowsTheSameChoice p.acts (λ a member late. chosen_act a member late)
+        chosen_behind =
+            all_behind (p.from + choice) ShowsTheSameChoice p.acts (λ a member late. chosen_act a member late)
 
 -- ---- what is told of a time
 
