@@ -20,6 +20,7 @@ use Rattle.gptp_network.specs.Snapshot.{events_by}
 use Rattle.gptp_settling_time.specs.HowSoon.{AfterIdleEvents, AreGainEvents, AreHeardEvents, AreReadyAtStart, AreStartEvents, BoundsEvents, BoundsStart, EachEvent, FailsEndFirst, IsChoiceAloneBound, IsChoiceBound, IsChoiceBoundAfter, IsGainEvent, IsGainToo, IsHeardEvent, IsHeardToo, IsIdleEvent, IsLossBoundAfter, IsStillEvent, LowersOneLink, OneEvent, RolesAfterFailure, TurnsUnused, events_at, way_span, AreWiderEvents}
 use Rattle.gptp_settling_time.specs.InTurn.{AnyPast, AreCapableSoon, BeginsBy, ChoosesAfter, ChoosesByEvents, ComesByEvents, EventLeads, FailsCalm, Gained, HasSettledAnyhow, HasSettledHeard, HasSettledSince, Heard, LeadOn, LeavesSettled, Left, LowersCalm, MakesNothing, Past, SettlesAfter, SettlesByEvents, Starting, StartsWith, TellsNothing, TurnsInVain, UsedVaryLittle, WidensLink}
 use Rattle.gptp_settling_time.specs.Losses.{LeavesChoice, LowersLink, LowersUnused, UpIsUsed}
+use Rattle.gptp_settling_time.proofs.CalmLessLemmas.{fails_calm, lowers_calm}
 use Rattle.gptp_settling_time.proofs.CutLemmas.{IsBy, all_by}
 use Rattle.gptp_settling_time.proofs.MadeLemmas.{adds_later}
 use Rattle.gptp_settling_time.proofs.MomentLemmas.{all_at, last_by, parted}
