@@ -32,8 +32,8 @@ use Rattle.gptp_how_soon.specs.declared.kinds.Told.{Told}
 
 -- What is seen of a time: when a link was last set, and the greatest delay that one has had; the time before, and what
 -- Sync had to cross then; the links that are new at it; its events, whether they move a system, of which such as a link
--- cuts off by the one event don't count, and whether those that they name were far ends; whether each link that is up is
--- in use; what Sync has to cross; and whether the network is calm.
+-- cuts off by the one event don't count, and whether those that they name were far ends; whether each link that is up
+-- is in use; what Sync has to cross; and whether the network is calm.
 pub record View : Type 0 where
   pub at : ℕ
   pub last_set : ℕ

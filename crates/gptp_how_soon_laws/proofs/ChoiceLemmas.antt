@@ -210,10 +210,10 @@ module _ (d : DocumentState) (playable : IsPlayable d) where
               rest,
               elim which [
                 | inl lowers ↦ inl (lowers, is_none)
-                | inr (fails, used) ↦ inr (
-                  fails,
-                  inl (subst (UpIsUsed n) (sym (parted all b.at at playable.events.in_order late between)) used, is_none),
-                )
+                | inr (fails, used) ↦
+                    let stands = subst (UpIsUsed n) (sym (parted all b.at at playable.events.in_order late between))
+                    used in
+                    inr (fails, inl (stands, is_none))
               ],
             )
         by off (inr (row, is)) =

@@ -177,10 +177,10 @@ module _ (n : NetworkState) (network : IsNetwork n) (made : List Timed) (event :
         passes (λ (k : SystemSpec). (clock_of k.identity == v) && (system_after later k).live) n.systems
         (there_live n network later h stands' v has) in
         let (is, live) = and_parts (clock_of k.identity == v) (system_after later k).live both in
-        let then : lives n.systems made v ≡ true =
+        let lives_before : lives n.systems made v ≡ true =
         passes_at (λ (k : SystemSpec). (clock_of k.identity == v) && (system_after made k).live) n.systems k among
         (and_from (clock_of k.identity == v) (system_after made k).live is (lived k live)) in
-        let (t, here, same) = with_clock g.systems v (live_there n network made g stands v then) in
+        let (t, here, same) = with_clock g.systems v (live_there n network made g stands v lives_before) in
         subst (λ c. In c (clocks g)) same (In-clocks g t here)
 
   -- of it and of those behind it no system is moved, and what stands after it stands after all of them
@@ -292,12 +292,11 @@ module _ (n : NetworkState) (network : IsNetwork n) (made : List Timed) (event :
       ∙ ap (λ b. cond b (link_of e ∷ filter joins (map link_of xs)) (filter joins (map link_of xs))) not_joined)
 
   joined_or_none : (v : LinkSpec) → (joined_after made v ≡ None) ⊎ (joined_after made v ≡ Some (v.a, v.b))
-  joined_or_none v = by (link_after made v).up
+  joined_or_none v = by (link_after made v).up (v.a, v.b)
     where
-      by : (up : Bool) → ((if up then Some (v.a, v.b) else None) ≡ None)
-          ⊎ ((if up then Some (v.a, v.b) else None) ≡ Some (v.a, v.b))
-      by true = inr refl
-      by false = inl refl
+      by : (up : Bool) (e : PortId × PortId) → (cond up (Some e) None ≡ None) ⊎ (cond up (Some e) None ≡ Some e)
+      by true e = inr refl
+      by false e = inl refl
 
   links_stay : (vs : List LinkSpec) → ((v : LinkSpec) → In v vs → Stays v)
       → filter joins (map link_of (filter_map (joined_after after) vs))
@@ -359,16 +358,16 @@ module _ (n : NetworkState) (network : IsNetwork n) where
       ])
 
 -- what fails takes no link down
-pub not_both : (kind : Kind) (clock : ℕ) (what : What) → is_fail (told clock what kind) ≡ true
+pub fail_lowers_none : (kind : Kind) (clock : ℕ) (what : What) → is_fail (told clock what kind) ≡ true
     → is_link_down (told clock what kind) ≡ true → ⊥
-not_both kind clock whats.LinkDown fails lowers = absurd cc
-not_both kind clock whats.LinkUp fails lowers = absurd cc
-not_both kind clock whats.LinkSet fails lowers = absurd cc
-not_both kind clock whats.Fail fails lowers = absurd cc
-not_both kind clock whats.Recover fails lowers = absurd cc
-not_both kind clock whats.Priority1 fails lowers = absurd cc
-not_both kind clock whats.Inject fails lowers = absurd cc
-not_both kind clock whats.NoChange fails lowers = absurd cc
+fail_lowers_none kind clock whats.LinkDown fails lowers = absurd cc
+fail_lowers_none kind clock whats.LinkUp fails lowers = absurd cc
+fail_lowers_none kind clock whats.LinkSet fails lowers = absurd cc
+fail_lowers_none kind clock whats.Fail fails lowers = absurd cc
+fail_lowers_none kind clock whats.Recover fails lowers = absurd cc
+fail_lowers_none kind clock whats.Priority1 fails lowers = absurd cc
+fail_lowers_none kind clock whats.Inject fails lowers = absurd cc
+fail_lowers_none kind clock whats.NoChange fails lowers = absurd cc
 
 -- the events of a time
 pub fails_end_first : (n : NetworkState) (network : IsNetwork n) (made now : List Timed) → AreWell n (made ++ now)
@@ -396,7 +395,7 @@ fails_end_first n network made (event ∷ events) well unmoved delay paths few i
     far in
     let far_end : far_test ≡ true = elim (or_cases (lowers_unused t) far_test first) [
       | inl unused ↦
-          absurd (not_both t.kind t.clock t.what (and_parts (is_loss t) (is_fail t) fails).1
+          absurd (fail_lowers_none t.kind t.clock t.what (and_parts (is_loss t) (is_fail t) fails).1
           (and_parts (is_unused t) (is_link_down t) unused).1)
       | inr is_far ↦ is_far
     ] in (

@@ -51,7 +51,7 @@ use Rattle.gptp_settling_time.proofs.MomentLemmas.{all_at}
 use Rattle.gptp_topology.proofs.RestLemmas.{calm_from, used_cable}
 use Rattle.gptp_how_soon_laws.proofs.GainedLemmas.{AreFollowed, AreTurnsFollowed, all_gained, all_heard, all_idle, all_wider, none_any, not_none}
 use Rattle.gptp_how_soon_laws.proofs.KindLemmas.{told}
-use Rattle.gptp_how_soon_laws.proofs.FailedLemmas.{fails_end_first, not_both, used_up}
+use Rattle.gptp_how_soon_laws.proofs.FailedLemmas.{fail_lowers_none, fails_end_first, used_up}
 use Rattle.gptp_how_soon_laws.proofs.LoweredLemmas.{lowers_one_link}
 use Rattle.gptp_how_soon_laws.proofs.UnmovedLemmas.{AreWell, all_still_unmoved}
 
@@ -73,7 +73,7 @@ fails_no_link [] is = refl
 fails_no_link (e ∷ []) is =
     let fails = (and_parts (is_failing e) (list_all lowers_unused []) is).0 in
     false_from_ne_true (is_lowering e) (λ lowers.
-    not_both e.kind e.clock e.what (and_parts (is_loss e) (is_fail e) fails).1
+    fail_lowers_none e.kind e.clock e.what (and_parts (is_loss e) (is_fail e) fails).1
     (and_parts (is_loss e) (is_link_down e) lowers).1)
 fails_no_link (e ∷ f ∷ es) is = refl
 

@@ -1,5 +1,5 @@
--- A world of which links or systems are gone, and nothing else, is left: all that it holds and what is in flight fits the
--- snapshot that it fitted, and each link that is left stays at its stage.
+-- A world of which links or systems are gone, and nothing else, is left: all that it holds and what is in flight fits
+-- the snapshot that it fitted, and each link that is left stays at its stage.
 use Rattle.std.proofs.Common.{◌≤◌, ◌*◌, ℕ, pred, sym, subst, arith}
 use Rattle.gptp_graph.specs.PathBound.{path_bound}
 use Rattle.gptp_graph.specs.Snapshot.{IsWellFormed, Snapshot}

@@ -481,7 +481,8 @@ module _ {F : Type 0} (answers : Bounds → ℕ → F → Option ℕ → F → T
               (x.used place v there end).up) came.1.place came.1.channel came.1.is)
               (seen_then lowers.calm lowers.off) (near_then x.few)
               (quiet_stands n made then playable.network keeps_then.stands world_then.sound lowers.calm).links
-              (omega (arith, over)) ready silent (stays_joined x.moves) (same_delay x.delay) (way_over x.delay x.paths) sound;
+              (omega (arith, over)) ready silent (stays_joined x.moves) (same_delay x.delay)
+              (way_over x.delay x.paths) sound;
         }
 
     -- a system fails that is the far end of its links

@@ -198,13 +198,14 @@ OneEvent Is made (event ∷ other ∷ events) = ⊥
 abbrev pub LowersOneLink : NetworkState → List Timed → List Timed → Type 0
 LowersOneLink n = OneEvent (LowersLink n)
 
--- By the first of them a system fails that is the far end of each of its links. By the others links go down that are up,
--- and of which an end has failed.
+-- By the first of them a system fails that is the far end of each of its links. By the others links go down that are
+-- up, and of which an end has failed.
 abbrev pub FailsEndFirst : NetworkState → List Timed → List Timed → Type 0
 FailsEndFirst n made [] = ⊥
 FailsEndFirst n made (event ∷ events) =
     FailsFarEnd n made event × EachEvent (LowersUnused n) (made ++ event ∷ []) events
 
+-- after them the roles stand so soon
 abbrev pub RolesAfterFailure : NetworkState → List Timed → ℕ → Type 0
 RolesAfterFailure n events roles =
     (UpIsUsed n events × (roles ≡ 0)) ⊎ (roles ≡ capability_span (pace_of n))
