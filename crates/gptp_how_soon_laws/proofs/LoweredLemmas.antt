@@ -72,7 +72,6 @@ module _ (n : NetworkState) (network : IsNetwork n) (made : List Timed) (event :
 
     module _ (g h : Snapshot) (v : ℕ) (stands : StandsAfter n made g) (stands' : StandsAfter n later h)
         (known : In v (clocks h)) where
-
       well_h : IsWellFormed h
       well_h = well later [] (append-nil later) h stands'
 
