@@ -1,5 +1,5 @@
 -- What systems choose after events is the settled choice: the best of each component, and how far that is.
-use Rattle.std.proofs.Common.{◌≡◌, ◌≤◌, ◌+◌, ◌&&◌, ◌++◌, ℕ, zero, suc, true, cond, List, [], ◌∷◌, length, map, filter, Some, None, slice_get, refl, sym, ap, subst, ◌∙◌, inl, inr, arith, length-append}
+use Rattle.std.proofs.Common.{◌≡◌, ◌≤◌, ◌&&◌, ◌++◌, ℕ, zero, suc, true, cond, List, [], ◌∷◌, length, map, filter, Some, None, slice_get, refl, sym, ap, subst, ◌∙◌, inl, inr, arith, length-append}
 use Rattle.std.specs.List.{filter_map}
 use Rattle.std.proofs.lemmas.Bool.{and_from, and_parts, eq-eqb, ne_eqb}
 use Rattle.std.proofs.lemmas.List.{length-map}

@@ -7,6 +7,7 @@ use Rattle.gptp_scenario.specs.declared.sync_wait.SyncPaths.{SyncPaths}
 use Rattle.gptp_topology.specs.Tables.{are_calm, marked_paths}
 use Rattle.gptp_topology.specs.declared.course.Cable.{Cable}
 use Rattle.gptp_topology.specs.declared.course.Standing.{Standing}
+use Rattle.gptp_how_soon.specs.Far.{up_is_used}
 use Rattle.gptp_how_soon.specs.Bounds.{heard_by, ready, times_by, way_span}
 use Rattle.gptp_how_soon.specs.Kinds.{begins_wider, is_loss, makes_nothing, sets_link}
 use Rattle.gptp_how_soon.specs.Links.{new_among}
@@ -24,11 +25,11 @@ turned a true is = rw is refl
 turned a false is = rw is refl
 
 -- whether a system is moved, and whether one was a far end, counts where it is asked
-same_row : (from_rest first : Bool) (before paths : SyncPaths) (told : List Told) (moved far : Bool)
+same_row : (from_rest first : Bool) (before paths : SyncPaths) (told : List Told) (moved far used : Bool)
     → row_of from_rest first before paths told (asks_who_is_moved from_rest before paths told && moved)
-    (asks_who_is_far from_rest before paths told && far)
-    ≡ row_of from_rest first before paths told moved far
-same_row from_rest first before paths told moved far =
+    (asks_who_is_far from_rest before paths told && far) used
+    ≡ row_of from_rest first before paths told moved far used
+same_row from_rest first before paths told moved far used =
     by from_rest (list_all makes_nothing told || begins_wider told) (are_losses_followed before told)
     (is_lowering_followed before paths told) (is_failing_followed before paths told)
   where
@@ -37,12 +38,12 @@ same_row from_rest first before paths told moved far =
         else if followed && not ((rest && (followed || lowering || failing)) && moved) then Unchanged
         else if lowering && not ((rest && (followed || lowering || failing)) && moved) then Lowered
         else if failing && not ((rest && (followed || lowering || failing)) && moved) && ((rest && failing) && far)
-        then FailedEnd
+        then if used then Lowered else FailedEnd
         else if list_any is_loss told then AnyPast else Gained)
         ≡ (if not rest then AnyPast else if first then Gained else if idle then Unchanged
         else if followed && not moved then Unchanged
         else if lowering && not moved then Lowered
-        else if failing && not moved && far then FailedEnd
+        else if failing && not moved && far then if used then Lowered else FailedEnd
         else if list_any is_loss told then AnyPast else Gained)
     by false idle followed lowering failing = refl
     by true idle true lowering true = refl
@@ -54,9 +55,9 @@ same_row from_rest first before paths told moved far =
 
 pub settled_so : (n : NetworkState) (w : Walk) (at : ℕ) (first followed from_rest calm sets moved far : Bool)
     (paths : SyncPaths) (told : List Told) (standings : List Standing) (used : List Bool) (new : List Cable)
-    (soon heard way : ℕ) (row : Row) (time : SettlingTime)
+    (soon heard way : ℕ) (row : Row) (time : SettlingTime) (all_used : Bool)
     → time ≡ times_by n at w.last_set paths calm sets row (soon + heard + way)
-    → row ≡ row_of from_rest first w.paths_before paths told moved far
+    → row ≡ row_of from_rest first w.paths_before paths told moved far all_used
     → far ≡ (asks_who_is_far from_rest w.paths_before paths told && far_seen w)
     → moved ≡ (asks_who_is_moved from_rest w.paths_before paths told && moves_seen w)
     → from_rest ≡ is_from_rest w.longest at w.paths_before paths told w.before
@@ -72,10 +73,11 @@ pub settled_so : (n : NetworkState) (w : Walk) (at : ℕ) (first followed from_r
     → used ≡ w.used_before.items
     → paths ≡ marked_paths w.tables.marks.items w.tables.nodes.items
     → first ≡ not (is_some w.before)
+    → all_used ≡ up_is_used standings
     → time ≡ settling_time n (view_seen n w at)
-settled_so n w at first followed from_rest calm sets moved far paths told standings used new soon heard way row time e0
-    e1 ef e2 e3 e4 e5 e6 e7 e8 e9 e10 e11 e12 e13 e14 e15 =
-    let row_is : row ≡ row_of from_rest first w.paths_before paths told (moves_seen w) (far_seen w) =
-    e1 ∙ ap₂ (row_of from_rest first w.paths_before paths told) e2 ef
-    ∙ same_row from_rest first w.paths_before paths told (moves_seen w) (far_seen w) in
-    rw (e0, row_is, e3, e4, e5, e6, e7, e8, e9, e10, e11, e12, e13, e14, e15) refl
+settled_so n w at first followed from_rest calm sets moved far paths told standings used new soon heard way row time
+    all_used e0 e1 ef e2 e3 e4 e5 e6 e7 e8 e9 e10 e11 e12 e13 e14 e15 eu =
+    let row_is : row ≡ row_of from_rest first w.paths_before paths told (moves_seen w) (far_seen w) all_used =
+    e1 ∙ ap₂ (λ m f. row_of from_rest first w.paths_before paths told m f all_used) e2 ef
+    ∙ same_row from_rest first w.paths_before paths told (moves_seen w) (far_seen w) all_used in
+    rw (e0, row_is, eu, e3, e4, e5, e6, e7, e8, e9, e10, e11, e12, e13, e14, e15) refl

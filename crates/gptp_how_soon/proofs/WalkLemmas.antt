@@ -16,7 +16,7 @@ use Rattle.gptp_topology.specs.declared.course.Standing.{Standing}
 use Rattle.gptp_topology.proofs.BoundLemmas.{calm_is, crossed_is}
 use Rattle.gptp_topology.proofs.StandingLemmas.{maps_twice, stand_more, systems_are}
 use Rattle.gptp_how_soon.specs.Chosen.{ends_among, ends_in_use, ends_of, moves_counted, used_ends}
-use Rattle.gptp_how_soon.specs.Far.{are_far_after}
+use Rattle.gptp_how_soon.specs.Far.{are_far_after, up_is_used}
 use Rattle.gptp_how_soon.specs.Kinds.{lowers_one, sets_bounds, told_by}
 use Rattle.gptp_how_soon.specs.Links.{delay_set, longest_delay, longest_set, new_among}
 use Rattle.gptp_how_soon.specs.Times.{last_set, told_at, told_of, view_at}
@@ -133,6 +133,7 @@ module _ (n : NetworkState) (network : IsNetwork n) where
         told = so.told i;
         moved = moves_are made now w so i;
         far = far_are made now w so i;
+        used = up_is_used (so.tables.standings i);
         paths = crossed_is n network (made ++ now) w.tables so.tables i;
         calm = calm_is n network (made ++ now) w.tables so.tables i;
       }

@@ -1,4 +1,5 @@
--- Whether a system is the far end of each of its links (profile). Then no other gets its choice from it.
+-- Whether a system is the far end of each of its links (profile), so that no other gets its choice from it; and whether
+-- each link that is up is in use.
 --
 -- The far end of a link has chosen more steps, or as many and has the higher clock.
 use Rattle.std.specs.Prelude.{ℕ, ◌==◌, ◌&&◌, ◌||◌, nat_lt, not, Bool, false, List, Option, Some, None, slice_get}
@@ -6,8 +7,11 @@ use Rattle.std.specs.List.{list_all}
 use Rattle.gptp_scenario.specs.Network.{NetworkState}
 use Rattle.gptp_scenario.specs.declared.change.Timed.{Timed}
 use Rattle.gptp_topology.specs.After.{systems_after}
+use Rattle.gptp_topology.specs.Course.{cable_is_used}
+use Rattle.gptp_topology.specs.declared.course.Standing.{Standing}
 use Rattle.gptp_topology.specs.declared.nodes.System.{System}
 use Rattle.gptp_how_soon.specs.Chosen.{chosen_after, place_of, used_ends}
+use Rattle.gptp_how_soon.specs.Kinds.{lowers_unused}
 use Rattle.gptp_how_soon.specs.declared.chosen.Chosen.{Chosen}
 use Rattle.gptp_how_soon.specs.declared.chosen.Ends.{Ends}
 use Rattle.gptp_how_soon.specs.declared.kinds.Told.{Told}
@@ -39,9 +43,9 @@ is_far_over systems cs place e =
 abbrev pub is_far_end : List System → List Chosen → List Ends → ℕ → Bool
 is_far_end systems cs links place = list_all (is_far_over systems cs place) links
 
--- so is each system that these events name
+-- so is the system that an event names, if it isn't one by which a link goes down of which an end has failed
 abbrev pub is_far_named : List System → List Chosen → List Ends → Told → Bool
-is_far_named systems cs links e = is_far_end systems cs links (place_of systems e.clock)
+is_far_named systems cs links e = lowers_unused e || is_far_end systems cs links (place_of systems e.clock)
 
 abbrev pub are_far : List System → List Chosen → List Ends → List Told → Bool
 are_far systems cs links told = list_all (is_far_named systems cs links) told
@@ -49,3 +53,12 @@ are_far systems cs links told = list_all (is_far_named systems cs links) told
 -- after these events
 abbrev pub are_far_after : NetworkState → List Timed → List Told → Bool
 are_far_after n events told = are_far (systems_after n events) (chosen_after n events) (used_ends n events) told
+
+-- ---- links that are up
+
+-- each link that is up is in use
+abbrev pub is_down_or_used : Standing → Bool
+is_down_or_used s = not s.cable.up || cable_is_used s
+
+abbrev pub up_is_used : List Standing → Bool
+up_is_used standings = list_all is_down_or_used standings

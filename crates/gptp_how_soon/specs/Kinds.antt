@@ -189,11 +189,10 @@ lowers_one [] = false
 lowers_one (e ∷ []) = is_lowering e
 lowers_one (e ∷ f ∷ es) = false
 
--- one event comes, by which a live system fails
-abbrev pub fails_one : List Told → Bool
-fails_one [] = false
-fails_one (e ∷ []) = is_failing e
-fails_one (e ∷ f ∷ es) = false
+-- a live system fails by the first, and by the others links go down of which an end has failed
+abbrev pub fails_first : List Told → Bool
+fails_first [] = false
+fails_first (e ∷ es) = is_failing e && list_all lowers_unused es
 
 -- the system with this clock recovers
 abbrev pub recovers : List Told → ℕ → Bool

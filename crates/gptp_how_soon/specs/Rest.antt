@@ -6,7 +6,7 @@ use Rattle.std.specs.Prelude.{ℕ, ◌+◌, ◌*◌, ◌==◌, ◌&&◌, ◌||�
 use Rattle.std.specs.List.{list_all, list_any}
 use Rattle.gptp_scenario.specs.declared.sync_wait.SyncPaths.{SyncPaths}
 use Rattle.gptp_how_soon.specs.Bounds.{way_span}
-use Rattle.gptp_how_soon.specs.Kinds.{are_heard, begins_wider, fails_and_recovers, fails_one, first_wider_by, is_better, is_gain, is_loss, is_other, is_recovery, is_wider, leaves_links, lowers_one, lowers_unused, makes_nothing, tells_nothing}
+use Rattle.gptp_how_soon.specs.Kinds.{are_heard, begins_wider, fails_and_recovers, fails_first, first_wider_by, is_better, is_gain, is_loss, is_other, is_recovery, is_wider, leaves_links, lowers_one, lowers_unused, makes_nothing, tells_nothing}
 use Rattle.gptp_how_soon.specs.declared.bounds.Row.{Row}
 use Rattle.gptp_how_soon.specs.declared.bounds.Row.TheVariants.{AnyPast, Unchanged, Lowered, FailedEnd, Gained}
 use Rattle.gptp_how_soon.specs.declared.bounds.Settling.{Settling}
@@ -59,13 +59,13 @@ keeps_paths paths_before paths =
     nat_le paths_before.systems 255 && (paths.delay == paths_before.delay)
     && nat_le paths.systems paths_before.systems
 
--- Then a link that goes down by the one event of a time is followed; and so is a system that fails so and was the far
--- end of each of its links.
+-- Then a link that goes down by the one event of a time is followed. So is a system that fails and was the far end of
+-- each of its links, alone or as it loses its power.
 abbrev pub is_lowering_followed : SyncPaths → SyncPaths → List Told → Bool
 is_lowering_followed paths_before paths told = keeps_paths paths_before paths && lowers_one told
 
 abbrev pub is_failing_followed : SyncPaths → SyncPaths → List Told → Bool
-is_failing_followed paths_before paths told = keeps_paths paths_before paths && fails_one told
+is_failing_followed paths_before paths told = keeps_paths paths_before paths && fails_first told
 
 -- Time 0 is from rest where its events, if any, leave it so that nothing is told.
 abbrev pub is_from_rest : ℕ → ℕ → SyncPaths → SyncPaths → List Told → Option SettlingTime → Bool
@@ -81,16 +81,16 @@ is_from_rest longest at paths_before paths told (Some b) =
 
 -- Not from rest, or after a loss, the network may come from any past. Events that make nothing of what stands leave it
 -- as it was. So does a link that gets wider, and so do losses that are followed, where no system is moved; one that is
--- cut off doesn't count where a link goes down by the one event. It counts whether a system that fails was a far end.
--- At the start nothing was, and so nothing is lost.
-abbrev pub row_of : Bool → Bool → SyncPaths → SyncPaths → List Told → Bool → Bool → Row
-row_of from_rest first paths_before paths told moved far =
+-- cut off doesn't count where a link goes down by the one event. It counts whether a system that fails was a far end,
+-- and whether a link is up then that isn't in use. At the start nothing was, and so nothing is lost.
+abbrev pub row_of : Bool → Bool → SyncPaths → SyncPaths → List Told → Bool → Bool → Bool → Row
+row_of from_rest first paths_before paths told moved far used =
     if not from_rest then AnyPast
     else if first then Gained
     else if list_all makes_nothing told || begins_wider told then Unchanged
     else if are_losses_followed paths_before told && not moved then Unchanged
     else if is_lowering_followed paths_before paths told && not moved then Lowered
-    else if is_failing_followed paths_before paths told && not moved && far then FailedEnd
+    else if is_failing_followed paths_before paths told && not moved && far then if used then Lowered else FailedEnd
     else if list_any is_loss told then AnyPast else Gained
 
 -- it counts whether a system is moved

@@ -9,7 +9,7 @@ use Rattle.gptp_topology.specs.Course.{cable_is_used, named}
 use Rattle.gptp_topology.specs.Tables.{TablesActed, are_calm, cables_of, has_clock, link_named, marked_paths, neighbours_at, systems_in}
 use Rattle.gptp_topology.specs.declared.nodes.System.{System}
 use Rattle.gptp_how_soon.specs.Chosen.{any_counted, chosen_over, ends_among, ends_in_use}
-use Rattle.gptp_how_soon.specs.Far.{are_far}
+use Rattle.gptp_how_soon.specs.Far.{are_far, up_is_used}
 use Rattle.gptp_how_soon.specs.Kinds.{lowers_one, sets_bounds, told_by}
 use Rattle.gptp_how_soon.specs.Links.{delay_set, longest_among, new_among}
 use Rattle.gptp_how_soon.specs.Times.{View, settling_time}
@@ -87,6 +87,7 @@ view_seen n w at = record {
   told = w.told.items;
   moved = moves_seen w;
   far = far_seen w;
+  used = up_is_used w.tables.standings.items;
   paths = marked_paths w.tables.marks.items w.tables.nodes.items;
   calm = are_calm n.params (marked_paths w.tables.marks.items w.tables.nodes.items) w.tables.marks.items;
 }

@@ -47,10 +47,10 @@ pub enum Row {
     AnyPast,
     /// It is from rest, and its events change nothing.
     Unchanged,
-    /// It is from rest, and a link goes down by its one event that changes no choice but of a system that it cuts off.
+    /// It is from rest, and its loss changes no choice: a link goes down by its one event, where a system that it cuts off
+    /// doesn't count; or a system loses its power that was the far end of its links, and each link that is up is in use.
     Lowered,
-    /// It is from rest, and by its one event a system fails that was the far end of its links and whose failure changes
-    /// no choice.
+    /// It is from rest, and such a system fails; a link is up that isn't in use.
     FailedEnd,
     /// It is from rest, and none of its events is a loss.
     Gained,

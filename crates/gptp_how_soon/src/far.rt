@@ -1,11 +1,11 @@
-//! Whether a system is the far end of each of its links.
+//! Whether a system is the far end of each of its links, and whether each link that is up is in use.
 
 ghost use Rattle.std.specs.Prelude.{◌≡◌, slice_get};
-ghost use Rattle.gptp_how_soon.specs.Far.{are_far, has_lower_clock, is_far_end, is_far_named, is_far_over, is_nearer_at};
+ghost use Rattle.gptp_how_soon.specs.Far.{are_far, has_lower_clock, is_far_end, is_far_named, is_down_or_used, is_far_over, is_nearer_at, up_is_used};
 
 use crate::chosen::{Chosen, Ends, place_of};
-use crate::kinds::Told;
-use gptp_topology::System;
+use crate::kinds::{Told, lowers_unused};
+use gptp_topology::{Standing, System, is_used};
 
 /// Whether the system at the one place has the lower clock.
 fn has_lower_clock(systems: &[System], near: usize, far: usize) -> bool
@@ -51,18 +51,32 @@ fn is_far_end(systems: &[System], chosen: &[Chosen], links: &[Ends], place: usiz
         .all(|ends| is_far_over(systems, chosen, place, ends))
 }
 
-/// Whether the system that an event names is.
+/// Whether the system that an event names is, if it isn't one by which a link goes down of which an end has failed.
 fn is_far_named(systems: &[System], chosen: &[Chosen], links: &[Ends], told: &Told) -> bool
     ensures { result ≡ is_far_named systems.now chosen.now links.now told.now }
 {
-    is_far_end(systems, chosen, links, place_of(systems, told.clock))
+    lowers_unused(told) || is_far_end(systems, chosen, links, place_of(systems, told.clock))
 }
 
-/// Whether each system that these events name is the far end of each of its links, where the systems have chosen so over
-/// these links.
+/// Whether each system that is named by these events but such is the far end of each of its links, where the systems have
+/// chosen so over these links.
 pub(crate) fn are_far(systems: &[System], chosen: &[Chosen], links: &[Ends], told: &[Told]) -> bool
     ensures { result ≡ are_far systems.now chosen.now links.now told.now }
 {
     told.iter()
         .all(|one| is_far_named(systems, chosen, links, one))
+}
+
+/// Whether a link is down or in use.
+fn is_down_or_used(standing: &Standing) -> bool
+    ensures { result ≡ is_down_or_used standing.now }
+{
+    !standing.cable.up || is_used(standing)
+}
+
+/// Whether each link that is up is in use.
+pub(crate) fn up_is_used(standings: &[Standing]) -> bool
+    ensures { result ≡ up_is_used standings.now }
+{
+    standings.iter().all(|standing| is_down_or_used(standing))
 }

@@ -8,7 +8,7 @@ use crate::bounds::{Row, SettlingTime, way_span};
 use crate::kinds::{
     Told, all_leave_links, all_make_nothing, all_tell_nothing, any_better, any_gain, any_loss,
     any_lowers_unused, any_other, any_recovery, any_wider, are_heard, begins_wider,
-    fails_and_recovers, fails_one, first_wider_by, lowers_one,
+    fails_and_recovers, fails_first, first_wider_by, lowers_one,
 };
 use gptp_scenario::SyncPaths;
 
@@ -155,7 +155,7 @@ fn is_lowering_followed(paths_before: SyncPaths, paths: SyncPaths, told: &[Told]
 fn is_failing_followed(paths_before: SyncPaths, paths: SyncPaths, told: &[Told]) -> bool
     ensures { result ≡ is_failing_followed paths_before paths told.now }
 {
-    keeps_paths(paths_before, paths) && fails_one(told)
+    keeps_paths(paths_before, paths) && fails_first(told)
 }
 
 /// Whether it counts if its events move a system.
@@ -185,8 +185,8 @@ pub(crate) fn asks_who_is_far(
     from_rest && is_failing_followed(paths_before, paths, told)
 }
 
-/// What is known of a time, where it is from rest or isn't, its events move a system or don't, and the one that they
-/// name was a far end or wasn't.
+/// What is known of a time, where it is from rest or isn't, its events move a system or don't, the one that fails was a
+/// far end or wasn't, and each link that is up is in use or isn't.
 pub(crate) fn row_of(
     from_rest: bool,
     first: bool,
@@ -195,8 +195,9 @@ pub(crate) fn row_of(
     told: &[Told],
     moved: bool,
     far: bool,
+    used: bool,
 ) -> Row
-    ensures { result ≡ row_of from_rest first paths_before paths told.now moved far }
+    ensures { result ≡ row_of from_rest first paths_before paths told.now moved far used }
 {
     if !from_rest {
         Row::AnyPast
@@ -209,7 +210,7 @@ pub(crate) fn row_of(
     } else if is_lowering_followed(paths_before, paths, told) && !moved {
         Row::Lowered
     } else if is_failing_followed(paths_before, paths, told) && !moved && far {
-        Row::FailedEnd
+        if used { Row::Lowered } else { Row::FailedEnd }
     } else if any_loss(told) {
         Row::AnyPast
     } else {

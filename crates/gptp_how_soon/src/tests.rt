@@ -283,6 +283,44 @@ fn a_far_end_that_fails_costs_the_choice_nothing(rt: HostRuntime) -> Result<(), 
 }
 
 #[test]
+fn a_far_end_that_loses_its_power_costs_nothing(rt: HostRuntime) -> Result<(), Fail> {
+    // Both links of c go down behind it, the one named by the neighbour's port.
+    let off = ring(
+        rt.alloc(),
+        "[[event]]\nat = 30000000000\nkind = \"fail\"\nclock = \"000000000000000c\"\n[[event]]\nat = 30000000000\nkind = \"link_down\"\nclock = \"000000000000000c\"\nport = 1\n[[event]]\nat = 30000000000\nkind = \"link_down\"\nclock = \"000000000000000d\"\nport = 1\n",
+    )?;
+    assert_eq!(rt;
+        settling_at(&off, 30_000_000_000),
+        Some(SettlingTime {
+            at: 30_000_000_000,
+            settling: Some(Settling {
+                choice: 0,
+                roles: 0,
+                sound: 15_000_000_820,
+                rest: 15_000_001_230,
+                exact_from: 30_000_005_400,
+            }),
+            watch: 16_000_001_231,
+        })
+    );
+    // One of them stays up, and then a link goes down first.
+    let hangs = ring(
+        rt.alloc(),
+        "[[event]]\nat = 30000000000\nkind = \"fail\"\nclock = \"000000000000000c\"\n[[event]]\nat = 30000000000\nkind = \"link_down\"\nclock = \"000000000000000c\"\nport = 1\n",
+    )?;
+    assert_eq!(rt; soon(&hangs, 30_000_000_000), Some((0, 44_000_005_400)));
+    let before = ring(
+        rt.alloc(),
+        "[[event]]\nat = 30000000000\nkind = \"link_down\"\nclock = \"000000000000000c\"\nport = 1\n[[event]]\nat = 30000000000\nkind = \"fail\"\nclock = \"000000000000000c\"\n",
+    )?;
+    assert_eq!(rt;
+        soon(&before, 30_000_000_000),
+        Some((15_000_000_820, 45_000_006_220))
+    );
+    Ok(())
+}
+
+#[test]
 fn a_system_recovers_behind_its_links(rt: HostRuntime) -> Result<(), Fail> {
     let times = ring(
         rt.alloc(),

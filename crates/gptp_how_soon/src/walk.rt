@@ -8,7 +8,7 @@ ghost use Rattle.gptp_how_soon.specs.Walk.{IsFirstWalk, WalkGoesOn, WalkPasses, 
 
 use crate::bounds::{SettlingTime, heard, ready, times_by, way_span};
 use crate::chosen::{Chosen, Ends, any_counted, choose, copy_systems, ends_in_use, ends_of};
-use crate::far::are_far;
+use crate::far::{are_far, up_is_used};
 use crate::kinds::{Told, lowers_one, sets_bounds, sets_link, tell};
 use crate::links::{delay_set, longest_among, mark_used, new_links};
 use crate::rest::{asks_who_is_far, asks_who_is_moved, heard_at_once, is_from_rest, row_of};
@@ -175,6 +175,7 @@ impl Walk {
         let moved = self.moves_if(alloc, asked)?;
         let asked_far = asks_who_is_far(from_rest, paths_before, paths, told);
         let far = self.far_if(alloc, asked_far)?;
+        let all_used = up_is_used(standings);
         Ok(times_by(
             network,
             at,
@@ -182,7 +183,16 @@ impl Walk {
             paths,
             self.tables.is_calm(network, paths),
             sets_link(told),
-            row_of(from_rest, first, paths_before, paths, told, moved, far),
+            row_of(
+                from_rest,
+                first,
+                paths_before,
+                paths,
+                told,
+                moved,
+                far,
+                all_used,
+            ),
             gained,
         ))
     }

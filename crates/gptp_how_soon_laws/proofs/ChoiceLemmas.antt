@@ -21,7 +21,8 @@ use Rattle.gptp_how_soon.specs.Times.{View, events_at, gained_at, last_set, read
 use Rattle.gptp_how_soon.specs.declared.bounds.Row.TheVariants.{FailedEnd, Lowered}
 use Rattle.gptp_how_soon.specs.declared.bounds.Settling.{Settling}
 use Rattle.gptp_how_soon.specs.declared.bounds.SettlingTime.{SettlingTime}
-use Rattle.gptp_settling_time.specs.HowSoon.{BoundsChoice, BoundsEvents, BoundsStart, FailsOneEnd, IsChoiceBoundAfter, IsLossBoundAfter, LowersOneLink, NoneBetween}
+use Rattle.gptp_settling_time.specs.HowSoon.{BoundsChoice, BoundsEvents, BoundsStart, FailsEndFirst, IsChoiceBoundAfter, IsLossBoundAfter, LowersOneLink, NoneBetween, RolesAfterFailure}
+use Rattle.gptp_settling_time.specs.Losses.{UpIsUsed}
 use Rattle.gptp_settling_time.proofs.MomentLemmas.{parted}
 use Rattle.gptp_settling_time.proofs.WellFormedLemmas.{after_well}
 use Rattle.gptp_how_soon_laws.specs.Choice.{SettlingsAreChoiceBounds}
@@ -163,9 +164,13 @@ module _ (d : DocumentState) (playable : IsPlayable d) where
           ⊎ ((roles : ℕ) × IsLossBoundAfter n all (b.at ∷ earlier) at s.choice roles)
       sooner : s.choice ≤ s.roles
 
+    abbrev Loses : ℕ → Type 0
+    Loses roles = (LowersOneLink n made now × (roles ≡ 0))
+        ⊎ (FailsEndFirst n made now × RolesAfterFailure n (events_by at all) roles)
+
     lost : (s : Settling) (roles : ℕ) → IsTelling n v s → IsChoiceBoundAfter n all (b.at ∷ earlier) at s.sound
         → NothingLapses n.params → HasComeToRest b at
-        → ((LowersOneLink n made now × (roles ≡ 0)) ⊎ (FailsOneEnd n made now × (roles ≡ capability_span (pace_of n))))
+        → Loses roles
         → IsLossBoundAfter n all (b.at ∷ earlier) at 0 roles
     lost s roles it sound off rest loses =
         let (bound, past) = sound_before rest in
@@ -198,15 +203,22 @@ module _ (d : DocumentState) (playable : IsPlayable d) where
         by : NothingLapses n.params → (((row_at v ≡ Lowered) × (roles_by n v.paths (row_at v) (gained_at n v) ≡ 0))
             ⊎ ((row_at v ≡ FailedEnd)
             × (roles_by n v.paths (row_at v) (gained_at n v) ≡ capability_span (pace_of n))))
-            → HasComeToRest b at
-            × ((LowersOneLink n made now × (s.roles ≡ 0))
-            ⊎ (FailsOneEnd n made now × (s.roles ≡ capability_span (pace_of n))))
+            → HasComeToRest b at × Loses s.roles
         by off (inl (row, none)) =
-            let (rest, lowers) = lowered n playable.network all b at late well row in
-            (rest, inl (lowers, it.roles ∙ none))
+            let is_none = it.roles ∙ none in
+            let (rest, which) = lowered n playable.network all b at late well row in (
+              rest,
+              elim which [
+                | inl lowers ↦ inl (lowers, is_none)
+                | inr (fails, used) ↦
+                    let stands = subst (UpIsUsed n) (sym (parted all b.at at playable.events.in_order late between))
+                    used in
+                    inr (fails, inl (stands, is_none))
+              ],
+            )
         by off (inr (row, is)) =
             let (rest, fails) = failed n playable.network all b at late well row in
-            (rest, inr (fails, it.roles ∙ is))
+            (rest, inr (fails, inr (it.roles ∙ is)))
 
     later_so : TellsSo (b.at ∷ earlier) (time_at d (Some b) at)
     later_so s is =

@@ -1,48 +1,57 @@
--- A system that fails by the one event of a time, is the far end of each of its links, and whose failure moves no
--- system, is so as its event is told.
-use Rattle.std.proofs.Common.{◌≡◌, ◌<◌, ◌≤◌, ◌⊎◌, inl, inr, ℕ, Bool, true, false, cond, List, [], ◌∷◌, ◌++◌, Some, refl, sym, ap, subst, ◌∙◌, append-nil, arith}
-use Rattle.std.specs.Prelude.{◌==◌, ◌&&◌, ◌||◌, nat_lt, not}
-use Rattle.std.specs.List.{list_all}
-use Rattle.std.proofs.lemmas.Bool.{and_from, and_parts, eq-eqb, eqb-true, or_cases}
+-- A system that fails by the first event of a time, is the far end of each of its links, and whose failure moves no
+-- system, is so as its event is told; the others take down links of which an end has failed.
+use Rattle.std.proofs.Common.{◌≡◌, ◌<◌, ◌≤◌, ◌⊎◌, inl, inr, ℕ, Bool, true, false, cond, List, [], ◌∷◌, ◌++◌, map, filter, Option, Some, None, refl, sym, ap, subst, ◌∙◌, append_assoc, append-nil, arith}
+use Rattle.std.specs.Prelude.{◌==◌, ◌&&◌, ◌||◌, nat_lt, not, if◌then◌else◌}
+use Rattle.std.specs.List.{cons_option, filter_map, list_all}
+use Rattle.std.specs.List.Sorted.{IsPermutation}
+use Rattle.std.proofs.lemmas.Bool.{and_from, and_parts, eq-eqb, eqb-true, or_cases, false_from_ne_true}
 use Rattle.std.proofs.lemmas.Bool.Decides.{nat_tests}
 use Rattle.gptp_lists.specs.Members.{In}
 use Rattle.gptp_lists.proofs.MappedLemmas.{mapped_there}
-use Rattle.gptp_lists.proofs.SystemSpecLemmas.{from_map}
-use Rattle.gptp_graph.specs.Best.{IsBest}
-use Rattle.gptp_graph.specs.Distance.{IsDistance}
-use Rattle.gptp_graph.specs.Snapshot.{IsWellFormed, Snapshot, System, clocks}
-use Rattle.gptp_graph.proofs.BestLemmas.{IsBest-unique}
+use Rattle.gptp_lists.proofs.SystemSpecLemmas.{from_map, In-map, In-slice_get, slice_get-In}
+use Rattle.gptp_graph.specs.Snapshot.{IsWellFormed, Snapshot, System, clocks, Link}
 use Rattle.gptp_graph.proofs.DistanceLemmas.{IsDistance-unique}
 use Rattle.gptp_graph.proofs.LinkLemmas.{Adjacent-clock, Adjacent-sym}
 use Rattle.gptp_graph.proofs.SystemLemmas.{In-clocks}
 use Rattle.gptp_roles.specs.Selection.{clock_of}
-use Rattle.gptp_scenario.specs.Change.{standing, system_acted, system_after, with_live}
+use Rattle.gptp_scenario.specs.Change.{standing, system_acted, system_after, with_live, is_at, joined_after, link_acted, link_after, live_after, with_up}
 use Rattle.gptp_scenario.specs.InUse.{lives}
 use Rattle.gptp_scenario.specs.Network.{IsNetwork, NetworkState}
 use Rattle.gptp_scenario.specs.SyncWait.{sync_paths}
-use Rattle.gptp_scenario.specs.declared.change.Act.{Act}
 use Rattle.gptp_scenario.specs.declared.change.Act.TheVariants as acts
 use Rattle.gptp_scenario.specs.declared.change.Change.TheVariants as changes
 use Rattle.gptp_scenario.specs.declared.change.Timed.{Timed}
 use Rattle.gptp_scenario.specs.declared.network.SystemSpec.{SystemSpec}
-use Rattle.gptp_network.specs.Snapshot.{StandsAfter, has_clock}
+use Rattle.gptp_network.specs.Snapshot.{StandsAfter, has_clock, joins_two, link_of, system_of}
 use Rattle.gptp_network.proofs.InUseLemmas.{live_there, there_live}
 use Rattle.gptp_network.proofs.PassLemmas.{passes, passes_at}
 use Rattle.gptp_network.proofs.SnapshotLemmas.{with_clock}
-use Rattle.gptp_theorem.proofs.EventLemmas.{system_behind}
-use Rattle.gptp_topology.specs.After.{system_then, systems_after}
+use Rattle.gptp_theorem.proofs.EventLemmas.{system_behind, link_behind}
+use Rattle.gptp_topology.specs.After.{system_then, systems_after, standing_then, standings_after}
 use Rattle.gptp_topology.specs.declared.nodes.System as ours
 use Rattle.gptp_how_soon.specs.Chosen.{chosen_after, moves_some, place_of, used_ends}
-use Rattle.gptp_how_soon.specs.Far.{are_far_after, has_lower_clock, is_far_end, is_far_over, is_nearer, is_nearer_at}
-use Rattle.gptp_how_soon.specs.Kinds.{fails_one, is_fail, is_failing, is_loss}
+use Rattle.gptp_how_soon.specs.Far.{are_far_after, has_lower_clock, is_far_end, is_far_over, is_nearer, is_nearer_at, is_down_or_used, is_far_named, up_is_used}
+use Rattle.gptp_how_soon.specs.Kinds.{is_fail, is_failing, is_loss, fails_first, is_link_down, is_unused, lowers_unused}
 use Rattle.gptp_how_soon.specs.Times.{told_at, told_of}
 use Rattle.gptp_how_soon.specs.declared.chosen.Chosen.{Chosen}
 use Rattle.gptp_how_soon.proofs.ChosenLemmas.{at_clock, chosen_there, place_is, settled_choice, touched}
 use Rattle.gptp_how_soon.proofs.RoundsLemmas.{Touches}
-use Rattle.gptp_settling_time.specs.HowSoon.{FailsOneEnd}
-use Rattle.gptp_settling_time.specs.Losses.{FailsFarEnd, IsFarEnd, MovesNone}
-use Rattle.gptp_how_soon_laws.proofs.KindLemmas.{loss_fails}
-use Rattle.gptp_how_soon_laws.proofs.UnmovedLemmas.{AreWell, chooses_so, same_system}
+use Rattle.gptp_settling_time.specs.HowSoon.{EachEvent, FailsEndFirst, TurnsUnused}
+use Rattle.gptp_settling_time.specs.Losses.{FailsFarEnd, IsFarEnd, MovesNone, LowersUnused, UpIsUsed}
+use Rattle.gptp_vector.specs.declared.port.PortId.{PortId}
+use Rattle.gptp_scenario.specs.Calm.{IsLive}
+use Rattle.gptp_scenario.specs.declared.network.LinkSpec.{LinkSpec}
+use Rattle.gptp_scenario.specs.declared.sync_wait.SyncPaths.{SyncPaths}
+use Rattle.gptp_scenario.proofs.AfterLemmas.{after_keeps}
+use Rattle.gptp_topology.specs.Course.{cable_is_used}
+use Rattle.gptp_topology.proofs.RestLemmas.{cable_used}
+use Rattle.gptp_how_soon.specs.declared.kinds.Kind.{Kind}
+use Rattle.gptp_how_soon.specs.declared.kinds.Told.{Told}
+use Rattle.gptp_how_soon.specs.declared.kinds.What.{What}
+use Rattle.gptp_how_soon.specs.declared.kinds.What.TheVariants as whats
+use Rattle.gptp_settling_time.proofs.SamePathsLemmas.{is_end, lives_not, map_same, turned_paths}
+use Rattle.gptp_how_soon_laws.proofs.KindLemmas.{failure_is, loss_fails, told, unused_lowers}
+use Rattle.gptp_how_soon_laws.proofs.UnmovedLemmas.{AreWell, is_unmoved}
 
 -- what is so of all is so of each
 each_is : {X : Type 0} (p : X → Bool) (xs : List X) (x : X) → list_all p xs ≡ true → In x xs → p x ≡ true
@@ -138,33 +147,11 @@ module _ (n : NetworkState) (network : IsNetwork n) (made : List Timed) (event :
     pub act : event.act ≡ acts.Change (changes.Fail clock)
     pub loss : is_loss (told_at n made (acts.Change (changes.Fail clock))) ≡ true
 
-  not_failing : (act : Act) → is_fail (told_at n made act) ≡ false → is_failing (told_at n made act) ≡ true → ⊥
-  not_failing act other is =
-      let (loss, fails) = and_parts (is_loss (told_at n made act)) (is_fail (told_at n made act)) is in
-      let no : true ≡ false = sym fails ∙ other in cc
-
-  fails : (act : Act) → event.act ≡ act → is_failing (told_at n made act) ≡ true → Fails
-  fails (acts.Change (changes.Fail clock)) same is =
-      let act = acts.Change (changes.Fail clock) in
-      record {
-        clock = clock;
-        act = same;
-        loss = (and_parts (is_loss (told_at n made act)) (is_fail (told_at n made act)) is).0;
-      }
-  fails (acts.Deliver link direction) same is = absurd (not_failing (acts.Deliver link direction) refl is)
-  fails (acts.Expire clock timer) same is = absurd (not_failing (acts.Expire clock timer) refl is)
-  fails (acts.Change (changes.LinkDown clock port)) same is =
-      absurd (not_failing (acts.Change (changes.LinkDown clock port)) refl is)
-  fails (acts.Change (changes.LinkUp clock port)) same is =
-      absurd (not_failing (acts.Change (changes.LinkUp clock port)) refl is)
-  fails (acts.Change (changes.LinkSet clock port least greatest loss)) same is =
-      absurd (not_failing (acts.Change (changes.LinkSet clock port least greatest loss)) refl is)
-  fails (acts.Change (changes.Recover clock)) same is =
-      absurd (not_failing (acts.Change (changes.Recover clock)) refl is)
-  fails (acts.Change (changes.Priority1 clock value)) same is =
-      absurd (not_failing (acts.Change (changes.Priority1 clock value)) refl is)
-  fails (acts.Change (changes.Inject clock port octets)) same is =
-      absurd (not_failing (acts.Change (changes.Inject clock port octets)) refl is)
+  fails : is_failing (told_at n made event.act) ≡ true → Fails
+  fails is =
+      let (loss, failure) = and_parts (is_loss (told_at n made event.act)) (is_fail (told_at n made event.act)) is in
+      let (clock, act) = failure_is n network made event.act failure in
+      record { clock = clock; act = act; loss = subst (λ a. is_loss (told_at n made a) ≡ true) act loss }
 
   -- who lives then lived before
   module _ (x : Fails) where
@@ -190,63 +177,231 @@ module _ (n : NetworkState) (network : IsNetwork n) (made : List Timed) (event :
         passes (λ (k : SystemSpec). (clock_of k.identity == v) && (system_after later k).live) n.systems
         (there_live n network later h stands' v has) in
         let (is, live) = and_parts (clock_of k.identity == v) (system_after later k).live both in
-        let then : lives n.systems made v ≡ true =
+        let lives_before : lives n.systems made v ≡ true =
         passes_at (λ (k : SystemSpec). (clock_of k.identity == v) && (system_after made k).live) n.systems k among
         (and_from (clock_of k.identity == v) (system_after made k).live is (lived k live)) in
-        let (t, here, same) = with_clock g.systems v (live_there n network made g stands v then) in
+        let (t, here, same) = with_clock g.systems v (live_there n network made g stands v lives_before) in
         subst (λ c. In c (clocks g)) same (In-clocks g t here)
 
-  module _ (well : AreWell n later) (unmoved : moves_some n made later ≡ false) (x : Fails) where
-    moves_none : MovesNone n made event
-    moves_none g h v stands stands' known =
-        let well_g = well made (event ∷ []) refl g stands in
-        let well_h = well later [] (append-nil later) h stands' in
-        let was_known = clock_before x g h stands stands' v known in
-        let c = chooses_so n network made later g h stands stands' well_g well_h v was_known known unmoved in
-        let one =
-        same_system n network made later g h stands stands' c.was.best c.is.best c.was.is_best.live c.is.is_best.live
-        (sym c.was.root ∙ c.root ∙ c.is.root) in
-        record {
-          best = λ b is. subst (IsBest h v)
-              (sym (IsBest-unique g v b c.was.best well_g is c.was.is_best ∙ one)) c.is.is_best;
-          far = λ d far. subst (IsDistance h v)
-              (sym (IsDistance-unique g v d c.before.steps well_g far c.was.far ∙ c.steps)) c.is.far;
-        }
+  -- of it and of those behind it no system is moved, and what stands after it stands after all of them
+  module _ (all : List Timed) (well : AreWell n all) (was : (g : Snapshot) → StandsAfter n made g → IsWellFormed g)
+      (so : (h : Snapshot) → StandsAfter n later h → StandsAfter n all h)
+      (unmoved : moves_some n made all ≡ false) where
+    moves_none : Fails → MovesNone n made event
+    moves_none x g h v stands stands' known =
+        let stands_all = so h stands' in
+        is_unmoved n network made all g h stands stands_all (was g stands)
+        (well all [] (append-nil all) h stands_all) v (clock_before x g h stands stands' v known) known unmoved
 
-  module _ (well : AreWell n later) (unmoved : moves_some n made later ≡ false)
-      (delay : (sync_paths n later).delay ≡ (sync_paths n made).delay)
-      (paths : (sync_paths n later).systems ≤ (sync_paths n made).systems)
-      (few : (sync_paths n made).systems ≤ 255) (is : is_failing (told_at n made event.act) ≡ true)
-      (far : is_far_end (systems_after n made) (chosen_after n made) (used_ends n made)
-      (place_of (systems_after n made) (told_at n made event.act).clock) ≡ true) where
-    pub fails_far_end : FailsFarEnd n made event
-    fails_far_end =
-        let x = fails event.act refl is in
-        record {
-          clock = x.clock;
-          act = x.act;
-          live = loss_fails n network made x.clock x.loss;
-          far = λ g stands.
-              far_so n network made g stands (well made (event ∷ []) refl g stands) x.clock
-              (subst (λ act. is_far_end (systems_after n made) (chosen_after n made) (used_ends n made)
-              (place_of (systems_after n made) (told_at n made act).clock) ≡ true) x.act far);
-          moves = moves_none well unmoved x;
-          delay = delay;
-          paths = paths;
-          few = few;
-        }
+    module _ (delay : (sync_paths n later).delay ≡ (sync_paths n made).delay)
+        (paths : (sync_paths n later).systems ≤ (sync_paths n made).systems)
+        (few : (sync_paths n made).systems ≤ 255) (is : is_failing (told_at n made event.act) ≡ true)
+        (far : is_far_end (systems_after n made) (chosen_after n made) (used_ends n made)
+        (place_of (systems_after n made) (told_at n made event.act).clock) ≡ true) where
+      pub fails_far_end : FailsFarEnd n made event
+      fails_far_end =
+          let x = fails is in
+          record {
+            clock = x.clock;
+            act = x.act;
+            live = loss_fails n network made x.clock x.loss;
+            far = λ g stands.
+                far_so n network made g stands (was g stands) x.clock
+                (subst (λ act. is_far_end (systems_after n made) (chosen_after n made) (used_ends n made)
+                (place_of (systems_after n made) (told_at n made act).clock) ≡ true) x.act far);
+            moves = moves_none x;
+            delay = delay;
+            paths = paths;
+            few = few;
+          }
+
+-- ---- a link goes down of which an end has failed
+
+module _ (n : NetworkState) (network : IsNetwork n) (made : List Timed) (event : Timed)
+    (lowers : LowersUnused n made event) (h : Snapshot) (stands : StandsAfter n made h) where
+  abbrev joins : Link → Bool
+  joins = joins_two h.systems
+
+  abbrev after : List Timed
+  after = made ++ event ∷ []
+
+  systems_stay : (m : SystemSpec) → live_after after m ≡ live_after made m
+  systems_stay m =
+      ap (λ s. if s.live then Some (s.identity, m.ports) else None)
+      (system_behind made event (clock_of m.identity) (standing m)
+      ∙ ap (λ act. system_acted act (clock_of m.identity) (system_after made m)) lowers.act)
+
+  none_has : (clock : ℕ) → (IsLive n.systems made clock → ⊥) → has_clock h.systems clock ≡ false
+  none_has clock none =
+      false_from_ne_true (has_clock h.systems clock) (λ has.
+      let both : true ≡ false = sym (there_live n network made h stands clock has) ∙ lives_not n made clock none in cc)
+
+  and_off : (b : Bool) → (b && false) ≡ false
+  and_off true = refl
+  and_off false = refl
+
+  -- it joined no two of the systems
+  abbrev Stays : LinkSpec → Type 0
+  Stays v = (joined_after after v ≡ joined_after made v)
+      ⊎ ((joined_after after v ≡ None) × (joins (link_of (v.a, v.b)) ≡ false))
+
+  link_stays : (v : LinkSpec) → In v n.links → Stays v
+  link_stays v member = by (is_at lowers.clock lowers.port (link_after made v)) refl
+    where
+      now_is : link_after after v
+          ≡ (if is_at lowers.clock lowers.port (link_after made v) then with_up false (link_after made v)
+          else link_after made v)
+      now_is = link_behind made event v ∙ ap (λ act. link_acted act (link_after made v)) lowers.act
+
+      by : (test : Bool) → is_at lowers.clock lowers.port (link_after made v) ≡ test → Stays v
+      by false is =
+          inl (ap (λ (w : LinkSpec). if w.up then Some (v.a, v.b) else None)
+          (now_is ∙ ap (λ b. if b then with_up false (link_after made v) else link_after made v) is))
+      by true is =
+          let (place, there) = slice_get-In v n.links member in
+          let keeps = after_keeps made v in
+          let none : joined_after after v ≡ None =
+          ap (λ (w : LinkSpec). if w.up then Some (v.a, v.b) else None)
+          (now_is ∙ ap (λ b. if b then with_up false (link_after made v) else link_after made v) is) in
+          inr (
+            none,
+            elim (lowers.failed place v there (is_end lowers.clock lowers.port (link_after made v) is)) [
+              | inl a ↦
+                  let off = none_has v.a.clock
+                  (subst (λ (p : PortId). IsLive n.systems made p.clock → ⊥) keeps.a a) in
+                  ap (λ t. t && has_clock h.systems v.b.clock) off
+              | inr b ↦
+                  let off = none_has v.b.clock
+                  (subst (λ (p : PortId). IsLive n.systems made p.clock → ⊥) keeps.b b) in
+                  ap (λ t. has_clock h.systems v.a.clock && t) off ∙ and_off (has_clock h.systems v.a.clock)
+            ],
+          )
+
+  more : (o : Option (PortId × PortId)) (xs ys : List (PortId × PortId))
+      → filter joins (map link_of xs) ≡ filter joins (map link_of ys)
+      → filter joins (map link_of (cons_option o xs)) ≡ filter joins (map link_of (cons_option o ys))
+  more None xs ys same = same
+  more (Some e) xs ys same = ap (λ rest. cond (joins (link_of e)) (link_of e ∷ rest) rest) same
+
+  less : (o : Option (PortId × PortId)) (e : PortId × PortId) (xs : List (PortId × PortId))
+      → (o ≡ None) ⊎ (o ≡ Some e) → joins (link_of e) ≡ false
+      → filter joins (map link_of xs) ≡ filter joins (map link_of (cons_option o xs))
+  less o e xs (inl none) not_joined = ap (λ p. filter joins (map link_of (cons_option p xs))) (sym none)
+  less o e xs (inr some) not_joined =
+      sym (ap (λ p. filter joins (map link_of (cons_option p xs))) some
+      ∙ ap (λ b. cond b (link_of e ∷ filter joins (map link_of xs)) (filter joins (map link_of xs))) not_joined)
+
+  joined_or_none : (v : LinkSpec) → (joined_after made v ≡ None) ⊎ (joined_after made v ≡ Some (v.a, v.b))
+  joined_or_none v = by (link_after made v).up (v.a, v.b)
+    where
+      by : (up : Bool) (e : PortId × PortId) → (cond up (Some e) None ≡ None) ⊎ (cond up (Some e) None ≡ Some e)
+      by true e = inr refl
+      by false e = inl refl
+
+  links_stay : (vs : List LinkSpec) → ((v : LinkSpec) → In v vs → Stays v)
+      → filter joins (map link_of (filter_map (joined_after after) vs))
+      ≡ filter joins (map link_of (filter_map (joined_after made) vs))
+  links_stay [] stay = refl
+  links_stay (v ∷ vs) stay =
+      let rest = links_stay vs (λ w member. stay w (inr member)) in
+      elim (stay v (inl refl)) [
+        | inl same ↦
+            ap (λ o. filter joins (map link_of (cons_option o (filter_map (joined_after after) vs)))) same
+            ∙ more (joined_after made v) (filter_map (joined_after after) vs) (filter_map (joined_after made) vs) rest
+        | inr (none, not_joined) ↦
+            ap (λ o. filter joins (map link_of (cons_option o (filter_map (joined_after after) vs)))) none
+            ∙ rest
+            ∙ less (joined_after made v) (v.a, v.b) (filter_map (joined_after made) vs) (joined_or_none v) not_joined
+      ]
+
+  pub stands_less : StandsAfter n after h
+  stands_less = record {
+    systems = subst (λ pairs. IsPermutation (map system_of pairs) h.systems)
+        (sym (map_same (live_after after) (live_after made) n.systems (λ m member. systems_stay m))) stands.systems;
+    rising = stands.rising;
+    links = stands.links ∙ sym (links_stay n.links link_stays);
+  }
+
+-- and several do
+module _ (n : NetworkState) (network : IsNetwork n) where
+  stands_all : (h : Snapshot) (made now : List Timed) → EachEvent (LowersUnused n) made now → StandsAfter n made h
+      → StandsAfter n (made ++ now) h
+  stands_all h made [] each stands = subst (λ es. StandsAfter n es h) (sym (append-nil made)) stands
+  stands_all h made (event ∷ now) (lowers, others) stands =
+      subst (λ es. StandsAfter n es h) (append_assoc made (event ∷ []) now)
+      (stands_all h (made ++ event ∷ []) now others (stands_less n network made event lowers h stands))
+
+  paths_all : (made now : List Timed) → EachEvent (LowersUnused n) made now
+      → sync_paths n (made ++ now) ≡ sync_paths n made
+  paths_all made [] each = ap (sync_paths n) (append-nil made)
+  paths_all made (event ∷ now) (lowers, others) =
+      ap (sync_paths n) (sym (append_assoc made (event ∷ []) now))
+      ∙ paths_all (made ++ event ∷ []) now others
+      ∙ turned_paths n made event (subst (TurnsUnused n made) (sym lowers.act) lowers.failed)
+
+  lowers_each : (made now : List Timed) → list_all lowers_unused (told_of n made now) ≡ true
+      → EachEvent (LowersUnused n) made now
+  lowers_each made [] all = tt
+  lowers_each made (event ∷ now) all =
+      let (first, others) = and_parts (lowers_unused (told_at n made event.act))
+      (list_all lowers_unused (told_of n (made ++ event ∷ []) now)) all in
+      (unused_lowers n network made event first, lowers_each (made ++ event ∷ []) now others)
+
+  -- each link that is up is in use where it is seen so
+  pub used_up : (all : List Timed) → up_is_used (standings_after n all) ≡ true → UpIsUsed n all
+  used_up all is place v there up =
+      let seen = each_is is_down_or_used (standings_after n all) (standing_then n all v) is
+      (In-map (standing_then n all) v n.links (In-slice_get v n.links place there)) in
+      cable_used n all v (elim (or_cases (not (link_after all v).up) (cable_is_used (standing_then n all v)) seen) [
+        | inl down ↦ absurd (let no : false ≡ true = ap not (sym up) ∙ down in cc)
+        | inr used ↦ used
+      ])
+
+-- what fails takes no link down
+pub fail_lowers_none : (kind : Kind) (clock : ℕ) (what : What) → is_fail (told clock what kind) ≡ true
+    → is_link_down (told clock what kind) ≡ true → ⊥
+fail_lowers_none kind clock whats.LinkDown fails lowers = absurd cc
+fail_lowers_none kind clock whats.LinkUp fails lowers = absurd cc
+fail_lowers_none kind clock whats.LinkSet fails lowers = absurd cc
+fail_lowers_none kind clock whats.Fail fails lowers = absurd cc
+fail_lowers_none kind clock whats.Recover fails lowers = absurd cc
+fail_lowers_none kind clock whats.Priority1 fails lowers = absurd cc
+fail_lowers_none kind clock whats.Inject fails lowers = absurd cc
+fail_lowers_none kind clock whats.NoChange fails lowers = absurd cc
 
 -- the events of a time
-pub fails_one_end : (n : NetworkState) (network : IsNetwork n) (made now : List Timed) → AreWell n (made ++ now)
+pub fails_end_first : (n : NetworkState) (network : IsNetwork n) (made now : List Timed) → AreWell n (made ++ now)
     → moves_some n made (made ++ now) ≡ false
     → (sync_paths n (made ++ now)).delay ≡ (sync_paths n made).delay
     → (sync_paths n (made ++ now)).systems ≤ (sync_paths n made).systems
     → (sync_paths n made).systems ≤ 255
-    → fails_one (told_of n made now) ≡ true → are_far_after n made (told_of n made now) ≡ true
-    → FailsOneEnd n made now
-fails_one_end n network made [] well unmoved delay paths few is far = absurd cc
-fails_one_end n network made (event ∷ []) well unmoved delay paths few is far =
-    fails_far_end n network made event well unmoved delay paths few is
-    (and_parts (is_far_end (systems_after n made) (chosen_after n made) (used_ends n made)
-    (place_of (systems_after n made) (told_at n made event.act).clock)) true far).0
-fails_one_end n network made (event ∷ other ∷ events) well unmoved delay paths few is far = absurd cc
+    → fails_first (told_of n made now) ≡ true → are_far_after n made (told_of n made now) ≡ true
+    → FailsEndFirst n made now
+fails_end_first n network made [] well unmoved delay paths few is far = absurd cc
+fails_end_first n network made (event ∷ events) well unmoved delay paths few is far =
+    let later : List Timed = made ++ event ∷ [] in
+    let t : Told = told_at n made event.act in
+    let far_test : Bool = is_far_end (systems_after n made) (chosen_after n made) (used_ends n made)
+    (place_of (systems_after n made) t.clock) in
+    let (fails, lower) = and_parts (is_failing t) (list_all lowers_unused (told_of n later events)) is in
+    let others = lowers_each n network later events lower in
+    let whole : later ++ events ≡ made ++ event ∷ events = append_assoc made (event ∷ []) events in
+    let same : sync_paths n (made ++ event ∷ events) ≡ sync_paths n later =
+    ap (sync_paths n) (sym whole) ∙ paths_all n network later events others in
+    let delays = ap (λ (x : SyncPaths). x.delay) same in
+    let systems = ap (λ (x : SyncPaths). x.systems) same in
+    let (first, more) = and_parts (lowers_unused t || far_test)
+    (list_all (is_far_named (systems_after n made) (chosen_after n made) (used_ends n made)) (told_of n later events))
+    far in
+    let far_end : far_test ≡ true = elim (or_cases (lowers_unused t) far_test first) [
+      | inl unused ↦
+          absurd (fail_lowers_none t.kind t.clock t.what (and_parts (is_loss t) (is_fail t) fails).1
+          (and_parts (is_unused t) (is_link_down t) unused).1)
+      | inr is_far ↦ is_far
+    ] in (
+      fails_far_end n network made event (made ++ event ∷ events) well
+          (λ g stands. well made (event ∷ events) refl g stands)
+          (λ h stands. subst (λ es. StandsAfter n es h) whole (stands_all n network h later events others stands))
+          unmoved (sym delays ∙ delay) (omega (arith, systems, paths)) few fails far_end,
+      others,
+    )

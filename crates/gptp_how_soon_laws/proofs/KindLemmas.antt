@@ -2,7 +2,7 @@
 use Rattle.std.proofs.Common.{◌≡◌, ◌<◌, ◌≤◌, ◌⊎◌, inl, inr, ◌+◌, ◌*◌, ◌^◌, ◌%◌, ℕ, Bool, true, false, nat_lt, List, Option, Some, None, slice_get, refl, sym, ap, subst, ◌∙◌, arith}
 use Rattle.std.specs.Prelude.{◌==◌, ◌&&◌, ◌||◌, not, if◌then◌else◌, nat_le, ◌-◌}
 use Rattle.std.specs.List.{find}
-use Rattle.std.proofs.lemmas.Bool.{eqb-false, eqb-true}
+use Rattle.std.proofs.lemmas.Bool.{and_parts, eqb-false, eqb-true}
 use Rattle.std.proofs.lemmas.Bool.Decides.{nat_tests}
 use Rattle.gptp_vector.specs.declared.port.PortId.{PortId}
 use Rattle.gptp_roles.specs.Selection.{clock_of}
@@ -19,7 +19,7 @@ use Rattle.gptp_scenario.specs.declared.network.SystemSpec.{SystemSpec}
 use Rattle.gptp_scenario.proofs.AfterLemmas.{after_keeps}
 use Rattle.gptp_model.specs.World.{port_id}
 use Rattle.gptp_topology.specs.declared.course.Standing.{Standing}
-use Rattle.gptp_how_soon.specs.Kinds.{identity_with, is_gain, is_idle, is_loss, is_other, is_unused, makes_nothing, kind_of_failure, kind_of_link_down, kind_of_link_up, kind_of_priority1, kind_of_recovery, what_of, is_wider, kind_of_link_set, wider_by}
+use Rattle.gptp_how_soon.specs.Kinds.{identity_with, is_fail, is_gain, is_idle, is_link_down, is_loss, is_other, is_unused, lowers_unused, makes_nothing, kind_of_failure, kind_of_link_down, kind_of_link_up, kind_of_priority1, kind_of_recovery, what_of, is_wider, kind_of_link_set, wider_by}
 use Rattle.gptp_topology.specs.After.{standings_after, systems_after}
 use Rattle.gptp_topology.specs.Tables.{has_clock}
 use Rattle.gptp_how_soon.specs.Times.{is_standing_named, told_at}
@@ -35,6 +35,7 @@ use Rattle.gptp_links.specs.declared.bounds.Bounds.{Bounds}
 use Rattle.gptp_topology.specs.Course.{cable_is_used}
 use Rattle.gptp_settling_time.specs.HowSoon.{TurnsUnused}
 use Rattle.gptp_settling_time.specs.InTurn.{IsWithin, WidensLink}
+use Rattle.gptp_settling_time.specs.Losses.{LowersUnused}
 
 -- ---- kinds
 
@@ -114,6 +115,16 @@ module _ (clock : ℕ) (what : What) where
       by false live is = absurd cc
       by true true is = absurd cc
       by true false is = refl
+
+  unused_down_up : (o : Option Standing) → is_unused (told clock what (kind_of_link_down o)) ≡ true
+      → (s : Standing) × (o ≡ Some s) × (s.cable.up ≡ true)
+  unused_down_up None is = absurd cc
+  unused_down_up (Some s) is = (s, refl, by s.cable.up (s.a_lives && s.b_lives) is)
+    where
+      by : (up live : Bool)
+          → is_unused (told clock what (if not up then Idle else if live then Loss else Unused)) ≡ true → up ≡ true
+      by false live is = absurd cc
+      by true live is = refl
 
   unused_up : (o : Option Standing) → is_unused (told clock what (kind_of_link_up o)) ≡ true
       → (s : Standing) × (o ≡ Some s) × ((s.a_lives && s.b_lives) ≡ false)
@@ -416,6 +427,31 @@ module _ (n : NetworkState) (network : IsNetwork n) (made : List Timed) where
       ∙ ap (λ (o : System). o.lives) one.is ∙ failed in
       cc
 
+  -- by an act of this kind a link goes down, or a system fails
+  pub link_down_is : (act : Act) → is_link_down (told_at n made act) ≡ true
+      → (clock : ℕ) × (port : ℕ) × (act ≡ acts.Change (changes.LinkDown clock port))
+  link_down_is (acts.Change (changes.LinkDown clock port)) is = (clock, port, refl)
+  link_down_is (acts.Change (changes.LinkUp clock port)) is = absurd cc
+  link_down_is (acts.Change (changes.LinkSet clock port least greatest loss)) is = absurd cc
+  link_down_is (acts.Change (changes.Fail clock)) is = absurd cc
+  link_down_is (acts.Change (changes.Recover clock)) is = absurd cc
+  link_down_is (acts.Change (changes.Priority1 clock value)) is = absurd cc
+  link_down_is (acts.Change (changes.Inject clock port octets)) is = absurd cc
+  link_down_is (acts.Deliver link direction) is = absurd cc
+  link_down_is (acts.Expire clock timer) is = absurd cc
+
+  pub failure_is : (act : Act) → is_fail (told_at n made act) ≡ true
+      → (clock : ℕ) × (act ≡ acts.Change (changes.Fail clock))
+  failure_is (acts.Change (changes.Fail clock)) is = (clock, refl)
+  failure_is (acts.Change (changes.LinkDown clock port)) is = absurd cc
+  failure_is (acts.Change (changes.LinkUp clock port)) is = absurd cc
+  failure_is (acts.Change (changes.LinkSet clock port least greatest loss)) is = absurd cc
+  failure_is (acts.Change (changes.Recover clock)) is = absurd cc
+  failure_is (acts.Change (changes.Priority1 clock value)) is = absurd cc
+  failure_is (acts.Change (changes.Inject clock port octets)) is = absurd cc
+  failure_is (acts.Deliver link direction) is = absurd cc
+  failure_is (acts.Expire clock timer) is = absurd cc
+
   pub idle_changes : (act : Act) → is_idle (told_at n made act) ≡ true → ChangesNothing n made act
   idle_changes (acts.Deliver link direction) is = absurd cc
   idle_changes (acts.Expire clock timer) is = absurd cc
@@ -601,6 +637,27 @@ module _ (n : NetworkState) (network : IsNetwork n) (made : List Timed) where
   unused_turns (acts.Change (changes.Priority1 number value)) is =
       absurd (used_priority1 number (what_of (setting number value)) value (system_at number) is)
   unused_turns (acts.Change (changes.Inject clock port octets)) is = absurd cc
+
+  -- a link that is up goes down of which an end has failed
+  pub unused_lowers : (event : Timed) → lowers_unused (told_at n made event.act) ≡ true → LowersUnused n made event
+  unused_lowers event both =
+      let (unused_is, lowers) =
+      and_parts (is_unused (told_at n made event.act)) (is_link_down (told_at n made event.act)) both in
+      let (clock, port, same) = link_down_is event.act lowers in
+      let act = acts.Change (changes.LinkDown clock port) in
+      let unused = subst (λ a. is_unused (told_at n made a) ≡ true) same unused_is in
+      let (s, found_is, up) = unused_down_up clock (what_of act) (link_at act) unused in
+      let one = named_link n network made clock port act (λ x passed. passed) s found_is in
+      record {
+        clock = clock;
+        port = port;
+        act = same;
+        up = λ place v there end.
+            ap (λ (w : LinkSpec). (link_after made w).up)
+            (one.only place v there (end_first made (port_id clock port) v end))
+            ∙ ap (λ (x : Standing). x.cable.up) one.is ∙ up;
+        failed = unused_turns act unused;
+      }
 
   -- a link gets wider
 

@@ -4,10 +4,6 @@ use Rattle.std.proofs.Common.{◌≡◌, ◌≤◌, ℕ, Bool, true, false, List
 use Rattle.std.specs.Prelude.{◌==◌, ◌||◌}
 use Rattle.std.proofs.lemmas.Bool.{and_parts, eq-eqb}
 use Rattle.gptp_lists.specs.Members.{In}
-use Rattle.gptp_graph.specs.Best.{IsBest}
-use Rattle.gptp_graph.specs.Distance.{IsDistance}
-use Rattle.gptp_graph.proofs.BestLemmas.{IsBest-unique}
-use Rattle.gptp_graph.proofs.DistanceLemmas.{IsDistance-unique}
 use Rattle.gptp_graph.proofs.LinkLemmas.{Adjacent-clock}
 use Rattle.gptp_graph.specs.Snapshot.{IsWellFormed, Snapshot, clocks}
 use Rattle.gptp_network.proofs.PassLemmas.{passes_at}
@@ -16,7 +12,6 @@ use Rattle.gptp_roles.specs.Selection.{clock_of}
 use Rattle.gptp_scenario.specs.Change.{standing, system_acted, system_after}
 use Rattle.gptp_scenario.specs.Network.{IsNetwork, NetworkState}
 use Rattle.gptp_scenario.specs.SyncWait.{sync_paths}
-use Rattle.gptp_scenario.specs.declared.change.Act.{Act}
 use Rattle.gptp_scenario.specs.declared.change.Act.TheVariants as acts
 use Rattle.gptp_scenario.specs.declared.change.Change.TheVariants as changes
 use Rattle.gptp_scenario.specs.declared.change.Timed.{Timed}
@@ -29,8 +24,8 @@ use Rattle.gptp_how_soon.specs.Kinds.{is_link_down, is_loss, is_lowering, lowers
 use Rattle.gptp_how_soon.specs.Times.{told_at, told_of}
 use Rattle.gptp_settling_time.specs.HowSoon.{LowersOneLink}
 use Rattle.gptp_settling_time.specs.Losses.{IsCutOff, IsUnmoved, IsUnmovedOrCutOff, LowersLink, MovesNoneJoined}
-use Rattle.gptp_how_soon_laws.proofs.KindLemmas.{loss_lowers}
-use Rattle.gptp_how_soon_laws.proofs.UnmovedLemmas.{AreWell, chooses_at, clock_over, none_joined_there, same_system}
+use Rattle.gptp_how_soon_laws.proofs.KindLemmas.{link_down_is, loss_lowers}
+use Rattle.gptp_how_soon_laws.proofs.UnmovedLemmas.{AreWell, clock_over, none_joined_there, unmoved_at}
 
 -- a link that touches a place ends there
 joined_by : (n : NetworkState) (events : List Timed) (place i : ℕ) → Touches (used_ends n events) place i
@@ -57,34 +52,17 @@ module _ (n : NetworkState) (network : IsNetwork n) (made : List Timed) (event :
     pub act : event.act ≡ acts.Change (changes.LinkDown clock port)
     pub loss : is_loss (told_at n made (acts.Change (changes.LinkDown clock port))) ≡ true
 
-  not_down : (act : Act) → is_link_down (told_at n made act) ≡ false → is_lowering (told_at n made act) ≡ true → ⊥
-  not_down act other is =
-      let (loss, down) = and_parts (is_loss (told_at n made act)) (is_link_down (told_at n made act)) is in
-      let no : true ≡ false = sym down ∙ other in cc
-
-  takes_down : (act : Act) → event.act ≡ act → is_lowering (told_at n made act) ≡ true → TakesDown
-  takes_down (acts.Change (changes.LinkDown clock port)) same is =
-      let act = acts.Change (changes.LinkDown clock port) in
+  takes_down : is_lowering (told_at n made event.act) ≡ true → TakesDown
+  takes_down is =
+      let (loss, down) =
+      and_parts (is_loss (told_at n made event.act)) (is_link_down (told_at n made event.act)) is in
+      let (clock, port, act) = link_down_is n network made event.act down in
       record {
         clock = clock;
         port = port;
-        act = same;
-        loss = (and_parts (is_loss (told_at n made act)) (is_link_down (told_at n made act)) is).0;
+        act = act;
+        loss = subst (λ a. is_loss (told_at n made a) ≡ true) act loss;
       }
-  takes_down (acts.Deliver link direction) same is = absurd (not_down (acts.Deliver link direction) refl is)
-  takes_down (acts.Expire clock timer) same is = absurd (not_down (acts.Expire clock timer) refl is)
-  takes_down (acts.Change (changes.LinkUp clock port)) same is =
-      absurd (not_down (acts.Change (changes.LinkUp clock port)) refl is)
-  takes_down (acts.Change (changes.LinkSet clock port least greatest loss)) same is =
-      absurd (not_down (acts.Change (changes.LinkSet clock port least greatest loss)) refl is)
-  takes_down (acts.Change (changes.Fail clock)) same is =
-      absurd (not_down (acts.Change (changes.Fail clock)) refl is)
-  takes_down (acts.Change (changes.Recover clock)) same is =
-      absurd (not_down (acts.Change (changes.Recover clock)) refl is)
-  takes_down (acts.Change (changes.Priority1 clock value)) same is =
-      absurd (not_down (acts.Change (changes.Priority1 clock value)) refl is)
-  takes_down (acts.Change (changes.Inject clock port octets)) same is =
-      absurd (not_down (acts.Change (changes.Inject clock port octets)) refl is)
 
   module _ (well : AreWell n later) (unmoved : moves_joined n made later ≡ false) (x : TakesDown) where
     lives_still : (m : SystemSpec) → In m n.systems → (system_after made m).live ≡ (system_after later m).live
@@ -94,9 +72,6 @@ module _ (n : NetworkState) (network : IsNetwork n) (made : List Timed) (event :
 
     module _ (g h : Snapshot) (v : ℕ) (stands : StandsAfter n made g) (stands' : StandsAfter n later h)
         (known : In v (clocks h)) where
-      well_g : IsWellFormed g
-      well_g = well made (event ∷ []) refl g stands
-
       well_h : IsWellFormed h
       well_h = well later [] (append-nil later) h stands'
 
@@ -107,18 +82,9 @@ module _ (n : NetworkState) (network : IsNetwork n) (made : List Timed) (event :
       stays : is_joined (used_ends n later) at_v.0 ≡ true → IsUnmoved g h v
       stays joined =
           let (i, at) = at_v in
-          let was_known = clock_over n network later made lives_still h g stands' stands v known in
-          let c = chooses_at n network made later g h stands stands' well_g well_h v was_known known i at
-          (none_joined_there n made later unmoved i at.system at.there joined) in
-          let one =
-          same_system n network made later g h stands stands' c.was.best c.is.best c.was.is_best.live c.is.is_best.live
-          (sym c.was.root ∙ c.root ∙ c.is.root) in
-          record {
-            best = λ b is. subst (IsBest h v)
-                (sym (IsBest-unique g v b c.was.best well_g is c.was.is_best ∙ one)) c.is.is_best;
-            far = λ d far. subst (IsDistance h v)
-                (sym (IsDistance-unique g v d c.before.steps well_g far c.was.far ∙ c.steps)) c.is.far;
-          }
+          unmoved_at n network made later g h stands stands' (well made (event ∷ []) refl g stands) well_h v
+          (clock_over n network later made lives_still h g stands' stands v known) known i at
+          (none_joined_there n made later unmoved i at.system at.there joined)
 
       -- or none is
       cut_off : is_joined (used_ends n later) at_v.0 ≡ false → IsCutOff h v
@@ -146,7 +112,7 @@ module _ (n : NetworkState) (network : IsNetwork n) (made : List Timed) (event :
       (few : (sync_paths n made).systems ≤ 255) (is : is_lowering (told_at n made event.act) ≡ true) where
     pub lowers_link : LowersLink n made event
     lowers_link =
-        let x = takes_down event.act refl is in
+        let x = takes_down is in
         record {
           clock = x.clock;
           port = x.port;

@@ -2,7 +2,7 @@
 use Rattle.std.proofs.Common.{◌≡◌, ◌<◌, ◌≤◌, ◌⊎◌, inl, inr, ◌+◌, ◌*◌, ℕ, Bool, true, false, cond, List, [], ◌∷◌, ◌++◌, Option, Some, None, length, filter, map, slice_get, refl, sym, ap, ap₂, subst, ◌∙◌, arith}
 use Rattle.std.specs.Prelude.{◌==◌, ◌&&◌, ◌||◌, not, nat_le, nat_lt, max, if◌then◌else◌}
 use Rattle.std.specs.List.{AllByRecursion, list_all, list_any}
-use Rattle.std.proofs.lemmas.Bool.{and_parts, eqb-false, eqb-true, not-true, or_cases, or_from, or_parts}
+use Rattle.std.proofs.lemmas.Bool.{and_parts, eqb-false, eqb-true, false_from_ne_true, not-true, or_cases, or_from, or_parts}
 use Rattle.std.proofs.lemmas.Bool.Decides.{nat_tests}
 use Rattle.gptp_lists.specs.Members.{In}
 use Rattle.gptp_lists.proofs.MappedLemmas.{some_same}
@@ -28,7 +28,7 @@ use Rattle.gptp_topology.specs.Course.{cable_of}
 use Rattle.gptp_topology.specs.declared.course.Cable.{Cable}
 use Rattle.gptp_how_soon.specs.Bounds.{asked_again, choice_by, choice_of_row, is_again, is_hard_to_hear, ready, roles_by, settled, sound_row, two_exchanges}
 use Rattle.gptp_how_soon.specs.Chosen.{moves_counted, moves_joined, moves_some}
-use Rattle.gptp_how_soon.specs.Kinds.{are_heard, fails_and_recovers, fails_one, is_better, is_failing, is_gain, is_idle, is_loss, is_lowering, is_other, is_recover, is_recovery, is_recovery_of, leaves_links, lowers_one, lowers_unused, makes_nothing, recovers, sets_link, tells_nothing, begins_wider, first_wider_by, is_wider}
+use Rattle.gptp_how_soon.specs.Kinds.{are_heard, fails_and_recovers, fails_first, is_better, is_fail, is_failing, is_gain, is_idle, is_link_down, is_loss, is_lowering, is_other, is_recover, is_recovery, is_recovery_of, leaves_links, lowers_one, lowers_unused, makes_nothing, recovers, sets_link, tells_nothing, begins_wider, first_wider_by, is_wider}
 use Rattle.gptp_how_soon.specs.Links.{delay_set, is_new, longest_among, longest_delay, longest_set, new_links, varies}
 use Rattle.gptp_how_soon.specs.Rest.{are_events_followed, are_losses_followed, are_recoveries_followed, are_turns_followed, heard_at_once, is_failing_followed, is_from_rest, is_lowering_followed, keeps_paths, rested, rested_by, is_wider_followed, settles_wider_by}
 use Rattle.gptp_how_soon.specs.Times.{View, events_at, gained_at, ready_at, row_at, settling_time, told_at, told_of, view_at}
@@ -42,15 +42,16 @@ use Rattle.gptp_how_soon.specs.declared.kinds.Told.{Told}
 use Rattle.gptp_how_soon.specs.declared.kinds.What.{What}
 use Rattle.gptp_how_soon.specs.declared.kinds.What.TheVariants as whats
 use Rattle.gptp_settling_time.specs.Gains.{HasDelaysWithin}
-use Rattle.gptp_settling_time.specs.HowSoon.{AreReadyAtStart, AreStartEvents, BoundsChoice, BoundsGains, BoundsStart, EachEvent, FailsOneEnd, IsStillEvent, LowersOneLink, way_span, AreWiderEvents}
+use Rattle.gptp_settling_time.specs.HowSoon.{AreReadyAtStart, AreStartEvents, BoundsChoice, BoundsGains, BoundsStart, EachEvent, FailsEndFirst, IsStillEvent, LowersOneLink, way_span, AreWiderEvents}
 use Rattle.gptp_settling_time.specs.InTurn.{NoneUsed, TellsNothing, UsedVaryLittle}
+use Rattle.gptp_settling_time.specs.Losses.{UpIsUsed}
 use Rattle.gptp_settling_time.proofs.CutLemmas.{IsBy, all_by}
 use Rattle.gptp_settling_time.proofs.FollowedLemmas.{all_still}
 use Rattle.gptp_settling_time.proofs.MomentLemmas.{all_at}
 use Rattle.gptp_topology.proofs.RestLemmas.{calm_from, used_cable}
 use Rattle.gptp_how_soon_laws.proofs.GainedLemmas.{AreFollowed, AreTurnsFollowed, all_gained, all_heard, all_idle, all_wider, none_any, not_none}
 use Rattle.gptp_how_soon_laws.proofs.KindLemmas.{told}
-use Rattle.gptp_how_soon_laws.proofs.FailedLemmas.{fails_one_end}
+use Rattle.gptp_how_soon_laws.proofs.FailedLemmas.{fail_lowers_none, fails_end_first, used_up}
 use Rattle.gptp_how_soon_laws.proofs.LoweredLemmas.{lowers_one_link}
 use Rattle.gptp_how_soon_laws.proofs.UnmovedLemmas.{AreWell, all_still_unmoved}
 
@@ -67,21 +68,14 @@ counts_all true n made events is none = absurd cc
 counts_all false n made events is none = none
 
 -- a system that fails, or whose priority1 gets worse, takes no link down
-fails_not_down : (clock : ℕ) (what : What) (kind : Kind) → is_failing (told clock what kind) ≡ true
-    → is_lowering (told clock what kind) ≡ false
-fails_not_down clock whats.Fail Loss is = refl
-fails_not_down clock whats.LinkDown Loss is = absurd cc
-fails_not_down clock whats.LinkUp Loss is = absurd cc
-fails_not_down clock whats.LinkSet Loss is = absurd cc
-fails_not_down clock whats.Recover Loss is = absurd cc
-fails_not_down clock whats.Priority1 Loss is = absurd cc
-fails_not_down clock whats.Inject Loss is = absurd cc
-fails_not_down clock whats.NoChange Loss is = absurd cc
-fails_not_down clock what Idle is = refl
-fails_not_down clock what Unused is = refl
-fails_not_down clock what Gain is = refl
-fails_not_down clock what (Wider by) is = refl
-fails_not_down clock what Other is = refl
+fails_no_link : (es : List Told) → fails_first es ≡ true → lowers_one es ≡ false
+fails_no_link [] is = refl
+fails_no_link (e ∷ []) is =
+    let fails = (and_parts (is_failing e) (list_all lowers_unused []) is).0 in
+    false_from_ne_true (is_lowering e) (λ lowers.
+    fail_lowers_none e.kind e.clock e.what (and_parts (is_loss e) (is_fail e) fails).1
+    (and_parts (is_loss e) (is_link_down e) lowers).1)
+fails_no_link (e ∷ f ∷ es) is = refl
 
 leaves_not_down : (clock : ℕ) (what : What) (kind : Kind) → leaves_links (told clock what kind) ≡ true
     → is_lowering (told clock what kind) ≡ false
@@ -98,11 +92,6 @@ leaves_not_down clock what Unused is = refl
 leaves_not_down clock what Gain is = refl
 leaves_not_down clock what (Wider by) is = refl
 leaves_not_down clock what Other is = refl
-
-fails_no_link : (es : List Told) → fails_one es ≡ true → lowers_one es ≡ false
-fails_no_link [] is = refl
-fails_no_link (e ∷ []) is = fails_not_down e.clock e.what e.kind is
-fails_no_link (e ∷ f ∷ es) is = refl
 
 leaves_no_link : (es : List Told) → list_all leaves_links es ≡ true → lowers_one es ≡ false
 leaves_no_link [] all = refl
@@ -223,53 +212,53 @@ tells n v s is = by v.calm refl is
 
 -- ---- rows
 
-unchanged_from : (rest idle left lowers fails loss : Bool)
-    → (if not rest then AnyPast else if idle then Unchanged else if left then Unchanged else if lowers then Lowered
-    else if fails then FailedEnd else if loss then AnyPast else Gained) ≡ Unchanged
-    → (rest ≡ true) × ((idle ≡ true) ⊎ (left ≡ true))
-unchanged_from false idle left lowers fails loss is = absurd cc
-unchanged_from true true left lowers fails loss is = (refl, inl refl)
-unchanged_from true false true lowers fails loss is = (refl, inr refl)
-unchanged_from true false false true fails loss is = absurd cc
-unchanged_from true false false false true loss is = absurd cc
-unchanged_from true false false false false true is = absurd cc
-unchanged_from true false false false false false is = absurd cc
+abbrev RowBy : Bool → Bool → Bool → Bool → Bool → Bool → Bool → Row
+RowBy rest idle left lowers fails used loss =
+    if not rest then AnyPast else if idle then Unchanged else if left then Unchanged else if lowers then Lowered
+    else if fails then if used then Lowered else FailedEnd else if loss then AnyPast else Gained
 
-lowered_from : (rest idle left lowers fails loss : Bool)
-    → (if not rest then AnyPast else if idle then Unchanged else if left then Unchanged else if lowers then Lowered
-    else if fails then FailedEnd else if loss then AnyPast else Gained) ≡ Lowered
-    → (rest ≡ true) × (lowers ≡ true)
-lowered_from false idle left lowers fails loss is = absurd cc
-lowered_from true true left lowers fails loss is = absurd cc
-lowered_from true false true lowers fails loss is = absurd cc
-lowered_from true false false true fails loss is = (refl, refl)
-lowered_from true false false false true loss is = absurd cc
-lowered_from true false false false false true is = absurd cc
-lowered_from true false false false false false is = absurd cc
+unchanged_from : (rest idle left lowers fails used loss : Bool)
+    → RowBy rest idle left lowers fails used loss ≡ Unchanged → (rest ≡ true) × ((idle ≡ true) ⊎ (left ≡ true))
+unchanged_from false idle left lowers fails used loss is = absurd cc
+unchanged_from true true left lowers fails used loss is = (refl, inl refl)
+unchanged_from true false true lowers fails used loss is = (refl, inr refl)
+unchanged_from true false false true fails used loss is = absurd cc
+unchanged_from true false false false true true loss is = absurd cc
+unchanged_from true false false false true false loss is = absurd cc
+unchanged_from true false false false false used true is = absurd cc
+unchanged_from true false false false false used false is = absurd cc
 
-failed_from : (rest idle left lowers fails loss : Bool)
-    → (if not rest then AnyPast else if idle then Unchanged else if left then Unchanged else if lowers then Lowered
-    else if fails then FailedEnd else if loss then AnyPast else Gained) ≡ FailedEnd
-    → (rest ≡ true) × (fails ≡ true)
-failed_from false idle left lowers fails loss is = absurd cc
-failed_from true true left lowers fails loss is = absurd cc
-failed_from true false true lowers fails loss is = absurd cc
-failed_from true false false true fails loss is = absurd cc
-failed_from true false false false true loss is = (refl, refl)
-failed_from true false false false false true is = absurd cc
-failed_from true false false false false false is = absurd cc
+lowered_from : (rest idle left lowers fails used loss : Bool) → RowBy rest idle left lowers fails used loss ≡ Lowered
+    → (rest ≡ true) × ((lowers ≡ true) ⊎ ((fails ≡ true) × (used ≡ true)))
+lowered_from false idle left lowers fails used loss is = absurd cc
+lowered_from true true left lowers fails used loss is = absurd cc
+lowered_from true false true lowers fails used loss is = absurd cc
+lowered_from true false false true fails used loss is = (refl, inl refl)
+lowered_from true false false false true true loss is = (refl, inr (refl, refl))
+lowered_from true false false false true false loss is = absurd cc
+lowered_from true false false false false used true is = absurd cc
+lowered_from true false false false false used false is = absurd cc
 
-gained_from : (rest idle left lowers fails loss : Bool)
-    → (if not rest then AnyPast else if idle then Unchanged else if left then Unchanged else if lowers then Lowered
-    else if fails then FailedEnd else if loss then AnyPast else Gained) ≡ Gained
+failed_from : (rest idle left lowers fails used loss : Bool)
+    → RowBy rest idle left lowers fails used loss ≡ FailedEnd → (rest ≡ true) × (fails ≡ true)
+failed_from false idle left lowers fails used loss is = absurd cc
+failed_from true true left lowers fails used loss is = absurd cc
+failed_from true false true lowers fails used loss is = absurd cc
+failed_from true false false true fails used loss is = absurd cc
+failed_from true false false false true used loss is = (refl, refl)
+failed_from true false false false false used true is = absurd cc
+failed_from true false false false false used false is = absurd cc
+
+gained_from : (rest idle left lowers fails used loss : Bool) → RowBy rest idle left lowers fails used loss ≡ Gained
     → (rest ≡ true) × (loss ≡ false) × (idle ≡ false)
-gained_from false idle left lowers fails loss is = absurd cc
-gained_from true true left lowers fails loss is = absurd cc
-gained_from true false true lowers fails loss is = absurd cc
-gained_from true false false true fails loss is = absurd cc
-gained_from true false false false true loss is = absurd cc
-gained_from true false false false false true is = absurd cc
-gained_from true false false false false false is = (refl, refl, refl)
+gained_from false idle left lowers fails used loss is = absurd cc
+gained_from true true left lowers fails used loss is = absurd cc
+gained_from true false true lowers fails used loss is = absurd cc
+gained_from true false false true fails used loss is = absurd cc
+gained_from true false false false true true loss is = absurd cc
+gained_from true false false false true false loss is = absurd cc
+gained_from true false false false false used true is = absurd cc
+gained_from true false false false false used false is = (refl, refl, refl)
 
 begun_from : (rest : Bool) → (if not rest then AnyPast else Gained) ≡ Gained → rest ≡ true
 begun_from false is = absurd cc
@@ -601,7 +590,8 @@ module _ (n : NetworkState) (network : IsNetwork n) (events : List Timed) (b : S
       unchanged_from (is_from_rest v.longest at v.paths_before v.paths v.told (Some b))
       (list_all makes_nothing v.told || begins_wider v.told) (are_losses_followed v.paths_before v.told && not v.moved)
       (is_lowering_followed v.paths_before v.paths v.told && not v.moved)
-      (is_failing_followed v.paths_before v.paths v.told && not v.moved && v.far) (list_any is_loss v.told) row in
+      (is_failing_followed v.paths_before v.paths v.told && not v.moved && v.far) v.used (list_any is_loss v.told)
+      row in
       let facts = from_rest from in (
         facts.rested,
         elim which [
@@ -640,7 +630,8 @@ module _ (n : NetworkState) (network : IsNetwork n) (events : List Timed) (b : S
       gained_from (is_from_rest v.longest at v.paths_before v.paths v.told (Some b))
       (list_all makes_nothing v.told || begins_wider v.told) (are_losses_followed v.paths_before v.told && not v.moved)
       (is_lowering_followed v.paths_before v.paths v.told && not v.moved)
-      (is_failing_followed v.paths_before v.paths v.told && not v.moved && v.far) (list_any is_loss v.told) row in
+      (is_failing_followed v.paths_before v.paths v.told && not v.moved && v.far) v.used (list_any is_loss v.told)
+      row in
       let facts = from_rest from in
       let (some, narrow) = or_parts (list_all makes_nothing v.told) (begins_wider v.told) which in (
         facts.rested,
@@ -700,36 +691,49 @@ module _ (n : NetworkState) (network : IsNetwork n) (events : List Timed) (b : S
         at_most v.paths_before.systems 255 few,
       )
 
-  -- what stands goes on, as a link goes down by the one event and no system is moved
-  pub lowered : AreWell n (made ++ now) → row_at v ≡ Lowered → HasComeToRest b at × LowersOneLink n made now
+  -- a system fails by the first event that is a far end, and no system is moved
+  failing : AreWell n (made ++ now)
+      → (is_failing_followed v.paths_before v.paths v.told && not v.moved && v.far) ≡ true → FailsEndFirst n made now
+  failing well fails =
+      let (two, far) = and_parts (is_failing_followed v.paths_before v.paths v.told && not v.moved) v.far fails in
+      let (followed, none) = and_parts (is_failing_followed v.paths_before v.paths v.told) (not v.moved) two in
+      let (keeps, first) = and_parts (keeps_paths v.paths_before v.paths) (fails_first v.told) followed in
+      let (delay, paths, few) = keeps_so keeps in
+      fails_end_first n network made now well
+      (counts_all (lowers_one v.told) n made (made ++ now) (fails_no_link v.told first) (not-true v.moved none)) delay
+      paths few first far
+
+  -- what stands goes on, as a link goes down by the one event and no system is moved, or a far end loses its power
+  pub lowered : AreWell n (made ++ now) → row_at v ≡ Lowered
+      → HasComeToRest b at
+      × (LowersOneLink n made now ⊎ (FailsEndFirst n made now × UpIsUsed n (made ++ now)))
   lowered well row =
-      let (from, lowers) =
+      let (from, which) =
       lowered_from (is_from_rest v.longest at v.paths_before v.paths v.told (Some b))
       (list_all makes_nothing v.told || begins_wider v.told) (are_losses_followed v.paths_before v.told && not v.moved)
       (is_lowering_followed v.paths_before v.paths v.told && not v.moved)
-      (is_failing_followed v.paths_before v.paths v.told && not v.moved && v.far) (list_any is_loss v.told) row in
-      let (followed, none) = and_parts (is_lowering_followed v.paths_before v.paths v.told) (not v.moved) lowers in
-      let (keeps, one) = and_parts (keeps_paths v.paths_before v.paths) (lowers_one v.told) followed in
-      let (delay, paths, few) = keeps_so keeps in (
+      (is_failing_followed v.paths_before v.paths v.told && not v.moved && v.far) v.used (list_any is_loss v.told)
+      row in (
         (from_rest from).rested,
-        lowers_one_link n network made now well
-            (counts_joined (lowers_one v.told) n made (made ++ now) one (not-true v.moved none)) delay paths few one,
+        elim which [
+          | inl lowers ↦
+              let (followed, none) =
+              and_parts (is_lowering_followed v.paths_before v.paths v.told) (not v.moved) lowers in
+              let (keeps, one) = and_parts (keeps_paths v.paths_before v.paths) (lowers_one v.told) followed in
+              let (delay, paths, few) = keeps_so keeps in
+              inl (lowers_one_link n network made now well
+              (counts_joined (lowers_one v.told) n made (made ++ now) one (not-true v.moved none)) delay paths few one)
+          | inr (fails, used) ↦ inr (failing well fails, used_up n network (made ++ now) used)
+        ],
       )
 
-  -- or a system fails that is a far end
-  pub failed : AreWell n (made ++ now) → row_at v ≡ FailedEnd → HasComeToRest b at × FailsOneEnd n made now
+  -- or a far end hangs
+  pub failed : AreWell n (made ++ now) → row_at v ≡ FailedEnd → HasComeToRest b at × FailsEndFirst n made now
   failed well row =
       let (from, fails) =
       failed_from (is_from_rest v.longest at v.paths_before v.paths v.told (Some b))
       (list_all makes_nothing v.told || begins_wider v.told) (are_losses_followed v.paths_before v.told && not v.moved)
       (is_lowering_followed v.paths_before v.paths v.told && not v.moved)
-      (is_failing_followed v.paths_before v.paths v.told && not v.moved && v.far) (list_any is_loss v.told) row in
-      let (two, far) = and_parts (is_failing_followed v.paths_before v.paths v.told && not v.moved) v.far fails in
-      let (followed, none) = and_parts (is_failing_followed v.paths_before v.paths v.told) (not v.moved) two in
-      let (keeps, one) = and_parts (keeps_paths v.paths_before v.paths) (fails_one v.told) followed in
-      let (delay, paths, few) = keeps_so keeps in (
-        (from_rest from).rested,
-        fails_one_end n network made now well
-            (counts_all (lowers_one v.told) n made (made ++ now) (fails_no_link v.told one) (not-true v.moved none))
-            delay paths few one far,
-      )
+      (is_failing_followed v.paths_before v.paths v.told && not v.moved && v.far) v.used (list_any is_loss v.told)
+      row in
+      ((from_rest from).rested, failing well fails)

@@ -11,7 +11,9 @@ use Rattle.gptp_lists.proofs.SystemSpecLemmas.{from_map, slice_get-In}
 use Rattle.gptp_graph.specs.Best.{IsBest}
 use Rattle.gptp_graph.specs.Path.{Reaches}
 use Rattle.gptp_graph.specs.Snapshot.{IsWellFormed, Joins, Link, PortIdentity, Snapshot, System, clocks}
+use Rattle.gptp_graph.specs.Distance.{IsDistance}
 use Rattle.gptp_graph.proofs.BestLemmas.{IsBest-unique}
+use Rattle.gptp_graph.proofs.DistanceLemmas.{IsDistance-unique}
 use Rattle.gptp_graph.proofs.SystemLemmas.{In-clocks}
 use Rattle.gptp_roles.specs.Selection.{clock_of}
 use Rattle.gptp_scenario.specs.Change.{standing, system_acted, system_after, with_live, with_priority1}
@@ -40,7 +42,7 @@ use Rattle.gptp_how_soon.specs.declared.chosen.Chosen.{Chosen}
 use Rattle.gptp_how_soon.proofs.ChosenLemmas.{IsAt, IsSettledChoice, at_clock, chosen_there, link_stands, settled_choice, used_then}
 use Rattle.gptp_settling_time.specs.Gains.{ChangesNothing}
 use Rattle.gptp_settling_time.specs.HowSoon.{EachEvent, IsStillEvent, TurnsUnused}
-use Rattle.gptp_settling_time.specs.Losses.{MovesNone}
+use Rattle.gptp_settling_time.specs.Losses.{IsUnmoved, MovesNone}
 use Rattle.gptp_settling_time.proofs.SameBestLemmas.{HaveSameBests, distance_over, route_over}
 use Rattle.gptp_settling_time.proofs.SamePathsLemmas.{StandAlike, idle_alike, lives_same, paths_same, priority_alike, turned_alike}
 use Rattle.gptp_how_soon_laws.proofs.GainedLemmas.{none_any}
@@ -313,7 +315,7 @@ reach_over g h systems links v w (us, path) = (
 )
 
 -- a system of two snapshots with one identity is one
-pub same_system : (n : NetworkState) (network : IsNetwork n) (events more : List Timed) (g h : Snapshot)
+same_system : (n : NetworkState) (network : IsNetwork n) (events more : List Timed) (g h : Snapshot)
     → StandsAfter n events g → StandsAfter n more h → (s t : System) → In s g.systems → In t h.systems
     → s.identity ≡ t.identity → s ≡ t
 same_system n network events more g h stands stands' s t live there same =
@@ -397,7 +399,7 @@ module _ (n : NetworkState) (network : IsNetwork n) (first all : List Timed) (g0
       (eqb-true before.root now.root root, eqb-true before.steps now.steps steps)
 
   -- where it isn't moved
-  pub chooses_at : (i : ℕ) (at : IsAt n i v)
+  chooses_at : (i : ℕ) (at : IsAt n i v)
       → is_moved_at (systems_after n all) (chosen_after n first) (chosen_after n all) i ≡ false → ChoosesSo
   chooses_at i at none =
       let (b, there0) = chosen_there n network first g0 stands0 well0 i v at in
@@ -417,10 +419,28 @@ module _ (n : NetworkState) (network : IsNetwork n) (first all : List Timed) (g0
         steps = steps;
       }
 
-  pub chooses_so : moves_some n first all ≡ false → ChoosesSo
+  chooses_so : moves_some n first all ≡ false → ChoosesSo
   chooses_so unmoved =
       let (i, at) = at_clock n network all gk standsk wellk v known in
       chooses_at i at (none_there n first all unmoved i at.system at.there)
+
+  unmoved_so : ChoosesSo → IsUnmoved g0 gk v
+  unmoved_so c =
+      let one = same_system n network first all g0 gk stands0 standsk c.was.best c.is.best c.was.is_best.live
+      c.is.is_best.live (sym c.was.root ∙ c.root ∙ c.is.root) in
+      record {
+        best = λ b is. subst (IsBest gk v)
+            (sym (IsBest-unique g0 v b c.was.best well0 is c.was.is_best ∙ one)) c.is.is_best;
+        far = λ d far. subst (IsDistance gk v)
+            (sym (IsDistance-unique g0 v d c.before.steps well0 far c.was.far ∙ c.steps)) c.is.far;
+      }
+
+  pub unmoved_at : (i : ℕ) (at : IsAt n i v)
+      → is_moved_at (systems_after n all) (chosen_after n first) (chosen_after n all) i ≡ false → IsUnmoved g0 gk v
+  unmoved_at i at none = unmoved_so (chooses_at i at none)
+
+  pub is_unmoved : moves_some n first all ≡ false → IsUnmoved g0 gk v
+  is_unmoved unmoved = unmoved_so (chooses_so unmoved)
 
 -- ---- where no system is moved between first and last
 

@@ -321,7 +321,7 @@ lost = (
   refl,
   (1000003050, (refl, ring_begun), omega arith),
   refl,
-  inr (fails, span),
+  inr ((fails, tt), inr span),
 )
   where
     span : 14000000000 ≡ capability_span (pace_of ring_network)

@@ -28,15 +28,11 @@ use Rattle.gptp_model.specs.declared.done.Done.{Done}
 use Rattle.gptp_model.specs.declared.station.Station.{Station}
 use Rattle.gptp_model.specs.World.{Channel, WorldState, receiver, sender}
 use Rattle.gptp_bmca_machine.specs.Clean.{CameSound}
-use Rattle.gptp_bmca_machine.specs.LossLaws.{EverythingFits}
-use Rattle.gptp_bmca_machine.specs.Levels.{Invariant}
 use Rattle.gptp_bmca_machine.specs.Network.{Network}
 use Rattle.gptp_bmca_machine.specs.RestLaws.{SameWiring}
-use Rattle.gptp_bmca_machine.specs.Sound.{RunIsSound}
-use Rattle.gptp_bmca_machine.specs.SoundEverywhere.{IsSoundEverywhere}
 use Rattle.gptp_bmca_machine.specs.SoundLaws.{AllAreNear}
 use Rattle.gptp_bmca_machine.specs.Station.{Station as SeenStation}
-use Rattle.gptp_invariants.specs.ChoiceCalm.{HaveQuietLinks, clock_place, delay_in, lane_of, log_at, log_of, setups_of}
+use Rattle.gptp_invariants.specs.ChoiceCalm.{clock_place, delay_in, lane_of, log_at, log_of, setups_of}
 use Rattle.gptp_invariants.specs.ChoiceSettlesAsMachine.{IsWorld}
 use Rattle.gptp_invariants.specs.ChoiceView.{lanes_view, port_identity_number, says_announce, view}
 use Rattle.gptp_invariants.specs.DelayElsewhere.{IsOtherSystem}
@@ -52,12 +48,13 @@ use Rattle.gptp_invariants.proofs.WorldStandsLemmas.{stands_well, used_up}
 use Rattle.gptp_invariants.proofs.WorldSystemLemmas.{clock_there, live_from, live_there}
 use Rattle.gptp_invariants.proofs.WorldWayLemmas.{used_joins, way_of}
 use Rattle.gptp_settling_time.specs.Losses.{IsFarEnd, IsUnmoved}
+use Rattle.gptp_settling_time.proofs.BegunLeftLemmas.{begins_left}
 use Rattle.gptp_settling_time.proofs.AlwaysClaimedLemmas.{IsStanding, start_network}
-use Rattle.gptp_settling_time.proofs.FitsLemmas.{IsLeftUnmoved, UnlinkedHoldNothing, everything_fits, lived, received_still}
-use Rattle.gptp_settling_time.proofs.LeftClaimedLemmas.{HaveAskedLong, IsLeftAlways, left_calm, left_net, left_network}
+use Rattle.gptp_settling_time.proofs.FitsLemmas.{IsLeftUnmoved, UnlinkedHoldNothing, lived}
+use Rattle.gptp_settling_time.proofs.LeftClaimedLemmas.{HaveAskedLong, IsLeftAlways, left_network}
 use Rattle.gptp_settling_time.proofs.ReactsLemmas.{places_set}
-use Rattle.gptp_settling_time.proofs.ReducedLemmas.{IsReduced, fits_reduced, levels_reduced, reduced_itself}
-use Rattle.gptp_settling_time.proofs.SettledSeenLemmas.{IsSettledSeen, wired_as}
+use Rattle.gptp_settling_time.proofs.ReducedLemmas.{IsReduced, reduced_itself}
+use Rattle.gptp_settling_time.proofs.SettledSeenLemmas.{IsSettledSeen, sound_fits, wired_as}
 use Rattle.gptp_settling_time.proofs.UnlinkedLemmas.{LostAreFarther, far_holds_none}
 use Rattle.gptp_settling_time.proofs.WidenedLemmas.{ready_first}
 
@@ -249,9 +246,6 @@ module _ (p : SettlingParams) (number : ℕ) (w : WorldState) (draws : List Draw
       left : IsLeftUnmoved g g'
       left = record { systems = systems_before; links = links_before; unmoved = λ v known. inl (unmoved v known) }
 
-      left_seen : IsLeftUnmoved seen.n.graph g'
-      left_seen = subst (λ h. IsLeftUnmoved h g') (sym seen.graph) left
-
       near_then : AllAreNear g'
       near_then v known =
           let (d, here, close) = near v (lived g g' well well' left v known) in
@@ -342,39 +336,7 @@ module _ (p : SettlingParams) (number : ℕ) (w : WorldState) (draws : List Draw
             let change : w'.last_change ≡ w.time = ap (λ (v : WorldState). v.last_change) same in
             (first, next, omega (arith, past, change), record { is = by; late = by_now })
 
-        fits_then : EverythingFits says_announce g (left_network p silent w') (view w')
-        fits_then =
-            subst (λ h. EverythingFits says_announce h (left_network p silent w') (view w')) seen.graph
-            (fits_reduced says_announce seen.n (left_network p silent w') seen.net.graph well' left_seen (view w)
-            (view w') less
-            (everything_fits says_announce seen.n (view w) seen.net.graph seen.calm.facts
-            (subst (λ h. IsSoundEverywhere says_announce h (view w)) (sym seen.graph) sound)))
-
-        settling_then : HaveQuietLinks p.params w' → Invariant says_announce (left_network p silent w') (view w')
-        settling_then quiet' =
-            let n = left_network p silent w' in
-            let calm_then = left_calm p silent w' standing_then asked_then quiet' unlinked_then in
-            let sound' : RunIsSound n (view w') =
-            λ late. received_still g n (view w') well well' left calm_then unlinked_then fits_then.stations in
-            record {
-              sound = sound';
-              levels = levels_reduced says_announce seen.n n seen.net (left_net p silent w' is') (wires n delay refl)
-                  left_seen (view w) (view w') less seen.calm calm_then seen.invariant seen.late sound'
-                  (λ q linked. omega arith);
-            }
-
         pub failed_left : IsLeftAlways p g silent w'
-        failed_left = record {
-          standing = standing_then;
-          asked = asked_then;
-          well = well;
-          left = left;
-          near = near_then;
-          farther = farther_then;
-          late = way;
-          seen = λ quiet' off. record {
-            unlinked = unlinked_then;
-            fits = fits_then;
-            invariant = settling_then quiet';
-          };
-        }
+        failed_left =
+            begins_left p g silent w w' is' well seen less left left (wires (left_network p silent w') delay refl)
+            (sound_fits p w seen sound) standing_then asked_then (λ quiet'. unlinked_then) near_then farther_then way

@@ -17,9 +17,10 @@ use Rattle.gptp_scenario.specs.declared.sync_wait.SyncPaths.{SyncPaths}
 use Rattle.gptp_network.specs.Document.{DocumentState}
 use Rattle.gptp_network.specs.Events.{AreInOrder}
 use Rattle.gptp_network.specs.Snapshot.{events_by}
-use Rattle.gptp_settling_time.specs.HowSoon.{AfterIdleEvents, AreGainEvents, AreHeardEvents, AreReadyAtStart, AreStartEvents, BoundsEvents, BoundsStart, EachEvent, FailsOneEnd, IsChoiceAloneBound, IsChoiceBound, IsChoiceBoundAfter, IsGainEvent, IsGainToo, IsHeardEvent, IsHeardToo, IsIdleEvent, IsLossBoundAfter, IsStillEvent, LowersOneLink, TurnsUnused, events_at, way_span, AreWiderEvents}
+use Rattle.gptp_settling_time.specs.HowSoon.{AfterIdleEvents, AreGainEvents, AreHeardEvents, AreReadyAtStart, AreStartEvents, BoundsEvents, BoundsStart, EachEvent, FailsEndFirst, IsChoiceAloneBound, IsChoiceBound, IsChoiceBoundAfter, IsGainEvent, IsGainToo, IsHeardEvent, IsHeardToo, IsIdleEvent, IsLossBoundAfter, IsStillEvent, LowersOneLink, OneEvent, RolesAfterFailure, TurnsUnused, events_at, way_span, AreWiderEvents}
 use Rattle.gptp_settling_time.specs.InTurn.{AnyPast, AreCapableSoon, BeginsBy, ChoosesAfter, ChoosesByEvents, ComesByEvents, EventLeads, FailsCalm, Gained, HasSettledAnyhow, HasSettledHeard, HasSettledSince, Heard, LeadOn, LeavesSettled, Left, LowersCalm, MakesNothing, Past, SettlesAfter, SettlesByEvents, Starting, StartsWith, TellsNothing, TurnsInVain, UsedVaryLittle, WidensLink}
-use Rattle.gptp_settling_time.specs.Losses.{LeavesChoice}
+use Rattle.gptp_settling_time.specs.Losses.{LeavesChoice, LowersLink, LowersUnused, UpIsUsed}
+use Rattle.gptp_settling_time.proofs.CalmLessLemmas.{fails_calm, lowers_calm}
 use Rattle.gptp_settling_time.proofs.CutLemmas.{IsBy, all_by}
 use Rattle.gptp_settling_time.proofs.MadeLemmas.{adds_later}
 use Rattle.gptp_settling_time.proofs.MomentLemmas.{all_at, last_by, parted}
@@ -591,6 +592,16 @@ settles_chooses n events (Gained start) settled is = is
 settles_chooses n events (Heard start) settled is = is
 settles_chooses n events (Left silent) settled (off, late) = off
 
+-- a network that is left stays so where links go down of which an end has failed
+dead_lead : (n : NetworkState) (made now : List Timed) (silent : ℕ) → NothingLapses n.params → IsCalm n made
+    → EachEvent (LowersUnused n) made now → LeadOn n made (Left silent) now (Left silent)
+dead_lead n made [] silent off calm each = refl
+dead_lead n made (event ∷ now) silent off calm (lowers, others) = (
+  Left silent,
+  (record { lowers = lowers; calm = calm; off = off }, refl),
+  dead_lead n (made ++ event ∷ []) now silent off (lowers_calm n made event off calm lowers) others,
+)
+
 -- The times of a document up to this one lead to a loss, after which roles stand so much later.
 module _ (d : DocumentState) (network : IsNetwork d.network) (order : AreInOrder d.events) (time choice roles : ℕ)
   where
@@ -599,47 +610,75 @@ module _ (d : DocumentState) (network : IsNetwork d.network) (order : AreInOrder
       begins : BeginsBy d.network first
       silent : ℕ
       lead : LeadOn d.network [] first (events_by time d.events) (Left silent)
-      over : silent ≤ time + roles
+      over : (silent ≤ time + roles) ⊎ UpIsUsed d.network (events_by time d.events)
       calm : IsCalm d.network (events_by time d.events)
       off : NothingLapses d.network.params
 
-    -- the one event of this time, by which network is left
-    abbrev LosesOne : List Timed → List Timed → Type 0
-    LosesOne made now = (LowersOneLink d.network made now × (roles ≡ 0))
-        ⊎ (FailsOneEnd d.network made now × (roles ≡ capability_span (pace_of d.network)))
+    -- the events of this time, by which the network is left
+    abbrev LosesBy : List Timed → List Timed → Type 0
+    LosesBy made now = (LowersOneLink d.network made now × (roles ≡ 0))
+        ⊎ (FailsEndFirst d.network made now × RolesAfterFailure d.network (events_by time d.events) roles)
 
     lost_by : (last choice_then : ℕ) (now : List Timed) → NothingLapses d.network.params
         → events_at time d.events ≡ now → events_by time d.events ≡ events_by last d.events ++ now
         → IsCalm d.network (events_by last d.events) → IsCalm d.network (events_by time d.events)
         → IsFollowedTo d.network (events_by last d.events) last choice_then → last + choice_then < time
-        → LosesOne (events_by last d.events) now → IsLost
+        → LosesBy (events_by last d.events) now → IsLost
     lost_by last choice_then [] off is parts calm_then calm before soon loses =
         elim loses [ inl none ↦ absurd none.0 | inr none ↦ absurd none.0 ]
-    lost_by last choice_then (event ∷ other ∷ now) off is parts calm_then calm before soon loses =
-        elim loses [ inl none ↦ absurd none.0 | inr none ↦ absurd none.0 ]
-    lost_by last choice_then (event ∷ []) off is parts calm_then calm before soon loses =
-        let n = d.network in
-        let earlier = events_by last d.events in
-        let here : event.at ≡ time =
-        (subst (AllByRecursion (λ (t : Timed). t.at ≡ time)) is (all_at time d.events)).0 in
-        let then = settled_later n earlier before.last (suc (last + choice_then)) event.at (omega (arith, soon, here))
-        before.settles in
-        let x = loss_leads n earlier event roles before.last then (elim loses [
-          | inl (lowers, none) ↦ inl (record { lowers = lowers; calm = calm_then; off = off }, none)
-          | inr (fails, span) ↦ inr (record { fails = fails; calm = calm_then; off = off }, span)
-        ]) in
-        let over = x.over in
-        record {
+    lost_by last choice_then (event ∷ now) off is parts calm_then calm before soon loses = by loses
+      where
+        n : NetworkState
+        n = d.network
+
+        earlier : List Timed
+        earlier = events_by last d.events
+
+        here : event.at ≡ time
+        here = (subst (AllByRecursion (λ (t : Timed). t.at ≡ time)) is (all_at time d.events)).0
+
+        then : HasSettled n earlier before.last event.at
+        then = settled_later n earlier before.last (suc (last + choice_then)) event.at (omega (arith, soon, here))
+            before.settles
+
+        -- by the first the network is left, and the others leave it so
+        led : (span : ℕ) (x : IsLeftBy n earlier event span before.last)
+            → LeadOn n (earlier ++ event ∷ []) (Left x.silent) now (Left x.silent)
+            → (x.silent ≤ time + roles) ⊎ UpIsUsed n (events_by time d.events) → IsLost
+        led span x others over = record {
           first = before.first;
           begins = before.begins;
           silent = x.silent;
           lead = subst (λ es. LeadOn n [] before.first es (Left x.silent)) (sym parts)
-              (leads_on n [] before.first before.last (Left x.silent) earlier (event ∷ []) before.lead
-              (Left x.silent, x.leads, refl));
-          over = omega (arith, over, here);
+              (leads_on n [] before.first before.last (Left x.silent) earlier (event ∷ now) before.lead
+              (Left x.silent, x.leads, others));
+          over = over;
           calm = calm;
           off = off;
         }
+
+        alone : (rest : List Timed) → now ≡ rest → OneEvent (LowersLink n) earlier (event ∷ rest) → roles ≡ 0 → IsLost
+        alone (other ∷ more) same none is_none = absurd none
+        alone [] same lowers is_none =
+            let x = loss_leads n earlier event 0 before.last then
+            (inl (record { lowers = lowers; calm = calm_then; off = off }, refl)) in
+            let over = x.over in
+            led 0 x (subst (λ es. LeadOn n (earlier ++ event ∷ []) (Left x.silent) es (Left x.silent)) (sym same) refl)
+            (inl (omega (arith, over, here, is_none)))
+
+        by : LosesBy earlier (event ∷ now) → IsLost
+        by (inl (lowers, is_none)) = alone now refl lowers is_none
+        by (inr ((fails, others), after)) =
+            let span = capability_span (pace_of n) in
+            let x = loss_leads n earlier event span before.last then
+            (inr (record { fails = fails; calm = calm_then; off = off }, refl)) in
+            let over = x.over in
+            led span x
+            (dead_lead n (earlier ++ event ∷ []) now x.silent off (fails_calm n earlier event off calm_then fails)
+            others) (elim after [
+              | inl (used, is_none) ↦ inr used
+              | inr long ↦ inl (omega (arith, over, here, long))
+            ])
 
     lost_after : (earlier : List ℕ) → IsLossBoundAfter d.network d.events earlier time choice roles
         → IsLost × (choice ≡ 0)
@@ -699,8 +738,13 @@ module _ (d : DocumentState) (network : IsNetwork d.network) (order : AreInOrder
   bound_settles (earlier, inl bound) = settles_after earlier bound
   bound_settles (earlier, inr lost) =
       let (x, none) = lost_after d network order time 0 choice earlier lost in
-      let over = x.over in
-      comes_so SettlesAfter x.first (Left x.silent) x.begins x.lead x.calm (x.off, omega (arith, over, late))
+      comes_so SettlesAfter x.first (Left x.silent) x.begins x.lead x.calm (
+        x.off,
+        elim x.over [
+          | inl soon ↦ inl (omega (arith, soon, late))
+          | inr used ↦ inr used
+        ],
+      )
 
   pub bound_chooses : IsChoiceAloneBound d time choice → ChoosesByEvents d until settled
   bound_chooses (earlier, inl bound) =

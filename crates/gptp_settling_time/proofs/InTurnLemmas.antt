@@ -8,6 +8,7 @@ use Rattle.gptp_graph.proofs.ExistenceLemmas.{distance_exists}
 use Rattle.gptp_graph.proofs.PathBoundLemmas.{IsDistance-within, paths_within}
 use Rattle.gptp_bmca_machine.specs.SoundLaws.{AllAreNear}
 use Rattle.gptp_invariants.specs.WorldEncodableLaws.{SetsAnOctet}
+use Rattle.gptp_vector.specs.declared.port.PortId.{PortId}
 use Rattle.gptp_links.specs.declared.bounds.Bounds.{Bounds}
 use Rattle.gptp_setup.specs.Intervals.{interval_of}
 use Rattle.gptp_setup.specs.SettlingParams.{SettlingParams, largest_interval}
@@ -64,6 +65,7 @@ use Rattle.gptp_settling_time.proofs.BegunLemmas.{begun_keeps, begun_last, reste
 use Rattle.gptp_settling_time.proofs.ClaimedToLemmas.{IsClaimedTo, claimed_act, claimed_later, claimed_settled}
 use Rattle.gptp_settling_time.proofs.DocumentLemmas.{run_to}
 use Rattle.gptp_settling_time.proofs.GainLemmas.{better_lives, down_so, few_so, gain_so, idle_so, lives_so, unused_so, up_so, used_so, within_so}
+use Rattle.gptp_settling_time.proofs.DeadDownLemmas.{dead_left}
 use Rattle.gptp_settling_time.proofs.FailedAloneLemmas.{failed_left}
 use Rattle.gptp_settling_time.proofs.FailedDownLemmas.{lowered_claimed, lowered_news}
 use Rattle.gptp_settling_time.proofs.FailedUpLemmas.{raised_claimed, raised_from}
@@ -477,9 +479,10 @@ module _ {F : Type 0} (answers : Bounds → ℕ → F → Option ℕ → F → T
               after.claim.world keeps_then.claim.measured after.claim.measured came
               (up_so n made then keeps_then.stands (port_id x.clock x.port) (λ place v there end.
               (x.used place v there end).up) came.1.place came.1.channel came.1.is)
+              (seen_then lowers.calm lowers.off) (near_then x.few)
               (quiet_stands n made then playable.network keeps_then.stands world_then.sound lowers.calm).links
-              (omega (arith, over)) ready silent (seen_then lowers.calm lowers.off) (near_then x.few)
-              (stays_joined x.moves) (same_delay x.delay) (way_over x.delay x.paths) sound;
+              (omega (arith, over)) ready silent (stays_joined x.moves) (same_delay x.delay)
+              (way_over x.delay x.paths) sound;
         }
 
     -- a system fails that is the far end of its links
@@ -625,7 +628,23 @@ module _ {F : Type 0} (answers : Bounds → ℕ → F → Option ℕ → F → T
         subst (λ (x : SyncPaths). start + pred x.systems * x.delay ≤ event.at) paths_then settled in
         left_to start next claim.news.sound claim.news.ready claim.news.silent (always_settled p start then claim late)
         late loses
-    leads_to_left (Left start) next none so = absurd none
+    leads_to_left (Left silent) next (falls, same) so =
+        let x = falls.lowers in
+        let left = left_to_later d made silent w event.at k.ready.timely.now k.ready.timely.first so in
+        let world = keeps_then.claim.world in
+        let end : PortId = port_id x.clock x.port in
+        let came : Acts (Changing (LinkDown x.clock x.port)) then k.draws done w' =
+        subst (λ act. Acts act then k.draws done w') x.act k.acts in
+        let quiet = (quiet_stands n made then playable.network keeps_then.stands world.sound falls.calm).links in
+        subst (λ time. IsLeftTo d more time w') (sym same)
+        (record {
+          keeps = after;
+          before = left.before;
+          since = dead_left p left.before silent x.clock x.port then k.draws done w' after.claim.world
+              after.claim.measured came left.since quiet falls.off
+              (up_so n made then keeps_then.stands end x.up came.1.place came.1.channel came.1.is)
+              (unused_so n made then keeps_then.stands world.sound end x.failed);
+        })
 
     leads_to_gain : (past : Past) (next : ℕ) → EventLeads n made past event (Gained next) → IsAfter d made past w
         → IsNewsFrom p next w'
@@ -787,8 +806,9 @@ module _ (d : DocumentState) (playable : IsPlayable d) (all : List Timed) (calm 
       has_settled pace (sync_paths d.network all).systems start settled w so.news (can_settle so.keeps start settles) on
   after_settles (Heard start) so (off, passed) =
       claimed_settled d all start w so playable calm off (omega (arith, passed, on))
-  after_settles (Left silent) so (off, passed) =
-      left_to_settled d all silent w so playable calm off (omega (arith, passed, on))
+  after_settles (Left silent) so (off, inl passed) =
+      left_to_settled d all silent w so playable calm off (inl (omega (arith, passed, on)))
+  after_settles (Left silent) so (off, inr used) = left_to_settled d all silent w so playable calm off (inr used)
 
   -- a settled system has its settled choice
   chooses_so : Settled w → ChoiceStands w

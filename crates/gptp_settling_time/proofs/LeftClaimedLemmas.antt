@@ -29,7 +29,7 @@ use Rattle.gptp_invariants.specs.DelayMeasured.{LinkStandsAt}
 use Rattle.gptp_invariants.specs.DelayMeasuredLinks.{HaveMeasuredLinks}
 use Rattle.gptp_invariants.specs.WorldBounded.{IsBoundedWorld}
 use Rattle.gptp_invariants.specs.WorldEncodableLaws.{SetsAnOctet}
-use Rattle.gptp_invariants.specs.WorldNews.{AreReadyBy}
+use Rattle.gptp_invariants.specs.WorldNews.{AreReadyBy, AreSilentBy}
 use Rattle.gptp_invariants.specs.WorldStanding.{snapshot_of}
 use Rattle.gptp_invariants.proofs.ChoiceCalmKeptLemmas.{KeepsNetwork, acts_keep, delay_kept, links_quiet, same_snapshot}
 use Rattle.gptp_invariants.proofs.ChoiceCalmLemmas.{nothing_lapses}
@@ -51,6 +51,7 @@ use Rattle.gptp_settling_time.proofs.HeardLemmas.{IsFirstLong, first_acted, firs
 use Rattle.gptp_settling_time.proofs.LinkStoodLemmas.{stood_in}
 use Rattle.gptp_settling_time.proofs.NewsMeasuredLemmas.{ready_measures}
 use Rattle.gptp_settling_time.proofs.SeenSettledLemmas.{seen_chooses, seen_settles}
+use Rattle.gptp_settling_time.proofs.SettledSeenLemmas.{IsSettledSeen, settled_in}
 use Rattle.gptp_settling_time.proofs.UnlinkedLemmas.{IsLeftSeen, LostAreFarther, left_kept}
 
 -- ---- what holds of a world whose ports are capable from a start on
@@ -240,6 +241,31 @@ left_acts p g silent act w draws done w' none octet acts is =
     )) keeps
     (inr (acts_seen act w draws done w' none world.sound world.encodable acts)) (omega (arith, time))
 
+-- where no port is unanswered, ports without a link aren't capable from now on
+pub left_now : (p : SettlingParams) (g : Snapshot) (silent : ℕ) (w : WorldState) → IsLeftAlways p g silent w
+    → AreSilentBy p w.time w → IsLeftAlways p g w.time w
+left_now p g silent w is none = record {
+  standing = record {
+    pace = is.standing.pace;
+    world = is.standing.world;
+    measured = is.standing.measured;
+    silent = none;
+  };
+  asked = is.asked;
+  well = is.well;
+  left = is.left;
+  near = is.near;
+  farther = is.farther;
+  late = is.late;
+  seen = λ quiet off.
+      let seen = is.seen quiet off in
+      record {
+        unlinked = seen.unlinked;
+        fits = record { lanes = seen.fits.lanes; stations = seen.fits.stations };
+        invariant = record { sound = seen.invariant.sound; levels = seen.invariant.levels };
+      };
+}
+
 -- ---- it stands
 
 module _ (p : SettlingParams) (g : Snapshot) (silent : ℕ) (w : WorldState) (is : IsLeftAlways p g silent w)
@@ -258,6 +284,10 @@ module _ (p : SettlingParams) (g : Snapshot) (silent : ℕ) (w : WorldState) (is
 
   settled_by_now : settled_from n ≤ w.time
   settled_by_now = let late = is.late in omega (arith, late)
+
+  -- the machine sees it settled
+  pub left_seen : IsSettledSeen p w
+  left_seen = settled_in p w n refl net calm seen.invariant settled_by_now
 
   -- its choice stands
   pub left_chooses : ChoiceStands w

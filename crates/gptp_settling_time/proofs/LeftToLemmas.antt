@@ -1,28 +1,37 @@
 -- Worlds of documents since a loss that moved no system.
-use Rattle.std.proofs.Common.{◌≡◌, ◌≤◌, ◌*◌, ℕ, zero, suc, pred, Option, List, sym, subst, arith}
+use Rattle.std.proofs.Common.{◌≡◌, ◌≤◌, ◌⊎◌, ◌*◌, ℕ, zero, suc, pred, true, false, Option, List, slice_get, sym, ap, subst, ◌∙◌, inl, inr, arith}
 use Rattle.std.proofs.Math.Nat.{mul-le-mul_right}
+use Rattle.gptp_lists.proofs.MappedLemmas.{alike, same_there}
 use Rattle.gptp_graph.specs.Snapshot.{Snapshot}
 use Rattle.gptp_links.specs.declared.bounds.Bounds.{Bounds}
-use Rattle.gptp_scenario.specs.Calm.{IsCalm, NothingLapses}
+use Rattle.gptp_scenario.specs.Calm.{IsCalm, IsUsed, NothingLapses}
+use Rattle.gptp_scenario.specs.Change.{link_after}
 use Rattle.gptp_scenario.specs.Network.{pace_of}
 use Rattle.gptp_scenario.specs.declared.change.Timed.{Timed}
+use Rattle.gptp_scenario.specs.declared.network.LinkSpec.{LinkSpec}
 use Rattle.gptp_model.specs.Acts.{at}
 use Rattle.gptp_model.specs.Course.{WasDone}
 use Rattle.gptp_model.specs.Pending.{NothingBefore}
 use Rattle.gptp_model.specs.Views.{IsNextAct}
 use Rattle.gptp_model.specs.World.{WorldState}
+use Rattle.gptp_model.specs.declared.station.Station.{Station}
 use Rattle.gptp_world.specs.Transitions.{ActTrace}
 use Rattle.gptp_world.proofs.SettlingInvariantLemmas.{next_octet}
 use Rattle.gptp_network.specs.Document.{DocumentState}
 use Rattle.gptp_invariants.specs.ChoiceCalm.{HaveQuietLinks}
 use Rattle.gptp_invariants.specs.ChoiceSettled.{Settled}
 use Rattle.gptp_invariants.specs.WorldBounded.{IsBoundedWorld}
+use Rattle.gptp_invariants.specs.WorldNews.{AreSilentBy}
+use Rattle.gptp_invariants.proofs.DelayUsedLinkLemmas.{receiver_lives}
 use Rattle.gptp_theorem.specs.PlayedLaws.{IsPlayable}
+use Rattle.gptp_theorem.specs.Reached.{channel_wire}
 use Rattle.gptp_theorem.proofs.CalmLemmas.{quiet_stands}
 use Rattle.gptp_theorem.proofs.PlayedLemmas.{no_change}
 use Rattle.gptp_settling_time.specs.ChoiceAlone.{ChoiceStands}
+use Rattle.gptp_settling_time.specs.Losses.{UpIsUsed}
+use Rattle.gptp_settling_time.proofs.GainLemmas.{used_so}
 use Rattle.gptp_settling_time.proofs.KeptToLemmas.{KeepsTo, keeps_act, keeps_later}
-use Rattle.gptp_settling_time.proofs.LeftClaimedLemmas.{IsLeftAlways, left_acts, left_chooses, left_later, left_settles}
+use Rattle.gptp_settling_time.proofs.LeftClaimedLemmas.{IsLeftAlways, left_acts, left_chooses, left_later, left_now, left_settles}
 
 -- the way that is left is no longer
 pub less_way : (systems fewer delay same : ℕ) → fewer ≤ systems → same ≡ delay
@@ -74,6 +83,27 @@ module _ (d : DocumentState) (events : List Timed) (silent : ℕ) where
     pub left_to_chooses : ChoiceStands w
     left_to_chooses = left_chooses (pace_of d.network) so.before silent w so.since quiet off
 
+    -- no port is unanswered where each link that is up is in use
+    none_unanswered : UpIsUsed d.network events → AreSilentBy (pace_of d.network) w.time w
+    none_unanswered used at s =
+        let world = so.keeps.claim.world in
+        let (v, there, same) = alike (link_after events) channel_wire d.network.links w.net.channels
+        (sym so.keeps.stands.links) at.link s.channel s.here in
+        let up = ap (λ (x : LinkSpec). x.up) same ∙ s.up in
+        let lives = receiver_lives w at.direction s.channel
+        (used_so d.network events w so.keeps.stands world.sound s.channel
+        (subst (IsUsed d.network.systems events) same (used at.link v there up))) in
+        let beyond = s.answering in
+        let place = world.sound.wired.clocks at.answering lives.place beyond.station lives.at.station beyond.here
+        lives.at.here (beyond.named ∙ sym lives.at.named) in
+        let one = same_there w.stations lives.place beyond.station lives.at.station
+        (ap (slice_get w.stations) (sym place) ∙ beyond.here) lives.at.here in
+        let both : false ≡ true = sym beyond.failed ∙ ap (λ (x : Station). x.live) one ∙ lives.at.live in
+        absurd cc
+
     -- it has settled
-    pub left_to_settled : silent ≤ w.time → Settled w × IsBoundedWorld w
-    left_to_settled late = left_settles (pace_of d.network) so.before silent w so.since quiet off late
+    pub left_to_settled : (silent ≤ w.time) ⊎ UpIsUsed d.network events → Settled w × IsBoundedWorld w
+    left_to_settled (inl late) = left_settles (pace_of d.network) so.before silent w so.since quiet off late
+    left_to_settled (inr used) =
+        left_settles (pace_of d.network) so.before w.time w
+        (left_now (pace_of d.network) so.before silent w so.since (none_unanswered used)) quiet off (omega arith)

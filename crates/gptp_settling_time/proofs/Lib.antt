@@ -79,7 +79,10 @@ pub mod UnlinkedLemmas
 pub mod LeftClaimedLemmas
 pub mod GoesDownLemmas
 pub mod ReducedLemmas
+pub mod BegunLeftLemmas
 pub mod LoweredLemmas
+pub mod DeadDownLemmas
+pub mod CalmLessLemmas
 pub mod FailedAloneLemmas
 pub mod LeftToLemmas
 pub mod WellFormedLemmas

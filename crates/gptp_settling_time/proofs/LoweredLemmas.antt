@@ -42,12 +42,8 @@ use Rattle.gptp_model.specs.declared.done.Done.{Done}
 use Rattle.gptp_model.specs.declared.station.Station.{Station}
 use Rattle.gptp_bmca_machine.specs.Calm.{Calm}
 use Rattle.gptp_bmca_machine.specs.Frame.{Lane}
-use Rattle.gptp_bmca_machine.specs.Levels.{Invariant}
-use Rattle.gptp_bmca_machine.specs.LossLaws.{EverythingFits}
 use Rattle.gptp_bmca_machine.specs.Network.{Network}
 use Rattle.gptp_bmca_machine.specs.RestLaws.{SameWiring}
-use Rattle.gptp_bmca_machine.specs.Sound.{RunIsSound}
-use Rattle.gptp_bmca_machine.specs.SoundEverywhere.{IsSoundEverywhere}
 use Rattle.gptp_bmca_machine.specs.SoundLaws.{AllAreNear, UnlinkedAreOff}
 use Rattle.gptp_bmca_machine.proofs.PlaceLemmas.{there_within}
 use Rattle.gptp_bmca_machine.specs.Station.{Disabled, Port as SeenPort, Received, Reception as SeenReception, Station as SeenStation}
@@ -69,14 +65,15 @@ use Rattle.gptp_invariants.proofs.WorldStandsLemmas.{stands_well}
 use Rattle.gptp_invariants.proofs.WorldSystemLemmas.{live_there}
 use Rattle.gptp_invariants.proofs.WorldWayLemmas.{one_way, used_joins, way_of}
 use Rattle.gptp_settling_time.specs.Losses.{IsCutOff, IsUnmoved, IsUnmovedOrCutOff}
+use Rattle.gptp_settling_time.proofs.BegunLeftLemmas.{begins_left}
 use Rattle.gptp_settling_time.proofs.AlwaysClaimedLemmas.{AreHeard, IsStanding, same_start, start_calm, start_network}
-use Rattle.gptp_settling_time.proofs.FitsLemmas.{IsLeftUnmoved, UnlinkedHoldNothing, at_zero, everything_fits, lived, received_still}
+use Rattle.gptp_settling_time.proofs.FitsLemmas.{IsLeftUnmoved, UnlinkedHoldNothing, at_zero, lived}
 use Rattle.gptp_settling_time.proofs.GoesDownLemmas.{AreDisabled, GoesDownQuietly, goes_down_alone, goes_down_quietly, held_among, others_disabled, without}
-use Rattle.gptp_settling_time.proofs.LeftClaimedLemmas.{HaveAskedLong, IsLeftAlways, asked_heard, left_calm, left_net, left_network}
+use Rattle.gptp_settling_time.proofs.LeftClaimedLemmas.{HaveAskedLong, IsLeftAlways, asked_heard, left_network}
 use Rattle.gptp_settling_time.proofs.LinkStoodLemmas.{second_still}
 use Rattle.gptp_settling_time.proofs.LinkUpLemmas.{lane_set}
-use Rattle.gptp_settling_time.proofs.ReducedLemmas.{HoldsAsMuch, IsReduced, IsReducedStation, fits_reduced, holds_as_much, levels_reduced, reduced_itself}
-use Rattle.gptp_settling_time.proofs.SettledSeenLemmas.{IsSettledSeen, wired_as}
+use Rattle.gptp_settling_time.proofs.ReducedLemmas.{HoldsAsMuch, IsReduced, IsReducedStation, holds_as_much, reduced_itself}
+use Rattle.gptp_settling_time.proofs.SettledSeenLemmas.{IsSettledSeen, sound_fits, wired_as}
 use Rattle.gptp_settling_time.proofs.TakenDownLemmas.{silent_down, stood_down, told_keeps, up_apart}
 use Rattle.gptp_settling_time.proofs.UnlinkedLemmas.{LostAreFarther}
 use Rattle.gptp_settling_time.proofs.WidenedLemmas.{ready_first}
@@ -139,11 +136,11 @@ record CanLose (station : Station) (port : ℕ) : Type 0 where
   others : HasAnother station.system place ⊎ AreDisabled (without place station.system.held)
 
 -- systems are reduced at most, and links are as they were
-record StandsReduced (w w' : WorldState) : Type 0 where
-  time : w'.time ≡ w.time
-  stations : (i : ℕ) (s : SeenStation) → slice_get (view w').stations i ≡ Some s
+pub record StandsReduced (w w' : WorldState) : Type 0 where
+  pub time : w'.time ≡ w.time
+  pub stations : (i : ℕ) (s : SeenStation) → slice_get (view w').stations i ≡ Some s
       → (old : SeenStation) × (slice_get (view w).stations i ≡ Some old) × IsReducedStation old s
-  channels : w'.net.channels ≡ w.net.channels
+  pub channels : w'.net.channels ≡ w.net.channels
 
 set_reduced : (stations : List Station) (place : ℕ) (old new : Station) → slice_get stations place ≡ Some old
     → IsReducedStation (station_view old) (station_view new) → (i : ℕ) (s : SeenStation)
@@ -238,12 +235,17 @@ same_end channel FromB FromA apart same = absurd (apart same)
 
 -- ---- the link goes down
 
+-- each system is unmoved, or it is cut off and its ports that no link was at were off
+abbrev pub StayOrAreAlone : WorldState → WorldState → Type 0
+StayOrAreAlone w w' = (v : ℕ) → In v (clocks (snapshot_of w'))
+    → IsUnmoved (snapshot_of w) (snapshot_of w') v
+    ⊎ (IsCutOff (snapshot_of w') v × UnlinkedAreOff (snapshot_of w) (view w))
+
 module _ (p : SettlingParams) (w : WorldState) (is : IsWorld p w) (place : ℕ) (channel : Channel)
     (here : slice_get w.net.channels place ≡ Some channel) (draws : List Draw) (w' : WorldState) (is' : IsWorld p w')
     (k : TellsEnds PortDown channel (record w { net = taken_down place channel w.net; last_change = w.time }) draws w')
-    (seen : IsSettledSeen p w) (near : AllAreNear (snapshot_of w)) (dark : UnlinkedAreOff (snapshot_of w) (view w))
-    (unmoved : (v : ℕ) → In v (clocks (snapshot_of w')) → IsUnmovedOrCutOff (snapshot_of w) (snapshot_of w') v) where
-  abbrev taken : WorldState
+    (seen : IsSettledSeen p w) (near : AllAreNear (snapshot_of w)) (stay : StayOrAreAlone w w') where
+  abbrev pub taken : WorldState
   taken = record w { net = taken_down place channel w.net; last_change = w.time }
 
   abbrev g : Snapshot
@@ -292,7 +294,7 @@ module _ (p : SettlingParams) (w : WorldState) (is : IsWorld p w) (place : ℕ) 
     links = λ a b joins.
         links_more taken w (same_systems (live_stations w.stations)) were_there a b
         (subst (λ h. Joins h a b) (same_snapshot taken w' keeps) joins);
-    unmoved = unmoved;
+    unmoved = λ v known. elim (stay v known) [ inl unmoved ↦ inl unmoved | inr (cut, dark) ↦ inr cut ];
   }
 
   left_seen : IsLeftUnmoved seen.n.graph g'
@@ -390,9 +392,9 @@ module _ (p : SettlingParams) (w : WorldState) (is : IsWorld p w) (place : ℕ) 
               apart (omega (arith, number))
         ]
 
-        off : (i : ℕ) → (sender way channel).port ≡ suc i → IsCutOff g' (clock station.system) → AreShown station.system
-            → AreDisabled (without i station.system.held)
-        off i is_n cut shown =
+        off : (i : ℕ) → (sender way channel).port ≡ suc i → IsCutOff g' (clock station.system)
+            → UnlinkedAreOff g (view w) → AreShown station.system → AreDisabled (without i station.system.held)
+        off i is_n cut dark shown =
             others_disabled i station.system.held (λ j h there apart.
             let keep = span_at station.system in
             let places = shown.places in
@@ -411,16 +413,16 @@ module _ (p : SettlingParams) (w : WorldState) (is : IsWorld p w) (place : ℕ) 
               rest = steady.rest;
               place = i;
               number = refl;
-              others = elim (unmoved (clock station.system) known) [
-                | inl stays ↦ inl (another i is_n (as_much stays))
-                | inr cut ↦ inr (off i is_n cut steady.shown)
+              others = elim (stay (clock station.system) known) [
+                | inl unmoved ↦ inl (another i is_n (as_much unmoved))
+                | inr (cut, dark) ↦ inr (off i is_n cut dark steady.shown)
               ];
             }
 
   still_b : slice_get k.between.stations k.place_b ≡ Some k.station_b
   still_b = second_still PortDown channel taken draws w' k (is.between place channel here).apart
 
-  told : StandsReduced taken w'
+  pub told : StandsReduced taken w'
   told =
       stands_on taken k.between w'
       (goes_down_reduced k.place_a channel.a.port taken k.first k.between (λ station stands live.
@@ -456,11 +458,11 @@ module _ (p : SettlingParams) (w : WorldState) (is : IsWorld p w) (place : ℕ) 
             ∙ lane_there w.net.channels x.link x.direction x.channel stood ∙ ap (λ m. Some m) (sym x.is))
       ]
 
-  less : IsReduced (view w) (view w')
+  pub less : IsReduced (view w) (view w')
   less = record { time = told.time; stations = λ i s there live. told.stations i s there; lanes = lanes }
 
   -- a network of the world then has the wiring of one that it had
-  wires : (n : Network) → delay_in w' ≡ delay_in w → n ≡ wired_as n (start_network p 0 0 w') → SameWiring seen.n n
+  pub wires : (n : Network) → delay_in w' ≡ delay_in w → n ≡ wired_as n (start_network p 0 0 w') → SameWiring seen.n n
   wires n delay wired =
       let started = same_start p 0 0 taken w' keeps in
       let most = seen.most in
@@ -481,10 +483,10 @@ module _ (p : SettlingParams) (w : WorldState) (is : IsWorld p w) (place : ℕ) 
   -- ---- the claims
 
   near_then : AllAreNear g'
-  near_then v known = elim (unmoved v known) [
-    | inl stays ↦
-        let (d, far, close) = near v (lived g g' well well' left v known) in (d, stays.far d far, close)
-    | inr cut ↦
+  near_then v known = elim (stay v known) [
+    | inl unmoved ↦
+        let (d, far, close) = near v (lived g g' well well' left v known) in (d, unmoved.far d far, close)
+    | inr (cut, dark) ↦
         let (e, here_far) = distance_exists g' v well' known in
         let zero_is = at_zero g' v e well' cut here_far in (e, here_far, omega (arith, zero_is))
   ]
@@ -515,54 +517,18 @@ module _ (p : SettlingParams) (w : WorldState) (is : IsWorld p w) (place : ℕ) 
         let change = keeps.change in
         (first, next, omega (arith, past, change), record { is = by; late = by_now })
 
-    fits_then : EverythingFits says_announce g (left_network p next w') (view w')
-    fits_then =
-        subst (λ h. EverythingFits says_announce h (left_network p next w') (view w')) seen.graph
-        (fits_reduced says_announce seen.n (left_network p next w') seen.net.graph well' left_seen (view w) (view w')
-        less
-        (everything_fits says_announce seen.n (view w) seen.net.graph seen.calm.facts
-        (subst (λ h. IsSoundEverywhere says_announce h (view w)) (sym seen.graph) sound)))
-
-    module _ (quiet' : HaveQuietLinks p.params w') where
-      -- ports that no link is at are off
-      unlinked_then : UnlinkedHoldNothing g' (view w')
-      unlinked_then i s place r there live none (q, at, holds) =
-          let calm : Calm (start_network p 0 next w') (view w') =
-          start_calm p next w' standing_then (asked_heard p next w' asked_then) quiet' 0 in
-          let off : q.held ≡ Disabled = ((calm.stations i s there live).ports place q at).unlinked by_now none in
-          absurd (let both : Received r ≡ Disabled = sym holds ∙ off in cc)
-
-      calm_then : Calm (left_network p next w') (view w')
-      calm_then = left_calm p next w' standing_then asked_then quiet' unlinked_then
-
-      settling_then : Invariant says_announce (left_network p next w') (view w')
-      settling_then =
-          let n = left_network p next w' in
-          let sound' : RunIsSound n (view w') =
-          λ late. received_still g n (view w') well well' left calm_then unlinked_then fits_then.stations in
-          record {
-            sound = sound';
-            levels = levels_reduced says_announce seen.n n seen.net (left_net p next w' is') (wires n delay refl)
-                left_seen (view w) (view w') less seen.calm
-                calm_then seen.invariant seen.late sound'
-                (λ q linked. omega arith);
-          }
+    -- ports that no link is at are off
+    unlinked_then : HaveQuietLinks p.params w' → UnlinkedHoldNothing g' (view w')
+    unlinked_then quiet' i s place r there live none (q, at, holds) =
+        let calm : Calm (start_network p 0 next w') (view w') =
+        start_calm p next w' standing_then (asked_heard p next w' asked_then) quiet' 0 in
+        let off : q.held ≡ Disabled = ((calm.stations i s there live).ports place q at).unlinked by_now none in
+        absurd (let both : Received r ≡ Disabled = sym holds ∙ off in cc)
 
     pub lowered_left : IsLeftAlways p g next w'
-    lowered_left = record {
-      standing = standing_then;
-      asked = asked_then;
-      well = well;
-      left = left;
-      near = near_then;
-      farther = farther_then;
-      late = way;
-      seen = λ quiet' off. record {
-        unlinked = unlinked_then quiet';
-        fits = fits_then;
-        invariant = settling_then quiet';
-      };
-    }
+    lowered_left =
+        begins_left p g next w w' is' well seen less left left (wires (left_network p next w') delay refl)
+        (sound_fits p w seen sound) standing_then asked_then unlinked_then near_then farther_then way
 
 -- ---- the act
 
@@ -578,48 +544,55 @@ module _ (p : SettlingParams) (next owner port : ℕ) (w : WorldState) (draws : 
       → (direction : Direction) × (sender direction channel ≡ port_id owner port)
   begins_at place channel at = elim at.joined [ inl a ↦ (FromA, a) | inr b ↦ (FromB, b) ]
 
-  module _ (up : at_link.channel.up ≡ true) (quiet : HaveQuietLinks p.params w) (past : next ≤ w.time)
-      (ready : AreReadyBy p next w) (silent : AreSilentBy p next w) (seen : IsSettledSeen p w)
-      (near : AllAreNear (snapshot_of w))
-      (unmoved : (v : ℕ) → In v (clocks (snapshot_of w')) → IsUnmovedOrCutOff (snapshot_of w) (snapshot_of w') v) where
-    -- ports that no link was at were off
-    dark : UnlinkedAreOff (snapshot_of w) (view w)
-    dark i s place q there live at unlinked =
-        let heard : AreHeard p next w =
-        (λ at stands.
-        let (first, by) = ready_first p next w is past at (ready at stands) in
-        inr (inr (inr (first, next, record { is = by; late = past })))) in
-        let calm : Calm (start_network p 0 next w) (view w) =
-        start_calm p next w (record { pace = pace; world = is; measured = measured; silent = silent }) heard quiet 0 in
-        ((calm.stations i s there live).ports place q at).unlinked past unlinked
-
+  module _ (up : at_link.channel.up ≡ true) (seen : IsSettledSeen p w) (near : AllAreNear (snapshot_of w)) where
     ends : TellsEnds PortDown at_link.channel
         (record w { net = taken_down at_link.place at_link.channel w.net; last_change = w.time }) draws w'
     ends =
         subst (λ b. GoesDownIf b at_link.place at_link.channel (record w { last_change = w.time }) draws w') up
         at_link.so
 
-    stands : StandsReduced (record w { net = taken_down at_link.place at_link.channel w.net; last_change = w.time }) w'
-    stands = told p w is at_link.place at_link.channel at_link.is.here draws w' is' ends seen near dark unmoved
+    stands : StayOrAreAlone w w'
+        → StandsReduced (record w { net = taken_down at_link.place at_link.channel w.net; last_change = w.time }) w'
+    stands stay = told p w is at_link.place at_link.channel at_link.is.here draws w' is' ends seen near stay
 
     -- a link that stands then is another
-    other : (at : LinkPlace) → LinkStandsAt at w' → IsOtherLink at (port_id owner port) w
-    other at s place channel at_port same =
+    pub other : StayOrAreAlone w w' → (at : LinkPlace) → LinkStandsAt at w' → IsOtherLink at (port_id owner port) w
+    other stay at s place channel at_port same =
         let (way, begins) = begins_at place channel at_port in
         let (direction, starts) = begins_at at_link.place at_link.channel at_link.is in
         let one : place ≡ at_link.place =
         is.sound.wired.apart place at_link.place way direction channel at_link.channel at_port.here at_link.is.here
         (begins ∙ sym starts) in
-        up_apart p w is at_link.place at_link.channel at_link.is.here draws w' is' ends stands.channels at.link
+        up_apart p w is at_link.place at_link.channel at_link.is.here draws w' is' ends (stands stay).channels at.link
         s.channel s.here s.up (sym same ∙ one)
 
-    pub act_left : delay_in w' ≡ delay_in w → pred (path_bound (snapshot_of w')) * delay_in w' ≤ w'.time
-        → IsSoundWorld w → IsLeftAlways p (snapshot_of w) next w'
-    act_left delay way sound =
-        lowered_left p w is at_link.place at_link.channel at_link.is.here draws w' is' ends seen near dark unmoved next
-        pace measured' past delay way sound
-        (λ at s.
-        ready_goes_through p next at (Changing (LinkDown owner port)) w w' draws done is.sound measured (other at s)
-        acts (ready at
-        (stood_down p w is at_link.place at_link.channel at_link.is.here draws w' is' ends stands.channels at s)))
-        silent
+    module _ (quiet : HaveQuietLinks p.params w) (past : next ≤ w.time) (ready : AreReadyBy p next w)
+        (silent : AreSilentBy p next w)
+        (unmoved : (v : ℕ) → In v (clocks (snapshot_of w')) → IsUnmovedOrCutOff (snapshot_of w) (snapshot_of w') v)
+      where
+        -- ports that no link was at were off
+        dark : UnlinkedAreOff (snapshot_of w) (view w)
+        dark i s place q there live at unlinked =
+            let heard : AreHeard p next w =
+            (λ at stands.
+            let (first, by) = ready_first p next w is past at (ready at stands) in
+            inr (inr (inr (first, next, record { is = by; late = past })))) in
+            let calm : Calm (start_network p 0 next w) (view w) =
+            start_calm p next w (record { pace = pace; world = is; measured = measured; silent = silent }) heard quiet
+            0 in
+            ((calm.stations i s there live).ports place q at).unlinked past unlinked
+
+        stay : StayOrAreAlone w w'
+        stay v known = elim (unmoved v known) [ inl is ↦ inl is | inr cut ↦ inr (cut, dark) ]
+
+        pub act_left : delay_in w' ≡ delay_in w → pred (path_bound (snapshot_of w')) * delay_in w' ≤ w'.time
+            → IsSoundWorld w → IsLeftAlways p (snapshot_of w) next w'
+        act_left delay way sound =
+            lowered_left p w is at_link.place at_link.channel at_link.is.here draws w' is' ends seen near stay next
+            pace measured' past delay way sound
+            (λ at s.
+            ready_goes_through p next at (Changing (LinkDown owner port)) w w' draws done is.sound measured
+            (other stay at s) acts (ready at
+            (stood_down p w is at_link.place at_link.channel at_link.is.here draws w' is' ends (stands stay).channels
+            at s)))
+            silent

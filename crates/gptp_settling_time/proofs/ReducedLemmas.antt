@@ -54,19 +54,19 @@ kept ports j q (inr off) on = absurd (on off)
 
 -- ---- what fits
 
-module _ (says : Spelling) (n n' : Network) (well : IsWellFormed n.graph) (well' : IsWellFormed n'.graph)
+module _ (says : Spelling) (g : Snapshot) (n n' : Network) (well : IsWellFormed n.graph) (well' : IsWellFormed n'.graph)
     (left : IsLeftUnmoved n.graph n'.graph) (w w' : MachineState) (less : IsReduced w w') where
-  station_fits : ReceivedFits n.graph w → (i : ℕ) (s : Station) (place : ℕ) (r : Reception)
+  station_fits : ReceivedFits g w → (i : ℕ) (s : Station) (place : ℕ) (r : Reception)
       → ((old : Station) × (slice_get w.stations i ≡ Some old) × IsReducedStation old s) → s.live ≡ true
-      → HoldsAt s place r → CameFits n.graph s.clock (suc place) r
+      → HoldsAt s place r → CameFits g s.clock (suc place) r
   station_fits all i s place r (old, stood, same) live (q, there, holds) = elim (same.ports place q there) [
     | inl before ↦
-        subst (λ c. CameFits n.graph c (suc place) r) (sym same.clock)
+        subst (λ c. CameFits g c (suc place) r) (sym same.clock)
         (all i old place r stood (sym same.live ∙ live) (q, before, holds))
     | inr off ↦ absurd (let no : Received r ≡ Disabled = sym holds ∙ off in cc)
   ]
 
-  pub fits_reduced : EverythingFits says n.graph n w → EverythingFits says n.graph n' w'
+  pub fits_reduced : EverythingFits says g n w → EverythingFits says g n' w'
   fits_reduced all = record {
     lanes = λ j l f a at flies said known. elim (less.lanes j l at) [
       | inl stood ↦ all.lanes j l f a stood flies said (lived n.graph n'.graph well well' left l.to.clock known)

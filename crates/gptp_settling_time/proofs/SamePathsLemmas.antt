@@ -44,7 +44,7 @@ count_same p q (x ∷ xs) same =
     ∙ ap₂ (λ a b. cond a 1 0 + b) (same x (inl refl)) (count_same p q xs (λ y member. same y (inr member)))
     ∙ sym (count_more q x xs)
 
-map_same : {X Y : Type 0} (f g : X → Option Y) (xs : List X) → ((x : X) → In x xs → f x ≡ g x)
+pub map_same : {X Y : Type 0} (f g : X → Option Y) (xs : List X) → ((x : X) → In x xs → f x ≡ g x)
     → filter_map f xs ≡ filter_map g xs
 map_same f g [] same = refl
 map_same f g (x ∷ xs) same =
@@ -124,7 +124,7 @@ port_is p q same =
     let (clock, port) = and_true (p.clock == q.clock) (p.port == q.port) same in
     ap₂ (λ a b. port_id a b) (eqb-true p.clock q.clock clock) (eqb-true p.port q.port port)
 
-is_end : (clock port : ℕ) (w : LinkSpec) → is_at clock port w ≡ true → IsEnd (port_id clock port) w
+pub is_end : (clock port : ℕ) (w : LinkSpec) → is_at clock port w ≡ true → IsEnd (port_id clock port) w
 is_end clock port w at =
     elim (or_cases (same_port w.a (port_id clock port)) (same_port w.b (port_id clock port)) at) [
       | inl same ↦ inl (port_is w.a (port_id clock port) same)
@@ -241,7 +241,7 @@ never_used true true true (inl none) = absurd cc
 never_used true true true (inr none) = absurd cc
 
 module _ (n : NetworkState) (made : List Timed) where
-  lives_not : (clock : ℕ) → (IsLive n.systems made clock → ⊥) → lives n.systems made clock ≡ false
+  pub lives_not : (clock : ℕ) → (IsLive n.systems made clock → ⊥) → lives n.systems made clock ≡ false
   lives_not clock none = by (lives n.systems made clock) refl
     where
       by : (live : Bool) → lives n.systems made clock ≡ live → lives n.systems made clock ≡ false

@@ -8,9 +8,11 @@ use Rattle.gptp_model.specs.World.{WorldState}
 use Rattle.gptp_bmca_machine.specs.Calm.{Calm}
 use Rattle.gptp_bmca_machine.specs.Levels.{Invariant, LeadsFarther}
 use Rattle.gptp_bmca_machine.specs.Link.{LinkSettles, Stand}
+use Rattle.gptp_bmca_machine.specs.LossLaws.{EverythingFits}
 use Rattle.gptp_bmca_machine.specs.Network.{IsSettlingNetwork, Network, settled_from, wiring}
 use Rattle.gptp_bmca_machine.specs.RestLaws.{SameWiring}
 use Rattle.gptp_bmca_machine.specs.Sound.{ReceivedFits}
+use Rattle.gptp_bmca_machine.specs.SoundEverywhere.{IsSoundEverywhere}
 use Rattle.gptp_bmca_machine.proofs.RestingLemmas.{links_stay, stays_so}
 use Rattle.gptp_bmca_machine.proofs.SoundEverywhereLemmas.{on_links}
 use Rattle.gptp_bmca_machine.proofs.SoundLemmas.{received_fits}
@@ -22,6 +24,7 @@ use Rattle.gptp_invariants.specs.WorldSound.{IsSoundWorld}
 use Rattle.gptp_invariants.specs.WorldStanding.{snapshot_of}
 use Rattle.gptp_invariants.proofs.ChoiceSettlesAsMachineLemmas.{paths_bound}
 use Rattle.gptp_settling_time.proofs.AlwaysClaimedLemmas.{IsClaimedAlways, standing, start_calm, start_net, start_network}
+use Rattle.gptp_settling_time.proofs.FitsLemmas.{everything_fits}
 
 pub record IsSettledSeen (p : SettlingParams) (w : WorldState) : Type 0 where
   pub n : Network
@@ -35,6 +38,14 @@ pub record IsSettledSeen (p : SettlingParams) (w : WorldState) : Type 0 where
 
 abbrev pub HasSettledSeen : SettlingParams → WorldState → Type 0
 HasSettledSeen p w = HaveQuietLinks p.params w → NothingLapses p.params → IsSettledSeen p w
+
+-- all that is sound in it fits its snapshot
+pub sound_fits : (p : SettlingParams) (w : WorldState) (seen : IsSettledSeen p w) → IsSoundWorld w
+    → EverythingFits says_announce (snapshot_of w) seen.n (view w)
+sound_fits p w seen sound =
+    subst (λ h. EverythingFits says_announce h seen.n (view w)) seen.graph
+    (everything_fits says_announce seen.n (view w) seen.net.graph seen.calm.facts
+    (subst (λ h. IsSoundEverywhere says_announce h (view w)) (sym seen.graph) sound))
 
 -- the first network, with the wiring and the delays of the second
 abbrev pub wired_as : Network → Network → Network

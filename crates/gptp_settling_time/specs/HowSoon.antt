@@ -18,8 +18,9 @@
 -- down and come up, systems fail and a priority1 be set. Not followed are other delays that are set, and other events
 -- that take something away at a later time. There the span stands. But the one event of a time asks for none, too, if a
 -- link goes down by it and no system is moved but such as are cut off. Nor does the choice ask for time where by the
--- one event a system fails that is the far end of each of its links: roles stand once the ports beside it aren't
--- capable any more.
+-- first event a system fails that is the far end of each of its links, and no other comes but links that go down of
+-- which an end has failed. Roles stand once the ports beside it aren't capable any more, or at once where no link is up
+-- that isn't in use.
 use Rattle.std.specs.Prelude.{◌≡◌, ◌<◌, ◌≤◌, ◌⊎◌, ◌+◌, ◌*◌, ◌==◌, ℕ, ⊤, pred, suc, List, [], ◌∷◌, ◌++◌, filter}
 use Rattle.gptp_lists.specs.Members.{In}
 use Rattle.gptp_setup.specs.Intervals.{interval_of}
@@ -39,7 +40,7 @@ use Rattle.gptp_network.specs.Document.{DocumentState}
 use Rattle.gptp_network.specs.Snapshot.{events_by}
 use Rattle.gptp_settling_time.specs.Gains.{ChangesNothing, EndHasFailed, LeavesCapable, TakesNothing}
 use Rattle.gptp_settling_time.specs.InTurn.{AddsHeard, BettersClock, MakesNothing, NoneUsed, TellsNothing, UsedVaryLittle, WidensLink}
-use Rattle.gptp_settling_time.specs.Losses.{FailsFarEnd, LeavesChoice, LowersLink}
+use Rattle.gptp_settling_time.specs.Losses.{FailsFarEnd, LeavesChoice, LowersLink, LowersUnused, UpIsUsed}
 
 -- ---- times
 
@@ -197,14 +198,23 @@ OneEvent Is made (event ∷ other ∷ events) = ⊥
 abbrev pub LowersOneLink : NetworkState → List Timed → List Timed → Type 0
 LowersOneLink n = OneEvent (LowersLink n)
 
--- by it a system fails that is the far end of each of its links
-abbrev pub FailsOneEnd : NetworkState → List Timed → List Timed → Type 0
-FailsOneEnd n = OneEvent (FailsFarEnd n)
+-- By the first of them a system fails that is the far end of each of its links. By the others links go down that are
+-- up, and of which an end has failed.
+abbrev pub FailsEndFirst : NetworkState → List Timed → List Timed → Type 0
+FailsEndFirst n made [] = ⊥
+FailsEndFirst n made (event ∷ events) =
+    FailsFarEnd n made event × EachEvent (LowersUnused n) (made ++ event ∷ []) events
+
+-- after them the roles stand so soon
+abbrev pub RolesAfterFailure : NetworkState → List Timed → ℕ → Type 0
+RolesAfterFailure n events roles =
+    (UpIsUsed n events × (roles ≡ 0)) ⊎ (roles ≡ capability_span (pace_of n))
 
 -- Bounds at a time of a loss, by the times before it, the latest first: of the choice, and of the roles. Nothing
--- lapses, and the one event comes to a calm network behind the choice bound before. The choice stands at once. So do
--- roles after a link goes down; after a system fails they do once the ports beside it have been unanswered for long
--- enough. No later bound builds on these.
+-- lapses, and the events come to a calm network behind the choice bound before. The choice stands at once. So do roles
+-- after a link goes down by one event. After a system fails they do where each link that is up then is in use, as where
+-- it loses its power; else once the ports beside it have been unanswered for long enough. No later bound builds on
+-- these.
 abbrev pub IsLossBoundAfter : NetworkState → List Timed → List ℕ → ℕ → ℕ → ℕ → Type 0
 IsLossBoundAfter n events [] time choice roles = ⊥
 IsLossBoundAfter n events (last ∷ earlier) time choice roles =
@@ -215,7 +225,8 @@ IsLossBoundAfter n events (last ∷ earlier) time choice roles =
     × ((choice_then : ℕ) × IsChoiceBoundAfter n events earlier last choice_then × (last + choice_then < time))
     × (choice ≡ 0)
     × ((LowersOneLink n (events_by last events) (events_at time events) × (roles ≡ 0))
-    ⊎ (FailsOneEnd n (events_by last events) (events_at time events) × (roles ≡ capability_span (pace_of n))))
+    ⊎ (FailsEndFirst n (events_by last events) (events_at time events)
+    × RolesAfterFailure n (events_by time events) roles))
 
 -- a choice bound of a document at a time: by then the choice stands, and the roles do
 abbrev pub IsChoiceBound : DocumentState → ℕ → ℕ → Type 0

@@ -13,7 +13,9 @@
 -- such systems recover, one after another at any time, as several at once; and what changes nothing asks for no time at
 -- all. Nor does a link that goes down by which no system is moved but such as are cut off, in a network that had
 -- settled. That network is *left*: its choice stands, but what is held may name links that are gone. So it is where a
--- system fails that is the far end of each of its links: roles stand once the ports beside it aren't capable any more.
+-- system fails that is the far end of each of its links: roles stand once the ports beside it aren't capable any more,
+-- or once no link is up that isn't in use. A network that is left stays so where a link goes down of which an end has
+-- failed.
 use Rattle.std.specs.Prelude.{◌≡◌, ◌<◌, ◌≤◌, ◌⊎◌, ◌+◌, ◌*◌, ℕ, ⊤, pred, List, [], ◌∷◌, ◌++◌, Option, Some, slice_get}
 use Rattle.gptp_lists.specs.Members.{In}
 use Rattle.gptp_vector.specs.declared.port.PortId.{PortId}
@@ -39,7 +41,7 @@ use Rattle.gptp_settling_time.specs.ChoiceAlone.{ChoiceStandsAs}
 use Rattle.gptp_settling_time.specs.Documents.{IsSettledAs}
 use Rattle.gptp_settling_time.specs.Exactly.{SettlesBy}
 use Rattle.gptp_settling_time.specs.Gains.{AreCapableAnyway, AreCapableNext, AreCapableStill, ChangesNothing, EndHasFailed, HasRested, IsDownAfter, IsNoWorse, JoinsLive, LeavesCapable, TakesNothing, UsesNoLink, exchanged_from}
-use Rattle.gptp_settling_time.specs.Losses.{FailsFarEnd, LeavesChoice, LowersLink}
+use Rattle.gptp_settling_time.specs.Losses.{FailsFarEnd, LeavesChoice, LowersLink, LowersUnused, UpIsUsed}
 
 -- what a network came from, and from when on its ports are capable; of one that is left, from when on ports without a
 -- link aren't
@@ -186,8 +188,14 @@ pub record FailsCalm (n : NetworkState) (before : List Timed) (event : Timed) : 
   pub calm : IsCalm n before
   pub off : NothingLapses n.params
 
--- After either the choice stands. Ports without a link aren't capable from the next time on: as from the one before
--- where a link goes down, and beside a system that fails once they have been unanswered for long enough.
+-- In such a network a link goes down that is up, and of which an end has failed: what is left stays so.
+pub record LowersUnusedCalm (n : NetworkState) (before : List Timed) (event : Timed) : Type 0 where
+  pub lowers : LowersUnused n before event
+  pub calm : IsCalm n before
+  pub off : NothingLapses n.params
+
+-- After either of the first two the choice stands. Ports without a link aren't capable from the next time on: as from
+-- the one before where a link goes down, and beside a system that fails once they have been unanswered for long enough.
 abbrev pub LeavesStanding : NetworkState → List Timed → Timed → ℕ → ℕ → Type 0
 LeavesStanding n before event start next =
     (LowersCalm n before event × (next ≡ start))
@@ -250,7 +258,7 @@ LeadsToLeft n before (Gained start) event next =
     HasSettledSince n before start event.at × LeavesStanding n before event start next
 LeadsToLeft n before (Heard start) event next =
     HasSettledHeard n before start event.at × LeavesStanding n before event start next
-LeadsToLeft n before (Left silent) event next = ⊥
+LeadsToLeft n before (Left silent) event next = LowersUnusedCalm n before event × (next ≡ silent)
 
 -- a gain, and what is heard, stays so from the start that it had
 abbrev pub StaysFrom : Past → ℕ → Type 0
@@ -305,7 +313,7 @@ BeginsBy n (Left silent) = ⊥
 -- By this time a calm network has settled after these events. From any past the span has to pass, the sharper one where
 -- nothing lapses. Else ports become capable; then an announce interval passes where something may not be heard; and
 -- then the greatest delay for each system of a path but one. In a network that is left the choice stands, and roles do
--- once ports without a link aren't capable.
+-- once ports without a link aren't capable; or at once where each link that is up is in use.
 abbrev pub SettlesAfter : NetworkState → List Timed → Past → ℕ → Type 0
 SettlesAfter n events AnyPast settled =
     (NothingLapses n.params
@@ -317,7 +325,7 @@ SettlesAfter n events (Gained start) settled = SettlesBy (pace_of n) (sync_paths
 SettlesAfter n events (Heard start) settled =
     NothingLapses n.params
     × (start + pred (sync_paths n events).systems * (sync_paths n events).delay ≤ settled)
-SettlesAfter n events (Left silent) settled = NothingLapses n.params × (silent ≤ settled)
+SettlesAfter n events (Left silent) settled = NothingLapses n.params × ((silent ≤ settled) ⊎ UpIsUsed n events)
 
 -- By this time the choice stands after these events: as soon as it has settled, and at once in a network that is left.
 abbrev pub ChoosesAfter : NetworkState → List Timed → Past → ℕ → Type 0

@@ -2,7 +2,7 @@
 --
 -- An event *moves* a system that lives after it where another system, or the same with another identity, is the best of
 -- its component then, or it is nearer to that or farther from it. So its root or its steps are others.
-use Rattle.std.specs.Prelude.{◌≡◌, ◌⊎◌, ◌<◌, ◌≤◌, ℕ, List, [], ◌∷◌, ◌++◌, Some, slice_get}
+use Rattle.std.specs.Prelude.{◌≡◌, ◌⊎◌, ◌<◌, ◌≤◌, ℕ, true, List, [], ◌∷◌, ◌++◌, Some, slice_get}
 use Rattle.gptp_lists.specs.Members.{In}
 use Rattle.gptp_graph.specs.Best.{IsBest}
 use Rattle.gptp_graph.specs.Distance.{IsDistance}
@@ -17,6 +17,7 @@ use Rattle.gptp_scenario.specs.declared.change.Change.TheVariants.{Fail, LinkDow
 use Rattle.gptp_scenario.specs.declared.change.Timed.{Timed}
 use Rattle.gptp_scenario.specs.declared.network.LinkSpec.{LinkSpec}
 use Rattle.gptp_model.specs.World.{port_id}
+use Rattle.gptp_settling_time.specs.Gains.{EndHasFailed, IsUpAfter}
 
 -- in the second snapshot the system has the best that it has in the first, and is as far from it
 pub record IsUnmoved (g g' : Snapshot) (v : ℕ) : Type 0 where
@@ -66,6 +67,19 @@ pub record LowersLink (n : NetworkState) (before : List Timed) (event : Timed) :
   pub delay : (sync_paths n (before ++ event ∷ [])).delay ≡ (sync_paths n before).delay
   pub paths : (sync_paths n (before ++ event ∷ [])).systems ≤ (sync_paths n before).systems
   pub few : (sync_paths n before).systems ≤ 255
+
+-- After these events this one takes down a link that is up, and of which an end has failed.
+pub record LowersUnused (n : NetworkState) (before : List Timed) (event : Timed) : Type 0 where
+  pub clock : ℕ
+  pub port : ℕ
+  pub act : event.act ≡ Changing (LinkDown clock port)
+  pub up : IsUpAfter n before (port_id clock port)
+  pub failed : EndHasFailed n before (port_id clock port)
+
+-- each link that is up after these events is in use
+abbrev pub UpIsUsed : NetworkState → List Timed → Type 0
+UpIsUsed n events = (place : ℕ) (v : LinkSpec) → slice_get n.links place ≡ Some v → (link_after events v).up ≡ true
+    → IsUsed n.systems events (link_after events v)
 
 -- The system is the far end of each of its links: its neighbours are nearer to the best, or as near and have the lower
 -- clock. So none of them gets its choice from it.

@@ -10,11 +10,9 @@ use Rattle.gptp_network.specs.Events.{IsEvent}
 use Rattle.gptp_network.specs.Snapshot.{events_by}
 use Rattle.gptp_network.proofs.SnapshotLemmas.{from_filter}
 use Rattle.gptp_scenario.specs.Calm.{IsCalm}
-use Rattle.gptp_scenario.specs.Network.{NetworkState, pace_of}
-use Rattle.gptp_scenario.specs.SettlingTime.{capability_span}
+use Rattle.gptp_scenario.specs.Network.{NetworkState}
 use Rattle.gptp_scenario.specs.declared.change.Timed.{Timed}
-use Rattle.gptp_settling_time.specs.HowSoon.{BoundsChoice, BoundsEvents, BoundsStart, FailsOneEnd, IsChoiceAloneBound, IsChoiceBound, IsChoiceBoundAfter, IsLossBoundAfter, LowersOneLink, OneEvent, events_at}
-use Rattle.gptp_settling_time.specs.Losses.{FailsFarEnd, LowersLink}
+use Rattle.gptp_settling_time.specs.HowSoon.{BoundsChoice, BoundsEvents, BoundsStart, FailsEndFirst, IsChoiceAloneBound, IsChoiceBound, IsChoiceBoundAfter, IsLossBoundAfter, LowersOneLink, RolesAfterFailure, events_at}
 use Rattle.gptp_theorem.specs.PlayedLaws.{IsPlayable}
 use Rattle.gptp_timeline.proofs.EventLemmas.{filter_each, filter_in_order}
 use Rattle.gptp_timeline.proofs.PastLemmas.{by_sooner}
@@ -94,14 +92,13 @@ module _ (n : NetworkState) (all : List Timed) (until : ℕ) where
         bounds),
   )
 
-  -- one event of a time is one of these
-  one_by : (Is : List Timed → Timed → Type 0) (last time : ℕ) → last ≤ until → time ≤ until
-      → OneEvent Is (events_by last all) (events_at time all)
-      → OneEvent Is (events_by last (events_by until all)) (events_at time (events_by until all))
-  one_by Is last time late le is =
-      subst (λ made. OneEvent Is made (events_at time (events_by until all)))
-      (sym (by_sooner last until all late))
-      (subst (OneEvent Is (events_by last all)) (sym (at_sooner time until all le)) is)
+  -- what is so of the events of a time is so where later ones are left out
+  events_so : (So : List Timed → List Timed → Type 0) (last time : ℕ) → last ≤ until → time ≤ until
+      → So (events_by last all) (events_at time all)
+      → So (events_by last (events_by until all)) (events_at time (events_by until all))
+  events_so So last time late le is =
+      subst (λ made. So made (events_at time (events_by until all))) (sym (by_sooner last until all late))
+      (subst (So (events_by last all)) (sym (at_sooner time until all le)) is)
 
   loss_by : (earlier : List ℕ) (time choice roles : ℕ) → time ≤ until
       → IsLossBoundAfter n all earlier time choice roles
@@ -118,13 +115,16 @@ module _ (n : NetworkState) (all : List Timed) (until : ℕ) where
   )
     where
       by : (LowersOneLink n (events_by last all) (events_at time all) × (roles ≡ 0))
-          ⊎ (FailsOneEnd n (events_by last all) (events_at time all) × (roles ≡ capability_span (pace_of n)))
+          ⊎ (FailsEndFirst n (events_by last all) (events_at time all) × RolesAfterFailure n (events_by time all) roles)
           → (LowersOneLink n (events_by last (events_by until all)) (events_at time (events_by until all))
           × (roles ≡ 0))
-          ⊎ (FailsOneEnd n (events_by last (events_by until all)) (events_at time (events_by until all))
-          × (roles ≡ capability_span (pace_of n)))
-      by (inl (lowers, is)) = inl (one_by (LowersLink n) last time (omega (arith, late, le)) le lowers, is)
-      by (inr (fails, is)) = inr (one_by (FailsFarEnd n) last time (omega (arith, late, le)) le fails, is)
+          ⊎ (FailsEndFirst n (events_by last (events_by until all)) (events_at time (events_by until all))
+          × RolesAfterFailure n (events_by time (events_by until all)) roles)
+      by (inl (lowers, is)) = inl (events_so (LowersOneLink n) last time (omega (arith, late, le)) le lowers, is)
+      by (inr (fails, after)) = inr (
+        events_so (FailsEndFirst n) last time (omega (arith, late, le)) le fails,
+        subst (λ es. RolesAfterFailure n es roles) (sym (by_sooner time until all le)) after,
+      )
 
 pub short_bound : (d : DocumentState) (until time choice : ℕ) → time ≤ until → IsChoiceBound d time choice
     → IsChoiceBound (shortened until d) time choice

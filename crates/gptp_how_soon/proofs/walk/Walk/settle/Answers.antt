@@ -12,6 +12,7 @@ returns-clause-is c =
     c.args.paths
     c.as_slice-told.result.now c.as_slice-standings.result.now c.as_slice-used.result.now c.as_slice-new.result.now
     c.ready-ready.result c.heard.result c.way_span.result c.row_of.result c.times_by.result
+    c.up_is_used-all_used.result
     c.times_by.ensures.is c.row_of.ensures
     (c.in_ok-far.ensures ∙ ap (λ asked. asked && far_seen c.args.self.now) c.asks_who_is_far-asked_far.ensures)
     (c.in_ok-moved.ensures ∙ ap (λ asked. asked && moves_seen c.args.self.now) c.asks_who_is_moved-asked.ensures)
@@ -21,3 +22,4 @@ returns-clause-is c =
     c.as_slice-told.ensures.value c.as_slice-standings.ensures.value c.as_slice-used.ensures.value
     c.requires.paths
     (turned (is_some c.args.self.now.before) c.is_none-first.result c.is_none-first.ensures)
+    c.up_is_used-all_used.ensures
