@@ -5,6 +5,7 @@ use Rattle.gptp_system.specs.declared.input.Input.{Input as Lent}
 use Rattle.gptp_system.specs.declared.input.Input.TheVariants as lent
 use Rattle.gptp_system.specs.declared.sending.Sending.{Sending}
 use Rattle.gptp_setup.specs.declared.timer.Timer.{Timer}
+use Rattle.gptp_system.specs.Sends.{pathless_octets}
 use Rattle.gptp_system.specs.State.{SystemState}
 use Rattle.gptp_system.specs.Measuring.{ComesUp, GoesDown}
 use Rattle.gptp_system.specs.Announcing.{ChangesPriority}
@@ -17,11 +18,12 @@ pub data Input : Type 0 where
   Expires : (timer : Timer) → Input
   Priority : (value : ℕ) → Input
 
--- the input that a system is lent
+-- the input that a system is lent: a message that was sent is a frame of the octets that it has
 abbrev pub given : Lent → Input
 given (lent.PortUp p) = PortUp p
 given (lent.PortDown p) = PortDown p
 given (lent.Frame p octets) = Frame p octets.now
+given (lent.Sent p sent) = Frame p (pathless_octets sent.now)
 given (lent.Expires timer) = Expires timer
 given (lent.Priority value) = Priority value
 

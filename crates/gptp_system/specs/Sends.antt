@@ -1,13 +1,17 @@
 -- The messages that a system sends (IEEE 802.1AS-2020, 10.6 and 11.4): the fields that they have.
-use Rattle.std.specs.Prelude.{ℕ, ◌+◌, ◌%◌, ℤ, pos, Bool, true, false, List, [], ◌∷◌, if◌then◌else◌, ◌++◌, take, drop}
+use Rattle.std.specs.Prelude.{◌≡◌, ℕ, ◌+◌, ◌%◌, ℤ, pos, Bool, true, false, List, [], ◌∷◌, if◌then◌else◌, ◌++◌, take, drop}
 use Rattle.std.specs.Prelude.{nat_le}
 use Rattle.gptp_vector.specs.declared.port.PortId.{PortId}
 use Rattle.gptp_scaled.specs.Stamp.{Timestamp}
 use Rattle.gptp_messages.specs.declared.announce.AnnounceBody.{AnnounceBody}
 use Rattle.gptp_messages.specs.declared.head.Head.{Head}
+use Rattle.gptp_messages.specs.declared.message.Message.{Message}
+use Rattle.gptp_messages.specs.declared.message.Message.TheVariants as messages
+use Rattle.gptp_messages.specs.Grammar.{Written}
 use Rattle.gptp_pdelay.specs.declared.answer.Answer.{Answer}
 use Rattle.gptp_system.specs.declared.port.Port.{Port}
 use Rattle.gptp_system.specs.declared.sending.Sending.{Sending}
+use Rattle.gptp_system.specs.declared.sending.Body.{Body}
 use Rattle.gptp_system.specs.declared.sending.Body.TheVariants as bodies
 
 -- the header of a message that a port sends
@@ -64,6 +68,29 @@ response_follow_up own answer stamp rest = record {
   head = head_from own answer.sequence (pos rest) no_interval false;
   body = bodies.PdelayRespFollowUp stamp answer.requester;
 }
+
+-- the message is an Announce
+abbrev pub IsAnnounce : Body → Type 0
+IsAnnounce body = (announce : AnnounceBody) × (body ≡ bodies.Announce announce)
+
+-- The message of a send: an Announce has this path, that of its system as the call leaves it (10.3.9.23).
+abbrev pub sent_message : List ℕ → Head → Body → Message
+sent_message path head (bodies.Announce body) = messages.Announce (record { head = head; body = body; path = path })
+sent_message path head bodies.Sync = messages.Sync head
+sent_message path head (bodies.FollowUp origin rate) =
+    messages.FollowUp (record { head = head; origin = origin; rate = rate })
+sent_message path head bodies.PdelayReq = messages.PdelayReq head
+sent_message path head (bodies.PdelayResp stamp requester) =
+    messages.PdelayResp (record { head = head; stamp = stamp; requester = requester })
+sent_message path head (bodies.PdelayRespFollowUp stamp requester) =
+    messages.PdelayRespFollowUp (record { head = head; stamp = stamp; requester = requester })
+
+-- the message of a send without a path, and its octets
+abbrev pub pathless_message : Sending → Message
+pathless_message x = sent_message [] x.head x.body
+
+abbrev pub pathless_octets : Sending → List ℕ
+pathless_octets x = Written (pathless_message x)
 
 -- how many sends in front are of ports up to this one
 abbrev pub sends_up_to : ℕ → List Sending → ℕ

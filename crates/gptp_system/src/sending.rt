@@ -3,6 +3,8 @@
 ghost use Rattle.std.specs.Prelude.{◌≡◌, ◌<◌, ◌++◌, ◌∷◌, [], nat_le};
 ghost use Rattle.std.specs.List.{prefix_len};
 ghost use Rattle.arrayvec.specs.ArrayVec.{array_vec_len};
+ghost use Rattle.gptp_messages.specs.Frame.{PortFits};
+ghost use Rattle.gptp_messages.specs.Head.{HeadFits};
 ghost use Rattle.gptp_system.specs.declared.sending.Sending.{Sending};
 ghost use Rattle.gptp_system.specs.Sends.{with_send};
 
@@ -11,6 +13,7 @@ use gptp_messages::{AnnounceBody, Head};
 use gptp_scaled::{Rate, Stamp};
 use gptp_setup::MOST_PORTS;
 use gptp_vector::PortId;
+use std::marker::Model;
 
 /// A message that a port sends: its header, and what comes after it.
 #[derive(Clone, Copy, Debug, PartialEq, Eq, Default)]
@@ -54,6 +57,94 @@ pub enum Body {
         /// The requestingPortIdentity.
         requester: PortId,
     },
+}
+
+/// A message that was sent, as another port hears it without its octets: any but an Announce, whose path isn't part of
+/// a send. It is seen as the send.
+#[derive(Clone, Copy, Debug, PartialEq, Eq)]
+pub struct Sent {
+    sending: Sending,
+}
+
+impl Model for Sent {
+    ghost use Rattle.gptp_system.specs.declared.sending.Sending.{Sending as Send};
+
+    ghost Value = { Send };
+
+    ghost use Rattle.gptp_system.specs.Sends.{IsAnnounce};
+
+    ghost view = { λ s. s.sending };
+
+    ghost invariant = { λ s. IsAnnounce s.sending.body → ⊥ };
+
+    ghost inverse = { λ x. record { sending = x } };
+}
+
+/// Each field of the name of a port fits its octets.
+fn port_fits(port: PortId)
+    ensures { PortFits port }
+{
+    let _clock = u64::from(port.clock);
+}
+
+/// Each field of a header fits its octets.
+fn head_fits(head: &Head)
+    ensures { HeadFits head.now }
+{
+    port_fits(head.source);
+    let _sequence = head.sequence;
+    let _correction = head.correction;
+    let _log_interval = head.log_interval;
+}
+
+impl Sent {
+    ghost use Rattle.std.specs.Prelude.{◌≡◌, IfSome, IfNone};
+    ghost use Rattle.gptp_messages.specs.Grammar.{MessageFits};
+    ghost use Rattle.gptp_system.specs.Sends.{IsAnnounce, pathless_message};
+
+    /// What a port sent. `None` for an Announce.
+    pub fn of(sending: Sending) -> Option<Sent>
+        ensures is { IfSome result (λ sent. sent ≡ sending) }
+        ensures none { IfNone result (IsAnnounce sending.body) }
+    {
+        match sending.body {
+            Body::Announce(_) => None,
+            _ => Some(Sent { sending }),
+        }
+    }
+
+    /// The send.
+    pub fn sending(&self) -> &Sending
+        ensures is { result.now ≡ self.now }
+        ensures pathless { IsAnnounce result.now.body → ⊥ }
+    {
+        &self.sending
+    }
+
+    /// Each field fits its octets.
+    pub(crate) fn fits(&self)
+        ensures { MessageFits (pathless_message self.now) }
+    {
+        let sending = &self.sending;
+        head_fits(&sending.head);
+        match sending.body {
+            Body::Announce(_) => {}
+            Body::Sync => {}
+            Body::FollowUp { origin, rate } => {
+                let _seconds = origin.seconds();
+                let _q = rate.q();
+            }
+            Body::PdelayReq => {}
+            Body::PdelayResp { stamp, requester } => {
+                let _seconds = stamp.seconds();
+                port_fits(requester);
+            }
+            Body::PdelayRespFollowUp { stamp, requester } => {
+                let _seconds = stamp.seconds();
+                port_fits(requester);
+            }
+        }
+    }
 }
 
 /// The most sends of one call: four for each port.
