@@ -1,5 +1,5 @@
 -- A message that is heard is heard as its octets.
-use Rattle.std.proofs.Common.{◌≡◌, ℕ, List, [], ◌++◌, subst, inl}
+use Rattle.std.proofs.Common.{ℕ, List, [], subst, inl}
 use Rattle.std.proofs.lemmas.List.{append-nil}
 use Rattle.gptp_messages.specs.declared.message.Message.{Message}
 use Rattle.gptp_messages.specs.Grammar.{MessageFits, Reads, Written}

@@ -194,8 +194,7 @@ impl State {
                     stamp,
                     requester,
                 };
-                let (turned, answer) =
-                    self.hear_response_follow_up(port, &follow_up, now, outbox);
+                let (turned, answer) = self.hear_response_follow_up(port, &follow_up, now, outbox);
                 let touched = selected_if(turned);
                 Stepped { answer, touched }
             }

@@ -20,6 +20,7 @@ use std::test::Fail;
 const LINK: [End; 2] = [(0, 1), (1, 1)];
 
 /// Two systems that are equal: one is given octets, and the other what was sent.
+#[derive(Debug, Drop)]
 struct Pair {
     by_octets: System,
     by_message: System,
@@ -87,7 +88,7 @@ impl Pair {
 }
 
 /// What clock 1 sends at its port 1.
-fn sent(sequence: u16, two_step: bool, body: Body) -> Sending {
+fn sending(sequence: u16, two_step: bool, body: Body) -> Sending {
     Sending {
         port: 1,
         head: Head {
@@ -113,7 +114,7 @@ fn hear_all(
     rows: &[Row],
 ) -> Result<(), Fail> {
     for (sequence, two_step, body, answer) in rows {
-        let found = pair.hear(rt, alloc, sent(*sequence, *two_step, *body), now)?;
+        let found = pair.hear(rt, alloc, sending(*sequence, *two_step, *body), now)?;
         same_at(rt, &(now, sequence, body), found, *answer);
     }
     Ok(())
@@ -191,7 +192,7 @@ fn a_slave_port_hears_what_was_sent(rt: HostRuntime) -> Result<(), Fail> {
 
 #[test]
 fn an_announce_is_heard_with_its_path(rt: HostRuntime) -> Result<(), Fail> {
-    let announce = sent(0, false, Body::Announce(body(identity(246, 1), 0)));
+    let announce = sending(0, false, Body::Announce(body(identity(246, 1), 0)));
     same(&rt, Sent::of(announce), None);
     Ok(())
 }
