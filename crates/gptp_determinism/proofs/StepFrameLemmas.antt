@@ -18,7 +18,8 @@ use Rattle.gptp_system.specs.Facts.{IsSystem}
 use Rattle.gptp_system.specs.Input.{Input, IsTimely, Steps, PortUp, PortDown, Frame, Expires, Priority}
 use Rattle.gptp_system.specs.Measuring.{owed_at, request_of, RespondsIf}
 use Rattle.gptp_system.specs.Messages.{message_kind, AllAre, Announcing, AsksOnce}
-use Rattle.gptp_system.specs.Sends.{pdelay_response, response_follow_up, IsAnnounce}
+use Rattle.gptp_system.specs.Reacts.{IsAnnounce}
+use Rattle.gptp_system.specs.Sends.{pdelay_response, response_follow_up}
 use Rattle.gptp_system.specs.State.{clock, is_mine, own, SystemState}
 use Rattle.gptp_system.specs.Syncing.{follow_up_of, hop_of, is_leading, own_time, sync_of, syncs, told_by, RelaysBy, RelaysIf, SyncsIf}
 use Rattle.gptp_system.proofs.AnswerLemmas.{steps_react}

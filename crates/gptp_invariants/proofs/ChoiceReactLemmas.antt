@@ -18,10 +18,9 @@ use Rattle.gptp_system.specs.declared.sending.Sending.{Sending}
 use Rattle.gptp_system.specs.Facts.{AreHeld}
 use Rattle.gptp_setup.specs.Intervals.{interval_of}
 use Rattle.gptp_setup.specs.SettlingParams.{span_by}
-use Rattle.gptp_system.specs.Sends.{IsAnnounce}
 use Rattle.gptp_system.specs.State.{SystemState, clock}
 use Rattle.gptp_system.specs.Touch.{Touch, Hear, Tick, Grow, Enable, Disable, Other, HeardAs, PortHoldsInTouch}
-use Rattle.gptp_system.specs.Reacts.{HoldsOrIsDisabled, PortEnds, PortReacts, Reacts, PortAnnounces}
+use Rattle.gptp_system.specs.Reacts.{IsAnnounce, HoldsOrIsDisabled, PortEnds, PortReacts, Reacts, PortAnnounces}
 use Rattle.gptp_bmca_machine.specs.Frame.{Announce, Send}
 use Rattle.gptp_bmca_machine.specs.Station.{Reception as SeenReception, Mine, Received, Port as SeenPort}
 use Rattle.gptp_bmca_machine.specs.Reacts.{BecomesMaster, KeepsHeld as SeenIsKept, IsMasterAt, IsOwn, PortStep, StationReacts as SeenReacts, AnnouncesNow as SeenTells}

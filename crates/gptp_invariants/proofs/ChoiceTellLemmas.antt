@@ -16,8 +16,8 @@ use Rattle.gptp_system.specs.declared.sending.Body.{Body}
 use Rattle.gptp_system.specs.declared.sending.Body.TheVariants as bodies
 use Rattle.gptp_system.specs.declared.sending.Sending.{Sending}
 use Rattle.gptp_system.specs.Facts.{AreShown}
-use Rattle.gptp_system.specs.Reacts.{IsOwnAnnounce}
-use Rattle.gptp_system.specs.Sends.{announce_body, announcement, sent_message, IsAnnounce}
+use Rattle.gptp_system.specs.Reacts.{IsAnnounce, IsOwnAnnounce}
+use Rattle.gptp_system.specs.Sends.{announce_body, announcement, sent_message}
 use Rattle.gptp_system.specs.State.{SystemState, clock, own, trace}
 use Rattle.gptp_system.proofs.TypeLemmas.{type_is}
 use Rattle.gptp_system.specs.declared.port.Port.{Port}

@@ -15,10 +15,10 @@ use Rattle.gptp_roles.proofs.RoleLemmas.{held_after-kept, held_after-master, mas
 use Rattle.gptp_system.specs.declared.port.Port.{Port}
 use Rattle.gptp_system.specs.declared.sending.Sending.{Sending}
 use Rattle.gptp_system.specs.State.{SystemState, clock}
-use Rattle.gptp_system.specs.Sends.{announcement, IsAnnounce}
+use Rattle.gptp_system.specs.Sends.{announcement}
 use Rattle.gptp_system.specs.Selection.{Selects, announced_again, announcements, choosing, fresh_ports}
 use Rattle.gptp_system.specs.Facts.{IsAtRest}
-use Rattle.gptp_system.specs.Reacts.{HoldsOrIsDisabled, IsOwnAnnounce, PortEnds, PortAnnounces}
+use Rattle.gptp_system.specs.Reacts.{IsAnnounce, HoldsOrIsDisabled, IsOwnAnnounce, PortEnds, PortAnnounces}
 use Rattle.gptp_system.proofs.ChangedLemmas.{each_port-get}
 use Rattle.gptp_system.proofs.PortLemmas.{Marked, all_announced-get}
 

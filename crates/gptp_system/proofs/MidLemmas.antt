@@ -21,8 +21,7 @@ use Rattle.gptp_system.specs.Measuring.{down, held_if, held_turned, is_turned, s
 use Rattle.gptp_system.specs.Announcing.{aged_at, aged_by, compared, with_priority}
 use Rattle.gptp_system.specs.Facts.{AreShown, IsShown}
 use Rattle.gptp_system.specs.Touch.{Touch, Hear, Tick, Grow, Enable, Disable, Other, IsTurn, PortHoldsInTouch}
-use Rattle.gptp_system.specs.Reacts.{IsOwnAnnounce, PlaceReacts, PortEnds, Reacts, PortAnnounces}
-use Rattle.gptp_system.specs.Sends.{IsAnnounce}
+use Rattle.gptp_system.specs.Reacts.{IsAnnounce, IsOwnAnnounce, PlaceReacts, PortEnds, Reacts, PortAnnounces}
 use Rattle.gptp_system.proofs.ChangedLemmas.{Changed, change-get, number-get}
 use Rattle.gptp_system.proofs.EndLemmas.{Concludes, Ends}
 use Rattle.gptp_system.proofs.TimersChangedLemmas.{priority_clock}

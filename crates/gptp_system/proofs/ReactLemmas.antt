@@ -15,14 +15,14 @@ use Rattle.gptp_system.specs.declared.sending.Sending.{Sending}
 use Rattle.gptp_setup.specs.declared.timer.Timer.TheVariants as timers
 use Rattle.gptp_setup.specs.Intervals.{interval_of}
 use Rattle.gptp_system.specs.State.{SystemState, announce_due, clock, due, held_at, number, on_port, own, stamp_time, with_peer}
-use Rattle.gptp_system.specs.Sends.{announcement, with_send, IsAnnounce}
+use Rattle.gptp_system.specs.Sends.{announcement, with_send}
 use Rattle.gptp_system.specs.Selection.{Becomes, announced_again}
 use Rattle.gptp_system.specs.Measuring.{Turns, TurnsAndAsks, TurnsIf, asking, is_turned, request_of, turned}
 use Rattle.gptp_system.specs.Announcing.{AnnounceExpires, announced_at, announcement_at}
 use Rattle.gptp_system.specs.Syncing.{telling}
 use Rattle.gptp_system.specs.Facts.{AreShown, IsAtRest}
 use Rattle.gptp_system.specs.Touch.{Touch, Other, IsTurn}
-use Rattle.gptp_system.specs.Reacts.{HoldsOrIsDisabled, IsOwnAnnounce, PortEnds, Reacts, PortAnnounces}
+use Rattle.gptp_system.specs.Reacts.{IsAnnounce, HoldsOrIsDisabled, IsOwnAnnounce, PortEnds, Reacts, PortAnnounces}
 use Rattle.gptp_system.proofs.ChangedLemmas.{Changed, change-get}
 use Rattle.gptp_system.proofs.PortLemmas.{Marked, counted-get, with_sync}
 use Rattle.gptp_system.specs.Messages.{AllAre, Announcing, Asking, Kind, message_kind}

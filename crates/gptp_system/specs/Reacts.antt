@@ -2,16 +2,23 @@
 use Rattle.std.specs.Prelude.{◌≡◌, ◌≢◌, ◌⊎◌, ◌+◌, ℕ, suc, true, List, Some, slice_get}
 use Rattle.gptp_lists.specs.Members.{In}
 use Rattle.gptp_vector.specs.Vector.{lower, master_of}
+use Rattle.gptp_messages.specs.declared.announce.AnnounceBody.{AnnounceBody}
 use Rattle.gptp_receipt.specs.declared.held.Held.{Held}
 use Rattle.gptp_receipt.specs.declared.held.Held.TheVariants as helds
 use Rattle.gptp_receipt.specs.declared.held.Reception.{Reception}
 use Rattle.gptp_receipt.specs.Held.{received}
 use Rattle.gptp_system.specs.declared.port.Port.{Port}
+use Rattle.gptp_system.specs.declared.sending.Body.{Body}
+use Rattle.gptp_system.specs.declared.sending.Body.TheVariants as bodies
 use Rattle.gptp_system.specs.declared.sending.Sending.{Sending}
 use Rattle.gptp_setup.specs.Intervals.{interval_of}
 use Rattle.gptp_system.specs.State.{SystemState, clock, own}
-use Rattle.gptp_system.specs.Sends.{announcement, IsAnnounce}
+use Rattle.gptp_system.specs.Sends.{announcement}
 use Rattle.gptp_system.specs.Touch.{Touch, PortHoldsInTouch}
+
+-- the message is an Announce
+abbrev pub IsAnnounce : Body → Type 0
+IsAnnounce body = (announce : AnnounceBody) × (body ≡ bodies.Announce announce)
 
 -- port n announces, and does so again one announce interval later (10.3.16)
 pub record PortAnnounces (n now : ℕ) (q q' : Port) (sends : List Sending) : Type 0 where

@@ -1,5 +1,5 @@
 -- The messages that a system sends (IEEE 802.1AS-2020, 10.6 and 11.4): the fields that they have.
-use Rattle.std.specs.Prelude.{◌≡◌, ℕ, ◌+◌, ◌%◌, ℤ, pos, Bool, true, false, List, [], ◌∷◌, if◌then◌else◌, ◌++◌, take, drop}
+use Rattle.std.specs.Prelude.{ℕ, ◌+◌, ◌%◌, ℤ, pos, Bool, true, false, List, [], ◌∷◌, if◌then◌else◌, ◌++◌, take, drop}
 use Rattle.std.specs.Prelude.{nat_le}
 use Rattle.gptp_vector.specs.declared.port.PortId.{PortId}
 use Rattle.gptp_scaled.specs.Stamp.{Timestamp}
@@ -7,12 +7,13 @@ use Rattle.gptp_messages.specs.declared.announce.AnnounceBody.{AnnounceBody}
 use Rattle.gptp_messages.specs.declared.head.Head.{Head}
 use Rattle.gptp_messages.specs.declared.message.Message.{Message}
 use Rattle.gptp_messages.specs.declared.message.Message.TheVariants as messages
-use Rattle.gptp_messages.specs.Grammar.{Written}
 use Rattle.gptp_pdelay.specs.declared.answer.Answer.{Answer}
 use Rattle.gptp_system.specs.declared.port.Port.{Port}
 use Rattle.gptp_system.specs.declared.sending.Sending.{Sending}
 use Rattle.gptp_system.specs.declared.sending.Body.{Body}
 use Rattle.gptp_system.specs.declared.sending.Body.TheVariants as bodies
+use Rattle.gptp_system.specs.declared.sending.Sent.{Sent}
+use Rattle.gptp_system.specs.declared.sending.Sent.TheVariants as sents
 
 -- the header of a message that a port sends
 abbrev pub head_from : PortId → ℕ → ℤ → ℤ → Bool → Head
@@ -69,10 +70,6 @@ response_follow_up own answer stamp rest = record {
   body = bodies.PdelayRespFollowUp stamp answer.requester;
 }
 
--- the message is an Announce
-abbrev pub IsAnnounce : Body → Type 0
-IsAnnounce body = (announce : AnnounceBody) × (body ≡ bodies.Announce announce)
-
 -- The message of a send: an Announce has this path, that of its system as the call leaves it (10.3.9.23).
 abbrev pub sent_message : List ℕ → Head → Body → Message
 sent_message path head (bodies.Announce body) = messages.Announce (record { head = head; body = body; path = path })
@@ -85,12 +82,13 @@ sent_message path head (bodies.PdelayResp stamp requester) =
 sent_message path head (bodies.PdelayRespFollowUp stamp requester) =
     messages.PdelayRespFollowUp (record { head = head; stamp = stamp; requester = requester })
 
--- the message of a send without a path, and its octets
-abbrev pub pathless_message : Sending → Message
-pathless_message x = sent_message [] x.head x.body
-
-abbrev pub pathless_octets : Sending → List ℕ
-pathless_octets x = Written (pathless_message x)
+-- the message that was sent, whose path isn't needed
+abbrev pub message_sent : Sent → Message
+message_sent (sents.Sync head) = messages.Sync head
+message_sent (sents.PdelayReq head) = messages.PdelayReq head
+message_sent (sents.PdelayResp m) = messages.PdelayResp m
+message_sent (sents.FollowUp m) = messages.FollowUp m
+message_sent (sents.PdelayRespFollowUp m) = messages.PdelayRespFollowUp m
 
 -- how many sends in front are of ports up to this one
 abbrev pub sends_up_to : ℕ → List Sending → ℕ

@@ -3,12 +3,12 @@
 ghost use Rattle.std.specs.Prelude.{◌≡◌};
 
 use crate::answer::Answer;
-use crate::sending::{Body, Outbox, Sending, Sent};
+use crate::sending::{Outbox, Sent};
 use crate::state::State;
 use crate::timers_changed::{
     TimersChanged, asking_touches, heard_touches, is_used, selected_if, timed_if,
 };
-use gptp_messages::{FollowUp, Message, PdelayResp, PdelayRespFollowUp, decode};
+use gptp_messages::{Message, decode};
 use gptp_setup::Timer;
 
 /// What a system is given. Ports are named by their number, from 1.
@@ -62,9 +62,10 @@ impl State {
     ghost use Rattle.gptp_receipt.specs.declared.held.Held.TheVariants.{Disabled};
     ghost use Rattle.gptp_system.specs.Facts.{AreHeld, IsAtRest, IsSystem};
     ghost use Rattle.gptp_system.specs.Input.{given, Frame, IsTimely, Steps};
+    ghost use Rattle.gptp_messages.specs.Grammar.{Written};
     ghost use Rattle.gptp_setup.specs.Intervals.{IsMoment};
     ghost use Rattle.gptp_system.specs.Ready.{IsReady, state_of};
-    ghost use Rattle.gptp_system.specs.Sends.{IsAnnounce, pathless_message, pathless_octets};
+    ghost use Rattle.gptp_system.specs.Sends.{message_sent};
     ghost use Rattle.gptp_system.specs.State.{held_at, is_capable_at};
     ghost use Rattle.gptp_system.specs.Steps.{Expires, HearsFrame, HearsMessage, HasPortNumber, IsDue, IsTimerOf};
     ghost use Rattle.gptp_system.specs.TimersChanged.{MessageTouches, timer_touches, Touches};
@@ -139,62 +140,37 @@ impl State {
     }
 
     /// A port hears what another one sent.
-    fn hear_sending(
-        &mut self,
-        port: u8,
-        sending: &Sending,
-        now: u64,
-        outbox: &mut Outbox,
-    ) -> Stepped
+    fn hear_message(&mut self, port: u8, message: &Sent, now: u64, outbox: &mut Outbox) -> Stepped
         requires ready { IsReady (state_of self.old) }
         requires moment { IsMoment now }
         requires port { HasPortNumber (state_of self.old) port }
-        requires pathless { IsAnnounce sending.now.body → ⊥ }
         requires empty { outbox.old.items ≡ [] }
-        ensures step { HearsMessage port (pathless_message sending.now) now (state_of self.old)
+        ensures step { HearsMessage port (message_sent message.now) now (state_of self.old)
             (state_of self.new) outbox.new.items result.answer }
-        ensures touched { MessageTouches port (pathless_message sending.now) now (state_of self.old)
+        ensures touched { MessageTouches port (message_sent message.now) now (state_of self.old)
             (state_of self.new) result.answer result.touched }
         ensures ready { IsReady (state_of self.new) }
     {
-        match sending.body {
-            Body::Announce(_) => unreachable!(),
-            Body::Sync => Stepped {
-                answer: self.hear_sync(port, &sending.head, now),
+        match message {
+            Sent::Sync { head } => Stepped {
+                answer: self.hear_sync(port, head, now),
                 touched: TimersChanged::Nothing,
             },
-            Body::PdelayReq => Stepped {
-                answer: self.hear_request(port, &sending.head, now),
+            Sent::PdelayReq { head } => Stepped {
+                answer: self.hear_request(port, head, now),
                 touched: TimersChanged::One(Timer::Respond(port)),
             },
-            Body::PdelayResp { stamp, requester } => {
-                let response = PdelayResp {
-                    head: sending.head,
-                    stamp,
-                    requester,
-                };
-                Stepped {
-                    answer: self.hear_response(port, &response, now),
-                    touched: TimersChanged::Nothing,
-                }
-            }
-            Body::FollowUp { origin, rate } => {
-                let follow_up = FollowUp {
-                    head: sending.head,
-                    origin,
-                    rate,
-                };
-                let answer = self.hear_follow_up(port, &follow_up, now);
+            Sent::PdelayResp(response) => Stepped {
+                answer: self.hear_response(port, response, now),
+                touched: TimersChanged::Nothing,
+            },
+            Sent::FollowUp(follow_up) => {
+                let answer = self.hear_follow_up(port, follow_up, now);
                 let touched = timed_if(is_used(answer));
                 Stepped { answer, touched }
             }
-            Body::PdelayRespFollowUp { stamp, requester } => {
-                let follow_up = PdelayRespFollowUp {
-                    head: sending.head,
-                    stamp,
-                    requester,
-                };
-                let (turned, answer) = self.hear_response_follow_up(port, &follow_up, now, outbox);
+            Sent::PdelayRespFollowUp(follow_up) => {
+                let (turned, answer) = self.hear_response_follow_up(port, follow_up, now, outbox);
                 let touched = selected_if(turned);
                 Stepped { answer, touched }
             }
@@ -207,14 +183,14 @@ impl State {
         requires moment { IsMoment now }
         requires port { HasPortNumber (state_of self.old) port }
         requires empty { outbox.old.items ≡ [] }
-        ensures step { HearsFrame port (pathless_octets message.now) now (state_of self.old)
+        ensures step { HearsFrame port (Written (message_sent message.now)) now (state_of self.old)
             (state_of self.new) outbox.new.items result.answer }
-        ensures touches { Touches (Frame port (pathless_octets message.now)) result.touched (state_of self.old)
-            (state_of self.new) }
+        ensures touches { Touches (Frame port (Written (message_sent message.now))) result.touched
+            (state_of self.old) (state_of self.new) }
         ensures ready { IsReady (state_of self.new) }
     {
         message.fits();
-        self.hear_sending(port, message.sending(), now, outbox)
+        self.hear_message(port, message, now, outbox)
     }
 
     /// A timer runs out.

@@ -62,7 +62,7 @@ impl Pair {
             return Err(Fail::from("the link isn't up"));
         }
         let octets = octets_of(alloc, &self.by_octets, &sending)?;
-        let message = Sent::of(sending).ok_or("an Announce")?;
+        let message = Sent::of(&sending).ok_or("an Announce")?;
         let mut sends = Outbox::new();
         let mut other_sends = Outbox::new();
         let frame = Input::Frame {
@@ -193,6 +193,6 @@ fn a_slave_port_hears_what_was_sent(rt: HostRuntime) -> Result<(), Fail> {
 #[test]
 fn an_announce_is_heard_with_its_path(rt: HostRuntime) -> Result<(), Fail> {
     let announce = sending(0, false, Body::Announce(body(identity(246, 1), 0)));
-    same(&rt, Sent::of(announce), None);
+    same(&rt, Sent::of(&announce), None);
     Ok(())
 }
