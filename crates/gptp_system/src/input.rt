@@ -25,7 +25,7 @@ pub enum Input<'a> {
         /// The octets of the frame.
         octets: &'a [u8],
     },
-    /// A port hears a message that was sent. It is heard as a frame of its octets is, and they aren't written.
+    /// A port hears a message that was sent, as it hears a frame of its octets. None of them is written.
     Sent {
         /// The number of the port that hears it.
         port: u8,
@@ -41,7 +41,7 @@ pub enum Input<'a> {
 /// What a step of a system came to, besides what it sends.
 #[derive(Clone, Copy, Debug)]
 pub struct Stepped {
-    /// What became of a frame. An input that is no frame has no answer, and Used stands here.
+    /// What became of a frame, or of a message that was sent. Other inputs have no answer, and Used stands here.
     pub answer: Answer,
     /// The timers that the step can have set or stopped.
     pub touched: TimersChanged,
