@@ -2,7 +2,8 @@
 
 ghost use Rattle.std.specs.Prelude.{◌≡◌, ◌≤◌, ◌++◌, ◌∷◌, [], length, vec_capacity};
 ghost use Rattle.gptp_messages.specs.Grammar.{PathHasRoom, Written};
-ghost use Rattle.gptp_model.specs.Sends.{sent_message, written};
+ghost use Rattle.gptp_model.specs.Sends.{written};
+ghost use Rattle.gptp_system.specs.Sends.{sent_message};
 ghost use Rattle.gptp_world.specs.Buffers.{room_for};
 
 use gptp_messages::{
