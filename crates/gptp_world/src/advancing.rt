@@ -62,7 +62,7 @@ impl WorldCore {
         }
     }
 
-    /// The buffer of a frame that arrived stands ready for another.
+    /// The buffer of a frame that arrived, where its octets stand in one, stands ready for another.
     fn recycle(&mut self, done: Done)
         ensures { self.new ≡ self.old }
     {
@@ -72,7 +72,11 @@ impl WorldCore {
                 port: _,
                 answer: _,
                 frame,
-            } => self.parts.net.buffers.put_back(frame),
+            } => {
+                if let Some(octets) = frame.into_octets() {
+                    self.parts.net.buffers.put_back(octets);
+                }
+            }
             Done::Quiet => {}
         }
     }
