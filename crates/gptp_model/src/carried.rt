@@ -5,7 +5,7 @@ ghost use Rattle.gptp_model.specs.Carried.{first_type};
 ghost use Rattle.gptp_messages.specs.Grammar.{Written};
 ghost use Rattle.gptp_system.specs.Sends.{message_sent};
 
-use gptp_messages::{Message, encode};
+use gptp_messages::{Message, Refused, decode, encode};
 use gptp_system::{Input, Sent};
 use std::alloc::AllocError;
 use std::marker::Model;
@@ -64,10 +64,10 @@ fn type_of(message: &Sent) -> u8
 }
 
 impl Carried {
-    ghost use Rattle.std.specs.Prelude.{◌≡◌, ◌++◌, IfSome, OnOk, OnErr};
+    ghost use Rattle.std.specs.Prelude.{◌≡◌, ◌++◌, IfSome, IfOk, IfErr, OnOk, OnErr};
     ghost use Rattle.gptp_model.specs.Carried.{first_type};
     ghost use Rattle.gptp_system.specs.Input.{given, Frame};
-    ghost use Rattle.gptp_messages.specs.Grammar.{Written};
+    ghost use Rattle.gptp_messages.specs.Grammar.{Reads, RefusesFrame, Written};
     ghost use Rattle.gptp_system.specs.Sends.{message_sent};
 
     /// These octets.
@@ -105,6 +105,17 @@ impl Carried {
         match &self.form {
             Form::Octets(octets) => Some(octets.first()? % 16),
             Form::Message(sent) => Some(type_of(sent)),
+        }
+    }
+
+    /// What its octets read as. Of a message that was sent none is written.
+    pub fn read(&self) -> Result<Message<'_>, Refused>
+        ensures read { IfOk result (Reads self.now.items) }
+        ensures refused { IfErr result (RefusesFrame self.now.items) }
+    {
+        match &self.form {
+            Form::Octets(octets) => decode(octets),
+            Form::Message(sent) => Ok(sent.message()),
         }
     }
 

@@ -26,7 +26,7 @@ fn write_done<K: Sink>(alloc: Global, sink: &mut K, at: u64, done: &Done) -> Res
             port,
             answer,
             frame,
-        } => write_frame_line(alloc, sink, at, *clock, *port, *answer, frame.as_slice()),
+        } => write_frame_line(alloc, sink, at, *clock, *port, *answer, frame),
     }
 }
 

@@ -11,7 +11,7 @@ ghost use Rattle.gptp_system.specs.declared.sending.Sending.{Sending};
 ghost use Rattle.gptp_system.specs.Sends.{with_send};
 
 use arrayvec::ArrayVec;
-use gptp_messages::{AnnounceBody, FollowUp, Head, PdelayResp, PdelayRespFollowUp};
+use gptp_messages::{AnnounceBody, FollowUp, Head, Message, PdelayResp, PdelayRespFollowUp};
 use gptp_scaled::{Rate, Stamp};
 use gptp_setup::MOST_PORTS;
 use gptp_vector::PortId;
@@ -119,7 +119,7 @@ fn follow_up_fits(follow_up: &FollowUp)
 
 impl Sent {
     ghost use Rattle.std.specs.Prelude.{◌≡◌, ℕ, List, IfSome, IfNone};
-    ghost use Rattle.gptp_messages.specs.Grammar.{MessageFits};
+    ghost use Rattle.gptp_messages.specs.Grammar.{MessageFits, Reads, Written};
     ghost use Rattle.gptp_system.specs.Reacts.{IsAnnounce};
     ghost use Rattle.gptp_system.specs.Sends.{message_sent, sent_message};
 
@@ -150,6 +150,28 @@ impl Sent {
                 }))
             }
         }
+    }
+
+    /// The same as a message.
+    fn as_message(&self) -> Message<'_>
+        ensures { result ≡ message_sent self.now }
+    {
+        match self {
+            Sent::Sync { head } => Message::Sync { head: *head },
+            Sent::PdelayReq { head } => Message::PdelayReq { head: *head },
+            Sent::PdelayResp(response) => Message::PdelayResp(*response),
+            Sent::FollowUp(follow_up) => Message::FollowUp(*follow_up),
+            Sent::PdelayRespFollowUp(response) => Message::PdelayRespFollowUp(*response),
+        }
+    }
+
+    /// The message, which its octets read as.
+    pub fn message(&self) -> Message<'_>
+        ensures is { result ≡ message_sent self.now }
+        ensures reads { Reads (Written (message_sent self.now)) result }
+    {
+        self.fits();
+        self.as_message()
     }
 
     /// Each field fits its octets.

@@ -758,7 +758,7 @@ impl Watch {
                 frame,
                 ..
             } => {
-                let compared = compared_by_frame(*port, frame.as_slice());
+                let compared = compared_by_frame(*port, frame);
                 self.see_system(text, world, at, *clock, received, compared)
             }
         }
