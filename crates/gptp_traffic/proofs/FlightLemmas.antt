@@ -133,14 +133,6 @@ many-lanes flights n many =
 abbrev pub due_of : FlightState → ℕ
 due_of f = f.due
 
-abbrev pub octets_of : FlightState → List ℕ
-octets_of f = f.octets
-
-first-octets : (fs : List FlightState)
-    → option_map octets_of (slice_get fs 0) ≡ option_map (λ (f : Frame). f.octets) (first_frame (map flight_frame fs))
-first-octets [] = refl
-first-octets (f ∷ fs) = refl
-
 first-due : (fs : List FlightState)
     → option_map due_of (slice_get fs 0) ≡ option_map (λ (f : Frame). f.due) (first_frame (map flight_frame fs))
 first-due [] = refl
@@ -160,14 +152,6 @@ pub first-due_at : (flights : QueuesState FlightState) (lane : ℕ)
 first-due_at flights lane =
     first-due (queue_at lane flights)
     ∙ ap (λ fs. option_map (λ (f : Frame). f.due) (first_frame fs))
-    (sym (at-mapped flight_frame flights.queues lane))
-
-pub first-octets_at : (flights : QueuesState FlightState) (lane : ℕ)
-    → option_map octets_of (slice_get (queue_at lane flights) 0)
-    ≡ option_map (λ (f : Frame). f.octets) (first_frame (slice_index_or (frames_of flights) lane []))
-first-octets_at flights lane =
-    first-octets (queue_at lane flights)
-    ∙ ap (λ fs. option_map (λ (f : Frame). f.octets) (first_frame fs))
     (sym (at-mapped flight_frame flights.queues lane))
 
 pub last-due_at : (flights : QueuesState FlightState) (lane : ℕ)

@@ -1,6 +1,6 @@
 //! What is pending in a world.
 
-ghost use Rattle.std.specs.Prelude.{◌≡◌, ℕ, ◌+◌, ◌*◌, ◌<◌, ◌≤◌, [], ◌∷◌, ◌++◌, drop, length, slice_index_or, slice_set, Option, Some, IsOk, IfOk, OnOk, IfSome, IfNone};
+ghost use Rattle.std.specs.Prelude.{◌≡◌, ℕ, ◌+◌, ◌*◌, ◌<◌, ◌≤◌, [], ◌∷◌, ◌++◌, drop, length, slice_index_or, slice_set, Option, IsOk, IfOk, OnOk, IfSome, IfNone};
 ghost use Rattle.std.specs.List.{AllByRecursion};
 ghost use Rattle.gptp_model.specs.Item.{timer_port};
 ghost use Rattle.gptp_model.specs.Pending.{arrival_place, timer_time, put, set_due, times_of_item, without, without_first_entry, IsKnownItem, IsNext};
@@ -357,18 +357,6 @@ impl Pending {
         ensures room { self.old.room ≤ self.new.room }
     {
         while self.take_arrival(link, direction).is_some() {}
-    }
-
-    /// The oldest frame in flight in a direction of a link.
-    pub fn oldest(&self, link: usize, direction: Direction) -> Option<&Carried>
-        requires { link < self.now.links }
-        ensures some { IfSome result (λ carried. Some carried.now.items ≡ option_map (λ f. f.octets) (first_frame (frames_at link direction self.now.frames))) }
-        ensures no_frame { IfNone result (frames_at link direction self.now.frames ≡ []) }
-    {
-        match self.flights.first(arrival_place(link, direction)) {
-            Some(flight) => Some(&flight.carried),
-            None => None,
-        }
     }
 
     /// When the oldest frame in flight in a direction of a link is due, in ns.

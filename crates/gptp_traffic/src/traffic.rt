@@ -192,14 +192,6 @@ impl Traffic {
             .unwrap()
     }
 
-    /// The oldest frame of a lane, which is due at some time. It stays in flight.
-    pub fn oldest(&self, lane: Lane) -> &Carried
-        requires { (now : ℕ) × AtPlace lane.link self.now.net (IsOldestDue lane.direction now) }
-        ensures { (channel : Channel) → slice_get self.now.net.channels lane.link ≡ Some channel → Some result.now.items ≡ option_map (λ f. f.octets) (first_frame (world_queue lane.direction channel)) }
-    {
-        self.pending.oldest(lane.link, lane.direction).unwrap()
-    }
-
     /// When the oldest frame of a lane is due, in ns, if any is in flight there.
     pub fn next_due(&self, lane: Lane) -> Option<u64>
         requires { lane.link < length self.now.net.channels }
