@@ -1,6 +1,7 @@
 mod TimesLemmas
 mod NamedLemmas
 mod KindLemmas
+mod ToldLemmas
 mod MoreLemmas
 mod GainedLemmas
 mod UnmovedLemmas
@@ -8,8 +9,12 @@ mod LoweredLemmas
 mod FailedLemmas
 mod CutOffLemmas
 mod TurnedLemmas
+mod RowBoundLemmas
+mod RowReasonLemmas
+mod StartRowLemmas
 mod RowLemmas
-pub mod ChoiceLemmas
+pub mod AnyLossLemmas
+mod ChoiceLemmas
 pub mod StepLemmas
 mod SettledLemmas
 pub mod EndLemmas
