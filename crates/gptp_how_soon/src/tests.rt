@@ -410,7 +410,7 @@ fn a_system_that_a_link_moves_alone_turns_within_two_ways(rt: HostRuntime) -> Re
             "a system is cut off",
             &["a", "b", "c"] as &[&str],
             &[("a", "1", "b", "1"), ("a", "2", "c", "1")] as &[(&str, &str, &str, &str)],
-            0,
+            820,
         ),
     ] {
         let times = cut(rt.alloc(), clocks, links)?;
@@ -437,11 +437,11 @@ fn a_far_end_that_fails_costs_the_choice_nothing(rt: HostRuntime) -> Result<(), 
             settling: Some(Settling {
                 choice: 0,
                 roles: 11_000_000_000,
-                sound: 14_000_000_820,
-                rest: 14_000_001_230,
+                sound: 11_000_000_000,
+                rest: 11_000_000_410,
                 exact_from: 41_000_005_400,
             }),
-            watch: 15_000_001_231,
+            watch: 12_000_005_400,
         })
     );
     Ok(())
@@ -622,7 +622,7 @@ fn rests(times: &[SettlingTime], at: u64, next: u64) -> Option<(u64, u64)>
 }
 
 #[test]
-fn events_come_from_rest_soon_after_a_far_end_is_lost(rt: HostRuntime) -> Result<(), Fail> {
+fn events_come_from_rest_soon_after_a_loss(rt: HostRuntime) -> Result<(), Fail> {
     // The link from b to c goes down first; then b is the far end of its own link, and a of none.
     for (case, events, rest, next, choice) in [
         (
@@ -640,18 +640,32 @@ fn events_come_from_rest_soon_after_a_far_end_is_lost(rt: HostRuntime) -> Result
             820,
         ),
         (
+            "d loses its power, and cuts c off",
+            "[[event]]\nat = 100000000000\nkind = \"fail\"\nclock = \"000000000000000d\"\n[[event]]\nat = 100000000000\nkind = \"link_down\"\nclock = \"000000000000000d\"\nport = 1\n[[event]]\nat = 100000000000\nkind = \"link_down\"\nclock = \"000000000000000d\"\nport = 2\n[[event]]\nat = 102000000000\nkind = \"recover\"\nclock = \"000000000000000d\"\n",
+            1_000_000_820,
+            102_000_000_000,
+            410,
+        ),
+        (
             "b hangs",
-            "[[event]]\nat = 100000000000\nkind = \"fail\"\nclock = \"000000000000000b\"\n[[event]]\nat = 114500000000\nkind = \"recover\"\nclock = \"000000000000000b\"\n",
-            14_000_001_230,
-            114_500_000_000,
+            "[[event]]\nat = 100000000000\nkind = \"fail\"\nclock = \"000000000000000b\"\n[[event]]\nat = 111500000000\nkind = \"recover\"\nclock = \"000000000000000b\"\n",
+            11_000_000_410,
+            111_500_000_000,
             3_000_003_050,
         ),
         (
             "d is left behind its link, which was nearer",
             "[[event]]\nat = 100000000000\nkind = \"link_down\"\nclock = \"000000000000000d\"\nport = 2\n[[event]]\nat = 101000000000\nkind = \"link_up\"\nclock = \"000000000000000d\"\nport = 2\n",
-            15_000_000_820,
+            7_000_001_640,
             101_000_000_000,
             15_000_002_870,
+        ),
+        (
+            "d is left behind its link, and then comes back",
+            "[[event]]\nat = 100000000000\nkind = \"link_down\"\nclock = \"000000000000000d\"\nport = 2\n[[event]]\nat = 107000001641\nkind = \"link_up\"\nclock = \"000000000000000d\"\nport = 2\n",
+            7_000_001_640,
+            107_000_001_641,
+            1_000_003_050,
         ),
     ] {
         let mut text = String::new(rt.alloc());
@@ -666,6 +680,19 @@ fn events_come_from_rest_soon_after_a_far_end_is_lost(rt: HostRuntime) -> Result
             "{case}"
         );
     }
+    Ok(())
+}
+
+#[test]
+fn events_come_from_rest_soon_after_lost_power(rt: HostRuntime) -> Result<(), Fail> {
+    let times = ring(
+        rt.alloc(),
+        "[[event]]\nat = 30000000000\nkind = \"fail\"\nclock = \"000000000000000d\"\n[[event]]\nat = 30000000000\nkind = \"link_down\"\nclock = \"000000000000000d\"\nport = 1\n[[event]]\nat = 30000000000\nkind = \"link_down\"\nclock = \"000000000000000d\"\nport = 2\n[[event]]\nat = 33000000000\nkind = \"recover\"\nclock = \"000000000000000d\"\n",
+    )?;
+    assert_eq!(rt;
+        rests(&times, 30_000_000_000, 33_000_000_000),
+        Some((2_000_001_230, 820))
+    );
     Ok(())
 }
 
