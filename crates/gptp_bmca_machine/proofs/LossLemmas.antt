@@ -40,7 +40,7 @@ module _ (says : Spelling) (g : Snapshot) (n : Network) (left : IsWhatIsLeft g n
   known_in now s is = left.systems (station_system s) is.known
 
   -- all that the station holds fits
-  abbrev StationFits : Station → Type 0
+  abbrev pub StationFits : Station → Type 0
   StationFits s = (place : ℕ) (r : Reception) → HoldsAt s place r → CameFits g s.clock (suc place) r
 
   -- what a live system says, over a link to u, fits u
@@ -99,7 +99,7 @@ module _ (says : Spelling) (g : Snapshot) (n : Network) (left : IsWhatIsLeft g n
             let more : a.steps ≡ suc port.r.said.steps = own.steps ∙ port.steps in
             omega (arith, length-append port.r.said.path (s.clock ∷ []))
 
-    flight_fits : (l : Lane) → l.from ≡ port_of s.clock p → Joins g l.from l.to → FlightFits g l a
+    pub flight_fits : (l : Lane) → l.from ≡ port_of s.clock p → Joins g l.from l.to → FlightFits g l a
     flight_fits l from joins = record {
       joins = joins;
       source = own.source ∙ sym from;

@@ -76,10 +76,10 @@ StillChoose g n w d = (v : ℕ) (best : System) (s : Station) → slice_get w.st
 -- ---- distances of unmoved systems
 
 module _ (g : Snapshot) (n : Network) (wf : IsWellFormed n.graph) (left : IsWhatIsLeft g n) where
-  adjacent_before : (v x : ℕ) → Adjacent n.graph v x → Adjacent g v x
+  pub adjacent_before : (v x : ℕ) → Adjacent n.graph v x → Adjacent g v x
   adjacent_before v x (m, k, joins) = (m, k, left.links (port_of v m) (port_of x k) joins)
 
-  live_before : (v : ℕ) → In v (clocks n.graph) → In v (clocks g)
+  pub live_before : (v : ℕ) → In v (clocks n.graph) → In v (clocks g)
   live_before v known =
       let (s, here, clock) = systems.system_of n.graph v known in
       subst (λ c. In c (clocks g)) clock (systems.In-clocks g s (left.systems s here))
@@ -113,7 +113,7 @@ module _ (g : Snapshot) (n : Network) (wf : IsWellFormed n.graph) (left : IsWhat
               omega arith
 
   -- an unmoved system has an unmoved neighbour that is nearer by one, on a link that is left
-  nearer_unmoved : (v d : ℕ) (best : System) → Unmoved g n v → IsBest g v best → IsDistance g v (suc d)
+  pub nearer_unmoved : (v d : ℕ) (best : System) → Unmoved g n v → IsBest g v best → IsDistance g v (suc d)
       → (x : ℕ) × Adjacent n.graph v x × IsDistance g x d × Unmoved g n x
   nearer_unmoved v d best unmoved is_best here = go (nearer_neighbour n.graph v d wf (unmoved.far (suc d) here))
     where
@@ -188,7 +188,7 @@ module _ (g : Snapshot) (n : Network) (wf : IsWellFormed n.graph) (left : IsWhat
   calm : Calm n w
   calm = kept.calm
 
-  clear_at : (i : ℕ) (s : Station) → slice_get w.stations i ≡ Some s → s.live ≡ true → IsClear g s
+  pub clear_at : (i : ℕ) (s : Station) → slice_get w.stations i ≡ Some s → s.live ≡ true → IsClear g s
   clear_at i s at live = record {
     rest = (calm.stations i s at live).at_rest;
     known = left.systems (station_system s) (calm.facts.stations i s at live).known;
@@ -196,7 +196,7 @@ module _ (g : Snapshot) (n : Network) (wf : IsWellFormed n.graph) (left : IsWhat
   }
 
   -- where a system of the snapshot stands
-  station_of : (v : ℕ) → In v (clocks n.graph)
+  pub station_of : (v : ℕ) → In v (clocks n.graph)
       → (s : Station) × (slice_get w.stations (n.place v) ≡ Some s) × (s.live ≡ true) × (s.clock ≡ v)
   station_of v known =
       let (x, live, clock) = systems.system_of n.graph v known in
@@ -207,21 +207,21 @@ module _ (g : Snapshot) (n : Network) (wf : IsWellFormed n.graph) (left : IsWhat
         ap (λ (y : System). y.clock) has.is ∙ clock,
       )
 
-  is_station : (v : ℕ) (s : Station) → In v (clocks n.graph) → slice_get w.stations (n.place v) ≡ Some s
+  pub is_station : (v : ℕ) (s : Station) → In v (clocks n.graph) → slice_get w.stations (n.place v) ≡ Some s
       → (s.live ≡ true) × (s.clock ≡ v)
   is_station v s known at =
       let (x, there, live, clock) = station_of v known in
       let same : x ≡ s = same_there w.stations (n.place v) x s there at in
       (subst (λ (y : Station). y.live ≡ true) same live, subst (λ (y : Station). y.clock ≡ v) same clock)
 
-  stands : (v : ℕ) → In v (clocks n.graph) → StandsAt w v (n.place v)
+  pub stands : (v : ℕ) → In v (clocks n.graph) → StandsAt w v (n.place v)
   stands v known i m at = (
     λ here. (is_station v m known (subst (λ j. slice_get w.stations j ≡ Some m) here at)).1,
     λ clock. calm.placed i m at ∙ ap n.place clock,
   )
 
   -- a port of a link is on
-  capable_at : (c i : ℕ) (to : PortIdentity) (s : Station) (port : Port) → In c (clocks n.graph)
+  pub capable_at : (c i : ℕ) (to : PortIdentity) (s : Station) (port : Port) → In c (clocks n.graph)
       → Joins n.graph (port_of c (suc i)) to → slice_get w.stations (n.place c) ≡ Some s
       → slice_get s.ports i ≡ Some port → port.held ≢ Disabled
   capable_at c i to s port known joins at there =
@@ -232,7 +232,7 @@ module _ (g : Snapshot) (n : Network) (wf : IsWellFormed n.graph) (left : IsWhat
       linked
 
   -- a linked port of a live system stands at its place
-  port_there : (v p : ℕ) (to : PortIdentity) (s : Station) → slice_get w.stations (n.place v) ≡ Some s
+  pub port_there : (v p : ℕ) (to : PortIdentity) (s : Station) → slice_get w.stations (n.place v) ≡ Some s
       → Joins n.graph (port_of v (suc p)) to → (q : Port) × (slice_get s.ports p ≡ Some q)
   port_there v p to s at joins = there_within s.ports p within
     where
@@ -365,7 +365,7 @@ module _ (g : Snapshot) (n : Network) (wf : IsWellFormed n.graph) (left : IsWhat
                 ]
 
     -- the system that hears is ready
-    hears_settled : (s : Station) (pu : Port) → slice_get w.stations (n.place u) ≡ Some s
+    pub hears_settled : (s : Station) (pu : Port) → slice_get w.stations (n.place u) ≡ Some s
         → slice_get s.ports q ≡ Some pu → HearsSettled (still n d best v p u q) pu
     hears_settled s pu at port = go (is_station u s to_known at)
       where
@@ -392,7 +392,7 @@ module _ (g : Snapshot) (n : Network) (wf : IsWellFormed n.graph) (left : IsWhat
                 (subst (λ c. Joins g came.from (port_of c (suc q))) clock came.joins)) back_before
 
     -- what the machine keeps of a link holds of it
-    ends : Ends (still n d best v p u q) w
+    pub ends : Ends (still n d best v p u q) w
     ends = record {
       in_time = omega arith;
       claimed = omega arith;
@@ -431,7 +431,7 @@ module _ (g : Snapshot) (n : Network) (wf : IsWellFormed n.graph) (left : IsWhat
 
 module _ (says : Spelling) (g : Snapshot) (n : Network) (wf : IsWellFormed n.graph) (left : IsWhatIsLeft g n) where
   -- those that its links lead to hold what an unmoved system tells
-  told : (w : MachineState) (kept : IsAfterLoss n w) (all : ReceivedFits g w) (d : ℕ) (best : System)
+  pub told : (w : MachineState) (kept : IsAfterLoss n w) (all : ReceivedFits g w) (d : ℕ) (best : System)
       (v p u q : ℕ) → d < 255
       → LeadsOn g n d best v p u q → StillChoose g n w d → LinkSettles says (still n d best v p u q) w
       → (s : Station) → slice_get w.stations (n.place u) ≡ Some s
@@ -468,7 +468,7 @@ module _ (says : Spelling) (g : Snapshot) (n : Network) (wf : IsWellFormed n.gra
           (r, (pu, pu_at, holds), final)
 
   -- an unmoved system chooses as before
-  chooses_still : (w : MachineState) (kept : IsAfterLoss n w) (all : ReceivedFits g w) (d : ℕ)
+  pub chooses_still : (w : MachineState) (kept : IsAfterLoss n w) (all : ReceivedFits g w) (d : ℕ)
       → ((e : ℕ) → e < d → StillSettles says g n e w) → d < 255 → StillChoose g n w d
   chooses_still w kept all zero levels near v best s at unmoved is_best here =
       go (is_station g n wf left w kept all v s unmoved.live at)
@@ -518,7 +518,7 @@ module _ (says : Spelling) (g : Snapshot) (n : Network) (wf : IsWellFormed n.gra
   module _ (w w' : MachineState) (kept : IsAfterLoss n w) (kept' : IsAfterLoss n w') (all : ReceivedFits g w)
       (all' : ReceivedFits g w')
       (step : MachineSteps says w w') (levels : (d : ℕ) → StillSettles says g n d w) where
-    level_kept : (d : ℕ) → ((e : ℕ) → e < d → StillSettles says g n e w') → StillSettles says g n d w'
+    pub level_kept : (d : ℕ) → ((e : ℕ) → e < d → StillSettles says g n e w') → StillSettles says g n d w'
     level_kept d below best v p u q near leads =
         link_kept says (still n d best v p u q) w w'
         (ends g n wf left w kept all d best v p u q near leads
@@ -537,7 +537,7 @@ module _ (says : Spelling) (g : Snapshot) (n : Network) (wf : IsWellFormed n.gra
         to_u : In u (clocks n.graph)
         to_u = Joins-clock n.graph (port_of u (suc q)) (port_of v (suc p)) wf back
 
-    levels_below : (d e : ℕ) → e < d → StillSettles says g n e w'
+    pub levels_below : (d e : ℕ) → e < d → StillSettles says g n e w'
     levels_below zero e h = absurd (omega arith)
     levels_below (suc d) e h = elim (dec_lt e d) [
       | yes less ↦ levels_below d e less
@@ -561,7 +561,7 @@ module _ (says : Spelling) (g : Snapshot) (n : Network) (wf : IsWellFormed n.gra
 
 -- ---- as the loss finds it
 
-still_stays : (says : Spelling) (n : Network) (d : ℕ) (best : System) (v p u q announce : ℕ) (held : Held)
+pub still_stays : (says : Spelling) (n : Network) (d : ℕ) (best : System) (v p u q announce : ℕ) (held : Held)
     (fs : List AnnounceFrame)
     → FinalAnnounceStays says (wiring n d best v p u q) announce held fs
     → FinalAnnounceStays says (still n d best v p u q) announce held fs

@@ -1,8 +1,6 @@
 -- An act that is ready is done with some draws of a fate.
-use Rattle.std.proofs.Common.{◌≡◌, ◌≤◌, ℕ, Bool, true, false, if◌then◌else◌, List, [], ◌∷◌, length, Option, Some, None, slice_get, slice_set, refl, sym, ap, subst, ◌∙◌, arith}
-use Rattle.std.specs.Global.{Vec}
+use Rattle.std.proofs.Common.{◌≡◌, ◌≤◌, ℕ, Bool, true, false, if◌then◌else◌, List, [], ◌∷◌, Option, Some, None, slice_get, slice_set, refl, sym, ap, subst, ◌∙◌, arith}
 use Rattle.std.specs.List.{AllByRecursion}
-use denote.RawPtr.{null_ptr}
 use Rattle.gptp_lists.proofs.PlaceLemmas.{get-set_all}
 use Rattle.gptp_links.specs.declared.bounds.Bounds.{Bounds}
 use Rattle.gptp_links.specs.declared.link.Direction.{Direction}
@@ -38,18 +36,6 @@ use Rattle.gptp_determinism.proofs.ComeLemmas.{comes_from, comes_so, comes_witho
 use Rattle.gptp_determinism.proofs.SendExistLemmas.{queue_frames, HasFrames}
 
 -- ---- a delivery
-
--- the octets of a frame as they stand in memory
-abbrev stored : (octets : List ℕ) → length octets ≤ 2116 → Vec ℕ
-stored octets few = record {
-  ptr = null_ptr;
-  len = length octets;
-  cap = length octets;
-  alloc = record { memory = record { seal = tt } };
-  items = octets;
-  ok = (refl, omega arith);
-  small = omega (arith, few);
-}
 
 -- the port at the end of a link is one of a system
 receiving_end : (w : WorldState) (link : ℕ) (direction : Direction) (channel : Channel) → HaveEnds w
@@ -156,7 +142,7 @@ module _ {F : Type 0} (answers : Bounds → ℕ → F → Option ℕ → F → T
       tells : (answer : Option Answer) (draws : List Draw) (v : WorldState)
           → Hears end.place port octets emptied draws answer v → IsDelivered link direction w draws v
       tells answer draws v hears = (
-        Heard (receiver direction channel).clock port answer (stored octets frames.0.1),
+        Heard (receiver direction channel).clock port answer (record { items = octets }),
         record {
           channel = channel;
           octets = octets;

@@ -17,11 +17,12 @@ use Rattle.gptp_links.specs.Fate.{Draw, Draws}
 use Rattle.gptp_links.specs.Queue.{due_after, frame, newest_due, Frame}
 use Rattle.gptp_system.specs.declared.port.Port.{Port}
 use Rattle.gptp_system.specs.declared.sending.Sending.{Sending}
+use Rattle.gptp_system.specs.Sends.{sent_message}
 use Rattle.gptp_system.specs.State.{SystemState, clock, is_mine, own as port_of, trace}
 use Rattle.gptp_system.specs.Syncing.{follow_up_of, sync_of, syncs, told_by}
 use Rattle.gptp_model.specs.declared.item.Item.TheVariants.{Arrival}
 use Rattle.gptp_model.specs.Pending.{put}
-use Rattle.gptp_model.specs.Sends.{entered, sent_message, written, IsUnlinkedPort, SendsAll, SendsOne}
+use Rattle.gptp_model.specs.Sends.{entered, written, IsUnlinkedPort, SendsAll, SendsOne}
 use Rattle.gptp_model.specs.World.{Channel, Net, receiver, sender, with_queue, world_queue}
 use Rattle.gptp_model.proofs.StayLemmas.{carry_join, sends_one_carry}
 use Rattle.gptp_determinism.specs.BesideTime.{KnowsStamp, SaySame, beside_time, follow_up_beside}

@@ -34,10 +34,10 @@ use Rattle.gptp_system.specs.declared.sending.Sending.{Sending}
 use Rattle.gptp_system.specs.Facts.{IsSystem}
 use Rattle.gptp_system.specs.Ready.{IsReadyPort}
 use Rattle.gptp_system.specs.Reacts.{IsOwnAnnounce}
-use Rattle.gptp_system.specs.Sends.{announcement}
+use Rattle.gptp_system.specs.Sends.{announcement, sent_message}
 use Rattle.gptp_system.specs.State.{clock, own, trace, SystemState}
 use Rattle.gptp_system.proofs.SystemLemmas.{system_slave}
-use Rattle.gptp_model.specs.Sends.{sent_message, written}
+use Rattle.gptp_model.specs.Sends.{written}
 use Rattle.gptp_theorem.proofs.SettlingInvariantLemmas.{each_there}
 use Rattle.gptp_determinism.specs.GoingOn.{AllAreOctets, AreOfFrame}
 

@@ -27,6 +27,7 @@ use Rattle.gptp_timeline.specs.Laws.{AreRoots}
 use Rattle.gptp_timeline.specs.declared.ends.LastStretches.{LastStretches}
 use Rattle.gptp_timeline_laws.proofs.RootsSoonLemmas.{bound_follows, told_bound}
 use Rattle.gptp_timeline_laws.proofs.ShortenedLemmas.{playable_by, shortened}
+use Rattle.gptp_scenario.specs.Network.{IsNetwork}
 use Rattle.gptp_timeline.proofs.PastLemmas.{all_past, by_sooner, PastBy}
 use Rattle.gptp_faults.specs.Cables.{cables_after}
 use Rattle.gptp_faults.specs.CaseEvents.{EventsState}
@@ -46,6 +47,7 @@ use Rattle.gptp_faults.proofs.EventsLemmas.{any_delay, has_events, HasEvents}
 use Rattle.gptp_faults.proofs.PlayableLemmas.{can_happen, case_playable}
 use Rattle.gptp_faults.proofs.RefusalLemmas.{in_time_of, IsInTime, not_refused}
 use Rattle.gptp_faults.proofs.ReturnLemmas.{are_last, by_fault, whole_network}
+use Rattle.gptp_faults.proofs.RunLemmas.{failed_are}
 use Rattle.gptp_faults.proofs.SeededLemmas.{settling_same}
 
 -- ---- two lists, member by member
@@ -113,15 +115,17 @@ watched_longer (t ∷ ts) at s each is = by (t.at == at) is (watched_longer ts a
     by false is rest = rest is
 
 -- so by default a case stays down for longer than that
-stays_longer : (d : DocumentState) (asked : Option ℕ) (e : EventsState) (at : ℕ) (s : Settling)
-    → settling_of (failed_document at e d) (at + e.delay) ≡ Some s
+stays_longer : (d : DocumentState) → IsNetwork d.network → (asked : Option ℕ) (e : EventsState) (at : ℕ)
+    (s : Settling) → settling_of (failed_document at e d) (at + e.delay) ≡ Some s
     → (asked ≡ None) ⊎ (s.choice < hold_of d asked e at) → s.choice < hold_of d asked e at
-stays_longer d asked e at s told (inl none) =
+stays_longer d network asked e at s told (inl none) =
     let failed = failed_document at e d in
+    let failed_network : IsNetwork failed.network =
+    subst (λ (x : DocumentState). IsNetwork x.network) (sym (failed_are at e d)) network in
     subst (λ o. s.choice < hold_of d o e at) (sym none)
     (watched_longer (settling_times failed) (at + e.delay) s
-    (λ t member is. watched_past_choice failed t s member is) told)
-stays_longer d asked e at s told (inr longer) = longer
+    (λ t member is. watched_past_choice failed failed_network t s member is) told)
+stays_longer d network asked e at s told (inr longer) = longer
 
 -- ---- a run of a case
 
@@ -208,7 +212,7 @@ follow_settles d options lines exceeded f playable o g s member told longer stan
     let failing = outcome.failing in
     let told_here = subst (λ x. settling_of (failed_document t.from (case_events d options x) d)
     (t.from + (case_events d options x).delay) ≡ Some s) failing told in
-    let held = stays_longer d options.hold e t.from s told_here
+    let held = stays_longer d playable.network options.hold e t.from s told_here
     (subst (λ x. (options.hold ≡ None) ⊎ (s.choice < hold_of d options.hold (case_events d options x) t.from)) failing
     longer) in
     let g_stands = subst (λ x. StandsWithout d t.from (case_events d options x) g) failing stands in

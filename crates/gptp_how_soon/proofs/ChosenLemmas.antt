@@ -78,7 +78,7 @@ module _ (n : NetworkState) (network : IsNetwork n) (events : List Timed) (g : S
   abbrev starts : List Chosen
   starts = map itself (systems_after n events)
 
-  one_clock : (i v w : ℕ) → IsAt n i v → IsAt n i w → v ≡ w
+  pub one_clock : (i v w : ℕ) → IsAt n i v → IsAt n i w → v ≡ w
   one_clock i v w a b =
       sym a.clock ∙ ap (λ (m : SystemSpec). clock_of m.identity)
       (same_there n.systems i a.system b.system a.there b.there) ∙ b.clock
@@ -98,7 +98,7 @@ module _ (n : NetworkState) (network : IsNetwork n) (events : List Timed) (g : S
       is_place v (systems_after n made) (once made) i (system_then made a.system)
       (mapped_there (system_then made) n.systems i a.system a.there) a.clock
 
-  at_port : (p : PortId) → IsPort n.systems p → IsAt n (place_of firsts p.clock) p.clock
+  pub at_port : (p : PortId) → IsPort n.systems p → IsAt n (place_of firsts p.clock) p.clock
   at_port p port =
       let at : IsAt n port.place p.clock = record { system = port.system; there = port.there; clock = port.clock } in
       subst (λ i. IsAt n i p.clock) (sym (place_is [] port.place p.clock at)) at

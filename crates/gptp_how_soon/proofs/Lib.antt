@@ -1,4 +1,5 @@
 pub mod LinksLemmas
+pub mod TurnedLemmas
 pub mod WalkLemmas
 pub mod RisingLemmas
 pub mod TimesLemmas

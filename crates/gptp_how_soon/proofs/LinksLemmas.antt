@@ -1,8 +1,9 @@
 -- Which links are new at a time, and the link that an act names.
-use Rattle.std.proofs.Common.{◌≡◌, ◌≢◌, ℕ, Bool, true, false, ◌==◌, ◌&&◌, not, cond, List, [], ◌∷◌, ◌++◌, ◌+◌, zero, suc, drop, filter, map, Option, Some, None, slice_get, refl, sym, ap, ap₂, ◌∙◌, inl, inr, arith}
+use Rattle.std.proofs.Common.{◌≡◌, ◌≢◌, ◌<◌, ℕ, Bool, true, false, ◌==◌, ◌&&◌, not, cond, List, [], ◌∷◌, ◌++◌, ◌+◌, zero, suc, append_assoc, drop, filter, get_or, length, map, Option, Some, None, slice_get, refl, sym, ap, ap₂, ◌∙◌, inl, inr, arith}
 use Rattle.std.specs.List.{find}
 use Rattle.std.specs.Option.{option_or}
 use Rattle.std.proofs.lemmas.Bool.{eqb-false}
+use Rattle.std.proofs.lemmas.Option.{slice_get-get_or}
 use Rattle.gptp_lists.specs.Members.{In}
 use Rattle.gptp_lists.proofs.MappedLemmas.{mapped_there, some_same}
 use Rattle.gptp_lists.proofs.SystemSpecLemmas.{slice_get-In}
@@ -25,7 +26,7 @@ use Rattle.gptp_topology.specs.declared.tables.Tables.{Tables}
 use Rattle.gptp_topology.proofs.CourseLemmas.{same_a, same_b}
 use Rattle.gptp_topology.proofs.NamedLemmas.{not_at}
 use Rattle.gptp_topology.proofs.StandingLemmas.{neighbours_are}
-use Rattle.gptp_how_soon.specs.Links.{is_old_at, is_used_at, new_among, new_links, new_one}
+use Rattle.gptp_how_soon.specs.Links.{is_old_at, is_used_at, is_used_by, lost_among, new_among, new_links, new_one}
 use Rattle.gptp_how_soon.specs.Times.{is_standing_named}
 
 -- ---- new links
@@ -56,6 +57,21 @@ new_are n made events first = new_by first (standing_then n events) (standing_th
 drop_none : (place : ℕ) → drop {A = Bool} place [] ≡ []
 drop_none zero = refl
 drop_none (suc place) = refl
+
+pub drop_at : {X : Type 0} (xs : List X) (i : ℕ) (x : X) → slice_get xs i ≡ Some x → drop i xs ≡ x ∷ drop (i + 1) xs
+drop_at [] i x is = absurd cc
+drop_at (y ∷ ys) zero x is = ap (λ z. z ∷ ys) (some_same y x is)
+drop_at (y ∷ ys) (suc i) x is =
+    let step : suc i + 1 ≡ suc (i + 1) = omega arith in
+    drop_at ys i x is ∙ ap (λ k. x ∷ drop k (y ∷ ys)) (sym step)
+
+pub gone_at : (us : List Bool) (i : ℕ) → slice_get us i ≡ None → (drop i us ≡ []) × (drop (i + 1) us ≡ [])
+gone_at [] i is = (drop_none i, drop_none (i + 1))
+gone_at (u ∷ us) zero is = absurd cc
+gone_at (u ∷ us) (suc i) is =
+    let step : suc i + 1 ≡ suc (i + 1) = omega arith in
+    let (here, behind) = gone_at us i is in
+    (here, ap (λ k. drop k (u ∷ us)) step ∙ behind)
 
 none_used : (place : ℕ) → is_used_at [] place ≡ false
 none_used zero = refl
@@ -92,6 +108,42 @@ new_more start (r ∷ ss) [] (suc place) s there =
 new_more start (r ∷ ss) (u ∷ us) (suc place) s there =
     new_behind start r ss (u ∷ us) us place (new_one s (is_old_at start us place)) (new_more start ss us place s there)
     refl refl
+
+-- ---- lost links
+
+and_true : (b : Bool) → (b && true) ≡ b
+and_true true = refl
+and_true false = refl
+
+-- one link more is looked at
+lost_more : (us vs : List Bool) (place : ℕ) (u : Bool) → slice_get us place ≡ Some u
+    → (u && not (is_used_at vs place)) ∷ lost_among (drop (place + 1) us) (drop (place + 1) vs)
+    ≡ lost_among (drop place us) (drop place vs)
+lost_more us vs place u there = by (slice_get vs place) refl
+  where
+    by : (o : Option Bool) → slice_get vs place ≡ o
+        → (u && not (is_used_by o)) ∷ lost_among (drop (place + 1) us) (drop (place + 1) vs)
+        ≡ lost_among (drop place us) (drop place vs)
+    by (Some v) is = sym (ap₂ lost_among (drop_at us place u there) (drop_at vs place v is))
+    by None is =
+        let (here, behind) = gone_at vs place is in
+        ap₂ (λ b rest. b ∷ lost_among (drop (place + 1) us) rest) (and_true u) behind
+        ∙ sym (ap₂ lost_among (drop_at us place u there) here)
+
+-- so they are with those before
+pub lost_so_far : (us vs : List Bool) (place : ℕ) (d gone used : Bool) (lost lost_too all : List Bool)
+    → place < length us → used ≡ is_used_at vs place → gone ≡ (get_or us place d && not used)
+    → lost_too ≡ lost ++ gone ∷ []
+    → lost ++ lost_among (drop place us) (drop place vs) ≡ all
+    → lost_too ++ lost_among (drop (place + 1) us) (drop (place + 1) vs) ≡ all
+lost_so_far us vs place d gone used lost lost_too all less used_is gone_is pushed so =
+    let u = get_or us place d in
+    let rest = lost_among (drop (place + 1) us) (drop (place + 1) vs) in
+    ap (λ ls. ls ++ rest) pushed
+    ∙ ap (λ b. (lost ++ b ∷ []) ++ rest) (gone_is ∙ ap (λ v. u && not v) used_is)
+    ∙ append_assoc lost ((u && not (is_used_at vs place)) ∷ []) rest
+    ∙ ap (λ ls. lost ++ ls) (lost_more us vs place u (slice_get-get_or us place d less))
+    ∙ so
 
 -- ---- a link that an act names
 

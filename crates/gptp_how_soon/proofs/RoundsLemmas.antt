@@ -16,6 +16,7 @@ use Rattle.gptp_how_soon.specs.Chosen.{better, ends_in_use, farther, hearing, is
 use Rattle.gptp_how_soon.specs.Links.{is_used_at, is_used_by}
 use Rattle.gptp_how_soon.specs.declared.chosen.Chosen.{Chosen}
 use Rattle.gptp_how_soon.specs.declared.chosen.Ends.{Ends}
+use Rattle.gptp_how_soon.proofs.LinksLemmas.{drop_at, gone_at}
 
 -- ---- the better of two
 
@@ -407,25 +408,6 @@ none_away [] = tt
 none_away (o ∷ systems) = (omega arith, none_away systems)
 
 -- ---- links in use
-
-drop_at : {X : Type 0} (xs : List X) (i : ℕ) (x : X) → slice_get xs i ≡ Some x → drop i xs ≡ x ∷ drop (i + 1) xs
-drop_at [] i x is = absurd cc
-drop_at (y ∷ ys) zero x is = ap (λ z. z ∷ ys) (some_same y x is)
-drop_at (y ∷ ys) (suc i) x is =
-    let step : suc i + 1 ≡ suc (i + 1) = omega arith in
-    drop_at ys i x is ∙ ap (λ k. x ∷ drop k (y ∷ ys)) (sym step)
-
-drop_none : (i : ℕ) → drop {A = Bool} i [] ≡ []
-drop_none zero = refl
-drop_none (suc i) = refl
-
-gone_at : (us : List Bool) (i : ℕ) → slice_get us i ≡ None → (drop i us ≡ []) × (drop (i + 1) us ≡ [])
-gone_at [] i is = (drop_none i, drop_none (i + 1))
-gone_at (u ∷ us) zero is = absurd cc
-gone_at (u ∷ us) (suc i) is =
-    let step : suc i + 1 ≡ suc (i + 1) = omega arith in
-    let (here, behind) = gone_at us i is in
-    (here, ap (λ k. drop k (u ∷ us)) step ∙ behind)
 
 -- one link more is looked at
 used_more : (es : List Ends) (us : List Bool) (place : ℕ) (e : Ends) → slice_get es place ≡ Some e

@@ -32,11 +32,11 @@ use Rattle.gptp_setup.specs.SettlingParams.{largest_interval, longest_span}
 use Rattle.gptp_setup.proofs.IntervalLemmas.{interval_most}
 use Rattle.gptp_topology.specs.Times.{times_from, times_of}
 use Rattle.gptp_topology.specs.declared.course.Cable.{Cable}
-use Rattle.gptp_how_soon.specs.Bounds.{asked_again, choice_by, choice_of_row, exact_span, is_again, needed_watch, ready, roles_by, roles_of_row, set_span, settling_by, sound_row, two_exchanges, watch, way_span}
+use Rattle.gptp_how_soon.specs.Bounds.{asked_again, choice_by, choice_of_row, echo_span, exact_span, gone_by, is_again, needed_watch, ready, roles_by, roles_of_row, set_span, settling_by, silence_span, sound_by, sound_of_row, two_exchanges, watch, way_span}
 use Rattle.gptp_how_soon.specs.Kinds.{sets_bounds, sets_link}
 use Rattle.gptp_how_soon.specs.Times.{IsWatchedShortly, View, events_at, events_before, gained_at, heard_at, last_set, row_at, settling_time, settling_times, settling_times_from, time_at, view_at}
 use Rattle.gptp_how_soon.specs.declared.bounds.Row.{Row}
-use Rattle.gptp_how_soon.specs.declared.bounds.Row.TheVariants.{AnyPast, Unchanged, Lowered, FailedEnd, Gained}
+use Rattle.gptp_how_soon.specs.declared.bounds.Row.TheVariants.{AnyPast, FailedEnd, FailedHeard, Gained, LostEnd, LostPower, Lowered, OneTurned, Unchanged}
 use Rattle.gptp_how_soon.specs.declared.bounds.SettlingTime.{SettlingTime}
 use Rattle.gptp_how_soon.specs.declared.kinds.Told.{Told}
 
@@ -82,6 +82,12 @@ module _ (n : NetworkState) (network : IsNetwork n) (paths : SyncPaths) (few : p
       let lost = network.params.ranges.params.lost in
       mul-le (n.params.lost + 5) (largest_interval (pace_of n)) 260 16000000000 (omega (arith, lost)) largest
 
+  silence_most : silence_span n.params ≤ 4112000000000
+  silence_most =
+      let lost = network.params.ranges.params.lost in
+      let p = pdelay in
+      mul-le (n.params.lost + 2) (interval_of n.params.pdelay) 257 16000000000 (omega (arith, lost)) p
+
   at_once : settling_span_at_once (pace_of n) paths ≤ 195000000000000
   at_once =
       let l = largest in let w = way in
@@ -104,7 +110,11 @@ module _ (n : NetworkState) (network : IsNetwork n) (paths : SyncPaths) (few : p
       by AnyPast = at_once
       by Unchanged = omega arith
       by Lowered = omega arith
-      by FailedEnd = let most = capable_most in omega (arith, most)
+      by LostEnd = omega arith
+      by LostPower = omega arith
+      by FailedEnd = let most = silence_most in omega (arith, most)
+      by FailedHeard = let most = silence_most in omega (arith, most)
+      by OneTurned = let w = way in omega (arith, w)
       by Gained = early
 
   choice_most : (row : Row) (gained : ℕ) → gained ≤ 195000000000000 → choice_by n paths row gained ≤ 195000000000000
@@ -115,7 +125,36 @@ module _ (n : NetworkState) (network : IsNetwork n) (paths : SyncPaths) (few : p
       by AnyPast = at_once
       by Unchanged = omega arith
       by Lowered = omega arith
+      by LostEnd = omega arith
+      by LostPower = omega arith
       by FailedEnd = omega arith
+      by FailedHeard = let most = silence_most in omega (arith, most)
+      by OneTurned = let w = way in omega (arith, w)
+      by Gained = early
+
+  sound_most : (used : Bool) (row : Row) (gained : ℕ) → gained ≤ 195000000000000
+      → sound_by n paths used row gained ≤ 195000000000000
+  sound_most used row gained early =
+      either_most (not (n.params.sync_timeout == 0)) _ _ 195000000000000 span (by row)
+    where
+      gone : gone_by n paths used ≤ 16000000000
+      gone = either_most used paths.delay (largest_interval (pace_of n)) 16000000000 short largest
+
+      echo : echo_span n paths ≤ 16384000000000
+      echo =
+          let l = largest in
+          mul-le (pred paths.systems) (largest_interval (pace_of n) + paths.delay) 512 32000000000
+          (pred_few paths.systems 512 few) (omega (arith, l, short))
+
+      by : (r : Row) → sound_of_row n paths used r gained ≤ 195000000000000
+      by AnyPast = at_once
+      by Unchanged = omega arith
+      by Lowered = let e = echo in let g = gone in omega (arith, e, g)
+      by LostEnd = let g = gone in omega (arith, g)
+      by FailedEnd = let w = way in let c = capable_most in omega (arith, w, c)
+      by LostPower = at_once
+      by FailedHeard = at_once
+      by OneTurned = at_once
       by Gained = early
 
   set_most : (sets : Bool) → set_span n.params paths sets ≤ 65000000000
@@ -131,17 +170,17 @@ module _ (n : NetworkState) (network : IsNetwork n) (paths : SyncPaths) (few : p
       mul-le (n.params.window - 1) (interval_of n.params.pdelay) 15 16000000000 (omega (arith, v)) pdelay in
       omega (arith, tree, window)
 
-  needed_most : (at set : ℕ) (calm sets : Bool) (row : Row) (gained : ℕ) → set ≤ at → gained ≤ 195000000000000
-      → needed_watch n at paths (settling_by n at set paths calm sets row gained) ≤ 197000000000000
-  needed_most at set false sets row gained soon early = let s = span in let e = exact_most in omega (arith, s, e)
-  needed_most at set true sets row gained soon early =
-      let r = roles_most row gained early in let h = choice_most (sound_row row) gained early in
+  needed_most : (at set : ℕ) (calm sets used : Bool) (row : Row) (gained : ℕ) → set ≤ at → gained ≤ 195000000000000
+      → needed_watch n at paths (settling_by n at set paths calm sets used row gained) ≤ 197000000000000
+  needed_most at set false sets used row gained soon early = let s = span in let e = exact_most in omega (arith, s, e)
+  needed_most at set true sets used row gained soon early =
+      let r = roles_most row gained early in let h = sound_most used row gained early in
       let s = set_most sets in let l = largest in let e = exact_most in omega (arith, soon, r, h, s, l, e, short)
 
-  watch_most : (at set : ℕ) (calm sets : Bool) (row : Row) (gained : ℕ) → set ≤ at → gained ≤ 195000000000000
-      → watch n at paths (settling_by n at set paths calm sets row gained) ≤ 200000000000000
-  watch_most at set calm sets row gained soon early =
-      let needed = needed_most at set calm sets row gained soon early in let i = sync in omega (arith, needed, i)
+  watch_most : (at set : ℕ) (calm sets used : Bool) (row : Row) (gained : ℕ) → set ≤ at → gained ≤ 195000000000000
+      → watch n at paths (settling_by n at set paths calm sets used row gained) ≤ 200000000000000
+  watch_most at set calm sets used row gained soon early =
+      let needed = needed_most at set calm sets used row gained soon early in let i = sync in omega (arith, needed, i)
 
 -- ---- paths
 
@@ -248,8 +287,8 @@ module _ (d : DocumentState) (network : IsNetwork d.network) (events : AreEvents
       last_change_most at (filter (λ (t : Timed). sets_bounds t.act) all)
       (λ t member. (there_then before at t is (from_filter (λ (e : Timed). sets_bounds e.act) t all member).0).1) in
       let most : (settling_time n v).watch ≤ 200000000000000 =
-      watch_most n network paths few short at (last_set all) v.calm (sets_link v.told) (row_at v) (gained_at n v) set
-      (omega (arith, r, h, w)) in
+      watch_most n network paths few short at (last_set all) v.calm (sets_link v.told) v.used_before (row_at v)
+      (gained_at n v) set (omega (arith, r, h, w)) in
       record { span = most; until = omega (arith, most, early) }
 
   all_shortly : (before : Option SettlingTime) (last : ℕ) (ats : List ℕ) → IsBefore last before → InTurn last ats

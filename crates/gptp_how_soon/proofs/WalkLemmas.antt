@@ -1,5 +1,5 @@
 -- A walk stands as the events so far leave a document.
-use Rattle.std.proofs.Common.{◌≡◌, max, ℕ, List, [], ◌∷◌, ◌++◌, Bool, true, false, cond, filter, map, not, append_assoc, refl, sym, ap, ap₂, subst, ◌∙◌, arith}
+use Rattle.std.proofs.Common.{◌≡◌, max, ℕ, List, [], ◌∷◌, ◌++◌, Bool, true, false, cond, filter, map, not, ◌&&◌, append_assoc, refl, sym, ap, ap₂, subst, ◌∙◌, arith}
 use Rattle.std.specs.List.{find}
 use Rattle.std.specs.Option.{is_some}
 use Rattle.std.proofs.lemmas.List.{append-nil}
@@ -15,12 +15,13 @@ use Rattle.gptp_topology.specs.Tables.{cables_of, has_clock}
 use Rattle.gptp_topology.specs.declared.course.Standing.{Standing}
 use Rattle.gptp_topology.proofs.BoundLemmas.{calm_is, crossed_is}
 use Rattle.gptp_topology.proofs.StandingLemmas.{maps_twice, stand_more, systems_are}
-use Rattle.gptp_how_soon.specs.Chosen.{ends_among, ends_in_use, ends_of, moves_counted, used_ends}
-use Rattle.gptp_how_soon.specs.Far.{are_far_after, up_is_used}
-use Rattle.gptp_how_soon.specs.Kinds.{lowers_one, sets_bounds, told_by}
-use Rattle.gptp_how_soon.specs.Links.{delay_set, longest_delay, longest_set, new_among}
+use Rattle.gptp_how_soon.specs.Chosen.{ends_among, ends_in_use, ends_of, lost_ends, moves_counted, used_ends}
+use Rattle.gptp_how_soon.specs.Far.{are_far_after, cut_far_ends_after, up_is_used}
+use Rattle.gptp_how_soon.specs.Kinds.{sets_bounds, takes_one, told_by}
+use Rattle.gptp_how_soon.specs.Links.{delay_set, longest_delay, longest_set, lost_among, new_among}
 use Rattle.gptp_how_soon.specs.Times.{last_set, told_at, told_of, view_at}
-use Rattle.gptp_how_soon.specs.Walk.{IsFirstWalk, WalkGoesOn, WalkPasses, far_seen, moves_seen, view_seen}
+use Rattle.gptp_how_soon.specs.Turned.{turns_one_after}
+use Rattle.gptp_how_soon.specs.Walk.{IsFirstWalk, WalkGoesOn, WalkPasses, cuts_seen, far_seen, moves_seen, turns_seen, view_seen}
 use Rattle.gptp_how_soon.specs.declared.bounds.SettlingTime.{SettlingTime}
 use Rattle.gptp_how_soon.specs.declared.chosen.Ends.{Ends}
 use Rattle.gptp_how_soon.specs.declared.walk.Walk.{Walk}
@@ -36,6 +37,7 @@ pub record WalkStands (n : NetworkState) (made now : List Timed) (w : Walk) : Ty
   pub systems_before : w.systems_before.items ≡ systems_after n made
   pub used : w.used_before.items ≡ map cable_is_used (standings_after n made)
   pub paths : w.paths_before ≡ sync_paths n made
+  pub all_used : w.all_used_before ≡ up_is_used (standings_after n made)
 
 -- ---- when a link was last set
 
@@ -86,6 +88,27 @@ used_are : (n : NetworkState) (events : List Timed)
     → ends_in_use (map (ends_of n) n.links) (map cable_is_used (standings_after n events)) ≡ used_ends n events
 used_are n events = used_by (ends_of n) (standing_then n events) n.links
 
+-- so are those that are lost
+lost_by : (f : LinkSpec → Ends) (before now : LinkSpec → Standing) (ws : List LinkSpec)
+    → ends_in_use (map f ws) (lost_among (map cable_is_used (map before ws)) (map cable_is_used (map now ws)))
+    ≡ map f (filter (λ w. cable_is_used (before w) && not (cable_is_used (now w))) ws)
+lost_by f before now [] = refl
+lost_by f before now (w ∷ ws) =
+    by (cable_is_used (before w) && not (cable_is_used (now w)))
+    (ends_in_use (map f ws) (lost_among (map cable_is_used (map before ws)) (map cable_is_used (map now ws))))
+    (filter (λ v. cable_is_used (before v) && not (cable_is_used (now v))) ws) (lost_by f before now ws)
+  where
+    by : (test : Bool) (es : List Ends) (vs : List LinkSpec) → es ≡ map f vs
+        → (cond test (f w ∷ []) []) ++ es ≡ map f (cond test (w ∷ vs) vs)
+    by true es vs rest = ap (λ ds. f w ∷ ds) rest
+    by false es vs rest = rest
+
+lost_are : (n : NetworkState) (made events : List Timed)
+    → ends_in_use (map (ends_of n) n.links)
+    (lost_among (map cable_is_used (standings_after n made)) (map cable_is_used (standings_after n events)))
+    ≡ lost_ends n made events
+lost_are n made events = lost_by (ends_of n) (standing_then n made) (standing_then n events) n.links
+
 -- ---- what is seen
 
 told_more : (n : NetworkState) (made now : List Timed) (t : Timed)
@@ -99,7 +122,7 @@ told_more n made (u ∷ now) t =
 
 module _ (n : NetworkState) (network : IsNetwork n) where
   moves_are : (made now : List Timed) (w : Walk) → WalkStands n made now w
-      → moves_seen w ≡ moves_counted (lowers_one (told_of n made now)) n made (made ++ now)
+      → moves_seen w ≡ moves_counted (takes_one (told_of n made now)) n made (made ++ now)
   moves_are made now w so =
       let used = so.used in
       let ends = so.ends in
@@ -108,6 +131,44 @@ module _ (n : NetworkState) (network : IsNetwork n) where
       let systems = systems_are n (made ++ now) w.tables so.tables in
       let standings = so.tables.standings in
       rw (used, ends, told, systems, systems_before, standings, used_are n made, used_are n (made ++ now)) refl
+
+  cuts_are : (made now : List Timed) (w : Walk) → WalkStands n made now w
+      → cuts_seen w ≡ cut_far_ends_after n made (made ++ now)
+  cuts_are made now w so =
+      let used = so.used in
+      let ends = so.ends in
+      let systems_before = so.systems_before in
+      let systems = systems_are n (made ++ now) w.tables so.tables in
+      let standings = so.tables.standings in
+      rw (
+        used,
+        ends,
+        systems,
+        systems_before,
+        standings,
+        used_are n made,
+        used_are n (made ++ now),
+        lost_are n made (made ++ now),
+      ) refl
+
+  turns_are : (made now : List Timed) (w : Walk) → WalkStands n made now w
+      → turns_seen w ≡ turns_one_after n made (made ++ now)
+  turns_are made now w so =
+      let used = so.used in
+      let ends = so.ends in
+      let systems_before = so.systems_before in
+      let systems = systems_are n (made ++ now) w.tables so.tables in
+      let standings = so.tables.standings in
+      rw (
+        used,
+        ends,
+        systems,
+        systems_before,
+        standings,
+        used_are n made,
+        used_are n (made ++ now),
+        lost_are n made (made ++ now),
+      ) refl
 
   far_are : (made now : List Timed) (w : Walk) → WalkStands n made now w
       → far_seen w ≡ are_far_after n made (told_of n made now)
@@ -129,9 +190,12 @@ module _ (n : NetworkState) (network : IsNetwork n) where
         longest = so.longest i;
         before = w.before;
         paths_before = so.paths i;
+        used_before = so.all_used i;
         new = new i;
         told = so.told i;
         moved = moves_are made now w so i;
+        cut = cuts_are made now w so i;
+        turned = turns_are made now w so i;
         far = far_are made now w so i;
         used = up_is_used (so.tables.standings i);
         paths = crossed_is n network (made ++ now) w.tables so.tables i;
@@ -152,6 +216,7 @@ module _ (n : NetworkState) (network : IsNetwork n) where
         told = is.told;
         used = is.used ∙ ap (map cable_is_used) is.tables.standings;
         paths = is.paths ∙ crossed_is n network [] w.tables is.tables;
+        all_used = is.all_used ∙ ap up_is_used is.tables.standings;
       }
 
   -- ---- one event more
@@ -176,6 +241,7 @@ module _ (n : NetworkState) (network : IsNetwork n) where
         systems_before = ap (λ (v : _). v.items) passes.systems_before ∙ so.systems_before;
         used = ap (λ (v : _). v.items) passes.used ∙ so.used;
         paths = passes.paths ∙ so.paths;
+        all_used = passes.all_used ∙ so.all_used;
       }
 
   -- ---- another time
@@ -194,4 +260,5 @@ module _ (n : NetworkState) (network : IsNetwork n) where
         systems_before = on.systems_before ∙ systems_are n (made ++ now) old.tables so.tables;
         used = on.used ∙ ap (map cable_is_used) so.tables.standings;
         paths = on.paths ∙ crossed_is n network (made ++ now) old.tables so.tables;
+        all_used = on.all_used ∙ ap up_is_used so.tables.standings;
       }

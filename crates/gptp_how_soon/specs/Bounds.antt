@@ -1,8 +1,8 @@
 -- How soon the choice and the roles stand at a time, by whether it is from rest and what its events are (profile).
-use Rattle.std.specs.Prelude.{ℕ, ◌+◌, ◌-◌, ◌*◌, ◌==◌, ◌&&◌, ◌||◌, max, not, pred, Bool, if◌then◌else◌, List, length, Option, Some, None}
+use Rattle.std.specs.Prelude.{ℕ, ◌+◌, ◌-◌, ◌*◌, ◌==◌, ◌&&◌, ◌||◌, max, min, not, pred, Bool, if◌then◌else◌, List, length, Option, Some, None}
 use Rattle.std.specs.List.{list_any}
 use Rattle.gptp_setup.specs.Intervals.{interval_of}
-use Rattle.gptp_setup.specs.SettlingParams.{largest_interval}
+use Rattle.gptp_setup.specs.SettlingParams.{largest_interval, longest_span}
 use Rattle.gptp_setup.specs.declared.setup.Params.{Params}
 use Rattle.gptp_scenario.specs.Network.{NetworkState, pace_of}
 use Rattle.gptp_scenario.specs.SettlingAtOnce.{settling_span_at_once}
@@ -12,7 +12,7 @@ use Rattle.gptp_topology.specs.declared.course.Cable.{Cable}
 use Rattle.gptp_how_soon.specs.Kinds.{recovers}
 use Rattle.gptp_how_soon.specs.Links.{varies}
 use Rattle.gptp_how_soon.specs.declared.bounds.Row.{Row}
-use Rattle.gptp_how_soon.specs.declared.bounds.Row.TheVariants.{AnyPast, Unchanged, Lowered, FailedEnd, Gained}
+use Rattle.gptp_how_soon.specs.declared.bounds.Row.TheVariants.{AnyPast, FailedEnd, FailedHeard, Gained, LostEnd, LostPower, Lowered, OneTurned, Unchanged}
 use Rattle.gptp_how_soon.specs.declared.bounds.Settling.{Settling}
 use Rattle.gptp_how_soon.specs.declared.bounds.SettlingTime.{SettlingTime}
 use Rattle.gptp_how_soon.specs.declared.kinds.Told.{Told}
@@ -26,6 +26,16 @@ two_exchanges p paths = interval_of p.pdelay + (paths.delay + p.turnaround + pat
 -- the same, where a port first asks within an interval between requests
 abbrev pub asked_again : Params → SyncPaths → ℕ
 asked_again p paths = interval_of p.pdelay + two_exchanges p paths
+
+-- How long a port beside a system that fails may stay capable: until one more of its requests is lost than may be, and
+-- given up an interval after it went, where the last one that was answered went before.
+abbrev pub silence_span : Params → ℕ
+silence_span p = (p.lost + 2) * interval_of p.pdelay
+
+-- How long others hold what they heard of a system that fails: it comes within the greatest delay, and stays for the
+-- longest receipt timeout.
+abbrev pub aging_span : NetworkState → SyncPaths → ℕ
+aging_span n paths = longest_span (pace_of n) + paths.delay
 
 -- the greatest delay for each system of a path but one
 abbrev pub way_span : SyncPaths → ℕ
@@ -55,12 +65,18 @@ heard_by n followed told new =
 -- ---- bounds at a time
 
 -- The choice: where something may lapse for want of Sync it takes the span. Else it is as the row says, with so much
--- after gains.
+-- after gains. Where others heard a system that fails it stands once they don't hold that any more, or once the ports
+-- beside it aren't capable, whichever is sooner. A system that turns tells what it chooses, and its neighbours answer:
+-- a way there, and one back.
 abbrev pub choice_of_row : NetworkState → SyncPaths → Row → ℕ → ℕ
 choice_of_row n paths AnyPast gained = settling_span_at_once (pace_of n) paths
 choice_of_row n paths Unchanged gained = 0
 choice_of_row n paths Lowered gained = 0
+choice_of_row n paths LostEnd gained = 0
 choice_of_row n paths FailedEnd gained = 0
+choice_of_row n paths LostPower gained = 0
+choice_of_row n paths FailedHeard gained = min (aging_span n paths) (silence_span n.params)
+choice_of_row n paths OneTurned gained = 2 * way_span paths
 choice_of_row n paths Gained gained = gained
 
 abbrev pub choice_by : NetworkState → SyncPaths → Row → ℕ → ℕ
@@ -74,7 +90,11 @@ abbrev pub roles_of_row : NetworkState → SyncPaths → Row → ℕ → ℕ
 roles_of_row n paths AnyPast gained = choice_of_row n paths AnyPast gained
 roles_of_row n paths Unchanged gained = 0
 roles_of_row n paths Lowered gained = 0
-roles_of_row n paths FailedEnd gained = capability_span (pace_of n)
+roles_of_row n paths LostEnd gained = 0
+roles_of_row n paths FailedEnd gained = silence_span n.params
+roles_of_row n paths LostPower gained = 0
+roles_of_row n paths FailedHeard gained = silence_span n.params
+roles_of_row n paths OneTurned gained = choice_of_row n paths OneTurned gained
 roles_of_row n paths Gained gained = gained
 
 abbrev pub roles_by : NetworkState → SyncPaths → Row → ℕ → ℕ
@@ -82,14 +102,35 @@ roles_by n paths row gained =
     if not (n.params.sync_timeout == 0) then settling_span_with (pace_of n) paths paths.systems
     else roles_of_row n paths row gained
 
--- All that is held is sound as soon as the choice stands. But after a loss it may name what is gone, and then it is
--- sound as soon as the choice stands from any past.
-abbrev pub sound_row : Row → Row
-sound_row AnyPast = AnyPast
-sound_row Unchanged = Unchanged
-sound_row Lowered = AnyPast
-sound_row FailedEnd = AnyPast
-sound_row Gained = Gained
+-- What was in flight is gone so much later than a time: by a delay where each link that was up is in use; else by an
+-- announce interval.
+abbrev pub gone_by : NetworkState → SyncPaths → Bool → ℕ
+gone_by n paths used_before = if used_before then paths.delay else largest_interval (pace_of n)
+
+-- After a link goes down each tells a trace without it so much later: one that hears such a trace tells one an announce
+-- interval and a delay later at most, and so it goes for each system of a path but one.
+abbrev pub echo_span : NetworkState → SyncPaths → ℕ
+echo_span n paths = pred paths.systems * (largest_interval (pace_of n) + paths.delay)
+
+-- All that is held and in flight is sound as soon as the choice stands. But after a loss it may name what is gone.
+-- After the loss of a far end that is what was in flight. So it is after a system fails that leaves ports that may be
+-- capable, but the roles are to stand, and a way is to pass. After a link goes down by which no system is moved traces
+-- are told anew first. Else all is sound as soon as the choice stands from any past.
+abbrev pub sound_of_row : NetworkState → SyncPaths → Bool → Row → ℕ → ℕ
+sound_of_row n paths used_before AnyPast gained = settling_span_at_once (pace_of n) paths
+sound_of_row n paths used_before Unchanged gained = 0
+sound_of_row n paths used_before Lowered gained = echo_span n paths + gone_by n paths used_before
+sound_of_row n paths used_before LostEnd gained = gone_by n paths used_before
+sound_of_row n paths used_before FailedEnd gained = capability_span (pace_of n) + way_span paths
+sound_of_row n paths used_before LostPower gained = settling_span_at_once (pace_of n) paths
+sound_of_row n paths used_before FailedHeard gained = settling_span_at_once (pace_of n) paths
+sound_of_row n paths used_before OneTurned gained = settling_span_at_once (pace_of n) paths
+sound_of_row n paths used_before Gained gained = gained
+
+abbrev pub sound_by : NetworkState → SyncPaths → Bool → Row → ℕ → ℕ
+sound_by n paths used_before row gained =
+    if not (n.params.sync_timeout == 0) then settling_span_with (pace_of n) paths paths.systems
+    else sound_of_row n paths used_before row gained
 
 -- a port at a link whose bounds are set measures it anew
 abbrev pub set_span : Params → SyncPaths → Bool → ℕ
@@ -131,16 +172,16 @@ abbrev pub watch : NetworkState → ℕ → SyncPaths → Option Settling → �
 watch n at paths settling = needed_watch n at paths settling + 8 * interval_of n.params.sync
 
 -- what is told of a time
-abbrev pub settling_by : NetworkState → ℕ → ℕ → SyncPaths → Bool → Bool → Row → ℕ → Option Settling
-settling_by n at last_set paths calm sets row gained =
+abbrev pub settling_by : NetworkState → ℕ → ℕ → SyncPaths → Bool → Bool → Bool → Row → ℕ → Option Settling
+settling_by n at last_set paths calm sets used_before row gained =
     if calm
     then Some (settled n at last_set paths sets (choice_by n paths row gained) (roles_by n paths row gained)
-    (choice_by n paths (sound_row row) gained))
+    (sound_by n paths used_before row gained))
     else None
 
-abbrev pub times_by : NetworkState → ℕ → ℕ → SyncPaths → Bool → Bool → Row → ℕ → SettlingTime
-times_by n at last_set paths calm sets row gained = record {
+abbrev pub times_by : NetworkState → ℕ → ℕ → SyncPaths → Bool → Bool → Bool → Row → ℕ → SettlingTime
+times_by n at last_set paths calm sets used_before row gained = record {
   at = at;
-  settling = settling_by n at last_set paths calm sets row gained;
-  watch = watch n at paths (settling_by n at last_set paths calm sets row gained);
+  settling = settling_by n at last_set paths calm sets used_before row gained;
+  watch = watch n at paths (settling_by n at last_set paths calm sets used_before row gained);
 }

@@ -13,6 +13,7 @@ use Rattle.gptp_topology.specs.Course.{cable_is_used, cable_of}
 use Rattle.gptp_topology.specs.Tables.{has_clock}
 use Rattle.gptp_topology.specs.declared.course.Cable.{Cable}
 use Rattle.gptp_topology.specs.declared.nodes.System.{System}
+use Rattle.gptp_how_soon.specs.Links.{is_lost}
 use Rattle.gptp_how_soon.specs.declared.chosen.Chosen.{Chosen}
 use Rattle.gptp_how_soon.specs.declared.chosen.Ends.{Ends}
 
@@ -79,6 +80,10 @@ is_used_then n events w = cable_is_used (standing_then n events w)
 
 abbrev pub used_ends : NetworkState → List Timed → List Ends
 used_ends n events = map (ends_of n) (filter (is_used_then n events) n.links)
+
+-- those of the links that are lost between these events and more of them
+abbrev pub lost_ends : NetworkState → List Timed → List Timed → List Ends
+lost_ends n made events = map (ends_of n) (filter (is_lost n made events) n.links)
 
 -- what each system of a network chooses after events
 abbrev pub chosen_after : NetworkState → List Timed → List Chosen

@@ -1,5 +1,5 @@
--- Whether a system is the far end of each of its links (profile), so that no other gets its choice from it; and whether
--- each link that is up is in use.
+-- Whether a system is the far end of each of its links (profile), so that no other gets its choice from it; whether one
+-- is cut off that was; and whether each link that is up is in use.
 --
 -- The far end of a link has chosen more steps, or as many and has the higher clock.
 use Rattle.std.specs.Prelude.{ℕ, ◌==◌, ◌&&◌, ◌||◌, nat_lt, not, Bool, false, List, Option, Some, None, slice_get}
@@ -10,7 +10,7 @@ use Rattle.gptp_topology.specs.After.{systems_after}
 use Rattle.gptp_topology.specs.Course.{cable_is_used}
 use Rattle.gptp_topology.specs.declared.course.Standing.{Standing}
 use Rattle.gptp_topology.specs.declared.nodes.System.{System}
-use Rattle.gptp_how_soon.specs.Chosen.{chosen_after, place_of, used_ends}
+use Rattle.gptp_how_soon.specs.Chosen.{chosen_after, is_joined, lost_ends, place_of, used_ends}
 use Rattle.gptp_how_soon.specs.Kinds.{lowers_unused}
 use Rattle.gptp_how_soon.specs.declared.chosen.Chosen.{Chosen}
 use Rattle.gptp_how_soon.specs.declared.chosen.Ends.{Ends}
@@ -53,6 +53,27 @@ are_far systems cs links told = list_all (is_far_named systems cs links) told
 -- after these events
 abbrev pub are_far_after : NetworkState → List Timed → List Told → Bool
 are_far_after n events told = are_far (systems_after n events) (chosen_after n events) (used_ends n events) told
+
+-- ---- cut off
+
+-- the system at a place was the far end of each of its links, and none is at it now
+abbrev pub is_cut_at : List System → List Chosen → List Ends → List Ends → ℕ → Bool
+is_cut_at systems cs links_before links place =
+    is_far_end systems cs links_before place && not (is_joined links place)
+
+-- so is a system at an end of a link
+abbrev pub cuts_far_end : List System → List Chosen → List Ends → List Ends → Ends → Bool
+cuts_far_end systems cs links_before links e =
+    is_cut_at systems cs links_before links e.a || is_cut_at systems cs links_before links e.b
+
+-- so is one at an end of each link that is lost, between these events and more of them
+abbrev pub all_cut_far_ends : List System → List Chosen → List Ends → List Ends → List Ends → Bool
+all_cut_far_ends systems cs links_before links lost = list_all (cuts_far_end systems cs links_before links) lost
+
+abbrev pub cut_far_ends_after : NetworkState → List Timed → List Timed → Bool
+cut_far_ends_after n made events =
+    all_cut_far_ends (systems_after n events) (chosen_after n made) (used_ends n made) (used_ends n events)
+    (lost_ends n made events)
 
 -- ---- links that are up
 

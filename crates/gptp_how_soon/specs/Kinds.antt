@@ -194,6 +194,10 @@ abbrev pub fails_first : List Told → Bool
 fails_first [] = false
 fails_first (e ∷ es) = is_failing e && list_all lowers_unused es
 
+-- one link or one system is taken away
+abbrev pub takes_one : List Told → Bool
+takes_one told = lowers_one told || fails_first told
+
 -- the system with this clock recovers
 abbrev pub recovers : List Told → ℕ → Bool
 recovers told clock = list_any (is_recovery_of clock) told

@@ -2,6 +2,7 @@ pub mod Kinds
 pub mod Links
 pub mod Chosen
 pub mod Far
+pub mod Turned
 pub mod Bounds
 pub mod Rest
 pub mod Times

@@ -1,5 +1,5 @@
--- Which links of a network are new at a time, over which delays vary, and the greatest delay that one has had
--- (profile).
+-- Which links of a network are new at a time, and which are lost; over which delays vary, and the greatest delay that
+-- one has had (profile).
 use Rattle.std.specs.Prelude.{ℕ, ◌*◌, ◌&&◌, not, nat_le, max, Bool, false, if◌then◌else◌, List, [], ◌∷◌, ◌++◌, map, filter, Option, Some, None, slice_get}
 use Rattle.gptp_scenario.specs.Change.{link_after}
 use Rattle.gptp_scenario.specs.Network.{NetworkState}
@@ -46,6 +46,19 @@ abbrev pub new_among : Bool → List Standing → List Bool → List Cable
 new_among first [] used = []
 new_among first (s ∷ ss) [] = new_one s (not first && false) ++ new_among first ss []
 new_among first (s ∷ ss) (u ∷ us) = new_one s (not first && u) ++ new_among first ss us
+
+-- ---- lost links
+
+-- A link is lost that was in use before the events of a time, and isn't after them.
+abbrev pub is_lost : NetworkState → List Timed → List Timed → LinkSpec → Bool
+is_lost n made events w =
+    cable_is_used (standing_then n made w) && not (cable_is_used (standing_then n events w))
+
+-- the same of each, by which of all were in use and are
+abbrev pub lost_among : List Bool → List Bool → List Bool
+lost_among [] used = []
+lost_among (before ∷ used_before) [] = before ∷ lost_among used_before []
+lost_among (before ∷ used_before) (now ∷ used) = (before && not now) ∷ lost_among used_before used
 
 -- ---- the greatest delay
 

@@ -8,7 +8,7 @@ use Rattle.gptp_scenario.specs.declared.sync_wait.SyncPaths.{SyncPaths}
 use Rattle.gptp_how_soon.specs.Bounds.{way_span}
 use Rattle.gptp_how_soon.specs.Kinds.{are_heard, begins_wider, fails_and_recovers, fails_first, first_wider_by, is_better, is_gain, is_loss, is_other, is_recovery, is_wider, leaves_links, lowers_one, lowers_unused, makes_nothing, tells_nothing}
 use Rattle.gptp_how_soon.specs.declared.bounds.Row.{Row}
-use Rattle.gptp_how_soon.specs.declared.bounds.Row.TheVariants.{AnyPast, Unchanged, Lowered, FailedEnd, Gained}
+use Rattle.gptp_how_soon.specs.declared.bounds.Row.TheVariants.{AnyPast, FailedEnd, FailedHeard, Gained, LostEnd, LostPower, Lowered, OneTurned, Unchanged}
 use Rattle.gptp_how_soon.specs.declared.bounds.Settling.{Settling}
 use Rattle.gptp_how_soon.specs.declared.bounds.SettlingTime.{SettlingTime}
 use Rattle.gptp_how_soon.specs.declared.kinds.Told.{Told}
@@ -59,8 +59,8 @@ keeps_paths paths_before paths =
     nat_le paths_before.systems 255 && (paths.delay == paths_before.delay)
     && nat_le paths.systems paths_before.systems
 
--- Then a link that goes down by the one event of a time is followed. So is a system that fails and was the far end of
--- each of its links, alone or as it loses its power.
+-- Then a link that goes down by the one event of a time is followed. So is a system that fails, alone or as it loses
+-- its power.
 abbrev pub is_lowering_followed : SyncPaths → SyncPaths → List Told → Bool
 is_lowering_followed paths_before paths told = keeps_paths paths_before paths && lowers_one told
 
@@ -79,18 +79,25 @@ is_from_rest longest at paths_before paths told (Some b) =
 
 -- ---- rows
 
+-- a system fails, and none is moved
+abbrev pub failed_row : Bool → Bool → Row
+failed_row far used =
+    if far then if used then LostEnd else FailedEnd else if used then LostPower else FailedHeard
+
 -- Not from rest, or after a loss, the network may come from any past. Events that make nothing of what stands leave it
 -- as it was. So does a link that gets wider, and so do losses that are followed, where no system is moved; one that is
--- cut off doesn't count where a link goes down by the one event. It counts whether a system that fails was a far end,
--- and whether a link is up then that isn't in use. At the start nothing was, and so nothing is lost.
-abbrev pub row_of : Bool → Bool → SyncPaths → SyncPaths → List Told → Bool → Bool → Bool → Row
-row_of from_rest first paths_before paths told moved far used =
+-- cut off doesn't count where one link or one system is taken away. It counts whether the link that goes down cuts off
+-- a far end, whether a system that is moved alone turns, whether a link is up then that isn't in use, and whether a
+-- system that fails was a far end, so that no other heard it. At the start nothing was, and so nothing is lost.
+abbrev pub row_of : Bool → Bool → SyncPaths → SyncPaths → List Told → Bool → Bool → Bool → Bool → Bool → Row
+row_of from_rest first paths_before paths told moved cut turned far used =
     if not from_rest then AnyPast
     else if first then Gained
     else if list_all makes_nothing told || begins_wider told then Unchanged
     else if are_losses_followed paths_before told && not moved then Unchanged
-    else if is_lowering_followed paths_before paths told && not moved then Lowered
-    else if is_failing_followed paths_before paths told && not moved && far then if used then Lowered else FailedEnd
+    else if is_lowering_followed paths_before paths told && not moved then if cut then LostEnd else Lowered
+    else if is_lowering_followed paths_before paths told && turned then OneTurned
+    else if is_failing_followed paths_before paths told && not moved then failed_row far used
     else if list_any is_loss told then AnyPast else Gained
 
 -- it counts whether a system is moved

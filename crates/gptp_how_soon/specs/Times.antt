@@ -22,27 +22,33 @@ use Rattle.gptp_topology.specs.declared.course.Cable.{Cable}
 use Rattle.gptp_topology.specs.declared.course.Standing.{Standing}
 use Rattle.gptp_how_soon.specs.Bounds.{heard_by, ready, times_by, way_span}
 use Rattle.gptp_how_soon.specs.Chosen.{moves_counted}
-use Rattle.gptp_how_soon.specs.Far.{are_far_after, up_is_used}
-use Rattle.gptp_how_soon.specs.Kinds.{lowers_one, sets_bounds, sets_link, told_by}
+use Rattle.gptp_how_soon.specs.Far.{are_far_after, cut_far_ends_after, up_is_used}
+use Rattle.gptp_how_soon.specs.Kinds.{sets_bounds, sets_link, takes_one, told_by}
 use Rattle.gptp_how_soon.specs.Links.{longest_delay, new_links}
 use Rattle.gptp_how_soon.specs.Rest.{heard_at_once, is_from_rest, row_of}
+use Rattle.gptp_how_soon.specs.Turned.{turns_one_after}
 use Rattle.gptp_how_soon.specs.declared.bounds.SettlingTime.{SettlingTime}
 use Rattle.gptp_how_soon.specs.declared.bounds.Row.{Row}
 use Rattle.gptp_how_soon.specs.declared.kinds.Told.{Told}
 
 -- What is seen of a time: when a link was last set, and the greatest delay that one has had; the time before, and what
--- Sync had to cross then; the links that are new at it; its events, whether they move a system, of which such as a link
--- cuts off by the one event don't count, and whether those that they name were far ends; whether each link that is up
--- is in use; what Sync has to cross; and whether the network is calm.
+-- Sync had to cross then, and whether each link that was up was in use; the links that are new at it; its events,
+-- whether they move a system, of which such as are cut off don't count where one link or one system is taken away,
+-- whether each link that is lost cuts off a far end, whether they move one system alone that turns, and whether those
+-- that they name were far ends; whether each link that is up is in use; what Sync has to cross; and whether the network
+-- is calm.
 pub record View : Type 0 where
   pub at : ℕ
   pub last_set : ℕ
   pub longest : ℕ
   pub before : Option SettlingTime
   pub paths_before : SyncPaths
+  pub used_before : Bool
   pub new : List Cable
   pub told : List Told
   pub moved : Bool
+  pub cut : Bool
+  pub turned : Bool
   pub far : Bool
   pub used : Bool
   pub paths : SyncPaths
@@ -67,10 +73,11 @@ gained_at n v = ready_at n v + heard_at n v + way_span v.paths
 abbrev pub row_at : View → Row
 row_at v =
     row_of (is_from_rest v.longest v.at v.paths_before v.paths v.told v.before) (is_first v) v.paths_before v.paths
-    v.told v.moved v.far v.used
+    v.told v.moved v.cut v.turned v.far v.used
 
 abbrev pub settling_time : NetworkState → View → SettlingTime
-settling_time n v = times_by n v.at v.last_set v.paths v.calm (sets_link v.told) (row_at v) (gained_at n v)
+settling_time n v =
+    times_by n v.at v.last_set v.paths v.calm (sets_link v.told) v.used_before (row_at v) (gained_at n v)
 
 -- ---- what is seen
 
@@ -99,9 +106,12 @@ view_at n made now before at = record {
   longest = longest_delay n (made ++ now);
   before = before;
   paths_before = sync_paths n made;
+  used_before = up_is_used (standings_after n made);
   new = new_links n made (made ++ now) (not (is_some before));
   told = told_of n made now;
-  moved = moves_counted (lowers_one (told_of n made now)) n made (made ++ now);
+  moved = moves_counted (takes_one (told_of n made now)) n made (made ++ now);
+  cut = cut_far_ends_after n made (made ++ now);
+  turned = turns_one_after n made (made ++ now);
   far = are_far_after n made (told_of n made now);
   used = up_is_used (standings_after n (made ++ now));
   paths = sync_paths n (made ++ now);

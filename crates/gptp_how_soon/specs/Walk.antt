@@ -9,10 +9,11 @@ use Rattle.gptp_topology.specs.Course.{cable_is_used, named}
 use Rattle.gptp_topology.specs.Tables.{TablesActed, are_calm, cables_of, has_clock, link_named, marked_paths, neighbours_at, systems_in}
 use Rattle.gptp_topology.specs.declared.nodes.System.{System}
 use Rattle.gptp_how_soon.specs.Chosen.{any_counted, chosen_over, ends_among, ends_in_use}
-use Rattle.gptp_how_soon.specs.Far.{are_far, up_is_used}
-use Rattle.gptp_how_soon.specs.Kinds.{lowers_one, sets_bounds, told_by}
-use Rattle.gptp_how_soon.specs.Links.{delay_set, longest_among, new_among}
+use Rattle.gptp_how_soon.specs.Far.{all_cut_far_ends, are_far, up_is_used}
+use Rattle.gptp_how_soon.specs.Kinds.{sets_bounds, takes_one, told_by}
+use Rattle.gptp_how_soon.specs.Links.{delay_set, longest_among, lost_among, new_among}
 use Rattle.gptp_how_soon.specs.Times.{View, settling_time}
+use Rattle.gptp_how_soon.specs.Turned.{turns_one}
 use Rattle.gptp_how_soon.specs.declared.bounds.SettlingTime.{SettlingTime}
 use Rattle.gptp_how_soon.specs.declared.chosen.Chosen.{Chosen}
 use Rattle.gptp_how_soon.specs.declared.walk.Walk.{Walk}
@@ -28,6 +29,7 @@ pub record IsFirstWalk (n : NetworkState) (w : Walk) : Type 0 where
   pub systems_before : w.systems_before.items ≡ systems_in w.tables.nodes.items
   pub used : w.used_before.items ≡ map cable_is_used w.tables.standings.items
   pub paths : w.paths_before ≡ marked_paths w.tables.marks.items w.tables.nodes.items
+  pub all_used : w.all_used_before ≡ up_is_used w.tables.standings.items
 
 -- an event of this time is passed
 pub record WalkPasses (at : ℕ) (act : Act) (old new : Walk) : Type 0 where
@@ -45,6 +47,7 @@ pub record WalkPasses (at : ℕ) (act : Act) (old new : Walk) : Type 0 where
   pub systems_before : new.systems_before ≡ old.systems_before
   pub used : new.used_before ≡ old.used_before
   pub paths : new.paths_before ≡ old.paths_before
+  pub all_used : new.all_used_before ≡ old.all_used_before
 
 -- it goes on to another time, where this is what is told of the one so far
 pub record WalkGoesOn (time : SettlingTime) (old new : Walk) : Type 0 where
@@ -57,6 +60,7 @@ pub record WalkGoesOn (time : SettlingTime) (old new : Walk) : Type 0 where
   pub systems_before : new.systems_before.items ≡ systems_in old.tables.nodes.items
   pub used : new.used_before.items ≡ map cable_is_used old.tables.standings.items
   pub paths : new.paths_before ≡ marked_paths old.tables.marks.items old.tables.nodes.items
+  pub all_used : new.all_used_before ≡ up_is_used old.tables.standings.items
 
 -- what systems that stand so choose over the links in use, and whether one that counts is moved at this time
 abbrev pub chosen_in : Walk → List System → List Bool → List Chosen
@@ -64,7 +68,27 @@ chosen_in w systems used = chosen_over systems (ends_in_use w.ends.items used)
 
 abbrev pub moves_seen : Walk → Bool
 moves_seen w =
-    any_counted (lowers_one w.told.items) (systems_in w.tables.nodes.items)
+    any_counted (takes_one w.told.items) (systems_in w.tables.nodes.items)
+    (ends_in_use w.ends.items (map cable_is_used w.tables.standings.items))
+    (chosen_in w w.systems_before.items w.used_before.items)
+    (chosen_in w (systems_in w.tables.nodes.items) (map cable_is_used w.tables.standings.items))
+
+-- whether each link that is lost cuts off a far end
+abbrev pub cuts_seen : Walk → Bool
+cuts_seen w =
+    all_cut_far_ends (systems_in w.tables.nodes.items) (chosen_in w w.systems_before.items w.used_before.items)
+    (ends_in_use w.ends.items w.used_before.items)
+    (ends_in_use w.ends.items (map cable_is_used w.tables.standings.items))
+    (ends_in_use w.ends.items
+    (lost_among w.used_before.items (map cable_is_used w.tables.standings.items)))
+
+-- whether one is moved alone, and turns
+abbrev pub turns_seen : Walk → Bool
+turns_seen w =
+    turns_one (systems_in w.tables.nodes.items)
+    (ends_in_use w.ends.items
+    (lost_among w.used_before.items (map cable_is_used w.tables.standings.items)))
+    (ends_in_use w.ends.items w.used_before.items)
     (ends_in_use w.ends.items (map cable_is_used w.tables.standings.items))
     (chosen_in w w.systems_before.items w.used_before.items)
     (chosen_in w (systems_in w.tables.nodes.items) (map cable_is_used w.tables.standings.items))
@@ -83,9 +107,12 @@ view_seen n w at = record {
   longest = w.longest;
   before = w.before;
   paths_before = w.paths_before;
+  used_before = w.all_used_before;
   new = new_among (not (is_some w.before)) w.tables.standings.items w.used_before.items;
   told = w.told.items;
   moved = moves_seen w;
+  cut = cuts_seen w;
+  turned = turns_seen w;
   far = far_seen w;
   used = up_is_used w.tables.standings.items;
   paths = marked_paths w.tables.marks.items w.tables.nodes.items;

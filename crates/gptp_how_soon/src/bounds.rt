@@ -6,7 +6,7 @@ ghost use Rattle.gptp_network.specs.declared.keys.TheConstants.{LATEST_EVENT};
 ghost use Rattle.gptp_scenario.specs.Network.{pace_of};
 ghost use Rattle.gptp_scenario.specs.SettlingAtOnce.{settling_span_at_once};
 ghost use Rattle.gptp_scenario.specs.SettlingTime.{capability_span};
-ghost use Rattle.gptp_how_soon.specs.Bounds.{asked_again, choice_by, exact_from, exact_span, heard_by, is_again, is_hard_to_hear, ready, roles_by, set_span, settled, sound_row, times_by, two_exchanges, watch, way_span};
+ghost use Rattle.gptp_how_soon.specs.Bounds.{aging_span, asked_again, choice_by, echo_span, exact_from, exact_span, gone_by, heard_by, is_again, is_hard_to_hear, ready, roles_by, set_span, settled, silence_span, sound_by, times_by, two_exchanges, watch, way_span};
 
 use crate::kinds::{Told, recovers};
 use crate::links::varies;
@@ -21,7 +21,7 @@ pub struct Settling {
     pub choice: u64,
     /// By how much later each port has its settled role.
     pub roles: u64,
-    /// By how much later all that is held is sound: it names no link that is gone.
+    /// By how much later all that is held is sound, and all in flight: it names no link that is gone.
     pub sound: u64,
     /// How much later the network rests: events that come later still find nothing of what was before.
     pub rest: u64,
@@ -47,11 +47,22 @@ pub enum Row {
     AnyPast,
     /// It is from rest, and its events change nothing.
     Unchanged,
-    /// It is from rest, and its loss changes no choice: a link goes down by its one event, where a system that it cuts off
-    /// doesn't count; or a system loses its power that was the far end of its links, and each link that is up is in use.
+    /// It is from rest, and a link goes down by its one event that moves no system; one that it cuts off doesn't count,
+    /// which was no far end.
     Lowered,
+    /// It is from rest, and loses a far end: a link so goes down, and cuts it off; or a system loses its power that was
+    /// the far end of its links, and each link that is up is in use.
+    LostEnd,
     /// It is from rest, and such a system fails; a link is up that isn't in use.
     FailedEnd,
+    /// It is from rest, and a system loses its power that others heard, which changes no choice, where a system that it
+    /// cuts off doesn't count; each link that is up is in use.
+    LostPower,
+    /// It is from rest, and such a system fails; a link is up that isn't in use.
+    FailedHeard,
+    /// It is from rest, and a link goes down by its one event that moves one system alone. That keeps its root, and
+    /// turns to others for it.
+    OneTurned,
     /// It is from rest, and none of its events is a loss.
     Gained,
 }
@@ -143,13 +154,34 @@ pub(crate) fn heard(network: &Network, followed: bool, told: &[Told], new: &[Cab
     }
 }
 
-/// By how much later than a system fails the ports beside it aren't capable any more, in ns.
+/// By how much later than a change ports are capable, or aren't, whatever came before, in ns.
 fn capability_span(network: &Network) -> u64
     ensures is { result ≡ capability_span (pace_of network.now) }
     ensures bound { result ≤ 4160000000000 }
 {
     network.well_formed();
     (u64::from(network.params().lost) + 5) * interval_of(network.largest())
+}
+
+/// By how much later than a system fails the ports beside it aren't capable any more, in ns.
+fn silence_span(network: &Network) -> u64
+    ensures is { result ≡ silence_span network.now.params }
+    ensures bound { result ≤ 4112000000000 }
+{
+    network.well_formed();
+    let params = network.params();
+    (u64::from(params.lost) + 2) * interval_of(params.pdelay)
+}
+
+/// By how much later than a system fails others don't hold any more what they heard of it, in ns.
+#[tactic(auto, using(gptp_scenario::proofs::SpanLemmas::few_spans))]
+fn aging_span(network: &Network, paths: SyncPaths) -> u64
+    requires { paths.delay ≤ 16000000000 }
+    ensures is { result ≡ aging_span network.now paths }
+    ensures bound { result ≤ 176000000000 }
+{
+    network.well_formed();
+    u64::from(network.params().timeout) * interval_of(network.largest()) + paths.delay
 }
 
 /// How long the network takes at most to settle from any past where nothing lapses for want of Sync, in ns.
@@ -183,7 +215,9 @@ fn choice_by(network: &Network, paths: SyncPaths, row: Row, gained: u64) -> u64
     }
     match row {
         Row::AnyPast => settling_span_at_once(network, paths),
-        Row::Unchanged | Row::Lowered | Row::FailedEnd => 0,
+        Row::Unchanged | Row::Lowered | Row::LostEnd | Row::FailedEnd | Row::LostPower => 0,
+        Row::FailedHeard => aging_span(network, paths).min(silence_span(network)),
+        Row::OneTurned => 2 * way_span(paths),
         Row::Gained => gained,
     }
 }
@@ -201,20 +235,58 @@ fn roles_by(network: &Network, paths: SyncPaths, row: Row, gained: u64) -> u64
     }
     match row {
         Row::AnyPast => settling_span_at_once(network, paths),
-        Row::Unchanged | Row::Lowered => 0,
-        Row::FailedEnd => capability_span(network),
+        Row::Unchanged | Row::Lowered | Row::LostEnd | Row::LostPower => 0,
+        Row::FailedEnd | Row::FailedHeard => silence_span(network),
+        Row::OneTurned => 2 * way_span(paths),
         Row::Gained => gained,
     }
 }
 
-/// By which row all that is held is sound.
-fn sound_row(row: Row) -> Row
-    ensures { result ≡ sound_row row }
+/// By how much later than a link goes down each tells a trace without it, in ns.
+fn echo_span(network: &Network, paths: SyncPaths) -> u64
+    requires few { paths.systems ≤ 512 }
+    requires short { paths.delay ≤ 16000000000 }
+    ensures is { result ≡ echo_span network.now paths }
+    ensures bound { result ≤ 16384000000000 }
 {
+    network.well_formed();
+    (paths.systems as u64).saturating_sub(1) * (interval_of(network.largest()) + paths.delay)
+}
+
+/// By how much later than a time what was in flight is gone, in ns.
+fn gone_by(network: &Network, paths: SyncPaths, used_before: bool) -> u64
+    requires { paths.delay ≤ 16000000000 }
+    ensures is { result ≡ gone_by network.now paths used_before }
+    ensures bound { result ≤ 16000000000 }
+{
+    network.well_formed();
+    if used_before {
+        paths.delay
+    } else {
+        interval_of(network.largest())
+    }
+}
+
+/// The bound of what is held and in flight, in ns.
+fn sound_by(network: &Network, paths: SyncPaths, used_before: bool, row: Row, gained: u64) -> u64
+    requires few { paths.systems ≤ 512 }
+    requires short { paths.delay ≤ 16000000000 }
+    requires gained { gained ≤ 195000000000000 }
+    ensures is { result ≡ sound_by network.now paths used_before row gained }
+    ensures bound { result ≤ 195000000000000 }
+{
+    if network.params().sync_timeout != 0 {
+        return network.settling_span_with(paths);
+    }
     match row {
-        Row::AnyPast | Row::Lowered | Row::FailedEnd => Row::AnyPast,
-        Row::Unchanged => Row::Unchanged,
-        Row::Gained => Row::Gained,
+        Row::AnyPast | Row::LostPower | Row::FailedHeard | Row::OneTurned => {
+            settling_span_at_once(network, paths)
+        }
+        Row::Unchanged => 0,
+        Row::Lowered => echo_span(network, paths) + gone_by(network, paths, used_before),
+        Row::LostEnd => gone_by(network, paths, used_before),
+        Row::FailedEnd => capability_span(network) + way_span(paths),
+        Row::Gained => gained,
     }
 }
 
@@ -297,6 +369,7 @@ pub(crate) fn times_by(
     paths: SyncPaths,
     calm: bool,
     sets: bool,
+    used_before: bool,
     row: Row,
     gained: u64,
 ) -> SettlingTime
@@ -305,13 +378,13 @@ pub(crate) fn times_by(
     requires early { at ≤ LATEST_EVENT }
     requires set { last_set ≤ at }
     requires gained { gained ≤ 195000000000000 }
-    ensures is { result ≡ times_by network.now at last_set paths calm sets row gained }
+    ensures is { result ≡ times_by network.now at last_set paths calm sets used_before row gained }
     ensures bound { result.watch ≤ 200000000000000 }
 {
     let settling = if calm {
         let choice = choice_by(network, paths, row, gained);
         let roles = roles_by(network, paths, row, gained);
-        let sound = choice_by(network, paths, sound_row(row), gained);
+        let sound = sound_by(network, paths, used_before, row, gained);
         Some(settled(network, at, last_set, paths, sets, choice, roles, sound))
     } else {
         None

@@ -19,7 +19,7 @@ pub struct Chosen {
 
 /// The systems at the ends of a link, by their places.
 #[derive(Clone, Copy)]
-pub(crate) struct Ends {
+pub struct Ends {
     pub a: usize,
     pub b: usize,
 }
@@ -191,7 +191,12 @@ fn differs(before: &Chosen, now: &Chosen) -> bool
 }
 
 /// Whether the system at a place lives and has another choice.
-fn is_moved_at(systems: &[System], before: &[Chosen], now: &[Chosen], place: usize) -> bool
+pub(crate) fn is_moved_at(
+    systems: &[System],
+    before: &[Chosen],
+    now: &[Chosen],
+    place: usize,
+) -> bool
     ensures { result ≡ is_moved_at systems.now before.now now.now place }
 {
     match systems.get(place) {
@@ -214,14 +219,14 @@ fn any_moved(systems: &[System], before: &[Chosen], now: &[Chosen]) -> bool
 }
 
 /// Whether a link ends at a place.
-fn ends_at(place: usize, ends: &Ends) -> bool
+pub(crate) fn ends_at(place: usize, ends: &Ends) -> bool
     ensures { result ≡ ends_at place ends.now }
 {
     ends.a == place || ends.b == place
 }
 
 /// Whether one of these links ends at a place.
-fn is_joined(links: &[Ends], place: usize) -> bool
+pub(crate) fn is_joined(links: &[Ends], place: usize) -> bool
     ensures { result ≡ is_joined links.now place }
 {
     links.iter().any(|ends| ends_at(place, ends))

@@ -1,9 +1,10 @@
-//! Whether a system is the far end of each of its links, and whether each link that is up is in use.
+//! Whether a system is the far end of each of its links, whether one is cut off that was, and whether each link that is
+//! up is in use.
 
 ghost use Rattle.std.specs.Prelude.{◌≡◌, slice_get};
-ghost use Rattle.gptp_how_soon.specs.Far.{are_far, has_lower_clock, is_far_end, is_far_named, is_down_or_used, is_far_over, is_nearer_at, up_is_used};
+ghost use Rattle.gptp_how_soon.specs.Far.{all_cut_far_ends, are_far, cuts_far_end, has_lower_clock, is_cut_at, is_far_end, is_far_named, is_down_or_used, is_far_over, is_nearer_at, up_is_used};
 
-use crate::chosen::{Chosen, Ends, place_of};
+use crate::chosen::{Chosen, Ends, is_joined, place_of};
 use crate::kinds::{Told, lowers_unused};
 use gptp_topology::{Standing, System, is_used};
 
@@ -43,7 +44,12 @@ fn is_far_over(systems: &[System], chosen: &[Chosen], place: usize, ends: &Ends)
 }
 
 /// Whether the system at a place is the far end of each of these links at which it is.
-fn is_far_end(systems: &[System], chosen: &[Chosen], links: &[Ends], place: usize) -> bool
+pub(crate) fn is_far_end(
+    systems: &[System],
+    chosen: &[Chosen],
+    links: &[Ends],
+    place: usize,
+) -> bool
     ensures { result ≡ is_far_end systems.now chosen.now links.now place }
 {
     links
@@ -58,13 +64,53 @@ fn is_far_named(systems: &[System], chosen: &[Chosen], links: &[Ends], told: &To
     lowers_unused(told) || is_far_end(systems, chosen, links, place_of(systems, told.clock))
 }
 
-/// Whether each system that is named by these events but such is the far end of each of its links, where the systems have
-/// chosen so over these links.
+/// Whether each system that is named by these events but such is the far end of each of its links, where the systems
+/// have chosen so over these links.
 pub(crate) fn are_far(systems: &[System], chosen: &[Chosen], links: &[Ends], told: &[Told]) -> bool
     ensures { result ≡ are_far systems.now chosen.now links.now told.now }
 {
     told.iter()
         .all(|one| is_far_named(systems, chosen, links, one))
+}
+
+/// Whether the system at a place was the far end of each of its links, and none is at it now.
+fn is_cut_at(
+    systems: &[System],
+    before: &[Chosen],
+    links_before: &[Ends],
+    links: &[Ends],
+    place: usize,
+) -> bool
+    ensures { result ≡ is_cut_at systems.now before.now links_before.now links.now place }
+{
+    is_far_end(systems, before, links_before, place) && !is_joined(links, place)
+}
+
+/// Whether so is a system at an end of a link.
+fn cuts_far_end(
+    systems: &[System],
+    before: &[Chosen],
+    links_before: &[Ends],
+    links: &[Ends],
+    ends: &Ends,
+) -> bool
+    ensures { result ≡ cuts_far_end systems.now before.now links_before.now links.now ends.now }
+{
+    is_cut_at(systems, before, links_before, links, ends.a)
+        || is_cut_at(systems, before, links_before, links, ends.b)
+}
+
+/// Whether so is one at an end of each link that is lost.
+pub(crate) fn all_cut_far_ends(
+    systems: &[System],
+    before: &[Chosen],
+    links_before: &[Ends],
+    links: &[Ends],
+    lost: &[Ends],
+) -> bool
+    ensures { result ≡ all_cut_far_ends systems.now before.now links_before.now links.now lost.now }
+{
+    lost.iter().all(|ends| cuts_far_end(systems, before, links_before, links, ends))
 }
 
 /// Whether a link is down or in use.

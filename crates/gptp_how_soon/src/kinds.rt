@@ -2,7 +2,7 @@
 
 ghost use Rattle.std.specs.Prelude.{◌≡◌, ◌++◌, ◌∷◌, [], false, OnOk};
 ghost use Rattle.std.specs.List.{list_all, list_any};
-ghost use Rattle.gptp_how_soon.specs.Kinds.{are_heard, begins_wider, first_wider_by, is_wider, kind_of_link_set, wider_by, fails_and_recovers, fails_first, is_fail, is_failing, is_recover, is_better, is_failure_of_same, is_gain, is_link_down, is_lowering, is_unused, leaves_links, lowers_one, lowers_unused, makes_nothing, tells_nothing, is_heard_too, is_idle, is_loss, is_other, is_priority1, is_link_up, is_recovery, is_recovery_of, kind_of, kind_of_change, kind_of_failure, kind_of_link_down, kind_of_link_up, kind_of_priority1, kind_of_recovery, recovers, sets_bounds, sets_link, is_link_set, told_by, what_of, what_of_change};
+ghost use Rattle.gptp_how_soon.specs.Kinds.{are_heard, begins_wider, first_wider_by, is_wider, kind_of_link_set, wider_by, fails_and_recovers, fails_first, is_fail, is_failing, is_recover, is_better, is_failure_of_same, is_gain, is_link_down, is_lowering, is_unused, leaves_links, lowers_one, lowers_unused, makes_nothing, tells_nothing, is_heard_too, is_idle, is_loss, is_other, is_priority1, is_link_up, is_recovery, is_recovery_of, kind_of, kind_of_change, kind_of_failure, kind_of_link_down, kind_of_link_up, kind_of_priority1, kind_of_recovery, recovers, sets_bounds, sets_link, is_link_set, takes_one, told_by, what_of, what_of_change};
 
 use gptp_scenario::{Act, Change};
 use gptp_topology::{Standing, System, is_used, named};
@@ -462,7 +462,8 @@ fn all_lower_unused(told: &[Told]) -> bool
     told.iter().all(|one| lowers_unused(one))
 }
 
-/// Whether a live system fails by the first of these events, and by the others links go down of which an end has failed.
+/// Whether a live system fails by the first of these events, and by the others links go down of which an end has
+/// failed.
 pub(crate) fn fails_first(told: &[Told]) -> bool
     ensures { result ≡ fails_first told.now }
 {
@@ -470,6 +471,13 @@ pub(crate) fn fails_first(told: &[Told]) -> bool
         Some((first, others)) => is_failing(first) && all_lower_unused(others),
         None => false,
     }
+}
+
+/// Whether one link or one system is taken away by these events.
+pub(crate) fn takes_one(told: &[Told]) -> bool
+    ensures { result ≡ takes_one told.now }
+{
+    lowers_one(told) || fails_first(told)
 }
 
 /// Whether each of these events changes nothing.

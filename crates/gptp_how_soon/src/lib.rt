@@ -13,9 +13,10 @@ mod rest;
 #[cfg(test)]
 mod tests;
 mod times;
+mod turned;
 mod walk;
 
 pub use bounds::{Row, Settling, SettlingTime};
-pub use chosen::Chosen;
+pub use chosen::{Chosen, Ends};
 pub use kinds::{Kind, Told, What};
 pub use times::{settling_at, settling_times};

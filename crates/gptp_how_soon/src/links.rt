@@ -1,8 +1,8 @@
-//! Which links are new at a time, over which delays vary, and the greatest delay of links.
+//! Which links are new at a time, and which are lost; over which delays vary, and the greatest delay of links.
 
-ghost use Rattle.std.specs.Prelude.{◌≡◌, ◌++◌, IfOk, OnOk, map};
+ghost use Rattle.std.specs.Prelude.{◌≡◌, ◌++◌, ◌&&◌, not, IfOk, OnOk, map};
 ghost use Rattle.gptp_topology.specs.Course.{cable_is_used};
-ghost use Rattle.gptp_how_soon.specs.Links.{delay_changed, delay_set, is_old_at, is_used_at, longest_among, new_among, new_one, varies};
+ghost use Rattle.gptp_how_soon.specs.Links.{delay_changed, delay_set, is_old_at, is_used_at, longest_among, lost_among, new_among, new_one, varies};
 
 use gptp_scenario::{Act, Change};
 use gptp_topology::{Cable, Standing, is_used};
@@ -71,6 +71,28 @@ pub(crate) fn new_links(
         )?;
     }
     Ok(new)
+}
+
+/// Whether a link that was in use before, or wasn't, is lost.
+fn is_gone(before: bool, now: bool) -> bool
+    ensures { result ≡ (before && not now) }
+{
+    before && !now
+}
+
+/// Which links were in use before and aren't now.
+pub(crate) fn lost_among(
+    alloc: Global,
+    used_before: &[bool],
+    used: &[bool],
+) -> Result<Vec<bool>, AllocError>
+    ensures { IfOk result (λ lost. lost.items ≡ lost_among used_before.now used.now) }
+{
+    let mut lost = Vec::new(alloc);
+    for place in 0..used_before.len() {
+        lost.push(is_gone(used_before[place], is_used_at(used, place)))?;
+    }
+    Ok(lost)
 }
 
 /// The greatest delay of these links, in ns, or 0.

@@ -2,7 +2,7 @@
 
 ghost use Rattle.std.specs.Prelude.{◌≡◌, ◌≤◌, ◌+◌, ◌*◌, nat_lt};
 ghost use Rattle.gptp_how_soon.specs.Bounds.{way_span};
-ghost use Rattle.gptp_how_soon.specs.Rest.{are_events_followed, are_losses_followed, are_recoveries_followed, are_turns_followed, asks_who_is_far, asks_who_is_moved, heard_at_once, is_failing_followed, is_from_rest, is_lowering_followed, is_wider_followed, keeps_paths, rested, row_of, settles_wider_by};
+ghost use Rattle.gptp_how_soon.specs.Rest.{are_events_followed, are_losses_followed, are_recoveries_followed, are_turns_followed, asks_who_is_far, asks_who_is_moved, heard_at_once, is_failing_followed, failed_row, is_from_rest, is_lowering_followed, is_wider_followed, keeps_paths, rested, row_of, settles_wider_by};
 
 use crate::bounds::{Row, SettlingTime, way_span};
 use crate::kinds::{
@@ -151,7 +151,7 @@ fn is_lowering_followed(paths_before: SyncPaths, paths: SyncPaths, told: &[Told]
     keeps_paths(paths_before, paths) && lowers_one(told)
 }
 
-/// Whether a system that fails is followed, where it was a far end.
+/// Whether a system that fails is followed.
 fn is_failing_followed(paths_before: SyncPaths, paths: SyncPaths, told: &[Told]) -> bool
     ensures { result ≡ is_failing_followed paths_before paths told.now }
 {
@@ -185,8 +185,25 @@ pub(crate) fn asks_who_is_far(
     from_rest && is_failing_followed(paths_before, paths, told)
 }
 
-/// What is known of a time, where it is from rest or isn't, its events move a system or don't, the one that fails was a
-/// far end or wasn't, and each link that is up is in use or isn't.
+/// What is known of a time at which a system fails and none is moved, where the one that fails was a far end or wasn't,
+/// and each link that is up is in use or isn't.
+fn failed_row(far: bool, used: bool) -> Row
+    ensures { result ≡ failed_row far used }
+{
+    if far {
+        if used { Row::LostEnd } else { Row::FailedEnd }
+    } else {
+        if used {
+            Row::LostPower
+        } else {
+            Row::FailedHeard
+        }
+    }
+}
+
+/// What is known of a time, where it is from rest or isn't, its events move a system or don't, each link that is lost
+/// cuts off a far end or doesn't, a system that they move alone turns or doesn't, the one that fails was a far end or
+/// wasn't, and each link that is up is in use or isn't.
 pub(crate) fn row_of(
     from_rest: bool,
     first: bool,
@@ -194,10 +211,12 @@ pub(crate) fn row_of(
     paths: SyncPaths,
     told: &[Told],
     moved: bool,
+    cut: bool,
+    turned: bool,
     far: bool,
     used: bool,
 ) -> Row
-    ensures { result ≡ row_of from_rest first paths_before paths told.now moved far used }
+    ensures { result ≡ row_of from_rest first paths_before paths told.now moved cut turned far used }
 {
     if !from_rest {
         Row::AnyPast
@@ -208,9 +227,11 @@ pub(crate) fn row_of(
     } else if are_losses_followed(paths_before, told) && !moved {
         Row::Unchanged
     } else if is_lowering_followed(paths_before, paths, told) && !moved {
-        Row::Lowered
-    } else if is_failing_followed(paths_before, paths, told) && !moved && far {
-        if used { Row::Lowered } else { Row::FailedEnd }
+        if cut { Row::LostEnd } else { Row::Lowered }
+    } else if is_lowering_followed(paths_before, paths, told) && turned {
+        Row::OneTurned
+    } else if is_failing_followed(paths_before, paths, told) && !moved {
+        failed_row(far, used)
     } else if any_loss(told) {
         Row::AnyPast
     } else {

@@ -70,13 +70,13 @@ fn a_ring_settles_after_its_start_and_after_a_loss(rt: HostRuntime) -> Result<()
         Some(SettlingTime {
             at: 30_000_000_000,
             settling: Some(Settling {
-                choice: 15_000_002_870,
-                roles: 15_000_002_870,
+                choice: 2_460,
+                roles: 2_460,
                 sound: 15_000_002_870,
                 rest: 15_000_003_280,
-                exact_from: 45_000_010_070,
+                exact_from: 30_000_009_660,
             }),
-            watch: 16_000_010_070,
+            watch: 16_000_003_281,
         })
     );
     assert_eq!(rt; settling_at(&times, 1), None);
@@ -216,7 +216,7 @@ fn a_link_that_goes_down_and_moves_no_system_costs_nothing(rt: HostRuntime) -> R
     // It comes up again before the network rests.
     let times = ring(
         rt.alloc(),
-        "[[event]]\nat = 30000000000\nkind = \"link_down\"\nclock = \"000000000000000b\"\nport = 2\n[[event]]\nat = 40000000000\nkind = \"link_up\"\nclock = \"000000000000000b\"\nport = 2\n",
+        "[[event]]\nat = 30000000000\nkind = \"link_down\"\nclock = \"000000000000000b\"\nport = 2\n[[event]]\nat = 32000000000\nkind = \"link_up\"\nclock = \"000000000000000b\"\nport = 2\n",
     )?;
     assert_eq!(rt;
         settling_at(&times, 30_000_000_000),
@@ -225,16 +225,25 @@ fn a_link_that_goes_down_and_moves_no_system_costs_nothing(rt: HostRuntime) -> R
             settling: Some(Settling {
                 choice: 0,
                 roles: 0,
-                sound: 15_000_002_870,
-                rest: 15_000_003_280,
+                sound: 3_000_001_640,
+                rest: 3_000_002_050,
                 exact_from: 30_000_007_200,
             }),
-            watch: 16_000_003_281,
+            watch: 4_000_002_051,
         })
     );
     assert_eq!(rt;
-        soon(&times, 40_000_000_000),
-        Some((15_000_002_870, 55_000_010_070))
+        soon(&times, 32_000_000_000),
+        Some((15_000_002_870, 47_000_010_070))
+    );
+    // It comes up again once it does.
+    let later = ring(
+        rt.alloc(),
+        "[[event]]\nat = 30000000000\nkind = \"link_down\"\nclock = \"000000000000000b\"\nport = 2\n[[event]]\nat = 34000000000\nkind = \"link_up\"\nclock = \"000000000000000b\"\nport = 2\n",
+    )?;
+    assert_eq!(rt;
+        soon(&later, 34_000_000_000),
+        Some((1_000_003_050, 35_000_010_250))
     );
     Ok(())
 }
@@ -247,6 +256,145 @@ fn a_system_that_a_link_cuts_off_costs_nothing(rt: HostRuntime) -> Result<(), Fa
         "[[event]]\nat = 30000000000\nkind = \"link_down\"\nclock = \"000000000000000b\"\nport = 2\n[[event]]\nat = 100000000000\nkind = \"link_down\"\nclock = \"000000000000000b\"\nport = 1\n",
     )?;
     assert_eq!(rt; soon(&times, 100_000_000_000), Some((0, 100_000_005_400)));
+    Ok(())
+}
+
+/// The times of systems with these links, each by the last digits of its clocks and its ports, and with these events.
+fn joined(
+    alloc: Global,
+    clocks: &[&str],
+    links: &[(&str, &str, &str, &str)],
+    events: &str,
+) -> Result<Vec<SettlingTime>, Fail>
+    ensures { IfOk result (λ times. AreRising times.items) }
+{
+    let mut text = String::new(alloc);
+    text.push_str("version = 1\n")?;
+    for clock in clocks {
+        writeln!(
+            text,
+            "[[system]]\nclock = \"000000000000000{clock}\"\nports = 4"
+        )?;
+    }
+    for (a, a_port, b, b_port) in links {
+        writeln!(
+            text,
+            "[[link]]\na = \"000000000000000{a}\"\na_port = {a_port}"
+        )?;
+        writeln!(
+            text,
+            "b = \"000000000000000{b}\"\nb_port = {b_port}\nmin = 390\nmax = 410"
+        )?;
+    }
+    text.push_str(events)?;
+    times_of(alloc, text.as_str())
+}
+
+/// The times of such systems where the first of the links goes down after 30 s.
+fn cut(
+    alloc: Global,
+    clocks: &[&str],
+    links: &[(&str, &str, &str, &str)],
+) -> Result<Vec<SettlingTime>, Fail>
+    ensures { IfOk result (λ times. AreRising times.items) }
+{
+    let mut event = String::new(alloc);
+    event.push_str("[[event]]\nat = 30000000000\nkind = \"link_down\"\n")?;
+    if let Some((clock, port, _, _)) = links.first() {
+        writeln!(event, "clock = \"000000000000000{clock}\"\nport = {port}")?;
+    }
+    joined(alloc, clocks, links, event.as_str())
+}
+
+#[test]
+fn a_system_that_a_link_moves_alone_turns_within_two_ways(rt: HostRuntime) -> Result<(), Fail> {
+    // Each row but the last moves the system at the second end of its first link.
+    for (case, clocks, links, choice) in [
+        (
+            "one step farther, over a neighbour on which another hangs",
+            &["a", "b", "c", "d"] as &[&str],
+            &[
+                ("a", "1", "b", "1"),
+                ("a", "2", "c", "1"),
+                ("b", "2", "c", "2"),
+                ("c", "3", "d", "1"),
+            ] as &[(&str, &str, &str, &str)],
+            1_640,
+        ),
+        (
+            "beside one that is as near, with the lower clock",
+            &["a", "b", "c", "d"] as &[&str],
+            &[
+                ("a", "1", "d", "1"),
+                ("a", "2", "c", "1"),
+                ("d", "2", "c", "2"),
+                ("d", "3", "b", "1"),
+                ("c", "3", "b", "2"),
+            ] as &[(&str, &str, &str, &str)],
+            2_460,
+        ),
+        (
+            "beside one that is as near, with the higher clock",
+            &["a", "b", "c", "d"] as &[&str],
+            &[
+                ("a", "1", "b", "1"),
+                ("a", "2", "c", "1"),
+                ("b", "2", "c", "2"),
+                ("b", "3", "d", "1"),
+                ("c", "3", "d", "2"),
+            ] as &[(&str, &str, &str, &str)],
+            15_000_002_870,
+        ),
+        (
+            "with two links to the same neighbour",
+            &["a", "b", "c", "d"] as &[&str],
+            &[
+                ("a", "1", "b", "1"),
+                ("b", "2", "c", "1"),
+                ("b", "3", "c", "2"),
+                ("c", "3", "d", "1"),
+                ("d", "2", "a", "2"),
+            ] as &[(&str, &str, &str, &str)],
+            15_000_002_870,
+        ),
+        (
+            "two steps farther, over a neighbour on which another hangs",
+            &["a", "b", "c", "d", "e"] as &[&str],
+            &[
+                ("a", "1", "b", "1"),
+                ("b", "2", "c", "1"),
+                ("c", "2", "d", "1"),
+                ("d", "2", "a", "2"),
+                ("c", "3", "e", "1"),
+            ] as &[(&str, &str, &str, &str)],
+            15_000_002_870,
+        ),
+        (
+            "together with another",
+            &["a", "b", "c", "d", "e"] as &[&str],
+            &[
+                ("a", "1", "b", "1"),
+                ("b", "2", "c", "1"),
+                ("c", "2", "d", "1"),
+                ("d", "2", "e", "1"),
+                ("e", "2", "a", "2"),
+            ] as &[(&str, &str, &str, &str)],
+            18_000_003_690,
+        ),
+        (
+            "a system is cut off",
+            &["a", "b", "c"] as &[&str],
+            &[("a", "1", "b", "1"), ("a", "2", "c", "1")] as &[(&str, &str, &str, &str)],
+            0,
+        ),
+    ] {
+        let times = cut(rt.alloc(), clocks, links)?;
+        assert_eq!(rt;
+            soon(&times, 30_000_000_000).map(|bound| bound.0),
+            Some(choice),
+            "{case}"
+        );
+    }
     Ok(())
 }
 
@@ -263,22 +411,86 @@ fn a_far_end_that_fails_costs_the_choice_nothing(rt: HostRuntime) -> Result<(), 
             at: 30_000_000_000,
             settling: Some(Settling {
                 choice: 0,
-                roles: 14_000_000_000,
-                sound: 15_000_000_820,
-                rest: 15_000_001_230,
-                exact_from: 44_000_005_400,
+                roles: 11_000_000_000,
+                sound: 14_000_000_820,
+                rest: 14_000_001_230,
+                exact_from: 41_000_005_400,
             }),
-            watch: 16_000_001_231,
+            watch: 15_000_001_231,
         })
     );
-    let near = ring(
-        rt.alloc(),
-        "[[event]]\nat = 30000000000\nkind = \"fail\"\nclock = \"000000000000000d\"\n",
-    )?;
-    assert_eq!(rt;
-        soon(&near, 30_000_000_000),
-        Some((15_000_000_820, 45_000_006_220))
-    );
+    Ok(())
+}
+
+#[test]
+fn a_system_that_others_hear_costs_the_choice_what_they_hold_it_for(
+    rt: HostRuntime,
+) -> Result<(), Fail> {
+    // c hears d, and b as well. It holds that for three announce intervals, or its port isn't capable before: as the
+    // second request after the last that was answered is given up.
+    const FAILS: &str =
+        "[[event]]\nat = 30000000000\nkind = \"fail\"\nclock = \"000000000000000d\"\n";
+    const DOWN: &str =
+        "[[event]]\nat = 30000000000\nkind = \"link_down\"\nclock = \"000000000000000d\"\nport = ";
+    for (case, network, power, bound) in [
+        ("it hangs", "", false, (3_000_000_410, 41_000_005_400)),
+        (
+            "it hangs, and that is noticed soon",
+            "[network]\npdelay = -3\nlost = 1\n",
+            false,
+            (375_000_000, 30_375_005_400),
+        ),
+        ("it loses its power", "", true, (0, 30_000_005_400)),
+    ] {
+        let mut events = String::new(rt.alloc());
+        events.push_str(FAILS)?;
+        if power {
+            writeln!(events, "{DOWN}1\n{DOWN}2")?;
+        }
+        events.push_str(network)?;
+        let times = ring(rt.alloc(), events.as_str())?;
+        assert_eq!(rt; soon(&times, 30_000_000_000), Some(bound), "{case}");
+    }
+    Ok(())
+}
+
+#[test]
+fn a_system_that_a_failure_cuts_off_does_not_count(rt: HostRuntime) -> Result<(), Fail> {
+    // c hears the root over b alone, and d has it from a. Where b and c go on to d another is moved that isn't cut off.
+    for (case, links, choice) in [
+        (
+            "one is cut off",
+            &[
+                ("a", "1", "b", "1"),
+                ("b", "2", "c", "1"),
+                ("a", "2", "d", "1"),
+            ] as &[(&str, &str, &str, &str)],
+            3_000_000_410,
+        ),
+        (
+            "one goes over another",
+            &[
+                ("a", "1", "b", "1"),
+                ("b", "2", "c", "1"),
+                ("a", "2", "d", "1"),
+                ("d", "2", "e", "1"),
+                ("e", "2", "c", "2"),
+            ] as &[(&str, &str, &str, &str)],
+            15_000_002_870,
+        ),
+    ] {
+        let times = joined(
+            rt.alloc(),
+            &["a", "b", "c", "d", "e"],
+            links,
+            "[[event]]\nat = 30000000000\nkind = \"fail\"\nclock = \"000000000000000b\"\n",
+        )?;
+        assert_eq!(rt;
+            soon(&times, 30_000_000_000).map(|bound| bound.0),
+            Some(choice),
+            "{case}"
+        );
+    }
     Ok(())
 }
 
@@ -296,11 +508,11 @@ fn a_far_end_that_loses_its_power_costs_nothing(rt: HostRuntime) -> Result<(), F
             settling: Some(Settling {
                 choice: 0,
                 roles: 0,
-                sound: 15_000_000_820,
-                rest: 15_000_001_230,
+                sound: 410,
+                rest: 820,
                 exact_from: 30_000_005_400,
             }),
-            watch: 16_000_001_231,
+            watch: 1_000_005_400,
         })
     );
     // One of them stays up, and then a link goes down first.
@@ -308,7 +520,7 @@ fn a_far_end_that_loses_its_power_costs_nothing(rt: HostRuntime) -> Result<(), F
         rt.alloc(),
         "[[event]]\nat = 30000000000\nkind = \"fail\"\nclock = \"000000000000000c\"\n[[event]]\nat = 30000000000\nkind = \"link_down\"\nclock = \"000000000000000c\"\nport = 1\n",
     )?;
-    assert_eq!(rt; soon(&hangs, 30_000_000_000), Some((0, 44_000_005_400)));
+    assert_eq!(rt; soon(&hangs, 30_000_000_000), Some((0, 41_000_005_400)));
     let before = ring(
         rt.alloc(),
         "[[event]]\nat = 30000000000\nkind = \"link_down\"\nclock = \"000000000000000c\"\nport = 1\n[[event]]\nat = 30000000000\nkind = \"fail\"\nclock = \"000000000000000c\"\n",
@@ -317,6 +529,62 @@ fn a_far_end_that_loses_its_power_costs_nothing(rt: HostRuntime) -> Result<(), F
         soon(&before, 30_000_000_000),
         Some((15_000_000_820, 45_000_006_220))
     );
+    Ok(())
+}
+
+/// How much later than a time the network rests, and by how much later than another the choice stands.
+fn rests(times: &[SettlingTime], at: u64, next: u64) -> Option<(u64, u64)>
+    requires { AreRising times.now }
+{
+    let settling = settling_at(times, at)?.settling?;
+    Some((settling.rest, settling_at(times, next)?.settling?.choice))
+}
+
+#[test]
+fn events_come_from_rest_soon_after_a_far_end_is_lost(rt: HostRuntime) -> Result<(), Fail> {
+    // The link from b to c goes down first; then b is the far end of its own link, and a of none.
+    for (case, events, rest, next, choice) in [
+        (
+            "a link cuts off b",
+            "[[event]]\nat = 100000000000\nkind = \"link_down\"\nclock = \"000000000000000b\"\nport = 1\n[[event]]\nat = 101000000000\nkind = \"link_up\"\nclock = \"000000000000000b\"\nport = 1\n",
+            820,
+            101_000_000_000,
+            1_000_003_050,
+        ),
+        (
+            "b loses its power",
+            "[[event]]\nat = 100000000000\nkind = \"fail\"\nclock = \"000000000000000b\"\n[[event]]\nat = 100000000000\nkind = \"link_down\"\nclock = \"000000000000000b\"\nport = 1\n[[event]]\nat = 101000000000\nkind = \"recover\"\nclock = \"000000000000000b\"\n",
+            820,
+            101_000_000_000,
+            820,
+        ),
+        (
+            "b hangs",
+            "[[event]]\nat = 100000000000\nkind = \"fail\"\nclock = \"000000000000000b\"\n[[event]]\nat = 114500000000\nkind = \"recover\"\nclock = \"000000000000000b\"\n",
+            14_000_001_230,
+            114_500_000_000,
+            3_000_003_050,
+        ),
+        (
+            "d is left behind its link, which was nearer",
+            "[[event]]\nat = 100000000000\nkind = \"link_down\"\nclock = \"000000000000000d\"\nport = 2\n[[event]]\nat = 101000000000\nkind = \"link_up\"\nclock = \"000000000000000d\"\nport = 2\n",
+            15_000_000_820,
+            101_000_000_000,
+            15_000_002_870,
+        ),
+    ] {
+        let mut text = String::new(rt.alloc());
+        text.push_str(
+            "[[event]]\nat = 30000000000\nkind = \"link_down\"\nclock = \"000000000000000b\"\nport = 2\n",
+        )?;
+        text.push_str(events)?;
+        let times = ring(rt.alloc(), text.as_str())?;
+        assert_eq!(rt;
+            rests(&times, 100_000_000_000, next),
+            Some((rest, choice)),
+            "{case}"
+        );
+    }
     Ok(())
 }
 

@@ -4,14 +4,15 @@ ghost use Rattle.std.specs.Prelude.{◌≡◌, ◌≤◌, ◌&&◌, IfOk, OnOk};
 ghost use Rattle.gptp_network.specs.declared.keys.TheConstants.{LATEST_EVENT};
 ghost use Rattle.gptp_topology.specs.Tables.{AreMarked, marked_paths};
 ghost use Rattle.gptp_how_soon.specs.Times.{settling_time};
-ghost use Rattle.gptp_how_soon.specs.Walk.{IsFirstWalk, WalkGoesOn, WalkPasses, chosen_in, far_seen, moves_seen, view_seen};
+ghost use Rattle.gptp_how_soon.specs.Walk.{IsFirstWalk, WalkGoesOn, WalkPasses, cuts_seen, far_seen, moves_seen, turns_seen, view_seen};
 
 use crate::bounds::{SettlingTime, heard, ready, times_by, way_span};
 use crate::chosen::{Chosen, Ends, any_counted, choose, copy_systems, ends_in_use, ends_of};
-use crate::far::{are_far, up_is_used};
-use crate::kinds::{Told, lowers_one, sets_bounds, sets_link, tell};
-use crate::links::{delay_set, longest_among, mark_used, new_links};
+use crate::far::{all_cut_far_ends, are_far, up_is_used};
+use crate::kinds::{Told, sets_bounds, sets_link, takes_one, tell};
+use crate::links::{delay_set, longest_among, lost_among, mark_used, new_links};
 use crate::rest::{asks_who_is_far, asks_who_is_moved, heard_at_once, is_from_rest, row_of};
+use crate::turned::turns_one;
 use gptp_scenario::{Act, Network, SyncPaths};
 use gptp_topology::{System, Tables, cables_of};
 use std::alloc::{AllocError, Global};
@@ -30,10 +31,23 @@ pub(crate) struct Walk {
     pub told: Vec<Told>,
     /// The time before, if there is one.
     pub before: Option<SettlingTime>,
-    /// The systems as they stood then, which links were in use, and what Sync had to cross.
+    /// The systems as they stood then, which links were in use, what Sync had to cross, and whether each link that was
+    /// up was in use.
     pub systems_before: Vec<System>,
     pub used_before: Vec<bool>,
     pub paths_before: SyncPaths,
+    pub all_used_before: bool,
+}
+
+/// Whom the events of a time move.
+#[derive(Clone, Copy)]
+struct Moves {
+    /// Whether they move a system that counts.
+    moved: bool,
+    /// Whether each link that is lost cuts off a far end.
+    cut: bool,
+    /// Whether they move one alone, and that turns.
+    turned: bool,
 }
 
 impl Walk {
@@ -50,6 +64,7 @@ impl Walk {
         let mut used_before = Vec::new(alloc);
         mark_used(&mut used_before, &tables.standings)?;
         let paths_before = tables.sync_paths();
+        let all_used_before = up_is_used(&tables.standings);
         Ok(Walk {
             tables,
             ends,
@@ -60,6 +75,7 @@ impl Walk {
             systems_before,
             used_before,
             paths_before,
+            all_used_before,
         })
     }
 
@@ -87,45 +103,52 @@ impl Walk {
         copy_systems(&mut self.systems_before, &self.tables.nodes)?;
         mark_used(&mut self.used_before, &self.tables.standings)?;
         self.paths_before = paths;
+        self.all_used_before = up_is_used(&self.tables.standings);
         self.told.clear();
         self.before = Some(time);
         Ok(())
     }
 
-    /// What systems that stand so choose over the links that are in use.
-    fn chosen(
-        &self,
-        alloc: Global,
-        systems: &[System],
-        used: &[bool],
-    ) -> Result<Vec<Chosen>, AllocError>
-        ensures { IfOk result (λ chosen. chosen.items ≡ chosen_in self.now systems.now used.now) }
-    {
-        let links = ends_in_use(alloc, &self.ends, used)?;
-        choose(alloc, systems, &links)
-    }
-
-    /// Whether the events of this time move a system. One that is cut off doesn't count where a link goes down by the one
-    /// event.
-    fn moves(&self, alloc: Global) -> Result<bool, AllocError>
-        ensures { IfOk result (λ moved. moved ≡ moves_seen self.now) }
+    /// Whom the events of this time move. A system that is cut off doesn't count where one link or one system is taken
+    /// away.
+    fn moves(&self, alloc: Global) -> Result<Moves, AllocError>
+        ensures moved { IfOk result (λ moves. moves.moved ≡ moves_seen self.now) }
+        ensures cut { IfOk result (λ moves. moves.cut ≡ cuts_seen self.now) }
+        ensures turned { IfOk result (λ moves. moves.turned ≡ turns_seen self.now) }
     {
         let mut systems = Vec::new(alloc);
         copy_systems(&mut systems, &self.tables.nodes)?;
         let mut used = Vec::new(alloc);
         mark_used(&mut used, &self.tables.standings)?;
         let links = ends_in_use(alloc, &self.ends, &used)?;
-        let before = self.chosen(alloc, &self.systems_before, &self.used_before)?;
+        let lost = lost_among(alloc, &self.used_before, &used)?;
+        let lost = ends_in_use(alloc, &self.ends, &lost)?;
+        let links_before = ends_in_use(alloc, &self.ends, &self.used_before)?;
+        let before = choose(alloc, &self.systems_before, &links_before)?;
         let now = choose(alloc, &systems, &links)?;
-        let joined = lowers_one(&self.told);
-        Ok(any_counted(joined, &systems, &links, &before, &now))
+        let joined = takes_one(&self.told);
+        Ok(Moves {
+            moved: any_counted(joined, &systems, &links, &before, &now),
+            cut: all_cut_far_ends(&systems, &before, &links_before, &links, &lost),
+            turned: turns_one(alloc, &systems, &lost, &links_before, &links, &before, &now)?,
+        })
     }
 
-    /// Whether the events of this time move a system, where that is asked.
-    fn moves_if(&self, alloc: Global, asked: bool) -> Result<bool, AllocError>
-        ensures { IfOk result (λ moved. moved ≡ (asked && moves_seen self.now)) }
+    /// Whom the events of this time move, where that is asked.
+    fn moves_if(&self, alloc: Global, asked: bool) -> Result<Moves, AllocError>
+        ensures moved { IfOk result (λ moves. moves.moved ≡ (asked && moves_seen self.now)) }
+        ensures cut { IfOk result (λ moves. moves.cut ≡ (asked && cuts_seen self.now)) }
+        ensures turned { IfOk result (λ moves. moves.turned ≡ (asked && turns_seen self.now)) }
     {
-        if asked { self.moves(alloc) } else { Ok(false) }
+        if asked {
+            self.moves(alloc)
+        } else {
+            Ok(Moves {
+                moved: false,
+                cut: false,
+                turned: false,
+            })
+        }
     }
 
     /// Whether those that the events of this time name were far ends, where that is asked.
@@ -172,7 +195,7 @@ impl Walk {
         let paths_before = self.paths_before;
         let from_rest = is_from_rest(self.longest, at, paths_before, paths, told, self.before);
         let asked = asks_who_is_moved(from_rest, paths_before, paths, told);
-        let moved = self.moves_if(alloc, asked)?;
+        let moves = self.moves_if(alloc, asked)?;
         let asked_far = asks_who_is_far(from_rest, paths_before, paths, told);
         let far = self.far_if(alloc, asked_far)?;
         let all_used = up_is_used(standings);
@@ -183,13 +206,16 @@ impl Walk {
             paths,
             self.tables.is_calm(network, paths),
             sets_link(told),
+            self.all_used_before,
             row_of(
                 from_rest,
                 first,
                 paths_before,
                 paths,
                 told,
-                moved,
+                moves.moved,
+                moves.cut,
+                moves.turned,
                 far,
                 all_used,
             ),

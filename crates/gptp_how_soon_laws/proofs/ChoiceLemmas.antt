@@ -1,12 +1,12 @@
--- What is told of each time of a document is so: its choice and roles are choice bounds or loss bounds. All that is
--- held is sound by another choice bound.
+-- What is told of each time of a document is so: its choice and roles are choice bounds or loss bounds. The network has
+-- come to rest by a rest bound.
 use Rattle.std.proofs.Common.{◌≡◌, ◌<◌, ◌≤◌, ◌⊎◌, inl, inr, ◌+◌, ◌*◌, max, ℕ, Bool, true, false, cond, List, [], ◌∷◌, ◌++◌, Some, None, refl, sym, ap, subst, ◌∙◌, arith}
-use Rattle.std.specs.Prelude.{◌==◌, nat_le}
+use Rattle.std.specs.Prelude.{◌==◌, min, nat_le}
 use Rattle.std.proofs.lemmas.Bool.{eqb-false, eqb-true}
 use Rattle.std.proofs.lemmas.Bool.Decides.{nat_tests}
 use Rattle.gptp_lists.specs.Members.{In}
 use Rattle.gptp_lists.proofs.SystemSpecLemmas.{In-left, In-parts}
-use Rattle.gptp_setup.specs.SettlingParams.{largest_interval}
+use Rattle.gptp_setup.specs.SettlingParams.{largest_interval, longest_span}
 use Rattle.gptp_scenario.specs.Calm.{NothingLapses}
 use Rattle.gptp_scenario.specs.Network.{NetworkState, pace_of}
 use Rattle.gptp_scenario.specs.SettlingTime.{capability_span, window_span}
@@ -16,17 +16,17 @@ use Rattle.gptp_network.specs.Document.{DocumentState}
 use Rattle.gptp_network.specs.Snapshot.{events_by}
 use Rattle.gptp_network.proofs.SnapshotLemmas.{from_filter}
 use Rattle.gptp_theorem.specs.PlayedLaws.{IsPlayable}
-use Rattle.gptp_how_soon.specs.Bounds.{choice_by, roles_by}
+use Rattle.gptp_how_soon.specs.Bounds.{choice_by, gone_by, roles_by, sound_by}
 use Rattle.gptp_how_soon.specs.Times.{View, events_at, gained_at, last_set, ready_at, row_at, settling_time, settling_times, settling_times_from, time_at, view_at}
-use Rattle.gptp_how_soon.specs.declared.bounds.Row.TheVariants.{FailedEnd, Lowered}
 use Rattle.gptp_how_soon.specs.declared.bounds.Settling.{Settling}
 use Rattle.gptp_how_soon.specs.declared.bounds.SettlingTime.{SettlingTime}
-use Rattle.gptp_settling_time.specs.HowSoon.{BoundsChoice, BoundsEvents, BoundsStart, FailsEndFirst, IsChoiceBoundAfter, IsLossBoundAfter, LowersOneLink, NoneBetween, RolesAfterFailure}
-use Rattle.gptp_settling_time.specs.Losses.{UpIsUsed}
+use Rattle.gptp_settling_time.specs.HowSoon.{BoundsChoice, BoundsEvents, BoundsLoss, BoundsStart, IsChoiceBoundAfter, IsLossBoundAfter, IsRestBoundAfter, NoneBetween, RestsAfterLoss}
+use Rattle.gptp_settling_time.specs.InTurn.{FlightIsGone}
+use Rattle.gptp_settling_time.specs.Losses.{aging_span, silence_span}
 use Rattle.gptp_settling_time.proofs.MomentLemmas.{parted}
 use Rattle.gptp_settling_time.proofs.WellFormedLemmas.{after_well}
 use Rattle.gptp_how_soon_laws.specs.Choice.{SettlingsAreChoiceBounds}
-use Rattle.gptp_how_soon_laws.proofs.RowLemmas.{HasComeToRest, IsTelling, bounds_choice, choice_or_none, failed, first_roles, first_sound, gained, lowered, never_unchanged, started, tells, unchanged}
+use Rattle.gptp_how_soon_laws.proofs.RowLemmas.{AreSooner, HasComeToRest, IsSoundSooner, IsTelling, bounds_choice, choice_or_none, failed, first_past, first_roles, first_sound, gained, heard, lost_end, lost_power, lowered, never_unchanged, past_row, sound_or_sooner, started, tells, turned, unchanged}
 use Rattle.gptp_how_soon_laws.proofs.UnmovedLemmas.{AreWell}
 use Rattle.gptp_how_soon_laws.proofs.TimesLemmas.{AreTimes, later_times, times_after, times_parts}
 
@@ -58,11 +58,12 @@ module _ (d : DocumentState) (playable : IsPlayable d) where
 
   -- what is told of a time is so, by the times before it
   pub record IsSo (earlier : List ℕ) (at : ℕ) (s : Settling) : Type 0 where
-    pub bounds : IsChoiceBoundAfter n all earlier at s.roles ⊎ IsLossBoundAfter n all earlier at 0 s.roles
+    pub bounds : IsChoiceBoundAfter n all earlier at s.roles
+        ⊎ ((alone : ℕ) × IsLossBoundAfter n all earlier at alone s.roles)
     pub choice : IsChoiceBoundAfter n all earlier at s.choice
         ⊎ ((roles : ℕ) × IsLossBoundAfter n all earlier at s.choice roles)
     pub sooner : s.choice ≤ s.roles
-    pub sound : IsChoiceBoundAfter n all earlier at s.sound
+    pub sound : IsRestBoundAfter n all earlier at s.sound
     pub rest : s.sound ≤ s.rest
     pub exact : max (at + s.roles) (last_set (events_by at all) + largest_interval (pace_of n)) + window_span n.params
         + (sync_paths n (events_by at all)).systems * (n.params.threshold + n.params.residence)
@@ -79,20 +80,22 @@ module _ (d : DocumentState) (playable : IsPlayable d) where
       let bound =
       bounds_choice n (λ choice. BoundsStart n now choice) now (row_at v) (gained_at n v) it.calm
       (λ row. absurd (never_unchanged n now row)) (λ row off. started n now row) in
-      let sound : IsChoiceBoundAfter n all [] 0 s.sound = (
+      let same : s.choice ≡ choice_by n v.paths (past_row (row_at v)) (gained_at n v) =
+      it.choice ∙ ap (λ row. choice_by n v.paths row (gained_at n v)) (first_past n now) in
+      let chosen : IsChoiceBoundAfter n all [] 0 s.choice = (
         refl,
-        subst (λ es. BoundsChoice n (BoundsStart n es s.sound) es s.sound) (sym (begin_at all))
-            (subst (λ choice. BoundsChoice n (BoundsStart n now choice) now choice) (sym it.sound) bound),
+        subst (λ es. BoundsChoice n (BoundsStart n es s.choice) es s.choice) (sym (begin_at all))
+            (subst (λ choice. BoundsChoice n (BoundsStart n now choice) now choice) (sym same) bound),
       ) in
-      let same : s.sound ≡ s.choice =
-      it.sound ∙ ap (λ row. choice_by n v.paths row (gained_at n v)) (sym (first_sound n now)) ∙ sym it.choice in
+      let sound_same : s.choice ≡ s.sound =
+      it.choice ∙ sym (first_sound n now v.paths v.used_before (gained_at n v)) ∙ sym it.sound in
       let roles_same : s.choice ≡ s.roles =
       it.choice ∙ sym (first_roles n now v.paths (gained_at n v)) ∙ sym it.roles in
       record {
-        bounds = inl (subst (IsChoiceBoundAfter n all [] 0) (same ∙ roles_same) sound);
-        choice = inl (subst (IsChoiceBoundAfter n all [] 0) same sound);
+        bounds = inl (subst (IsChoiceBoundAfter n all [] 0) roles_same chosen);
+        choice = inl chosen;
         sooner = omega (arith, roles_same);
-        sound = sound;
+        sound = subst (IsChoiceBoundAfter n all [] 0) sound_same chosen;
         rest = it.rest;
         exact = subst (λ es. max (0 + s.roles) (last_set es + largest_interval (pace_of n)) + window_span n.params
             + (sync_paths n es).systems * (n.params.threshold + n.params.residence)
@@ -111,12 +114,12 @@ module _ (d : DocumentState) (playable : IsPlayable d) where
     v = view_at n made now (Some b) at
 
     abbrev Sharp : ℕ → Type 0
-    Sharp choice = (choice_then : ℕ) × IsChoiceBoundAfter n all earlier b.at choice_then × (b.at + choice_then < at)
+    Sharp choice = (choice_then : ℕ) × IsRestBoundAfter n all earlier b.at choice_then × (b.at + choice_then < at)
         × BoundsEvents n made now (b.at + choice_then) at choice
 
     -- all that was held at the time before is sound
     sound_before : (rest : HasComeToRest b at)
-        → IsChoiceBoundAfter n all earlier b.at rest.settling.sound × (b.at + rest.settling.sound < at)
+        → IsRestBoundAfter n all earlier b.at rest.settling.sound × (b.at + rest.settling.sound < at)
     sound_before rest =
         let then = so rest.settling rest.is in
         let less = then.rest in
@@ -139,9 +142,13 @@ module _ (d : DocumentState) (playable : IsPlayable d) where
         after_well d playable events
         (λ t member. made_or_now t (subst (In t) are (In-left t events left member)))
 
-    sound_so : (s : Settling) → (settling_time n v).settling ≡ Some s
-        → IsChoiceBoundAfter n all (b.at ∷ earlier) at s.sound
-    sound_so s is =
+    -- it settles by this, whatever it loses
+    abbrev settled_by : ℕ
+    settled_by = choice_by n v.paths (past_row (row_at v)) (gained_at n v)
+
+    settles_so : (s : Settling) → (settling_time n v).settling ≡ Some s
+        → IsChoiceBoundAfter n all (b.at ∷ earlier) at settled_by
+    settles_so s is =
         let it = tells n v s is in
         let bound =
         bounds_choice n Sharp (made ++ now) (row_at v) (gained_at n v) it.calm
@@ -151,85 +158,135 @@ module _ (d : DocumentState) (playable : IsPlayable d) where
         sharp (gained_at n v) rest (inr (inr (ready_at n v, gains)))) in (
           late,
           between,
-          subst (λ es. BoundsChoice n (Sharp s.sound) es s.sound)
-              (sym (parted all b.at at playable.events.in_order late between))
-              (subst (λ choice. BoundsChoice n (Sharp choice) (made ++ now) choice) (sym it.sound) bound),
+          subst (λ es. BoundsChoice n (Sharp settled_by) es settled_by)
+              (sym (parted all b.at at playable.events.in_order late between)) bound,
         )
 
-    -- the choice and the roles stand as soon as all that is held is sound, or sooner after a loss
+    -- it has come to rest by that, or sooner after a loss by which no system is moved
+    rest_so : (s : Settling) → IsTelling n v s → IsChoiceBoundAfter n all (b.at ∷ earlier) at settled_by
+        → IsRestBoundAfter n all (b.at ∷ earlier) at s.sound
+    rest_so s it settles = elim (sound_or_sooner n v.paths v.used_before (row_at v) (gained_at n v)) [
+      | inl same ↦ inl (subst (IsChoiceBoundAfter n all (b.at ∷ earlier) at) (sym (it.sound ∙ same)) settles)
+      | inr (off, which) ↦
+          let (rest, loses) = by which in
+          let (bound, past) = sound_before rest in
+          inr (late, between, settles.2.0, off, (rest.settling.sound, bound, past), loses)
+    ]
+      where
+        by : IsSoundSooner n v.paths v.used_before (row_at v)
+            (sound_by n v.paths v.used_before (row_at v) (gained_at n v))
+            → HasComeToRest b at × RestsAfterLoss n made now s.sound
+        by (inl (row, is)) =
+            let x = lost_end n playable.network all b at late well row in
+            let flight = subst (FlightIsGone n made) (sym (it.sound ∙ is)) x.flight in (
+              x.rested,
+              elim x.which [
+                | inl cuts ↦ inl (cuts, flight)
+                | inr (fails, used) ↦ inr (inl (fails, inl (used, flight)))
+              ],
+            )
+        by (inr (inl (row, is))) =
+            let (rest, fails) = failed n playable.network all b at late well row in
+            (rest, inr (inl (fails, inr (it.sound ∙ is))))
+        by (inr (inr (row, is))) =
+            let (rest, lowers, flight) = lowered n playable.network all b at late well row in
+            (rest, inr (inr (lowers, (gone_by n v.paths v.used_before, flight, it.sound ∙ is))))
+
+    -- the choice and the roles stand by then, or sooner after a loss
     record IsSooner (s : Settling) : Type 0 where
       bounds : IsChoiceBoundAfter n all (b.at ∷ earlier) at s.roles
-          ⊎ IsLossBoundAfter n all (b.at ∷ earlier) at 0 s.roles
+          ⊎ ((alone : ℕ) × IsLossBoundAfter n all (b.at ∷ earlier) at alone s.roles)
       choice : IsChoiceBoundAfter n all (b.at ∷ earlier) at s.choice
           ⊎ ((roles : ℕ) × IsLossBoundAfter n all (b.at ∷ earlier) at s.choice roles)
       sooner : s.choice ≤ s.roles
 
-    abbrev Loses : ℕ → Type 0
-    Loses roles = (LowersOneLink n made now × (roles ≡ 0))
-        ⊎ (FailsEndFirst n made now × RolesAfterFailure n (events_by at all) roles)
-
-    lost : (s : Settling) (roles : ℕ) → IsTelling n v s → IsChoiceBoundAfter n all (b.at ∷ earlier) at s.sound
-        → NothingLapses n.params → HasComeToRest b at
-        → Loses roles
-        → IsLossBoundAfter n all (b.at ∷ earlier) at 0 roles
-    lost s roles it sound off rest loses =
+    lost : (s : Settling) → IsChoiceBoundAfter n all (b.at ∷ earlier) at settled_by → NothingLapses n.params
+        → HasComeToRest b at → BoundsLoss n made now s.choice s.roles
+        → IsLossBoundAfter n all (b.at ∷ earlier) at s.choice s.roles
+    lost s settles off rest loses =
         let (bound, past) = sound_before rest in
-        (late, between, sound.2.0, off, (rest.settling.sound, bound, past), refl, loses)
+        (late, between, settles.2.0, off, (rest.settling.sound, bound, past), loses)
 
-    sooner_so : (s : Settling) → IsTelling n v s → IsChoiceBoundAfter n all (b.at ∷ earlier) at s.sound → IsSooner s
-    sooner_so s it sound = elim (choice_or_none n v.paths (row_at v) (gained_at n v)) [
+    no_later : (choice roles : ℕ) → BoundsLoss n made now choice roles → choice ≤ roles
+    no_later choice roles (inl (none, which)) = omega (arith, none)
+    no_later choice roles (inr (inl (turns, is, same))) = omega (arith, same)
+    no_later choice roles (inr (inr (fails, inl (used, none, no_roles)))) = omega (arith, none)
+    no_later choice roles (inr (inr (fails, inr (is, is_roles)))) =
+        lesser (aging_span (pace_of n) (sync_paths n made)) (silence_span (pace_of n)) is is_roles
+      where
+        lesser : (a b : ℕ) → choice ≡ min a b → roles ≡ b → choice ≤ roles
+        lesser a b is same = omega (arith, is, same)
+
+    sooner_so : (s : Settling) → IsTelling n v s → IsChoiceBoundAfter n all (b.at ∷ earlier) at settled_by → IsSooner s
+    sooner_so s it settles = elim (choice_or_none n v.paths (row_at v) (gained_at n v)) [
       | inl (choice_same, roles_same) ↦
-          let choice : s.sound ≡ s.choice = it.sound ∙ sym choice_same ∙ sym it.choice in
-          let roles : s.sound ≡ s.roles = it.sound ∙ sym roles_same ∙ sym it.roles in
+          let choice : settled_by ≡ s.choice = sym choice_same ∙ sym it.choice in
+          let roles : settled_by ≡ s.roles = sym roles_same ∙ sym it.roles in
           record {
-            bounds = inl (subst (IsChoiceBoundAfter n all (b.at ∷ earlier) at) roles sound);
-            choice = inl (subst (IsChoiceBoundAfter n all (b.at ∷ earlier) at) choice sound);
+            bounds = inl (subst (IsChoiceBoundAfter n all (b.at ∷ earlier) at) roles settles);
+            choice = inl (subst (IsChoiceBoundAfter n all (b.at ∷ earlier) at) choice settles);
             sooner = omega (arith, choice, roles);
           }
-      | inr (off, none, which) ↦
-          let zero_is : s.choice ≡ 0 = it.choice ∙ none in
-          let (rest, loses) = by off which in
-          let bound = lost s s.roles it sound off rest loses in
+      | inr (off, which) ↦
+          let (rest, loses) = by which in
+          let bound = lost s settles off rest loses in
           record {
-            bounds = inr bound;
-            choice = inr (
-              s.roles,
-              subst (λ choice. IsLossBoundAfter n all (b.at ∷ earlier) at choice s.roles) (sym zero_is) bound,
-            );
-            sooner = omega (arith, zero_is);
+            bounds = inr (s.choice, bound);
+            choice = inr (s.roles, bound);
+            sooner = no_later s.choice s.roles loses;
           }
     ]
       where
-        by : NothingLapses n.params → (((row_at v ≡ Lowered) × (roles_by n v.paths (row_at v) (gained_at n v) ≡ 0))
-            ⊎ ((row_at v ≡ FailedEnd)
-            × (roles_by n v.paths (row_at v) (gained_at n v) ≡ capability_span (pace_of n))))
-            → HasComeToRest b at × Loses s.roles
-        by off (inl (row, none)) =
-            let is_none = it.roles ∙ none in
-            let (rest, which) = lowered n playable.network all b at late well row in (
-              rest,
-              elim which [
-                | inl lowers ↦ inl (lowers, is_none)
-                | inr (fails, used) ↦
-                    let stands = subst (UpIsUsed n) (sym (parted all b.at at playable.events.in_order late between))
-                    used in
-                    inr (fails, inl (stands, is_none))
-              ],
+        by : AreSooner n v.paths (row_at v) (choice_by n v.paths (row_at v) (gained_at n v))
+            (roles_by n v.paths (row_at v) (gained_at n v))
+            → HasComeToRest b at × BoundsLoss n made now s.choice s.roles
+        by (inl (none, inl (inl row, roles))) =
+            let (rest, lowers, flight) = lowered n playable.network all b at late well row in
+            (rest, inl (it.choice ∙ none, inl (lowers, it.roles ∙ roles)))
+        by (inl (none, inl (inr (inl row), roles))) =
+            let x = lost_end n playable.network all b at late well row in (
+              x.rested,
+              inl (
+                it.choice ∙ none,
+                elim x.lowers [
+                  | inl lowers ↦ inl (lowers, it.roles ∙ roles)
+                  | inr (fails, used) ↦ inr (fails, inl (used, it.roles ∙ roles))
+                ],
+              ),
             )
-        by off (inr (row, is)) =
+        by (inl (none, inl (inr (inr row), roles))) =
+            let (rest, fails, used) = lost_power n playable.network all b at late well row in
+            (rest, inr (inr (fails, inl (used, it.choice ∙ none, it.roles ∙ roles))))
+        by (inl (none, inr (row, is))) =
             let (rest, fails) = failed n playable.network all b at late well row in
-            (rest, inr (fails, inr (it.roles ∙ is)))
+            (rest, inl (it.choice ∙ none, inr (fails, inr (it.roles ∙ is))))
+        by (inr (inl (row, is, same))) =
+            let (rest, turns) = turned n playable.network all b at late well row in
+            (rest, inr (inl (turns, it.choice ∙ is, it.roles ∙ same ∙ sym it.choice)))
+        by (inr (inr (row, is, same))) =
+            let (rest, fails, delay) = heard n playable.network all b at late well row in
+            let aging : aging_span (pace_of n) v.paths ≡ aging_span (pace_of n) (sync_paths n made) =
+            ap (λ d. longest_span (pace_of n) + d) delay in (
+              rest,
+              inr (inr (
+                fails,
+                inr (
+                  it.choice ∙ is ∙ ap (λ a. min a (silence_span (pace_of n))) aging,
+                  it.roles ∙ same,
+                ),
+              )),
+            )
 
     later_so : TellsSo (b.at ∷ earlier) (time_at d (Some b) at)
     later_so s is =
         let it = tells n v s is in
-        let sound = sound_so s is in
-        let x = sooner_so s it sound in
+        let settles = settles_so s is in
+        let x = sooner_so s it settles in
         record {
           bounds = x.bounds;
           choice = x.choice;
           sooner = x.sooner;
-          sound = sound;
+          sound = rest_so s it settles;
           rest = it.rest;
           exact = subst (λ es. max (at + s.roles) (last_set es + largest_interval (pace_of n)) + window_span n.params
               + (sync_paths n es).systems * (n.params.threshold + n.params.residence)

@@ -16,9 +16,10 @@ use Rattle.gptp_theorem.proofs.SnapshotLemmas.{snapshots_stand}
 use Rattle.gptp_settling_time.specs.ChoiceAlone.{ChoiceStandsAs}
 use Rattle.gptp_settling_time.specs.Documents.{IsSettledAs}
 use Rattle.gptp_settling_time.specs.HowSoon.{IsChoiceAloneBound, IsChoiceBound, NoneBetween}
-use Rattle.gptp_settling_time.specs.InTurn.{ChoosesAfter, ComesByEvents, LeadOn, Past, SettlesAfter}
+use Rattle.gptp_settling_time.specs.InTurn.{ChoosesAfter, ComesByEvents, IsTakenAs, LeadOn, Past, SettlesAfter}
 use Rattle.gptp_settling_time.proofs.FollowedLemmas.{bound_chooses, bound_settles}
-use Rattle.gptp_settling_time.proofs.InTurnLemmas.{IsAfter, after_act, after_chooses, after_keeps, after_later, after_settles, begins_after, leads_to}
+use Rattle.gptp_settling_time.proofs.AfterLemmas.{IsAfter, after_act, after_chooses, after_keeps, after_later, after_settles, begins_after, taken_as}
+use Rattle.gptp_settling_time.proofs.LeadsLemmas.{leads_to}
 use Rattle.gptp_settling_time.proofs.MomentLemmas.{none_later}
 use Rattle.gptp_settling_time.proofs.PassLemmas.{passes_to}
 use Rattle.gptp_how_soon_laws.specs.Settled.{EndsSettled}
@@ -46,7 +47,7 @@ module _ {F : Type 0} (answers : Bounds → ℕ → F → Option ℕ → F → T
         (passes_to answers (IsAfter d all last) (after_later d all last)
         (λ t one other v next_is was v_is. after_act d all answers last t one other v next_is was v_is) until ts fate
         fate_after w w' k there).end
-    end_in_turn made past (event ∷ events) ts fate fate_after w w' are is fit (next, leads, others)
+    end_in_turn made past (event ∷ events) ts fate fate_after w w' are is fit (seen, taken, next, leads, others)
         (first, rest, drawn, between, k, on, split) so =
         let passed = passes_to answers (IsAfter d made past) (after_later d made past)
         (λ t one other v next_is was v_is. after_act d made answers past t one other v next_is was v_is)
@@ -55,7 +56,9 @@ module _ {F : Type 0} (answers : Bounds → ℕ → F → Option ℕ → F → T
         end_in_turn (made ++ event ∷ []) next events rest drawn fate_after between w'
         (append_assoc made (event ∷ []) events ∙ are) is.1 fit.1 others on
         (leads_to answers d playable made event k.drawn drawn k.between between k.done is.0 fit.0 k.made
-        (after_keeps d made past k.between passed.end) moment past next leads passed.end)
+        (after_keeps d made past k.between passed.end) moment seen next leads
+        (taken_as d playable made k.between past seen
+        (subst (λ t. IsTakenAs d.network made past t seen) (sym moment) taken) passed.end))
 
   -- what its events lead to is so of it
   module _ (So : NetworkState → List Timed → Past → ℕ → Type 0) (d : DocumentState) (settled until : ℕ) (fate : F)

@@ -1,5 +1,6 @@
--- A system that fails by the first event of a time, is the far end of each of its links, and whose failure moves no
--- system, is so as its event is told; the others take down links of which an end has failed.
+-- A system that fails by the first event of a time, and whose failure moves no system but such as are cut off, is so as
+-- its event is told, and where it is the far end of each of its links; the others take down links of which an end has
+-- failed.
 use Rattle.std.proofs.Common.{◌≡◌, ◌<◌, ◌≤◌, ◌⊎◌, inl, inr, ℕ, Bool, true, false, cond, List, [], ◌∷◌, ◌++◌, map, filter, Option, Some, None, refl, sym, ap, subst, ◌∙◌, append_assoc, append-nil, arith}
 use Rattle.std.specs.Prelude.{◌==◌, ◌&&◌, ◌||◌, nat_lt, not, if◌then◌else◌}
 use Rattle.std.specs.List.{cons_option, filter_map, list_all}
@@ -29,15 +30,15 @@ use Rattle.gptp_network.proofs.SnapshotLemmas.{with_clock}
 use Rattle.gptp_theorem.proofs.EventLemmas.{system_behind, link_behind}
 use Rattle.gptp_topology.specs.After.{system_then, systems_after, standing_then, standings_after}
 use Rattle.gptp_topology.specs.declared.nodes.System as ours
-use Rattle.gptp_how_soon.specs.Chosen.{chosen_after, moves_some, place_of, used_ends}
+use Rattle.gptp_how_soon.specs.Chosen.{chosen_after, is_joined, moves_joined, place_of, used_ends}
 use Rattle.gptp_how_soon.specs.Far.{are_far_after, has_lower_clock, is_far_end, is_far_over, is_nearer, is_nearer_at, is_down_or_used, is_far_named, up_is_used}
 use Rattle.gptp_how_soon.specs.Kinds.{is_fail, is_failing, is_loss, fails_first, is_link_down, is_unused, lowers_unused}
 use Rattle.gptp_how_soon.specs.Times.{told_at, told_of}
 use Rattle.gptp_how_soon.specs.declared.chosen.Chosen.{Chosen}
-use Rattle.gptp_how_soon.proofs.ChosenLemmas.{at_clock, chosen_there, place_is, settled_choice, touched}
+use Rattle.gptp_how_soon.proofs.ChosenLemmas.{IsAt, at_clock, chosen_there, place_is, settled_choice, touched}
 use Rattle.gptp_how_soon.proofs.RoundsLemmas.{Touches}
-use Rattle.gptp_settling_time.specs.HowSoon.{EachEvent, FailsEndFirst, TurnsUnused}
-use Rattle.gptp_settling_time.specs.Losses.{FailsFarEnd, IsFarEnd, MovesNone, LowersUnused, UpIsUsed}
+use Rattle.gptp_settling_time.specs.HowSoon.{EachEvent, FailsEndFirst, FailsHeardFirst, TurnsUnused}
+use Rattle.gptp_settling_time.specs.Losses.{FailsFarEnd, FailsHeard, IsCutOff, IsFarEnd, IsUnmoved, IsUnmovedOrCutOff, LowersUnused, MovesNoneJoined, UpIsUsed}
 use Rattle.gptp_vector.specs.declared.port.PortId.{PortId}
 use Rattle.gptp_scenario.specs.Calm.{IsLive}
 use Rattle.gptp_scenario.specs.declared.network.LinkSpec.{LinkSpec}
@@ -51,20 +52,22 @@ use Rattle.gptp_how_soon.specs.declared.kinds.What.{What}
 use Rattle.gptp_how_soon.specs.declared.kinds.What.TheVariants as whats
 use Rattle.gptp_settling_time.proofs.SamePathsLemmas.{is_end, lives_not, map_same, turned_paths}
 use Rattle.gptp_how_soon_laws.proofs.KindLemmas.{failure_is, loss_fails, told, unused_lowers}
-use Rattle.gptp_how_soon_laws.proofs.UnmovedLemmas.{AreWell, is_unmoved}
+use Rattle.gptp_how_soon_laws.proofs.LoweredLemmas.{joined_by}
+use Rattle.gptp_how_soon_laws.proofs.UnmovedLemmas.{AreWell, none_joined_there, unmoved_at}
 
 -- what is so of all is so of each
-each_is : {X : Type 0} (p : X → Bool) (xs : List X) (x : X) → list_all p xs ≡ true → In x xs → p x ≡ true
+pub each_is : {X : Type 0} (p : X → Bool) (xs : List X) (x : X) → list_all p xs ≡ true → In x xs → p x ≡ true
 each_is p [] x all member = absurd member
 each_is p (y ∷ xs) x all (inl same) = ap p same ∙ (and_parts (p y) (list_all p xs) all).0
 each_is p (y ∷ xs) x all (inr behind) = each_is p xs x (and_parts (p y) (list_all p xs) all).1 behind
 
 -- ---- a far end
 
-module _ (n : NetworkState) (network : IsNetwork n) (made : List Timed) (g : Snapshot)
+-- as systems stood at any time, whose clocks stay
+module _ (n : NetworkState) (network : IsNetwork n) (made stood : List Timed) (g : Snapshot)
     (stands : StandsAfter n made g) (well : IsWellFormed g) where
   abbrev systems : List ours.System
-  systems = systems_after n made
+  systems = systems_after n stood
 
   abbrev cs : List Chosen
   cs = chosen_after n made
@@ -105,11 +108,10 @@ module _ (n : NetworkState) (network : IsNetwork n) (made : List Timed) (g : Sna
             inr (eqb-true e.steps c.steps same, grind (arith, nat_tests))
       ]
 
-  pub far_so : (v : ℕ) → is_far_end systems cs (used_ends n made) (place_of systems v) ≡ true → IsFarEnd g v
-  far_so v test u far near adjacent v_far u_near =
+  pub far_at : (i v : ℕ) → IsAt n i v → is_far_end systems cs (used_ends n made) i ≡ true → IsFarEnd g v
+  far_at i v at_v test u far near adjacent v_far u_near =
       let v_known = Adjacent-clock g u v well (Adjacent-sym g v u adjacent) in
       let u_known = Adjacent-clock g v u well adjacent in
-      let (i, at_v) = at_clock n network made g stands well v v_known in
       let (j, at_u) = at_clock n network made g stands well u u_known in
       let (c, c_there) = chosen_there n network made g stands well i v at_v in
       let (e, e_there) = chosen_there n network made g stands well j u at_u in
@@ -117,15 +119,12 @@ module _ (n : NetworkState) (network : IsNetwork n) (made : List Timed) (g : Sna
       let chose_u = settled_choice n network made g stands well j u at_u u_known e e_there in
       let steps_v = IsDistance-unique g v far c.steps well v_far chose_v.far in
       let steps_u = IsDistance-unique g u near e.steps well u_near chose_u.far in
-      let place = place_is n network made g stands well made i v at_v in
-      let test_i : is_far_end systems cs (used_ends n made) i ≡ true =
-      subst (λ k. is_far_end systems cs (used_ends n made) k ≡ true) place test in
       let nearer : is_nearer_at systems cs j i ≡ true =
-      over_link j i test_i (touched n network made g stands well v u i j adjacent at_v at_u) in
-      let o_v = mapped_there (system_then made) n.systems i at_v.system at_v.there in
-      let o_u = mapped_there (system_then made) n.systems j at_u.system at_u.there in
+      over_link j i test (touched n network made g stands well v u i j adjacent at_v at_u) in
+      let o_v = mapped_there (system_then stood) n.systems i at_v.system at_v.there in
+      let o_u = mapped_there (system_then stood) n.systems j at_u.system at_u.there in
       let told : is_nearer (Some e) (Some c)
-      (has_lower_clock (Some (system_then made at_u.system)) (Some (system_then made at_v.system))) ≡ true =
+      (has_lower_clock (Some (system_then stood at_u.system)) (Some (system_then stood at_v.system))) ≡ true =
       (λ k. is_nearer (sym e_there k) (sym c_there k) (has_lower_clock (sym o_u k) (sym o_v k))) ∙ nearer in
       let clock_v = at_v.clock in
       let clock_u = at_u.clock in
@@ -134,6 +133,15 @@ module _ (n : NetworkState) (network : IsNetwork n) (made : List Timed) (g : Sna
         | inr (same, lower) ↦
             inr (omega (arith, same, steps_v, steps_u), omega (arith, lower, clock_v, clock_u))
       ]
+
+  far_so : (v : ℕ) → is_far_end systems cs (used_ends n made) (place_of systems v) ≡ true → IsFarEnd g v
+  far_so v test u far near adjacent v_far u_near =
+      let v_known = Adjacent-clock g u v well (Adjacent-sym g v u adjacent) in
+      let (i, at_v) = at_clock n network made g stands well v v_known in
+      let place = place_is n network made g stands well stood i v at_v in
+      let test_i : is_far_end systems cs (used_ends n made) i ≡ true =
+      subst (λ k. is_far_end systems cs (used_ends n made) k ≡ true) place test in
+      far_at i v at_v test_i u far near adjacent v_far u_near
 
 -- ---- the event
 
@@ -186,27 +194,71 @@ module _ (n : NetworkState) (network : IsNetwork n) (made : List Timed) (event :
   -- of it and of those behind it no system is moved, and what stands after it stands after all of them
   module _ (all : List Timed) (well : AreWell n all) (was : (g : Snapshot) → StandsAfter n made g → IsWellFormed g)
       (so : (h : Snapshot) → StandsAfter n later h → StandsAfter n all h)
-      (unmoved : moves_some n made all ≡ false) where
-    moves_none : Fails → MovesNone n made event
+      (unmoved : moves_joined n made all ≡ false) where
+    module _ (x : Fails) (g h : Snapshot) (v : ℕ) (stands : StandsAfter n made g) (stands' : StandsAfter n later h)
+        (known : In v (clocks h)) where
+      stands_last : StandsAfter n all h
+      stands_last = so h stands'
+
+      well_h : IsWellFormed h
+      well_h = well all [] (append-nil all) h stands_last
+
+      at_v : (i : ℕ) × IsAt n i v
+      at_v = at_clock n network all h stands_last well_h v known
+
+      -- a link in use is at it
+      stays : is_joined (used_ends n all) at_v.0 ≡ true → IsUnmoved g h v
+      stays joined =
+          let (i, at) = at_v in
+          unmoved_at n network made all g h stands stands_last (was g stands) well_h v
+          (clock_before x g h stands stands' v known) known i at
+          (none_joined_there n made all unmoved i at.system at.there joined)
+
+      -- or none is
+      cut_off : is_joined (used_ends n all) at_v.0 ≡ false → IsCutOff h v
+      cut_off none u adjacent =
+          let (i, at) = at_v in
+          let (j, at_u) = at_clock n network all h stands_last well_h u (Adjacent-clock h v u well_h adjacent) in
+          let joined = joined_by n all i j
+          (touched n network all h stands_last well_h v u i j adjacent at at_u) in
+          let no : true ≡ false = sym joined ∙ none in
+          cc
+
+    moves_none : Fails → MovesNoneJoined n made event
     moves_none x g h v stands stands' known =
-        let stands_all = so h stands' in
-        is_unmoved n network made all g h stands stands_all (was g stands)
-        (well all [] (append-nil all) h stands_all) v (clock_before x g h stands stands' v known) known unmoved
+        by (is_joined (used_ends n all) (at_v x g h v stands stands' known).0) refl
+      where
+        by : (joined : Bool) → is_joined (used_ends n all) (at_v x g h v stands stands' known).0 ≡ joined
+            → IsUnmovedOrCutOff g h v
+        by true is = inl (stays x g h v stands stands' known is)
+        by false is = inr (cut_off x g h v stands stands' known is)
 
     module _ (delay : (sync_paths n later).delay ≡ (sync_paths n made).delay)
         (paths : (sync_paths n later).systems ≤ (sync_paths n made).systems)
-        (few : (sync_paths n made).systems ≤ 255) (is : is_failing (told_at n made event.act) ≡ true)
-        (far : is_far_end (systems_after n made) (chosen_after n made) (used_ends n made)
-        (place_of (systems_after n made) (told_at n made event.act).clock) ≡ true) where
-      pub fails_far_end : FailsFarEnd n made event
-      fails_far_end =
+        (few : (sync_paths n made).systems ≤ 255) (is : is_failing (told_at n made event.act) ≡ true) where
+      pub fails_heard : FailsHeard n made event
+      fails_heard =
+          let x = fails is in
+          record {
+            clock = x.clock;
+            act = x.act;
+            live = loss_fails n network made x.clock x.loss;
+            moves = moves_none x;
+            delay = delay;
+            paths = paths;
+            few = few;
+          }
+
+      pub fails_far_end : is_far_end (systems_after n made) (chosen_after n made) (used_ends n made)
+          (place_of (systems_after n made) (told_at n made event.act).clock) ≡ true → FailsFarEnd n made event
+      fails_far_end far =
           let x = fails is in
           record {
             clock = x.clock;
             act = x.act;
             live = loss_fails n network made x.clock x.loss;
             far = λ g stands.
-                far_so n network made g stands (was g stands) x.clock
+                far_so n network made made g stands (was g stands) x.clock
                 (subst (λ act. is_far_end (systems_after n made) (chosen_after n made) (used_ends n made)
                 (place_of (systems_after n made) (told_at n made act).clock) ≡ true) x.act far);
             moves = moves_none x;
@@ -370,8 +422,79 @@ fail_lowers_none kind clock whats.Inject fails lowers = absurd cc
 fail_lowers_none kind clock whats.NoChange fails lowers = absurd cc
 
 -- the events of a time
+module _ (n : NetworkState) (network : IsNetwork n) (made : List Timed) (event : Timed) (events : List Timed)
+    (well : AreWell n (made ++ event ∷ events)) (unmoved : moves_joined n made (made ++ event ∷ events) ≡ false)
+    (delay : (sync_paths n (made ++ event ∷ events)).delay ≡ (sync_paths n made).delay)
+    (paths : (sync_paths n (made ++ event ∷ events)).systems ≤ (sync_paths n made).systems)
+    (few : (sync_paths n made).systems ≤ 255) (is : fails_first (told_of n made (event ∷ events)) ≡ true) where
+  abbrev first_behind : List Timed
+  first_behind = made ++ event ∷ []
+
+  abbrev t : Told
+  t = told_at n made event.act
+
+  parts : (is_failing t ≡ true) × (list_all lowers_unused (told_of n first_behind events) ≡ true)
+  parts = and_parts (is_failing t) (list_all lowers_unused (told_of n first_behind events)) is
+
+  others : EachEvent (LowersUnused n) first_behind events
+  others = lowers_each n network first_behind events parts.1
+
+  whole : first_behind ++ events ≡ made ++ event ∷ events
+  whole = append_assoc made (event ∷ []) events
+
+  same : sync_paths n (made ++ event ∷ events) ≡ sync_paths n first_behind
+  same = ap (sync_paths n) (sym whole) ∙ paths_all n network first_behind events others
+
+  first_delay : (sync_paths n first_behind).delay ≡ (sync_paths n made).delay
+  first_delay = ap (λ (x : SyncPaths). x.delay) (sym same) ∙ delay
+
+  first_paths : (sync_paths n first_behind).systems ≤ (sync_paths n made).systems
+  first_paths = subst (λ (x : SyncPaths). x.systems ≤ (sync_paths n made).systems) same paths
+
+  stands_on : (h : Snapshot) → StandsAfter n first_behind h → StandsAfter n (made ++ event ∷ events) h
+  stands_on h stands =
+      subst (λ es. StandsAfter n es h) whole (stands_all n network h first_behind events others stands)
+
+  pub heard_first : FailsHeard n made event × EachEvent (LowersUnused n) first_behind events
+  heard_first = (
+    fails_heard n network made event (made ++ event ∷ events) well
+        (λ g stands. well made (event ∷ events) refl g stands) stands_on unmoved first_delay first_paths few parts.0,
+    others,
+  )
+
+  pub end_first : are_far_after n made (told_of n made (event ∷ events)) ≡ true
+      → FailsFarEnd n made event × EachEvent (LowersUnused n) first_behind events
+  end_first far =
+      let far_test : Bool = is_far_end (systems_after n made) (chosen_after n made) (used_ends n made)
+      (place_of (systems_after n made) t.clock) in
+      let (first, more) = and_parts (lowers_unused t || far_test)
+      (list_all (is_far_named (systems_after n made) (chosen_after n made) (used_ends n made))
+      (told_of n first_behind events)) far in
+      let far_end : far_test ≡ true = elim (or_cases (lowers_unused t) far_test first) [
+        | inl unused ↦
+            absurd (fail_lowers_none t.kind t.clock t.what (and_parts (is_loss t) (is_fail t) parts.0).1
+            (and_parts (is_unused t) (is_link_down t) unused).1)
+        | inr is_far ↦ is_far
+      ] in (
+        fails_far_end n network made event (made ++ event ∷ events) well
+            (λ g stands. well made (event ∷ events) refl g stands) stands_on unmoved first_delay first_paths few
+            parts.0 far_end,
+        others,
+      )
+
+pub fails_heard_first : (n : NetworkState) (network : IsNetwork n) (made now : List Timed) → AreWell n (made ++ now)
+    → moves_joined n made (made ++ now) ≡ false
+    → (sync_paths n (made ++ now)).delay ≡ (sync_paths n made).delay
+    → (sync_paths n (made ++ now)).systems ≤ (sync_paths n made).systems
+    → (sync_paths n made).systems ≤ 255
+    → fails_first (told_of n made now) ≡ true
+    → FailsHeardFirst n made now
+fails_heard_first n network made [] well unmoved delay paths few is = absurd cc
+fails_heard_first n network made (event ∷ events) well unmoved delay paths few is =
+    heard_first n network made event events well unmoved delay paths few is
+
 pub fails_end_first : (n : NetworkState) (network : IsNetwork n) (made now : List Timed) → AreWell n (made ++ now)
-    → moves_some n made (made ++ now) ≡ false
+    → moves_joined n made (made ++ now) ≡ false
     → (sync_paths n (made ++ now)).delay ≡ (sync_paths n made).delay
     → (sync_paths n (made ++ now)).systems ≤ (sync_paths n made).systems
     → (sync_paths n made).systems ≤ 255
@@ -379,29 +502,4 @@ pub fails_end_first : (n : NetworkState) (network : IsNetwork n) (made now : Lis
     → FailsEndFirst n made now
 fails_end_first n network made [] well unmoved delay paths few is far = absurd cc
 fails_end_first n network made (event ∷ events) well unmoved delay paths few is far =
-    let later : List Timed = made ++ event ∷ [] in
-    let t : Told = told_at n made event.act in
-    let far_test : Bool = is_far_end (systems_after n made) (chosen_after n made) (used_ends n made)
-    (place_of (systems_after n made) t.clock) in
-    let (fails, lower) = and_parts (is_failing t) (list_all lowers_unused (told_of n later events)) is in
-    let others = lowers_each n network later events lower in
-    let whole : later ++ events ≡ made ++ event ∷ events = append_assoc made (event ∷ []) events in
-    let same : sync_paths n (made ++ event ∷ events) ≡ sync_paths n later =
-    ap (sync_paths n) (sym whole) ∙ paths_all n network later events others in
-    let delays = ap (λ (x : SyncPaths). x.delay) same in
-    let systems = ap (λ (x : SyncPaths). x.systems) same in
-    let (first, more) = and_parts (lowers_unused t || far_test)
-    (list_all (is_far_named (systems_after n made) (chosen_after n made) (used_ends n made)) (told_of n later events))
-    far in
-    let far_end : far_test ≡ true = elim (or_cases (lowers_unused t) far_test first) [
-      | inl unused ↦
-          absurd (fail_lowers_none t.kind t.clock t.what (and_parts (is_loss t) (is_fail t) fails).1
-          (and_parts (is_unused t) (is_link_down t) unused).1)
-      | inr is_far ↦ is_far
-    ] in (
-      fails_far_end n network made event (made ++ event ∷ events) well
-          (λ g stands. well made (event ∷ events) refl g stands)
-          (λ h stands. subst (λ es. StandsAfter n es h) whole (stands_all n network h later events others stands))
-          unmoved (sym delays ∙ delay) (omega (arith, systems, paths)) few fails far_end,
-      others,
-    )
+    end_first n network made event events well unmoved delay paths few is far

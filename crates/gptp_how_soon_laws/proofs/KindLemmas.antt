@@ -551,6 +551,14 @@ module _ (n : NetworkState) (network : IsNetwork n) (made : List Timed) where
       (sym (one.only place v there (end_first made (port_id clock port) v end)))
       (cable_used n made one.link (ap cable_is_used one.is ∙ used))
 
+  -- it is the only one at its port
+  pub loss_names : (clock port : ℕ) → is_loss (told_at n made (acts.Change (changes.LinkDown clock port))) ≡ true
+      → (s : Standing) × LinkNamed n network made clock port s
+  loss_names clock port is =
+      let act = acts.Change (changes.LinkDown clock port) in
+      let (s, found_is, used) = loss_down clock (what_of act) (link_at act) is in
+      (s, named_link n network made clock port act (λ x passed. passed) s found_is)
+
   -- a live system fails
   pub loss_fails : (number : ℕ) → is_loss (told_at n made (failing number)) ≡ true → IsLive n.systems made number
   loss_fails number is =

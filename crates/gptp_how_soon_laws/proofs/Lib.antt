@@ -6,6 +6,8 @@ mod GainedLemmas
 mod UnmovedLemmas
 mod LoweredLemmas
 mod FailedLemmas
+mod CutOffLemmas
+mod TurnedLemmas
 mod RowLemmas
 pub mod ChoiceLemmas
 pub mod StepLemmas

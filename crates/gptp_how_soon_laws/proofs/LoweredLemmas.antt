@@ -1,34 +1,42 @@
 -- A link that goes down by the one event of a time, and by which no system is moved but such as are cut off, is so as
 -- its event is told.
-use Rattle.std.proofs.Common.{◌≡◌, ◌≤◌, ℕ, Bool, true, false, List, [], ◌∷◌, ◌++◌, refl, sym, ap, subst, ◌∙◌, inl, inr, append-nil}
-use Rattle.std.specs.Prelude.{◌==◌, ◌||◌}
-use Rattle.std.proofs.lemmas.Bool.{and_parts, eq-eqb}
+use Rattle.std.proofs.Common.{◌≡◌, ◌≤◌, ℕ, Bool, true, false, List, [], ◌∷◌, ◌++◌, filter, Some, slice_get, refl, sym, ap, subst, ◌∙◌, inl, inr, append-nil}
+use Rattle.std.specs.Prelude.{◌==◌, ◌&&◌, ◌||◌, not, if◌then◌else◌}
+use Rattle.std.proofs.lemmas.Bool.{and_from, and_parts, eq-eqb}
 use Rattle.gptp_lists.specs.Members.{In}
+use Rattle.gptp_lists.proofs.SystemSpecLemmas.{In-map, In-slice_get}
 use Rattle.gptp_graph.proofs.LinkLemmas.{Adjacent-clock}
 use Rattle.gptp_graph.specs.Snapshot.{IsWellFormed, Snapshot, clocks}
-use Rattle.gptp_network.proofs.PassLemmas.{passes_at}
+use Rattle.gptp_network.proofs.PassLemmas.{kept, passes_at}
 use Rattle.gptp_network.specs.Snapshot.{StandsAfter}
 use Rattle.gptp_roles.specs.Selection.{clock_of}
-use Rattle.gptp_scenario.specs.Change.{standing, system_acted, system_after}
-use Rattle.gptp_scenario.specs.Network.{IsNetwork, NetworkState}
+use Rattle.gptp_scenario.specs.Calm.{IsLive, IsUsed}
+use Rattle.gptp_scenario.specs.Change.{is_at, link_acted, link_after, standing, system_acted, system_after, with_up}
+use Rattle.gptp_scenario.specs.InUse.{lives}
+use Rattle.gptp_scenario.specs.Network.{IsEnd, IsNetwork, NetworkState}
 use Rattle.gptp_scenario.specs.SyncWait.{sync_paths}
 use Rattle.gptp_scenario.specs.declared.change.Act.TheVariants as acts
 use Rattle.gptp_scenario.specs.declared.change.Change.TheVariants as changes
 use Rattle.gptp_scenario.specs.declared.change.Timed.{Timed}
+use Rattle.gptp_scenario.specs.declared.network.LinkSpec.{LinkSpec}
 use Rattle.gptp_scenario.specs.declared.network.SystemSpec.{SystemSpec}
-use Rattle.gptp_theorem.proofs.EventLemmas.{system_behind}
-use Rattle.gptp_how_soon.specs.Chosen.{ends_at, is_joined, moves_joined, used_ends}
+use Rattle.gptp_model.specs.World.{port_id}
+use Rattle.gptp_theorem.proofs.EventLemmas.{link_behind, system_behind}
+use Rattle.gptp_topology.proofs.RestLemmas.{used_cable}
+use Rattle.gptp_how_soon.specs.Chosen.{ends_at, ends_of, is_joined, is_used_then, lost_ends, moves_joined, used_ends}
 use Rattle.gptp_how_soon.proofs.ChosenLemmas.{IsAt, at_clock, touched}
 use Rattle.gptp_how_soon.proofs.RoundsLemmas.{Touches}
 use Rattle.gptp_how_soon.specs.Kinds.{is_link_down, is_loss, is_lowering, lowers_one}
+use Rattle.gptp_how_soon.specs.Links.{is_lost}
 use Rattle.gptp_how_soon.specs.Times.{told_at, told_of}
 use Rattle.gptp_settling_time.specs.HowSoon.{LowersOneLink}
-use Rattle.gptp_settling_time.specs.Losses.{IsCutOff, IsUnmoved, IsUnmovedOrCutOff, LowersLink, MovesNoneJoined}
+use Rattle.gptp_settling_time.specs.Losses.{IsCutOff, IsUnmoved, IsUnmovedOrCutOff, LowersLink, MovesNoneJoined, UpIsUsed}
+use Rattle.gptp_settling_time.proofs.EventStillLemmas.{at_end}
 use Rattle.gptp_how_soon_laws.proofs.KindLemmas.{link_down_is, loss_lowers}
 use Rattle.gptp_how_soon_laws.proofs.UnmovedLemmas.{AreWell, clock_over, none_joined_there, unmoved_at}
 
 -- a link that touches a place ends there
-joined_by : (n : NetworkState) (events : List Timed) (place i : ℕ) → Touches (used_ends n events) place i
+pub joined_by : (n : NetworkState) (events : List Timed) (place i : ℕ) → Touches (used_ends n events) place i
     → is_joined (used_ends n events) place ≡ true
 joined_by n events place i (inl member) =
     passes_at (ends_at place) (used_ends n events) (record { a = place; b = i }) member
@@ -46,13 +54,13 @@ module _ (n : NetworkState) (network : IsNetwork n) (made : List Timed) (event :
   later = made ++ event ∷ []
 
   -- it takes down a link in use
-  record TakesDown : Type 0 where
+  pub record TakesDown : Type 0 where
     pub clock : ℕ
     pub port : ℕ
     pub act : event.act ≡ acts.Change (changes.LinkDown clock port)
     pub loss : is_loss (told_at n made (acts.Change (changes.LinkDown clock port))) ≡ true
 
-  takes_down : is_lowering (told_at n made event.act) ≡ true → TakesDown
+  pub takes_down : is_lowering (told_at n made event.act) ≡ true → TakesDown
   takes_down is =
       let (loss, down) =
       and_parts (is_loss (told_at n made event.act)) (is_link_down (told_at n made event.act)) is in
@@ -64,12 +72,33 @@ module _ (n : NetworkState) (network : IsNetwork n) (made : List Timed) (event :
         loss = subst (λ a. is_loss (told_at n made a) ≡ true) act loss;
       }
 
-  module _ (well : AreWell n later) (unmoved : moves_joined n made later ≡ false) (x : TakesDown) where
-    lives_still : (m : SystemSpec) → In m n.systems → (system_after made m).live ≡ (system_after later m).live
-    lives_still m member =
-        sym (ap (λ s. s.live) (system_behind made event (clock_of m.identity) (standing m))
-        ∙ ap (λ act. (system_acted act (clock_of m.identity) (system_after made m)).live) x.act)
+  -- systems live as before
+  pub lives_still : TakesDown → (m : SystemSpec) → In m n.systems
+      → (system_after made m).live ≡ (system_after later m).live
+  lives_still x m member =
+      sym (ap (λ s. s.live) (system_behind made event (clock_of m.identity) (standing m))
+      ∙ ap (λ act. (system_acted act (clock_of m.identity) (system_after made m)).live) x.act)
 
+  -- the link isn't in use any more: it is lost
+  module _ (x : TakesDown) where
+    gone : (v : LinkSpec) → IsEnd (port_id x.clock x.port) (link_after made v) → is_used_then n later v ≡ false
+    gone v end =
+        let now_is : link_after later v ≡ with_up false (link_after made v) =
+        link_behind made event v
+        ∙ ap (λ act. link_acted act (link_after made v)) x.act
+        ∙ ap (λ b. if b then with_up false (link_after made v) else link_after made v)
+        (at_end x.clock x.port (link_after made v) end) in
+        ap (λ (w : LinkSpec). w.up && (lives n.systems later v.a.clock && lives n.systems later v.b.clock)) now_is
+
+    pub is_lost_there : (place : ℕ) (v : LinkSpec) → slice_get n.links place ≡ Some v
+        → IsEnd (port_id x.clock x.port) (link_after made v) → In (ends_of n v) (lost_ends n made later)
+    is_lost_there place v there end =
+        let used = used_cable n made v (loss_lowers n network made x.clock x.port x.loss place v there end) in
+        In-map (ends_of n) v (filter (is_lost n made later) n.links)
+        (kept (is_lost n made later) v n.links (In-slice_get v n.links place there)
+        (and_from (is_used_then n made v) (not (is_used_then n later v)) used (ap not (gone v end))))
+
+  module _ (well : AreWell n later) (unmoved : moves_joined n made later ≡ false) (x : TakesDown) where
     module _ (g h : Snapshot) (v : ℕ) (stands : StandsAfter n made g) (stands' : StandsAfter n later h)
         (known : In v (clocks h)) where
       well_h : IsWellFormed h
@@ -83,7 +112,7 @@ module _ (n : NetworkState) (network : IsNetwork n) (made : List Timed) (event :
       stays joined =
           let (i, at) = at_v in
           unmoved_at n network made later g h stands stands' (well made (event ∷ []) refl g stands) well_h v
-          (clock_over n network later made lives_still h g stands' stands v known) known i at
+          (clock_over n network later made (lives_still x) h g stands' stands v known) known i at
           (none_joined_there n made later unmoved i at.system at.there joined)
 
       -- or none is
@@ -136,3 +165,46 @@ lowers_one_link n network made [] well unmoved delay paths few is = absurd cc
 lowers_one_link n network made (event ∷ []) well unmoved delay paths few is =
     lowers_link n network made event well unmoved delay paths few is
 lowers_one_link n network made (event ∷ other ∷ events) well unmoved delay paths few is = absurd cc
+
+-- where each link that is up was in use, each is after such an event
+pub used_on : (n : NetworkState) (made now : List Timed) → LowersOneLink n made now → UpIsUsed n made
+    → UpIsUsed n (made ++ now)
+used_on n made [] lowers used place v there up = absurd lowers
+used_on n made (event ∷ other ∷ events) lowers used place v there up = absurd lowers
+used_on n made (event ∷ []) lowers used place v there up = by (is_at lowers.clock lowers.port (link_after made v)) refl
+  where
+    now_is : link_after (made ++ event ∷ []) v
+        ≡ (if is_at lowers.clock lowers.port (link_after made v) then with_up false (link_after made v)
+        else link_after made v)
+    now_is = link_behind made event v ∙ ap (λ act. link_acted act (link_after made v)) lowers.act
+
+    lives_on : (name : ℕ) → IsLive n.systems made name → IsLive n.systems (made ++ event ∷ []) name
+    lives_on name live = record {
+      place = live.place;
+      system = live.system;
+      there = live.there;
+      clock = live.clock;
+      live = ap (λ s. s.live) (system_behind made event (clock_of live.system.identity) (standing live.system))
+          ∙ ap (λ act. (system_acted act (clock_of live.system.identity) (system_after made live.system)).live)
+          lowers.act
+          ∙ live.live;
+    }
+
+    by : (at : Bool) → is_at lowers.clock lowers.port (link_after made v) ≡ at
+        → IsUsed n.systems (made ++ event ∷ []) (link_after (made ++ event ∷ []) v)
+    by true is =
+        let down : (link_after (made ++ event ∷ []) v).up ≡ false =
+        ap (λ (w : LinkSpec). w.up)
+        (now_is ∙ ap (λ b. if b then with_up false (link_after made v) else link_after made v) is) in
+        absurd (let both : true ≡ false = sym up ∙ down in cc)
+    by false is =
+        let same : link_after (made ++ event ∷ []) v ≡ link_after made v =
+        now_is ∙ ap (λ b. if b then with_up false (link_after made v) else link_after made v) is in
+        let was = used place v there (ap (λ (w : LinkSpec). w.up) (sym same) ∙ up) in
+        subst (IsUsed n.systems (made ++ event ∷ [])) (sym same)
+        (record {
+          up = was.up;
+          a = lives_on (link_after made v).a.clock was.a;
+          b = lives_on (link_after made v).b.clock
+              was.b;
+        })

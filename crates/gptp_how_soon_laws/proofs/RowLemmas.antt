@@ -1,6 +1,6 @@
 -- What is told of a time, by its row, is so by its events.
 use Rattle.std.proofs.Common.{◌≡◌, ◌<◌, ◌≤◌, ◌⊎◌, inl, inr, ◌+◌, ◌*◌, ℕ, Bool, true, false, cond, List, [], ◌∷◌, ◌++◌, Option, Some, None, length, filter, map, slice_get, refl, sym, ap, ap₂, subst, ◌∙◌, arith}
-use Rattle.std.specs.Prelude.{◌==◌, ◌&&◌, ◌||◌, not, nat_le, nat_lt, max, if◌then◌else◌}
+use Rattle.std.specs.Prelude.{◌==◌, ◌&&◌, ◌||◌, not, nat_le, nat_lt, max, min, if◌then◌else◌}
 use Rattle.std.specs.List.{AllByRecursion, list_all, list_any}
 use Rattle.std.proofs.lemmas.Bool.{and_parts, eqb-false, eqb-true, false_from_ne_true, not-true, or_cases, or_from, or_parts}
 use Rattle.std.proofs.lemmas.Bool.Decides.{nat_tests}
@@ -26,14 +26,14 @@ use Rattle.gptp_network.proofs.PassLemmas.{kept}
 use Rattle.gptp_topology.specs.After.{is_calm}
 use Rattle.gptp_topology.specs.Course.{cable_of}
 use Rattle.gptp_topology.specs.declared.course.Cable.{Cable}
-use Rattle.gptp_how_soon.specs.Bounds.{asked_again, choice_by, choice_of_row, is_again, is_hard_to_hear, ready, roles_by, settled, sound_row, two_exchanges}
+use Rattle.gptp_how_soon.specs.Bounds.{asked_again, choice_by, choice_of_row, is_again, is_hard_to_hear, echo_span, ready, gone_by, roles_by, roles_of_row, settled, sound_by, sound_of_row, two_exchanges}
 use Rattle.gptp_how_soon.specs.Chosen.{moves_counted, moves_joined, moves_some}
-use Rattle.gptp_how_soon.specs.Kinds.{are_heard, fails_and_recovers, fails_first, is_better, is_fail, is_failing, is_gain, is_idle, is_link_down, is_loss, is_lowering, is_other, is_recover, is_recovery, is_recovery_of, leaves_links, lowers_one, lowers_unused, makes_nothing, recovers, sets_link, tells_nothing, begins_wider, first_wider_by, is_wider}
+use Rattle.gptp_how_soon.specs.Kinds.{are_heard, fails_and_recovers, fails_first, is_better, is_failing, is_gain, is_idle, is_loss, is_lowering, is_other, is_recover, is_recovery, is_recovery_of, leaves_links, lowers_one, lowers_unused, makes_nothing, recovers, sets_link, takes_one, tells_nothing, begins_wider, first_wider_by, is_wider}
 use Rattle.gptp_how_soon.specs.Links.{delay_set, is_new, longest_among, longest_delay, longest_set, new_links, varies}
-use Rattle.gptp_how_soon.specs.Rest.{are_events_followed, are_losses_followed, are_recoveries_followed, are_turns_followed, heard_at_once, is_failing_followed, is_from_rest, is_lowering_followed, keeps_paths, rested, rested_by, is_wider_followed, settles_wider_by}
+use Rattle.gptp_how_soon.specs.Rest.{are_events_followed, are_losses_followed, are_recoveries_followed, are_turns_followed, failed_row, heard_at_once, is_failing_followed, is_from_rest, is_lowering_followed, keeps_paths, rested, rested_by, is_wider_followed, settles_wider_by}
 use Rattle.gptp_how_soon.specs.Times.{View, events_at, gained_at, ready_at, row_at, settling_time, told_at, told_of, view_at}
 use Rattle.gptp_how_soon.specs.declared.bounds.Row.{Row}
-use Rattle.gptp_how_soon.specs.declared.bounds.Row.TheVariants.{AnyPast, Unchanged, Lowered, FailedEnd, Gained}
+use Rattle.gptp_how_soon.specs.declared.bounds.Row.TheVariants.{AnyPast, FailedEnd, FailedHeard, Gained, LostEnd, LostPower, Lowered, OneTurned, Unchanged}
 use Rattle.gptp_how_soon.specs.declared.bounds.Settling.{Settling}
 use Rattle.gptp_how_soon.specs.declared.bounds.SettlingTime.{SettlingTime}
 use Rattle.gptp_how_soon.specs.declared.kinds.Kind.{Kind}
@@ -42,17 +42,19 @@ use Rattle.gptp_how_soon.specs.declared.kinds.Told.{Told}
 use Rattle.gptp_how_soon.specs.declared.kinds.What.{What}
 use Rattle.gptp_how_soon.specs.declared.kinds.What.TheVariants as whats
 use Rattle.gptp_settling_time.specs.Gains.{HasDelaysWithin}
-use Rattle.gptp_settling_time.specs.HowSoon.{AreReadyAtStart, AreStartEvents, BoundsChoice, BoundsGains, BoundsStart, EachEvent, FailsEndFirst, IsStillEvent, LowersOneLink, way_span, AreWiderEvents}
-use Rattle.gptp_settling_time.specs.InTurn.{NoneUsed, TellsNothing, UsedVaryLittle}
-use Rattle.gptp_settling_time.specs.Losses.{UpIsUsed}
+use Rattle.gptp_settling_time.specs.HowSoon.{AreReadyAtStart, AreStartEvents, AreWiderEvents, BoundsChoice, BoundsGains, BoundsStart, CutsOneEnd, EachEvent, FailsEndFirst, FailsHeardFirst, IsStillEvent, LowersOneLink, TurnsOneLink, way_span}
+use Rattle.gptp_settling_time.specs.InTurn.{FlightIsGone, NoneUsed, TellsNothing, UsedVaryLittle}
+use Rattle.gptp_settling_time.specs.Losses.{UpIsUsed, aging_span, silence_span}
 use Rattle.gptp_settling_time.proofs.CutLemmas.{IsBy, all_by}
-use Rattle.gptp_settling_time.proofs.FollowedLemmas.{all_still}
+use Rattle.gptp_settling_time.proofs.LeadOnLemmas.{all_still}
 use Rattle.gptp_settling_time.proofs.MomentLemmas.{all_at}
 use Rattle.gptp_topology.proofs.RestLemmas.{calm_from, used_cable}
 use Rattle.gptp_how_soon_laws.proofs.GainedLemmas.{AreFollowed, AreTurnsFollowed, all_gained, all_heard, all_idle, all_wider, none_any, not_none}
 use Rattle.gptp_how_soon_laws.proofs.KindLemmas.{told}
-use Rattle.gptp_how_soon_laws.proofs.FailedLemmas.{fail_lowers_none, fails_end_first, used_up}
-use Rattle.gptp_how_soon_laws.proofs.LoweredLemmas.{lowers_one_link}
+use Rattle.gptp_how_soon_laws.proofs.FailedLemmas.{fails_end_first, fails_heard_first, used_up}
+use Rattle.gptp_how_soon_laws.proofs.CutOffLemmas.{cuts_one_end}
+use Rattle.gptp_how_soon_laws.proofs.LoweredLemmas.{lowers_one_link, used_on}
+use Rattle.gptp_how_soon_laws.proofs.TurnedLemmas.{turns_one_link}
 use Rattle.gptp_how_soon_laws.proofs.UnmovedLemmas.{AreWell, all_still_unmoved}
 
 -- ---- who counts as moved
@@ -67,16 +69,18 @@ counts_all : (joined : Bool) (n : NetworkState) (made events : List Timed) → j
 counts_all true n made events is none = absurd cc
 counts_all false n made events is none = none
 
--- a system that fails, or whose priority1 gets worse, takes no link down
-fails_no_link : (es : List Told) → fails_first es ≡ true → lowers_one es ≡ false
-fails_no_link [] is = refl
-fails_no_link (e ∷ []) is =
-    let fails = (and_parts (is_failing e) (list_all lowers_unused []) is).0 in
-    false_from_ne_true (is_lowering e) (λ lowers.
-    fail_lowers_none e.kind e.clock e.what (and_parts (is_loss e) (is_fail e) fails).1
-    (and_parts (is_loss e) (is_link_down e) lowers).1)
-fails_no_link (e ∷ f ∷ es) is = refl
+-- one link that goes down is taken away, and so is a system that fails
+lowering_takes : (es : List Told) → lowers_one es ≡ true → takes_one es ≡ true
+lowering_takes es is = ap (λ test. test || fails_first es) is
 
+failing_takes : (es : List Told) → fails_first es ≡ true → takes_one es ≡ true
+failing_takes es is = ap (λ test. lowers_one es || test) is ∙ or_true (lowers_one es)
+  where
+    or_true : (b : Bool) → (b || true) ≡ true
+    or_true true = refl
+    or_true false = refl
+
+-- a system whose priority1 gets worse takes nothing away
 leaves_not_down : (clock : ℕ) (what : What) (kind : Kind) → leaves_links (told clock what kind) ≡ true
     → is_lowering (told clock what kind) ≡ false
 leaves_not_down clock whats.Priority1 Loss is = refl
@@ -93,19 +97,51 @@ leaves_not_down clock what Gain is = refl
 leaves_not_down clock what (Wider by) is = refl
 leaves_not_down clock what Other is = refl
 
-leaves_no_link : (es : List Told) → list_all leaves_links es ≡ true → lowers_one es ≡ false
-leaves_no_link [] all = refl
-leaves_no_link (e ∷ []) all =
-    leaves_not_down e.clock e.what e.kind (and_parts (leaves_links e) (list_all leaves_links []) all).0
-leaves_no_link (e ∷ f ∷ es) all = refl
+leaves_not_failing : (clock : ℕ) (what : What) (kind : Kind) → leaves_links (told clock what kind) ≡ true
+    → is_failing (told clock what kind) ≡ false
+leaves_not_failing clock whats.Priority1 Loss is = refl
+leaves_not_failing clock whats.Fail Loss is = absurd cc
+leaves_not_failing clock whats.LinkDown Loss is = absurd cc
+leaves_not_failing clock whats.LinkUp Loss is = absurd cc
+leaves_not_failing clock whats.LinkSet Loss is = absurd cc
+leaves_not_failing clock whats.Recover Loss is = absurd cc
+leaves_not_failing clock whats.Inject Loss is = absurd cc
+leaves_not_failing clock whats.NoChange Loss is = absurd cc
+leaves_not_failing clock what Idle is = refl
+leaves_not_failing clock what Unused is = refl
+leaves_not_failing clock what Gain is = refl
+leaves_not_failing clock what (Wider by) is = refl
+leaves_not_failing clock what Other is = refl
+
+leaves_all : (es : List Told) → list_all leaves_links es ≡ true → takes_one es ≡ false
+leaves_all [] all = refl
+leaves_all (e ∷ []) all =
+    let first = (and_parts (leaves_links e) (list_all leaves_links []) all).0 in
+    or_from (is_lowering e) (is_failing e && true) (leaves_not_down e.clock e.what e.kind first)
+    (ap (λ test. test && true) (leaves_not_failing e.clock e.what e.kind first))
+leaves_all (e ∷ f ∷ es) all =
+    let first = (and_parts (leaves_links e) (list_all leaves_links (f ∷ es)) all).0 in
+    ap (λ test. test && list_all lowers_unused (f ∷ es)) (leaves_not_failing e.clock e.what e.kind first)
 
 -- ---- what is told
 
--- by its row it is bounded how soon all that a calm network holds is sound
+-- what bounds the choice where no loss has a bound of its own
+abbrev pub past_row : Row → Row
+past_row AnyPast = AnyPast
+past_row Unchanged = Unchanged
+past_row Lowered = AnyPast
+past_row LostEnd = AnyPast
+past_row LostPower = AnyPast
+past_row FailedEnd = AnyPast
+past_row FailedHeard = AnyPast
+past_row OneTurned = AnyPast
+past_row Gained = Gained
+
+-- by its row it is bounded how soon a calm network settles
 pub bounds_choice : (n : NetworkState) (Sharp : ℕ → Type 0) (events : List Timed) (row : Row) (gained : ℕ)
     → is_calm n events ≡ true → (row ≡ Unchanged → Sharp 0) → (row ≡ Gained → NothingLapses n.params → Sharp gained)
-    → BoundsChoice n (Sharp (choice_by n (sync_paths n events) (sound_row row) gained)) events
-    (choice_by n (sync_paths n events) (sound_row row) gained)
+    → BoundsChoice n (Sharp (choice_by n (sync_paths n events) (past_row row) gained)) events
+    (choice_by n (sync_paths n events) (past_row row) gained)
 bounds_choice n Sharp events row gained calm unchanged is_gained =
     (calm_from n events calm, by (n.params.sync_timeout == 0) refl)
   where
@@ -113,74 +149,105 @@ bounds_choice n Sharp events row gained calm unchanged is_gained =
     span = settling_span_with (pace_of n) (sync_paths n events) (sync_paths n events).systems
 
     by_row : NothingLapses n.params → (r : Row) → row ≡ r
-        → (choice_of_row n (sync_paths n events) (sound_row r) gained
+        → (choice_of_row n (sync_paths n events) (past_row r) gained
         ≡ settling_span_at_once (pace_of n) (sync_paths n events))
-        ⊎ Sharp (choice_of_row n (sync_paths n events) (sound_row r) gained)
+        ⊎ Sharp (choice_of_row n (sync_paths n events) (past_row r) gained)
     by_row off AnyPast is = inl refl
     by_row off Lowered is = inl refl
+    by_row off LostEnd is = inl refl
+    by_row off LostPower is = inl refl
     by_row off FailedEnd is = inl refl
+    by_row off FailedHeard is = inl refl
+    by_row off OneTurned is = inl refl
     by_row off Unchanged is = inr (unchanged is)
     by_row off Gained is = inr (is_gained is off)
 
     by : (off : Bool) → (n.params.sync_timeout == 0) ≡ off
         → ((NothingLapses n.params → ⊥)
-        × (cond (not off) span (choice_of_row n (sync_paths n events) (sound_row row) gained) ≡ span))
+        × (cond (not off) span (choice_of_row n (sync_paths n events) (past_row row) gained) ≡ span))
         ⊎ (NothingLapses n.params
-        × ((cond (not off) span (choice_of_row n (sync_paths n events) (sound_row row) gained)
+        × ((cond (not off) span (choice_of_row n (sync_paths n events) (past_row row) gained)
         ≡ settling_span_at_once (pace_of n) (sync_paths n events))
-        ⊎ Sharp (cond (not off) span (choice_of_row n (sync_paths n events) (sound_row row) gained))))
+        ⊎ Sharp (cond (not off) span (choice_of_row n (sync_paths n events) (past_row row) gained))))
     by true is = let off = eqb-true n.params.sync_timeout 0 is in inr (off, by_row off row refl)
     by false is = inl (eqb-false n.params.sync_timeout 0 is, refl)
 
--- The choice and the roles stand by the same bound. Or nothing lapses, and the choice stands at once: after a link went
--- down, as the roles do, or after a system failed.
-abbrev pub AreSooner : NetworkState → SyncPaths → Row → ℕ → Type 0
-AreSooner n paths row gained =
-    NothingLapses n.params × (choice_by n paths row gained ≡ 0)
-    × (((row ≡ Lowered) × (roles_by n paths row gained ≡ 0))
-    ⊎ ((row ≡ FailedEnd) × (roles_by n paths row gained ≡ capability_span (pace_of n))))
+-- The choice and the roles stand by the same bound. Or nothing lapses, and they do sooner after a loss: at once after a
+-- link went down or a far end lost its power, and the choice after a system failed that no other heard; and within two
+-- ways where one system turns. Else after a system failed it does once nobody holds what was heard of it.
+abbrev pub AreSooner : NetworkState → SyncPaths → Row → ℕ → ℕ → Type 0
+AreSooner n paths row choice roles =
+    ((choice ≡ 0)
+    × ((((row ≡ Lowered) ⊎ ((row ≡ LostEnd) ⊎ (row ≡ LostPower))) × (roles ≡ 0))
+    ⊎ ((row ≡ FailedEnd) × (roles ≡ silence_span (pace_of n)))))
+    ⊎ (((row ≡ OneTurned) × (choice ≡ 2 * way_span paths) × (roles ≡ choice))
+    ⊎ ((row ≡ FailedHeard) × (choice ≡ min (aging_span (pace_of n) paths) (silence_span (pace_of n)))
+    × (roles ≡ silence_span (pace_of n))))
 
 pub choice_or_none : (n : NetworkState) (paths : SyncPaths) (row : Row) (gained : ℕ)
-    → ((choice_by n paths row gained ≡ choice_by n paths (sound_row row) gained)
-    × (roles_by n paths row gained ≡ choice_by n paths (sound_row row) gained))
-    ⊎ AreSooner n paths row gained
-choice_or_none n paths AnyPast gained = inl (refl, refl)
-choice_or_none n paths Unchanged gained = inl (refl, refl)
-choice_or_none n paths Gained gained = inl (refl, refl)
-choice_or_none n paths Lowered gained = by (n.params.sync_timeout == 0) refl
+    → ((choice_by n paths row gained ≡ choice_by n paths (past_row row) gained)
+    × (roles_by n paths row gained ≡ choice_by n paths (past_row row) gained))
+    ⊎ (NothingLapses n.params × AreSooner n paths row (choice_by n paths row gained) (roles_by n paths row gained))
+choice_or_none n paths row gained = by (n.params.sync_timeout == 0) refl row
   where
     span : ℕ
     span = settling_span_with (pace_of n) paths paths.systems
 
-    by : (off : Bool) → (n.params.sync_timeout == 0) ≡ off
-        → ((cond (not off) span 0 ≡ cond (not off) span (settling_span_at_once (pace_of n) paths))
-        × (cond (not off) span 0 ≡ cond (not off) span (settling_span_at_once (pace_of n) paths)))
-        ⊎ (NothingLapses n.params × (cond (not off) span 0 ≡ 0)
-        × (((Lowered ≡ Lowered) × (cond (not off) span 0 ≡ 0))
-        ⊎ ((Lowered ≡ FailedEnd) × (cond (not off) span 0 ≡ capability_span (pace_of n)))))
-    by true is = inr (eqb-true n.params.sync_timeout 0 is, refl, inl (refl, refl))
-    by false is = inl (refl, refl)
-choice_or_none n paths FailedEnd gained = by (n.params.sync_timeout == 0) refl
+    by : (off : Bool) → (n.params.sync_timeout == 0) ≡ off → (r : Row)
+        → ((cond (not off) span (choice_of_row n paths r gained)
+        ≡ cond (not off) span (choice_of_row n paths (past_row r) gained))
+        × (cond (not off) span (roles_of_row n paths r gained)
+        ≡ cond (not off) span (choice_of_row n paths (past_row r) gained)))
+        ⊎ (NothingLapses n.params
+        × AreSooner n paths r (cond (not off) span (choice_of_row n paths r gained))
+        (cond (not off) span (roles_of_row n paths r gained)))
+    by false is r = inl (refl, refl)
+    by true is AnyPast = inl (refl, refl)
+    by true is Unchanged = inl (refl, refl)
+    by true is Gained = inl (refl, refl)
+    by true is Lowered = inr (eqb-true n.params.sync_timeout 0 is, inl (refl, inl (inl refl, refl)))
+    by true is LostEnd = inr (eqb-true n.params.sync_timeout 0 is, inl (refl, inl (inr (inl refl), refl)))
+    by true is LostPower = inr (eqb-true n.params.sync_timeout 0 is, inl (refl, inl (inr (inr refl), refl)))
+    by true is FailedEnd = inr (eqb-true n.params.sync_timeout 0 is, inl (refl, inr (refl, refl)))
+    by true is FailedHeard = inr (eqb-true n.params.sync_timeout 0 is, inr (inr (refl, refl, refl)))
+    by true is OneTurned = inr (eqb-true n.params.sync_timeout 0 is, inr (inl (refl, refl, refl)))
+
+-- All is sound by that bound. Or nothing lapses, and it is sooner after a loss by which no system is moved.
+abbrev pub IsSoundSooner : NetworkState → SyncPaths → Bool → Row → ℕ → Type 0
+IsSoundSooner n paths used_before row sound =
+    ((row ≡ LostEnd) × (sound ≡ gone_by n paths used_before))
+    ⊎ (((row ≡ FailedEnd) × (sound ≡ capability_span (pace_of n) + way_span paths))
+    ⊎ ((row ≡ Lowered) × (sound ≡ echo_span n paths + gone_by n paths used_before)))
+
+pub sound_or_sooner : (n : NetworkState) (paths : SyncPaths) (used_before : Bool) (row : Row) (gained : ℕ)
+    → (sound_by n paths used_before row gained ≡ choice_by n paths (past_row row) gained)
+    ⊎ (NothingLapses n.params × IsSoundSooner n paths used_before row (sound_by n paths used_before row gained))
+sound_or_sooner n paths used_before row gained = by (n.params.sync_timeout == 0) refl row
   where
     span : ℕ
     span = settling_span_with (pace_of n) paths paths.systems
 
-    by : (off : Bool) → (n.params.sync_timeout == 0) ≡ off
-        → ((cond (not off) span 0 ≡ cond (not off) span (settling_span_at_once (pace_of n) paths))
-        × (cond (not off) span (capability_span (pace_of n))
-        ≡ cond (not off) span (settling_span_at_once (pace_of n) paths)))
-        ⊎ (NothingLapses n.params × (cond (not off) span 0 ≡ 0)
-        × (((FailedEnd ≡ Lowered) × (cond (not off) span (capability_span (pace_of n)) ≡ 0))
-        ⊎ ((FailedEnd ≡ FailedEnd)
-        × (cond (not off) span (capability_span (pace_of n)) ≡ capability_span (pace_of n)))))
-    by true is = inr (eqb-true n.params.sync_timeout 0 is, refl, inr (refl, refl))
-    by false is = inl (refl, refl)
+    by : (off : Bool) → (n.params.sync_timeout == 0) ≡ off → (r : Row)
+        → (cond (not off) span (sound_of_row n paths used_before r gained)
+        ≡ cond (not off) span (choice_of_row n paths (past_row r) gained))
+        ⊎ (NothingLapses n.params
+        × IsSoundSooner n paths used_before r (cond (not off) span (sound_of_row n paths used_before r gained)))
+    by false is r = inl refl
+    by true is AnyPast = inl refl
+    by true is Unchanged = inl refl
+    by true is Gained = inl refl
+    by true is OneTurned = inl refl
+    by true is FailedHeard = inl refl
+    by true is LostPower = inl refl
+    by true is LostEnd = inr (eqb-true n.params.sync_timeout 0 is, inl (refl, refl))
+    by true is FailedEnd = inr (eqb-true n.params.sync_timeout 0 is, inr (inl (refl, refl)))
+    by true is Lowered = inr (eqb-true n.params.sync_timeout 0 is, inr (inr (refl, refl)))
 
 -- what is told of a calm network
 pub record IsTelling (n : NetworkState) (v : View) (s : Settling) : Type 0 where
   pub calm : v.calm ≡ true
   pub choice : s.choice ≡ choice_by n v.paths (row_at v) (gained_at n v)
-  pub sound : s.sound ≡ choice_by n v.paths (sound_row (row_at v)) (gained_at n v)
+  pub sound : s.sound ≡ sound_by n v.paths v.used_before (row_at v) (gained_at n v)
   pub roles : s.roles ≡ roles_by n v.paths (row_at v) (gained_at n v)
   pub rest : s.sound ≤ s.rest
   pub exact : max (v.at + s.roles) (v.last_set + largest_interval (pace_of n)) + window_span n.params
@@ -193,7 +260,7 @@ tells n v s is = by v.calm refl is
     it : Settling
     it =
         settled n v.at v.last_set v.paths (sets_link v.told) (choice_by n v.paths (row_at v) (gained_at n v))
-        (roles_by n v.paths (row_at v) (gained_at n v)) (choice_by n v.paths (sound_row (row_at v)) (gained_at n v))
+        (roles_by n v.paths (row_at v) (gained_at n v)) (sound_by n v.paths v.used_before (row_at v) (gained_at n v))
 
     by : (calm : Bool) → v.calm ≡ calm → (if calm then Some it else None) ≡ Some s → IsTelling n v s
     by true calm told =
@@ -212,53 +279,140 @@ tells n v s is = by v.calm refl is
 
 -- ---- rows
 
-abbrev RowBy : Bool → Bool → Bool → Bool → Bool → Bool → Bool → Row
-RowBy rest idle left lowers fails used loss =
-    if not rest then AnyPast else if idle then Unchanged else if left then Unchanged else if lowers then Lowered
-    else if fails then if used then Lowered else FailedEnd else if loss then AnyPast else Gained
+abbrev RowBy : Bool → Bool → Bool → Bool → Bool → Bool → Bool → Bool → Bool → Bool → Row
+RowBy rest idle left lowers cut turns fails far used loss =
+    if not rest then AnyPast else if idle then Unchanged else if left then Unchanged
+    else if lowers then if cut then LostEnd else Lowered
+    else if turns then OneTurned else if fails then failed_row far used
+    else if loss then AnyPast else Gained
 
-unchanged_from : (rest idle left lowers fails used loss : Bool)
-    → RowBy rest idle left lowers fails used loss ≡ Unchanged → (rest ≡ true) × ((idle ≡ true) ⊎ (left ≡ true))
-unchanged_from false idle left lowers fails used loss is = absurd cc
-unchanged_from true true left lowers fails used loss is = (refl, inl refl)
-unchanged_from true false true lowers fails used loss is = (refl, inr refl)
-unchanged_from true false false true fails used loss is = absurd cc
-unchanged_from true false false false true true loss is = absurd cc
-unchanged_from true false false false true false loss is = absurd cc
-unchanged_from true false false false false used true is = absurd cc
-unchanged_from true false false false false used false is = absurd cc
+unchanged_from : (rest idle left lowers cut turns fails far used loss : Bool)
+    → RowBy rest idle left lowers cut turns fails far used loss ≡ Unchanged
+    → (rest ≡ true) × ((idle ≡ true) ⊎ (left ≡ true))
+unchanged_from false idle left lowers cut turns fails far used loss is = absurd cc
+unchanged_from true true left lowers cut turns fails far used loss is = (refl, inl refl)
+unchanged_from true false true lowers cut turns fails far used loss is = (refl, inr refl)
+unchanged_from true false false true true turns fails far used loss is = absurd cc
+unchanged_from true false false true false turns fails far used loss is = absurd cc
+unchanged_from true false false false cut true fails far used loss is = absurd cc
+unchanged_from true false false false cut false true true true loss is = absurd cc
+unchanged_from true false false false cut false true true false loss is = absurd cc
+unchanged_from true false false false cut false true false true loss is = absurd cc
+unchanged_from true false false false cut false true false false loss is = absurd cc
+unchanged_from true false false false cut false false far used true is = absurd cc
+unchanged_from true false false false cut false false far used false is = absurd cc
 
-lowered_from : (rest idle left lowers fails used loss : Bool) → RowBy rest idle left lowers fails used loss ≡ Lowered
-    → (rest ≡ true) × ((lowers ≡ true) ⊎ ((fails ≡ true) × (used ≡ true)))
-lowered_from false idle left lowers fails used loss is = absurd cc
-lowered_from true true left lowers fails used loss is = absurd cc
-lowered_from true false true lowers fails used loss is = absurd cc
-lowered_from true false false true fails used loss is = (refl, inl refl)
-lowered_from true false false false true true loss is = (refl, inr (refl, refl))
-lowered_from true false false false true false loss is = absurd cc
-lowered_from true false false false false used true is = absurd cc
-lowered_from true false false false false used false is = absurd cc
+lowered_from : (rest idle left lowers cut turns fails far used loss : Bool)
+    → RowBy rest idle left lowers cut turns fails far used loss ≡ Lowered
+    → (rest ≡ true) × (lowers ≡ true)
+lowered_from false idle left lowers cut turns fails far used loss is = absurd cc
+lowered_from true true left lowers cut turns fails far used loss is = absurd cc
+lowered_from true false true lowers cut turns fails far used loss is = absurd cc
+lowered_from true false false true true turns fails far used loss is = absurd cc
+lowered_from true false false true false turns fails far used loss is = (refl, refl)
+lowered_from true false false false cut true fails far used loss is = absurd cc
+lowered_from true false false false cut false true true true loss is = absurd cc
+lowered_from true false false false cut false true true false loss is = absurd cc
+lowered_from true false false false cut false true false true loss is = absurd cc
+lowered_from true false false false cut false true false false loss is = absurd cc
+lowered_from true false false false cut false false far used true is = absurd cc
+lowered_from true false false false cut false false far used false is = absurd cc
 
-failed_from : (rest idle left lowers fails used loss : Bool)
-    → RowBy rest idle left lowers fails used loss ≡ FailedEnd → (rest ≡ true) × (fails ≡ true)
-failed_from false idle left lowers fails used loss is = absurd cc
-failed_from true true left lowers fails used loss is = absurd cc
-failed_from true false true lowers fails used loss is = absurd cc
-failed_from true false false true fails used loss is = absurd cc
-failed_from true false false false true used loss is = (refl, refl)
-failed_from true false false false false used true is = absurd cc
-failed_from true false false false false used false is = absurd cc
+powered_from : (rest idle left lowers cut turns fails far used loss : Bool)
+    → RowBy rest idle left lowers cut turns fails far used loss ≡ LostPower
+    → (rest ≡ true) × (fails ≡ true) × (used ≡ true)
+powered_from false idle left lowers cut turns fails far used loss is = absurd cc
+powered_from true true left lowers cut turns fails far used loss is = absurd cc
+powered_from true false true lowers cut turns fails far used loss is = absurd cc
+powered_from true false false true true turns fails far used loss is = absurd cc
+powered_from true false false true false turns fails far used loss is = absurd cc
+powered_from true false false false cut true fails far used loss is = absurd cc
+powered_from true false false false cut false true true true loss is = absurd cc
+powered_from true false false false cut false true true false loss is = absurd cc
+powered_from true false false false cut false true false true loss is = (refl, refl, refl)
+powered_from true false false false cut false true false false loss is = absurd cc
+powered_from true false false false cut false false far used true is = absurd cc
+powered_from true false false false cut false false far used false is = absurd cc
 
-gained_from : (rest idle left lowers fails used loss : Bool) → RowBy rest idle left lowers fails used loss ≡ Gained
+lost_from : (rest idle left lowers cut turns fails far used loss : Bool)
+    → RowBy rest idle left lowers cut turns fails far used loss ≡ LostEnd
+    → (rest ≡ true) × (((lowers ≡ true) × (cut ≡ true)) ⊎ ((fails ≡ true) × (far ≡ true) × (used ≡ true)))
+lost_from false idle left lowers cut turns fails far used loss is = absurd cc
+lost_from true true left lowers cut turns fails far used loss is = absurd cc
+lost_from true false true lowers cut turns fails far used loss is = absurd cc
+lost_from true false false true true turns fails far used loss is = (refl, inl (refl, refl))
+lost_from true false false true false turns fails far used loss is = absurd cc
+lost_from true false false false cut true fails far used loss is = absurd cc
+lost_from true false false false cut false true true true loss is = (refl, inr (refl, refl, refl))
+lost_from true false false false cut false true true false loss is = absurd cc
+lost_from true false false false cut false true false true loss is = absurd cc
+lost_from true false false false cut false true false false loss is = absurd cc
+lost_from true false false false cut false false far used true is = absurd cc
+lost_from true false false false cut false false far used false is = absurd cc
+
+turned_from : (rest idle left lowers cut turns fails far used loss : Bool)
+    → RowBy rest idle left lowers cut turns fails far used loss ≡ OneTurned
+    → (rest ≡ true) × (turns ≡ true)
+turned_from false idle left lowers cut turns fails far used loss is = absurd cc
+turned_from true true left lowers cut turns fails far used loss is = absurd cc
+turned_from true false true lowers cut turns fails far used loss is = absurd cc
+turned_from true false false true true turns fails far used loss is = absurd cc
+turned_from true false false true false turns fails far used loss is = absurd cc
+turned_from true false false false cut true fails far used loss is = (refl, refl)
+turned_from true false false false cut false true true true loss is = absurd cc
+turned_from true false false false cut false true true false loss is = absurd cc
+turned_from true false false false cut false true false true loss is = absurd cc
+turned_from true false false false cut false true false false loss is = absurd cc
+turned_from true false false false cut false false far used true is = absurd cc
+turned_from true false false false cut false false far used false is = absurd cc
+
+failed_from : (rest idle left lowers cut turns fails far used loss : Bool)
+    → RowBy rest idle left lowers cut turns fails far used loss ≡ FailedEnd
+    → (rest ≡ true) × (fails ≡ true) × (far ≡ true)
+failed_from false idle left lowers cut turns fails far used loss is = absurd cc
+failed_from true true left lowers cut turns fails far used loss is = absurd cc
+failed_from true false true lowers cut turns fails far used loss is = absurd cc
+failed_from true false false true true turns fails far used loss is = absurd cc
+failed_from true false false true false turns fails far used loss is = absurd cc
+failed_from true false false false cut true fails far used loss is = absurd cc
+failed_from true false false false cut false true true true loss is = absurd cc
+failed_from true false false false cut false true true false loss is = (refl, refl, refl)
+failed_from true false false false cut false true false true loss is = absurd cc
+failed_from true false false false cut false true false false loss is = absurd cc
+failed_from true false false false cut false false far used true is = absurd cc
+failed_from true false false false cut false false far used false is = absurd cc
+
+heard_from : (rest idle left lowers cut turns fails far used loss : Bool)
+    → RowBy rest idle left lowers cut turns fails far used loss ≡ FailedHeard
+    → (rest ≡ true) × (fails ≡ true)
+heard_from false idle left lowers cut turns fails far used loss is = absurd cc
+heard_from true true left lowers cut turns fails far used loss is = absurd cc
+heard_from true false true lowers cut turns fails far used loss is = absurd cc
+heard_from true false false true true turns fails far used loss is = absurd cc
+heard_from true false false true false turns fails far used loss is = absurd cc
+heard_from true false false false cut true fails far used loss is = absurd cc
+heard_from true false false false cut false true true true loss is = absurd cc
+heard_from true false false false cut false true true false loss is = absurd cc
+heard_from true false false false cut false true false true loss is = absurd cc
+heard_from true false false false cut false true false false loss is = (refl, refl)
+heard_from true false false false cut false false far used true is = absurd cc
+heard_from true false false false cut false false far used false is = absurd cc
+
+gained_from : (rest idle left lowers cut turns fails far used loss : Bool)
+    → RowBy rest idle left lowers cut turns fails far used loss ≡ Gained
     → (rest ≡ true) × (loss ≡ false) × (idle ≡ false)
-gained_from false idle left lowers fails used loss is = absurd cc
-gained_from true true left lowers fails used loss is = absurd cc
-gained_from true false true lowers fails used loss is = absurd cc
-gained_from true false false true fails used loss is = absurd cc
-gained_from true false false false true true loss is = absurd cc
-gained_from true false false false true false loss is = absurd cc
-gained_from true false false false false used true is = absurd cc
-gained_from true false false false false used false is = (refl, refl, refl)
+gained_from false idle left lowers cut turns fails far used loss is = absurd cc
+gained_from true true left lowers cut turns fails far used loss is = absurd cc
+gained_from true false true lowers cut turns fails far used loss is = absurd cc
+gained_from true false false true true turns fails far used loss is = absurd cc
+gained_from true false false true false turns fails far used loss is = absurd cc
+gained_from true false false false cut true fails far used loss is = absurd cc
+gained_from true false false false cut false true true true loss is = absurd cc
+gained_from true false false false cut false true true false loss is = absurd cc
+gained_from true false false false cut false true false true loss is = absurd cc
+gained_from true false false false cut false true false false loss is = absurd cc
+gained_from true false false false cut false false far used true is = absurd cc
+gained_from true false false false cut false false far used false is = (refl, refl, refl)
 
 begun_from : (rest : Bool) → (if not rest then AnyPast else Gained) ≡ Gained → rest ≡ true
 begun_from false is = absurd cc
@@ -268,10 +422,9 @@ never_begun : (rest : Bool) → (if not rest then AnyPast else Gained) ≡ Uncha
 never_begun false is = absurd cc
 never_begun true is = absurd cc
 
-begun_sound : (rest : Bool) → (if not rest then AnyPast else Gained)
-    ≡ sound_row (if not rest then AnyPast else Gained)
-begun_sound false = refl
-begun_sound true = refl
+begun_past : (rest : Bool) → (if not rest then AnyPast else Gained) ≡ past_row (if not rest then AnyPast else Gained)
+begun_past false = refl
+begun_past true = refl
 
 -- ---- at the start
 
@@ -401,12 +554,26 @@ never_unchanged n now row =
     let v = view_at n [] now None 0 in
     never_begun (is_from_rest v.longest v.at v.paths_before v.paths v.told v.before) row
 
--- all that is held then is sound as soon as the choice stands
-pub first_sound : (n : NetworkState) (now : List Timed)
-    → row_at (view_at n [] now None 0) ≡ sound_row (row_at (view_at n [] now None 0))
-first_sound n now =
+-- no loss has a bound of its own then
+pub first_past : (n : NetworkState) (now : List Timed)
+    → row_at (view_at n [] now None 0) ≡ past_row (row_at (view_at n [] now None 0))
+first_past n now =
     let v = view_at n [] now None 0 in
-    begun_sound (is_from_rest v.longest v.at v.paths_before v.paths v.told v.before)
+    begun_past (is_from_rest v.longest v.at v.paths_before v.paths v.told v.before)
+
+-- all is sound as soon as the choice stands
+begun_sound : (n : NetworkState) (paths : SyncPaths) (used_before : Bool) (gained : ℕ) (rest : Bool)
+    → sound_by n paths used_before (if not rest then AnyPast else Gained) gained
+    ≡ choice_by n paths (if not rest then AnyPast else Gained) gained
+begun_sound n paths used_before gained true = refl
+begun_sound n paths used_before gained false = refl
+
+pub first_sound : (n : NetworkState) (now : List Timed) (paths : SyncPaths) (used_before : Bool) (gained : ℕ)
+    → sound_by n paths used_before (row_at (view_at n [] now None 0)) gained
+    ≡ choice_by n paths (row_at (view_at n [] now None 0)) gained
+first_sound n now paths used_before gained =
+    let v = view_at n [] now None 0 in
+    begun_sound n paths used_before gained (is_from_rest v.longest v.at v.paths_before v.paths v.told v.before)
 
 -- and roles do then
 begun_roles : (n : NetworkState) (paths : SyncPaths) (gained : ℕ) (rest : Bool)
@@ -579,7 +746,7 @@ module _ (n : NetworkState) (network : IsNetwork n) (events : List Timed) (b : S
       let (few, leaves) =
       and_parts (nat_le v.paths_before.systems 255) (list_all leaves_links v.told) followed in
       all_still_unmoved n network made now well (at_most v.paths_before.systems 255 few)
-      (counts_all (lowers_one v.told) n made (made ++ now) (leaves_no_link v.told leaves) (not-true v.moved none))
+      (counts_all (takes_one v.told) n made (made ++ now) (leaves_all v.told leaves) (not-true v.moved none))
       leaves
 
   pub unchanged : AreWell n (made ++ now) → row_at v ≡ Unchanged
@@ -589,8 +756,9 @@ module _ (n : NetworkState) (network : IsNetwork n) (events : List Timed) (b : S
       let (from, which) =
       unchanged_from (is_from_rest v.longest at v.paths_before v.paths v.told (Some b))
       (list_all makes_nothing v.told || begins_wider v.told) (are_losses_followed v.paths_before v.told && not v.moved)
-      (is_lowering_followed v.paths_before v.paths v.told && not v.moved)
-      (is_failing_followed v.paths_before v.paths v.told && not v.moved && v.far) v.used (list_any is_loss v.told)
+      (is_lowering_followed v.paths_before v.paths v.told && not v.moved) v.cut
+      (is_lowering_followed v.paths_before v.paths v.told && v.turned)
+      (is_failing_followed v.paths_before v.paths v.told && not v.moved) v.far v.used (list_any is_loss v.told)
       row in
       let facts = from_rest from in (
         facts.rested,
@@ -629,8 +797,9 @@ module _ (n : NetworkState) (network : IsNetwork n) (events : List Timed) (b : S
       let (from, none, which) =
       gained_from (is_from_rest v.longest at v.paths_before v.paths v.told (Some b))
       (list_all makes_nothing v.told || begins_wider v.told) (are_losses_followed v.paths_before v.told && not v.moved)
-      (is_lowering_followed v.paths_before v.paths v.told && not v.moved)
-      (is_failing_followed v.paths_before v.paths v.told && not v.moved && v.far) v.used (list_any is_loss v.told)
+      (is_lowering_followed v.paths_before v.paths v.told && not v.moved) v.cut
+      (is_lowering_followed v.paths_before v.paths v.told && v.turned)
+      (is_failing_followed v.paths_before v.paths v.told && not v.moved) v.far v.used (list_any is_loss v.told)
       row in
       let facts = from_rest from in
       let (some, narrow) = or_parts (list_all makes_nothing v.told) (begins_wider v.told) which in (
@@ -691,49 +860,187 @@ module _ (n : NetworkState) (network : IsNetwork n) (events : List Timed) (b : S
         at_most v.paths_before.systems 255 few,
       )
 
-  -- a system fails by the first event that is a far end, and no system is moved
-  failing : AreWell n (made ++ now)
-      → (is_failing_followed v.paths_before v.paths v.told && not v.moved && v.far) ≡ true → FailsEndFirst n made now
-  failing well fails =
-      let (two, far) = and_parts (is_failing_followed v.paths_before v.paths v.told && not v.moved) v.far fails in
-      let (followed, none) = and_parts (is_failing_followed v.paths_before v.paths v.told) (not v.moved) two in
+  -- a system fails by the first event, and no system is moved but such as are cut off
+  record IsFailing : Type 0 where
+    pub first : fails_first v.told ≡ true
+    pub unmoved : moves_joined n made (made ++ now) ≡ false
+    pub delay : (sync_paths n (made ++ now)).delay ≡ (sync_paths n made).delay
+    pub paths : (sync_paths n (made ++ now)).systems ≤ (sync_paths n made).systems
+    pub few : (sync_paths n made).systems ≤ 255
+
+  is_failing_so : (is_failing_followed v.paths_before v.paths v.told && not v.moved) ≡ true → IsFailing
+  is_failing_so fails =
+      let (followed, none) = and_parts (is_failing_followed v.paths_before v.paths v.told) (not v.moved) fails in
       let (keeps, first) = and_parts (keeps_paths v.paths_before v.paths) (fails_first v.told) followed in
       let (delay, paths, few) = keeps_so keeps in
-      fails_end_first n network made now well
-      (counts_all (lowers_one v.told) n made (made ++ now) (fails_no_link v.told first) (not-true v.moved none)) delay
-      paths few first far
+      record {
+        first = first;
+        unmoved = counts_joined (takes_one v.told) n made (made ++ now) (failing_takes v.told first)
+            (not-true v.moved none);
+        delay = delay;
+        paths = paths;
+        few = few;
+      }
 
-  -- what stands goes on, as a link goes down by the one event and no system is moved, or a far end loses its power
+  failing_heard : AreWell n (made ++ now)
+      → (is_failing_followed v.paths_before v.paths v.told && not v.moved) ≡ true → FailsHeardFirst n made now
+  failing_heard well fails =
+      let x = is_failing_so fails in
+      fails_heard_first n network made now well x.unmoved x.delay x.paths x.few x.first
+
+  -- which is a far end
+  failing_end : AreWell n (made ++ now)
+      → (is_failing_followed v.paths_before v.paths v.told && not v.moved) ≡ true → v.far ≡ true
+      → FailsEndFirst n made now
+  failing_end well fails far =
+      let x = is_failing_so fails in
+      fails_end_first n network made now well x.unmoved x.delay x.paths x.few x.first far
+
+  -- a link goes down by the one event, and no system is moved
+  lowers_so : AreWell n (made ++ now) → (is_lowering_followed v.paths_before v.paths v.told && not v.moved) ≡ true
+      → LowersOneLink n made now
+  lowers_so well lowers =
+      let (followed, none) = and_parts (is_lowering_followed v.paths_before v.paths v.told) (not v.moved) lowers in
+      let (keeps, one) = and_parts (keeps_paths v.paths_before v.paths) (lowers_one v.told) followed in
+      let (delay, paths, few) = keeps_so keeps in
+      lowers_one_link n network made now well
+      (counts_joined (takes_one v.told) n made (made ++ now) (lowering_takes v.told one) (not-true v.moved none)) delay
+      paths few one
+
+  -- and it cuts off a far end
+  cuts_so : AreWell n (made ++ now) → (is_lowering_followed v.paths_before v.paths v.told && not v.moved) ≡ true
+      → v.cut ≡ true → CutsOneEnd n made now
+  cuts_so well lowers cut =
+      let (followed, none) = and_parts (is_lowering_followed v.paths_before v.paths v.told) (not v.moved) lowers in
+      let (keeps, one) = and_parts (keeps_paths v.paths_before v.paths) (lowers_one v.told) followed in
+      let (delay, paths, few) = keeps_so keeps in
+      cuts_one_end n network made now well
+      (counts_joined (takes_one v.told) n made (made ++ now) (lowering_takes v.told one) (not-true v.moved none)) cut
+      delay paths few one
+
+  -- the greatest delay of a link in use stays where such a loss is followed
+  lowering_keeps : (is_lowering_followed v.paths_before v.paths v.told && not v.moved) ≡ true
+      → (sync_paths n (made ++ now)).delay ≡ (sync_paths n made).delay
+  lowering_keeps lowers =
+      let (followed, none) = and_parts (is_lowering_followed v.paths_before v.paths v.told) (not v.moved) lowers in
+      let (keeps, one) = and_parts (keeps_paths v.paths_before v.paths) (lowers_one v.told) followed in
+      (keeps_so keeps).0
+
+  -- what was in flight is gone by then
+  flight_so : (sync_paths n (made ++ now)).delay ≡ (sync_paths n made).delay
+      → FlightIsGone n made (gone_by n v.paths v.used_before)
+  flight_so delay = by v.used_before refl
+    where
+      by : (used : Bool) → v.used_before ≡ used → FlightIsGone n made (gone_by n v.paths used)
+      by true is = inl (used_up n network made is, delay)
+      by false is = inr refl
+
+  -- so it is after a link goes down
+  flight_on : LowersOneLink n made now → FlightIsGone n (made ++ now) (gone_by n v.paths v.used_before)
+  flight_on lowers = by v.used_before refl
+    where
+      by : (used : Bool) → v.used_before ≡ used → FlightIsGone n (made ++ now) (gone_by n v.paths used)
+      by true is = inl (used_on n made now lowers (used_up n network made is), refl)
+      by false is = inr refl
+
+  -- what stands goes on, as a link goes down by the one event and no system is moved
   pub lowered : AreWell n (made ++ now) → row_at v ≡ Lowered
-      → HasComeToRest b at
-      × (LowersOneLink n made now ⊎ (FailsEndFirst n made now × UpIsUsed n (made ++ now)))
+      → HasComeToRest b at × LowersOneLink n made now × FlightIsGone n (made ++ now) (gone_by n v.paths v.used_before)
   lowered well row =
-      let (from, which) =
+      let (from, lowers) =
       lowered_from (is_from_rest v.longest at v.paths_before v.paths v.told (Some b))
       (list_all makes_nothing v.told || begins_wider v.told) (are_losses_followed v.paths_before v.told && not v.moved)
-      (is_lowering_followed v.paths_before v.paths v.told && not v.moved)
-      (is_failing_followed v.paths_before v.paths v.told && not v.moved && v.far) v.used (list_any is_loss v.told)
-      row in (
-        (from_rest from).rested,
-        elim which [
-          | inl lowers ↦
-              let (followed, none) =
-              and_parts (is_lowering_followed v.paths_before v.paths v.told) (not v.moved) lowers in
-              let (keeps, one) = and_parts (keeps_paths v.paths_before v.paths) (lowers_one v.told) followed in
-              let (delay, paths, few) = keeps_so keeps in
-              inl (lowers_one_link n network made now well
-              (counts_joined (lowers_one v.told) n made (made ++ now) one (not-true v.moved none)) delay paths few one)
-          | inr (fails, used) ↦ inr (failing well fails, used_up n network (made ++ now) used)
-        ],
-      )
+      (is_lowering_followed v.paths_before v.paths v.told && not v.moved) v.cut
+      (is_lowering_followed v.paths_before v.paths v.told && v.turned)
+      (is_failing_followed v.paths_before v.paths v.told && not v.moved) v.far v.used (list_any is_loss v.told)
+      row in
+      let one = lowers_so well lowers in
+      ((from_rest from).rested, one, flight_on one)
+
+  -- or a system loses its power that others heard
+  pub lost_power : AreWell n (made ++ now) → row_at v ≡ LostPower
+      → HasComeToRest b at × FailsHeardFirst n made now × UpIsUsed n (made ++ now)
+  lost_power well row =
+      let (from, fails, used) =
+      powered_from (is_from_rest v.longest at v.paths_before v.paths v.told (Some b))
+      (list_all makes_nothing v.told || begins_wider v.told) (are_losses_followed v.paths_before v.told && not v.moved)
+      (is_lowering_followed v.paths_before v.paths v.told && not v.moved) v.cut
+      (is_lowering_followed v.paths_before v.paths v.told && v.turned)
+      (is_failing_followed v.paths_before v.paths v.told && not v.moved) v.far v.used (list_any is_loss v.told)
+      row in
+      ((from_rest from).rested, failing_heard well fails, used_up n network (made ++ now) used)
+
+  -- or a far end is lost: a link cuts it off, or it loses its power
+  pub record LosesEnd : Type 0 where
+    pub rested : HasComeToRest b at
+    pub which : CutsOneEnd n made now ⊎ (FailsEndFirst n made now × UpIsUsed n (made ++ now))
+    pub lowers : LowersOneLink n made now ⊎ (FailsEndFirst n made now × UpIsUsed n (made ++ now))
+    pub flight : FlightIsGone n made (gone_by n v.paths v.used_before)
+
+  pub lost_end : AreWell n (made ++ now) → row_at v ≡ LostEnd → LosesEnd
+  lost_end well row =
+      let (from, which) =
+      lost_from (is_from_rest v.longest at v.paths_before v.paths v.told (Some b))
+      (list_all makes_nothing v.told || begins_wider v.told) (are_losses_followed v.paths_before v.told && not v.moved)
+      (is_lowering_followed v.paths_before v.paths v.told && not v.moved) v.cut
+      (is_lowering_followed v.paths_before v.paths v.told && v.turned)
+      (is_failing_followed v.paths_before v.paths v.told && not v.moved) v.far v.used (list_any is_loss v.told)
+      row in
+      let rest = (from_rest from).rested in
+      elim which [
+        | inl (lowers, cut) ↦ record {
+          rested = rest;
+          which = inl (cuts_so well lowers cut);
+          lowers = inl (lowers_so well lowers);
+          flight = flight_so (lowering_keeps lowers);
+        }
+        | inr (fails, far, used) ↦
+            let both : FailsEndFirst n made now × UpIsUsed n (made ++ now) =
+            (failing_end well fails far, used_up n network (made ++ now) used) in record {
+              rested = rest;
+              which = inr both;
+              lowers = inr both;
+              flight = flight_so (is_failing_so fails).delay;
+            }
+      ]
+
+  -- or one system turns
+  pub turned : AreWell n (made ++ now) → row_at v ≡ OneTurned → HasComeToRest b at × TurnsOneLink n made now
+  turned well row =
+      let (from, turns) =
+      turned_from (is_from_rest v.longest at v.paths_before v.paths v.told (Some b))
+      (list_all makes_nothing v.told || begins_wider v.told) (are_losses_followed v.paths_before v.told && not v.moved)
+      (is_lowering_followed v.paths_before v.paths v.told && not v.moved) v.cut
+      (is_lowering_followed v.paths_before v.paths v.told && v.turned)
+      (is_failing_followed v.paths_before v.paths v.told && not v.moved) v.far v.used (list_any is_loss v.told)
+      row in
+      let (followed, one) = and_parts (is_lowering_followed v.paths_before v.paths v.told) v.turned turns in
+      let (keeps, lowers) = and_parts (keeps_paths v.paths_before v.paths) (lowers_one v.told) followed in
+      let (delay, paths, few) = keeps_so keeps in
+      ((from_rest from).rested, turns_one_link n network made now well one delay paths few lowers)
 
   -- or a far end hangs
   pub failed : AreWell n (made ++ now) → row_at v ≡ FailedEnd → HasComeToRest b at × FailsEndFirst n made now
   failed well row =
-      let (from, fails) =
+      let (from, fails, far) =
       failed_from (is_from_rest v.longest at v.paths_before v.paths v.told (Some b))
       (list_all makes_nothing v.told || begins_wider v.told) (are_losses_followed v.paths_before v.told && not v.moved)
-      (is_lowering_followed v.paths_before v.paths v.told && not v.moved)
-      (is_failing_followed v.paths_before v.paths v.told && not v.moved && v.far) v.used (list_any is_loss v.told)
+      (is_lowering_followed v.paths_before v.paths v.told && not v.moved) v.cut
+      (is_lowering_followed v.paths_before v.paths v.told && v.turned)
+      (is_failing_followed v.paths_before v.paths v.told && not v.moved) v.far v.used (list_any is_loss v.told)
       row in
-      ((from_rest from).rested, failing well fails)
+      ((from_rest from).rested, failing_end well fails far)
+
+  -- or a system that others heard
+  pub heard : AreWell n (made ++ now) → row_at v ≡ FailedHeard
+      → HasComeToRest b at × FailsHeardFirst n made now
+      × ((sync_paths n (made ++ now)).delay ≡ (sync_paths n made).delay)
+  heard well row =
+      let (from, fails) =
+      heard_from (is_from_rest v.longest at v.paths_before v.paths v.told (Some b))
+      (list_all makes_nothing v.told || begins_wider v.told) (are_losses_followed v.paths_before v.told && not v.moved)
+      (is_lowering_followed v.paths_before v.paths v.told && not v.moved) v.cut
+      (is_lowering_followed v.paths_before v.paths v.told && v.turned)
+      (is_failing_followed v.paths_before v.paths v.told && not v.moved) v.far v.used (list_any is_loss v.told)
+      row in
+      ((from_rest from).rested, failing_heard well fails, (is_failing_so fails).delay)

@@ -17,7 +17,8 @@ use Rattle.gptp_settling_time.specs.HowSoon.{IsChoiceBound, NoneBetween}
 use Rattle.gptp_settling_time.specs.InTurn.{SettlesAfter}
 use Rattle.gptp_settling_time.proofs.DocumentLemmas.{run_to}
 use Rattle.gptp_settling_time.proofs.FollowedLemmas.{bound_settles}
-use Rattle.gptp_settling_time.proofs.InTurnLemmas.{after_keeps, passed_in_turn}
+use Rattle.gptp_settling_time.proofs.AfterLemmas.{after_keeps}
+use Rattle.gptp_settling_time.proofs.InTurnLemmas.{passed_in_turn}
 use Rattle.gptp_settling_time.proofs.KeptToLemmas.{KeepsTo}
 use Rattle.gptp_settling_time.proofs.MomentLemmas.{last_by, none_later}
 

@@ -315,7 +315,7 @@ reach_over g h systems links v w (us, path) = (
 )
 
 -- a system of two snapshots with one identity is one
-same_system : (n : NetworkState) (network : IsNetwork n) (events more : List Timed) (g h : Snapshot)
+pub same_system : (n : NetworkState) (network : IsNetwork n) (events more : List Timed) (g h : Snapshot)
     → StandsAfter n events g → StandsAfter n more h → (s t : System) → In s g.systems → In t h.systems
     → s.identity ≡ t.identity → s ≡ t
 same_system n network events more g h stands stands' s t live there same =
@@ -343,7 +343,7 @@ in_range first (suc count) place least most = elim (same_place place first) [
 -- ---- what a system chose at first and at last
 
 -- the place of each system is one of those that are asked
-asked_of : (n : NetworkState) (all : List Timed) (i : ℕ) (m : SystemSpec) → slice_get n.systems i ≡ Some m
+pub asked_of : (n : NetworkState) (all : List Timed) (i : ℕ) (m : SystemSpec) → slice_get n.systems i ≡ Some m
     → In i (range_with_len 0 (length (systems_after n all)))
 asked_of n all i m there =
     let less = bound (systems_after n all) i (system_then all m)

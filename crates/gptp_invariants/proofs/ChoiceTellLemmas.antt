@@ -17,11 +17,11 @@ use Rattle.gptp_system.specs.declared.sending.Body.TheVariants as bodies
 use Rattle.gptp_system.specs.declared.sending.Sending.{Sending}
 use Rattle.gptp_system.specs.Facts.{AreShown}
 use Rattle.gptp_system.specs.Reacts.{IsAnnounce, IsOwnAnnounce}
-use Rattle.gptp_system.specs.Sends.{announce_body, announcement}
+use Rattle.gptp_system.specs.Sends.{announce_body, announcement, sent_message}
 use Rattle.gptp_system.specs.State.{SystemState, clock, own, trace}
 use Rattle.gptp_system.proofs.TypeLemmas.{type_is}
 use Rattle.gptp_system.specs.declared.port.Port.{Port}
-use Rattle.gptp_model.specs.Sends.{sent_message, written}
+use Rattle.gptp_model.specs.Sends.{written}
 use Rattle.gptp_lists.proofs.PlaceLemmas.{member_there}
 use Rattle.gptp_bmca_machine.specs.Frame.{Announce}
 use Rattle.gptp_bmca_machine.specs.Reacts.{IsMasterAt}

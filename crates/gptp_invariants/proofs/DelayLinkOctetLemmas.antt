@@ -1,6 +1,5 @@
 -- What octets that a system writes say: a request, a reply, or neither.
-use Rattle.std.proofs.Common.{◌≡◌, ◌≢◌, ℕ, List, [], refl, sym, subst, ◌∙◌, inl, inr, arith}
-use Rattle.std.proofs.lemmas.List.{append-nil}
+use Rattle.std.proofs.Common.{◌≡◌, ◌≢◌, ℕ, List, refl, sym, ◌∙◌, inl, inr, arith}
 use Rattle.gptp_messages.specs.declared.head.Head.{Head}
 use Rattle.gptp_messages.specs.declared.message.Message.{Message}
 use Rattle.gptp_messages.specs.declared.message.Message.TheVariants as messages
@@ -9,12 +8,12 @@ use Rattle.gptp_messages.specs.declared.peer_delay.PdelayRespFollowUp.{PdelayRes
 use Rattle.gptp_messages.specs.Grammar.{MessageFits, Reads, Written}
 use Rattle.gptp_messages.specs.Head.{message_type, HeadFits}
 use Rattle.gptp_messages.proofs.GrammarLemmas.{one_reading}
-use Rattle.gptp_messages.proofs.WrittenLemmas.{reads_back}
 use Rattle.gptp_system.specs.declared.sending.Body.{Body}
 use Rattle.gptp_system.specs.declared.sending.Body.TheVariants as bodies
 use Rattle.gptp_system.specs.Messages.{Answering, Asking, message_kind}
+use Rattle.gptp_system.specs.Sends.{sent_message}
+use Rattle.gptp_system.proofs.OctetLemmas.{written_reads}
 use Rattle.gptp_system.proofs.TypeLemmas.{type_is, type_number}
-use Rattle.gptp_model.specs.Sends.{sent_message}
 use Rattle.gptp_pdelay_machine.specs.Messages.{Request, Reply}
 use Rattle.gptp_invariants.specs.DelayLinkView.{reads_as_request, follow_up_view, reads_as_reply, response_view}
 
@@ -77,19 +76,16 @@ replies_not path head body other reply (inr (m, reads, is)) =
 
 -- ---- what is written reads back
 
-back : (m : Message) → MessageFits m → Reads (Written m) m
-back m fits = subst (λ octets. Reads octets m) (append-nil (Written m)) (reads_back m [] fits).same
-
 pub request_back : (head : Head) → HeadFits head → Reads (Written (messages.PdelayReq head)) (messages.PdelayReq head)
-request_back head fits = back (messages.PdelayReq head) fits
+request_back head fits = written_reads (messages.PdelayReq head) fits
 
 pub response_said : (m : PdelayResp) → MessageFits (messages.PdelayResp m)
     → reads_as_reply (Written (messages.PdelayResp m)) (response_view m)
-response_said m fits = inl (m, back (messages.PdelayResp m) fits, refl)
+response_said m fits = inl (m, written_reads (messages.PdelayResp m) fits, refl)
 
 pub follow_up_said : (m : PdelayRespFollowUp) → MessageFits (messages.PdelayRespFollowUp m)
     → reads_as_reply (Written (messages.PdelayRespFollowUp m)) (follow_up_view m)
-follow_up_said m fits = inr (m, back (messages.PdelayRespFollowUp m) fits, refl)
+follow_up_said m fits = inr (m, written_reads (messages.PdelayRespFollowUp m) fits, refl)
 
 -- ---- octets say one thing
 

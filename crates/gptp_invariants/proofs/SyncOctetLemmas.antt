@@ -20,8 +20,8 @@ use Rattle.gptp_messages.proofs.WrittenLemmas.{reads_back}
 use Rattle.gptp_system.specs.declared.sending.Body.{Body}
 use Rattle.gptp_system.specs.declared.sending.Body.TheVariants as bodies
 use Rattle.gptp_system.specs.Messages.{Telling, message_kind}
+use Rattle.gptp_system.specs.Sends.{sent_message}
 use Rattle.gptp_system.proofs.TypeLemmas.{type_is, type_number}
-use Rattle.gptp_model.specs.Sends.{sent_message}
 use Rattle.gptp_bmca_machine.specs.Frame.{FollowUp, Sync}
 use Rattle.gptp_invariants.specs.SyncView.{IsTimeless}
 use Rattle.gptp_invariants.specs.ChoiceView.{port_identity_number, says_sync}

@@ -1,3 +1,4 @@
+pub mod CarriedLemmas
 pub mod BareLemmas
 pub mod ActsByLemmas
 pub mod StayLemmas

@@ -3,6 +3,7 @@ pub mod Acts
 pub mod Advancing
 pub mod Agrees
 pub mod Ahead
+pub mod Carried
 pub mod Changing
 pub mod Course
 pub mod Faults

@@ -1,35 +1,19 @@
 -- What a system sends goes onto its links.
 use Rattle.std.specs.Prelude.{◌≡◌, ◌⊎◌, ℕ, true, false, List, [], ◌∷◌, ◌++◌, Option, Some, None, slice_get, slice_set}
 use Rattle.gptp_vector.specs.declared.port.PortId.{PortId}
-use Rattle.gptp_messages.specs.declared.head.Head.{Head}
-use Rattle.gptp_messages.specs.declared.message.Message.{Message}
-use Rattle.gptp_messages.specs.declared.message.Message.TheVariants as messages
 use Rattle.gptp_messages.specs.Grammar.{Written}
 use Rattle.gptp_links.specs.declared.link.Direction.{Direction}
 use Rattle.gptp_links.specs.Bounds.{IsLawful}
 use Rattle.gptp_links.specs.Fate.{Draw}
 use Rattle.gptp_links.specs.Queue.{frame, due_after}
 use Rattle.gptp_system.specs.declared.sending.Sending.{Sending}
-use Rattle.gptp_system.specs.declared.sending.Body.{Body}
-use Rattle.gptp_system.specs.declared.sending.Body.TheVariants as bodies
+use Rattle.gptp_system.specs.Sends.{sent_message}
 use Rattle.gptp_system.specs.State.{SystemState, own, trace}
 use Rattle.gptp_model.specs.declared.item.Item.TheVariants.{Arrival}
 use Rattle.gptp_model.specs.Pending.{put}
 use Rattle.gptp_model.specs.World.{Channel, Net, sender, world_queue, with_queue}
 
--- The message of a send: an Announce has the trace of its system as the call leaves it (IEEE 802.1AS-2020, 10.3.9.23).
-abbrev pub sent_message : List ℕ → Head → Body → Message
-sent_message path head (bodies.Announce body) = messages.Announce (record { head = head; body = body; path = path })
-sent_message path head bodies.Sync = messages.Sync head
-sent_message path head (bodies.FollowUp origin rate) =
-    messages.FollowUp (record { head = head; origin = origin; rate = rate })
-sent_message path head bodies.PdelayReq = messages.PdelayReq head
-sent_message path head (bodies.PdelayResp stamp requester) =
-    messages.PdelayResp (record { head = head; stamp = stamp; requester = requester })
-sent_message path head (bodies.PdelayRespFollowUp stamp requester) =
-    messages.PdelayRespFollowUp (record { head = head; stamp = stamp; requester = requester })
-
--- its octets
+-- The octets of a send: an Announce has the trace of its system as the call leaves it (IEEE 802.1AS-2020, 10.3.9.23).
 abbrev pub written : SystemState → Sending → List ℕ
 written s x = Written (sent_message (trace s) x.head x.body)
 

@@ -1,5 +1,6 @@
 //! What is told of an act.
 
+use crate::carried::Carried;
 use gptp_system::Answer;
 use gptp_vector::ClockId;
 use std::error::Error;
@@ -16,7 +17,7 @@ pub enum Done {
         clock: ClockId,
         port: u16,
         answer: Option<Answer>,
-        frame: Vec<u8>,
+        frame: Carried,
     },
 }
 

@@ -6,10 +6,12 @@
 //! every world, and `SoundLemmas` of `proofs/` that every act keeps it.
 #![tactic(auto)]
 
+mod carried;
 mod done;
 mod item;
 mod station;
 
+pub use carried::Carried;
 pub use done::{Done, Refused};
 pub use gptp_scenario::{Act, Change, Network, NetworkFault, Octets, Params, Timed};
 pub use item::Item;

@@ -139,7 +139,12 @@ back_bound = (
       record { links = rest_up; lapses = inl refl },
       inr (
         refl,
-        inr (15000000000, down_bound, omega arith, inr (inr (1000002000, inl (inl (inl (inl comes_up), tt), way_up)))),
+        inr (
+          15000000000,
+          inl down_bound,
+          omega arith,
+          inr (inr (1000002000, inl (inl (inl (inl comes_up), tt), way_up))),
+        ),
       ),
     ),
   ),

@@ -96,6 +96,8 @@ settles until same = record {
   );
   last = Heard 2000000001;
   lead = subst (λ es. LeadOn pair_network [] (Heard 1000002001) es (Heard 2000000001)) (sym same) (
+    Heard 1000002001,
+    inl refl,
     Heard 2000000001,
     inr (inl (
       subst (λ (x : SyncPaths). 1000002001 + pred x.systems * x.delay ≤ 2000000000) (sym (paths_are params))

@@ -25,7 +25,6 @@ use Rattle.gptp_setup.specs.SettlingParams.{SettlingParams}
 use Rattle.gptp_scenario.specs.Calm.{AllRest}
 use Rattle.gptp_scenario.specs.InUse.{path_systems}
 use Rattle.gptp_scenario.specs.Network.{IsNetwork, pace_of}
-use Rattle.gptp_scenario.specs.SettlingTime.{capability_span}
 use Rattle.gptp_scenario.specs.SyncWait.{sync_paths}
 use Rattle.gptp_scenario.specs.declared.change.Act.TheVariants.{Change as Changing}
 use Rattle.gptp_scenario.specs.declared.change.Change.TheVariants.{Fail}
@@ -36,7 +35,7 @@ use Rattle.gptp_network.proofs.LawLemmas.{one_snapshot}
 use Rattle.gptp_invariants.specs.WorldEncodableLaws.{SetsAnOctet}
 use Rattle.gptp_theorem.specs.PlayedLaws.{IsPlayable}
 use Rattle.gptp_settling_time.specs.HowSoon.{IsChoiceAloneBound, IsChoiceBound, IsLossBoundAfter, NoneBetween}
-use Rattle.gptp_settling_time.specs.Losses.{FailsFarEnd, IsFarEnd, IsUnmoved, MovesNone}
+use Rattle.gptp_settling_time.specs.Losses.{FailsFarEnd, IsFarEnd, IsUnmoved, MovesNone, silence_span}
 use Rattle.gptp_network_tests.specs.Ring.{bridge, far_document, ring_network}
 use Rattle.gptp_network_tests.proofs.RingLemmas.{pace_is, paths_are, ring_begun}
 
@@ -76,28 +75,28 @@ paths_left = refl
 
 -- ---- the snapshots before and after
 
-abbrev first_identity : ℕ
+abbrev pub first_identity : ℕ
 first_identity = 0x80f8fe436af80080e1fffe00000a
 
 abbrev with_two_ports : ℕ → ℕ → System
 with_two_ports number identity = record { clock = number; identity = identity; ports = 2 }
 
-abbrev first : System
+abbrev pub first : System
 first = with_two_ports 0x80e1fffe00000a first_identity
 
-abbrev second : System
+abbrev pub second : System
 second = with_two_ports 0x80e1fffe00000b 0xf6f8fe436af80080e1fffe00000b
 
-abbrev third : System
+abbrev pub third : System
 third = with_two_ports 0x80e1fffe00000c 0xf6f8fe436af80080e1fffe00000c
 
-abbrev fourth : System
+abbrev pub fourth : System
 fourth = with_two_ports 0x80e1fffe00000d 0xf6f8fe436af80080e1fffe00000d
 
-abbrev cable : System → ℕ → System → ℕ → Link
+abbrev pub cable : System → ℕ → System → ℕ → Link
 cable a a_port b b_port = record { a = port_of a.clock a_port; b = port_of b.clock b_port }
 
-abbrev ring : Snapshot
+abbrev pub ring : Snapshot
 ring = record {
   systems = first ∷ second ∷ third ∷ fourth ∷ [];
   links = cable first 1 second 1 ∷ cable second 2 third 1 ∷ cable third 2 fourth 1 ∷ cable fourth 2 first 2 ∷ [];
@@ -109,12 +108,12 @@ line = record {
   links = cable first 1 second 1 ∷ cable fourth 2 first 2 ∷ [];
 }
 
-below_all : (x : ℕ) (ys : List ℕ) → AllByRecursion (λ y. x < y) ys → (y : ℕ) → In y ys → x < y
+pub below_all : (x : ℕ) (ys : List ℕ) → AllByRecursion (λ y. x < y) ys → (y : ℕ) → In y ys → x < y
 below_all x [] all y none = absurd none
 below_all x (z ∷ zs) all y (inl same) = let less = all.0 in omega (arith, less, same)
 below_all x (z ∷ zs) all y (inr more) = below_all x zs all.1 y more
 
-ring_stands : StandsAfter ring_network [] ring
+pub ring_stands : StandsAfter ring_network [] ring
 ring_stands = record {
   systems = IsPermutation-refl ring.systems;
   rising = (
@@ -141,7 +140,7 @@ line_stands = record {
 -- ---- what they settle at
 
 -- the root is the first of them
-abbrev states : System → ℕ → Option ParentLink → Role → Role → SystemLine
+abbrev pub states : System → ℕ → Option ParentLink → Role → Role → SystemLine
 states s steps parent one two = record {
   clock = s.clock;
   root = first_identity;
@@ -151,7 +150,7 @@ states s steps parent one two = record {
   ports = record { number = 1; role = one } ∷ record { number = 2; role = two } ∷ [];
 }
 
-abbrev parent : ℕ → System → ℕ → Option ParentLink
+abbrev pub parent : ℕ → System → ℕ → Option ParentLink
 parent own s port = Some (record { own_port = own; clock = s.clock; port = port })
 
 abbrev ring_lines : List SystemLine
@@ -169,7 +168,7 @@ line_lines =
     ∷ states fourth 1 (parent 2 first 2) settled.Disabled settled.Slave
     ∷ []
 
-ring_well : IsWellFormed ring
+pub ring_well : IsWellFormed ring
 unfolding ℕ_discrete dec_le dec_lt dec_both dec_either IsLower-dec PortIdentity-dec
 ring_well = (sure_well_formed ring).1 refl
 
@@ -177,7 +176,7 @@ line_well : IsWellFormed line
 unfolding ℕ_discrete dec_le dec_lt dec_both dec_either IsLower-dec PortIdentity-dec
 line_well = (sure_well_formed line).1 refl
 
-ring_choice : IsSettledChoice ring ring_lines
+pub ring_choice : IsSettledChoice ring ring_lines
 unfolding ℕ_discrete dec_le dec_lt dec_both dec_either IsLower-dec PortIdentity-dec
 ring_choice = let passes = (sure_passes ring ring_lines).1 refl in sound ring ring_lines ring_well passes
 
@@ -188,7 +187,7 @@ line_choice = let passes = (sure_passes line line_lines).1 refl in sound line li
 -- ---- no system is moved
 
 -- the first alone has its identity
-is_first : (s : System) → In s ring.systems → s.identity ≡ first_identity → s ≡ first
+pub is_first : (s : System) → In s ring.systems → s.identity ≡ first_identity → s ≡ first
 is_first s (inl same) is = same
 is_first s (inr (inl same)) is =
     absurd (let e : second.identity ≡ first_identity = ap (λ (x : System). x.identity) (sym same) ∙ is in
@@ -207,14 +206,15 @@ in_ring s (inr (inl same)) = inr (inl same)
 in_ring s (inr (inr (inl same))) = inr (inr (inr (inl same)))
 in_ring s (inr (inr (inr none))) = absurd none
 
-unmoved_by : (v steps : ℕ) → IsBestIdentity ring v first_identity → IsDistance ring v steps
-    → IsBestIdentity line v first_identity → IsDistance line v steps → IsUnmoved ring line v
-unmoved_by v steps (b, is, same) far (c, is_then, same_then) far_then = record {
+pub unmoved_by : (h : Snapshot) → ((s : System) → In s h.systems → In s ring.systems) → (v steps : ℕ)
+    → IsBestIdentity ring v first_identity → IsDistance ring v steps → IsBestIdentity h v first_identity
+    → IsDistance h v steps → IsUnmoved ring h v
+unmoved_by h within v steps (b, is, same) far (c, is_then, same_then) far_then = record {
   best = λ s s_best.
       let one : s ≡ first = IsBest-unique ring v s b ring_well s_best is ∙ is_first b is.live (sym same) in
-      let then : c ≡ first = is_first c (in_ring c is_then.live) (sym same_then) in
-      subst (IsBest line v) (then ∙ sym one) is_then;
-  far = λ d here. subst (IsDistance line v) (IsDistance-unique ring v steps d ring_well far here) far_then;
+      let then : c ≡ first = is_first c (within c is_then.live) (sym same_then) in
+      subst (IsBest h v) (then ∙ sym one) is_then;
+  far = λ d here. subst (IsDistance h v) (IsDistance-unique ring v steps d ring_well far here) far_then;
 }
 
 unmoved : (v : ℕ) → In v (clocks line) → IsUnmoved ring line v
@@ -224,21 +224,21 @@ unmoved v (inl same) =
     let then : IsSettledLine line (states first 0 None settled.Master settled.Master) =
     line_choice.settled _ (inl refl) in
     subst (IsUnmoved ring line) (sym same)
-    (unmoved_by first.clock 0 before.root before.steps then.root then.steps)
+    (unmoved_by line in_ring first.clock 0 before.root before.steps then.root then.steps)
 unmoved v (inr (inl same)) =
     let before : IsSettledLine ring (states second 1 (parent 1 first 1) settled.Slave settled.Master) =
     ring_choice.settled _ (inr (inl refl)) in
     let then : IsSettledLine line (states second 1 (parent 1 first 1) settled.Slave settled.Disabled) =
     line_choice.settled _ (inr (inl refl)) in
     subst (IsUnmoved ring line) (sym same)
-    (unmoved_by second.clock 1 before.root before.steps then.root then.steps)
+    (unmoved_by line in_ring second.clock 1 before.root before.steps then.root then.steps)
 unmoved v (inr (inr (inl same))) =
     let before : IsSettledLine ring (states fourth 1 (parent 2 first 2) settled.Master settled.Slave) =
     ring_choice.settled _ (inr (inr (inr (inl refl)))) in
     let then : IsSettledLine line (states fourth 1 (parent 2 first 2) settled.Disabled settled.Slave) =
     line_choice.settled _ (inr (inr (inl refl))) in
     subst (IsUnmoved ring line) (sym same)
-    (unmoved_by fourth.clock 1 before.root before.steps then.root then.steps)
+    (unmoved_by line in_ring fourth.clock 1 before.root before.steps then.root then.steps)
 unmoved v (inr (inr (inr none))) = absurd none
 
 moves_none : MovesNone ring_network [] event
@@ -270,16 +270,16 @@ neighbours u (m, n, inr (inr (inr (inr (inl same))))) =
     apart first.clock (ap (λ (l : Link). l.b.clock) same) (inl (omega arith))
 neighbours u (m, n, inr (inr (inr (inr (inr none))))) = absurd none
 
-third_line : IsSettledLine ring (states third 2 (parent 1 second 2) settled.Slave settled.Passive)
+pub third_line : IsSettledLine ring (states third 2 (parent 1 second 2) settled.Slave settled.Passive)
 third_line = ring_choice.settled _ (inr (inr (inl refl)))
 
-second_line : IsSettledLine ring (states second 1 (parent 1 first 1) settled.Slave settled.Master)
+pub second_line : IsSettledLine ring (states second 1 (parent 1 first 1) settled.Slave settled.Master)
 second_line = ring_choice.settled _ (inr (inl refl))
 
-fourth_line : IsSettledLine ring (states fourth 1 (parent 2 first 2) settled.Master settled.Slave)
+pub fourth_line : IsSettledLine ring (states fourth 1 (parent 2 first 2) settled.Master settled.Slave)
 fourth_line = ring_choice.settled _ (inr (inr (inr (inl refl))))
 
-is_far : IsFarEnd ring third.clock
+pub is_far : IsFarEnd ring third.clock
 is_far u far near adjacent far_is near_is =
     let two : far ≡ 2 = IsDistance-unique ring third.clock far 2 ring_well far_is third_line.steps in
     let one : near ≡ 1 = elim (neighbours u adjacent) [
@@ -300,7 +300,7 @@ fails = record {
   act = refl;
   live = record { place = 2; system = bridge 0xf6f8fe436af80080e1fffe00000c; there = refl; clock = refl; live = refl };
   far = λ g stands. subst (λ x. IsFarEnd x third.clock) (one_snapshot far_document 0 ring g ring_stands stands) is_far;
-  moves = moves_none;
+  moves = λ g h v stands stands_then known. inl (moves_none g h v stands stands_then known);
   delay = subst (λ (x : SyncPaths). x.delay ≡ (sync_paths ring_network []).delay) (sym paths_left)
       (subst (λ (x : SyncPaths). 410 ≡ x.delay) (sym paths_are) refl);
   paths = subst (λ (x : SyncPaths). x.systems ≤ (sync_paths ring_network []).systems) (sym paths_left)
@@ -313,22 +313,21 @@ none_between : NoneBetween far_document.events 0 30000000000
 none_between t (inl same) later = subst (λ (x : Timed). 30000000000 ≤ x.at) (sym same) (omega arith)
 none_between t (inr none) later = absurd none
 
-lost : IsLossBoundAfter ring_network far_document.events (0 ∷ []) 30000000000 0 14000000000
+lost : IsLossBoundAfter ring_network far_document.events (0 ∷ []) 30000000000 0 11000000000
 lost = (
   omega arith,
   none_between,
   record { links = links_rest; lapses = inl refl },
   refl,
   (1000003050, (refl, ring_begun), omega arith),
-  refl,
-  inr ((fails, tt), inr span),
+  inl (refl, inr ((fails, tt), inr span)),
 )
   where
-    span : 14000000000 ≡ capability_span (pace_of ring_network)
-    span = subst (λ (p : SettlingParams). 14000000000 ≡ capability_span p) (sym pace_is) refl
+    span : 11000000000 ≡ silence_span (pace_of ring_network)
+    span = subst (λ (p : SettlingParams). 11000000000 ≡ silence_span p) (sym pace_is) refl
 
 pub far_choice : IsChoiceAloneBound far_document 30000000000 0
-far_choice = (0 ∷ [], inr (14000000000, lost))
+far_choice = (0 ∷ [], inr (11000000000, lost))
 
-pub far_bound : IsChoiceBound far_document 30000000000 14000000000
-far_bound = (0 ∷ [], inr lost)
+pub far_bound : IsChoiceBound far_document 30000000000 11000000000
+far_bound = (0 ∷ [], inr (0, lost))

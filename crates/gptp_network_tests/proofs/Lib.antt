@@ -9,4 +9,6 @@ mod EarlyLemmas
 mod RingLemmas
 mod FarLemmas
 mod PowerLemmas
+mod HeardRingLemmas
+mod TurnedRingLemmas
 mod AgeLemmas

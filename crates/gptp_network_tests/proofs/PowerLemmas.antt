@@ -205,12 +205,11 @@ lost = (
   record { links = links_rest; lapses = inl refl },
   refl,
   (1000003050, (refl, ring_begun), omega arith),
-  refl,
-  inr ((fails, (lowers_first, (lowers_second, tt))), inl (used, refl)),
+  inl (refl, inr ((fails, (lowers_first, (lowers_second, tt))), inl (used, refl))),
 )
 
 pub dark_choice : IsChoiceAloneBound dark_document 30000000000 0
 dark_choice = (0 ∷ [], inr (0, lost))
 
 pub dark_bound : IsChoiceBound dark_document 30000000000 0
-dark_bound = (0 ∷ [], inr lost)
+dark_bound = (0 ∷ [], inr (0, lost))

@@ -54,7 +54,14 @@ far_document = record {
   events = record { at = 30000000000; act = Changing (Fail 0x80e1fffe00000c) } ∷ [];
 }
 
--- it loses its power: as it fails both its links go down
+-- the bridge fails that the farthest one hears, which has another way that is as long
+abbrev pub heard_document : DocumentState
+heard_document = record {
+  network = ring_network;
+  events = record { at = 30000000000; act = Changing (Fail 0x80e1fffe00000b) } ∷ [];
+}
+
+-- the farthest one loses its power: as it fails both its links go down
 abbrev pub dark_document : DocumentState
 dark_document = record {
   network = ring_network;

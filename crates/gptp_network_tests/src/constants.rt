@@ -7,7 +7,8 @@ use crate::ring::{
     follow, identity, mixed, play,
 };
 use gptp_links::PcgFate;
-use gptp_messages::{AnnounceView, Message, PathView, decode};
+use gptp_messages::{AnnounceView, Message, PathView};
+use gptp_model::Carried;
 use gptp_roles::Role;
 use gptp_system::Answer;
 use gptp_vector::ClockId;
@@ -272,8 +273,8 @@ fn is_clean(live: &Live<'_>, announce: &AnnounceView<'_>, clocks: usize) -> bool
 }
 
 /// Whether a frame that arrives at a time is as clean as it should be, where it is an Announce.
-fn is_frame_clean(live: &Live<'_>, times: &Times, at: u64, frame: &[u8]) -> bool {
-    let announce = match decode(frame) {
+fn is_frame_clean(live: &Live<'_>, times: &Times, at: u64, frame: &Carried) -> bool {
+    let announce = match frame.read() {
         Ok(Message::Announce(announce)) => announce,
         _ => return true,
     };
@@ -288,7 +289,7 @@ fn is_frame_clean(live: &Live<'_>, times: &Times, at: u64, frame: &[u8]) -> bool
 /// Whether the frame of which an act at a time told is as clean as it should be, where it is an Announce.
 fn is_told_clean(live: &Live<'_>, times: &Times, at: u64, done: &Done) -> bool {
     match done {
-        Done::Heard { frame, .. } => is_frame_clean(live, times, at, frame.as_slice()),
+        Done::Heard { frame, .. } => is_frame_clean(live, times, at, frame),
         Done::Quiet => true,
     }
 }
@@ -344,8 +345,8 @@ fn is_exact(
 }
 
 /// Whether a frame is a Follow_Up.
-fn is_follow_up(frame: &[u8]) -> bool {
-    match decode(frame) {
+fn is_follow_up(frame: &Carried) -> bool {
+    match frame.read() {
         Ok(Message::FollowUp(_)) => true,
         _ => false,
     }
@@ -367,7 +368,7 @@ fn is_told_exact(
             answer: Some(Answer::Used),
             frame,
             ..
-        } => !is_follow_up(frame.as_slice()) || is_exact(world, live, times, at, *member),
+        } => !is_follow_up(frame) || is_exact(world, live, times, at, *member),
         _ => true,
     }
 }

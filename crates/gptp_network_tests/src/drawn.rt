@@ -21,7 +21,8 @@ ghost use Rattle.gptp_network_tests.specs.Pair.{params, second_member, stamped_p
 use arrayvec::ArrayVec;
 use gptp_certificate::{Certificate, write_certificate};
 use gptp_links::Fate;
-use gptp_messages::{Message, decode};
+use gptp_messages::Message;
+use gptp_model::Carried;
 use gptp_roles::Role;
 use gptp_scaled::ScaledNs;
 use gptp_setup::MOST_PORTS;
@@ -362,11 +363,11 @@ pub fn enabled_in_time<F: Fate + Drop>(alloc: Global, fate: F) -> Result<Option<
     Ok(second_is_enabled(&world))
 }
 
-/// Whether octets are a Follow_Up.
-fn is_follow_up(octets: &[u8]) -> bool
-    ensures { result ≡ true → AreFollowUp octets.now }
+/// Whether a frame is a Follow_Up.
+fn is_follow_up(frame: &Carried) -> bool
+    ensures { result ≡ true → AreFollowUp frame.now.items }
 {
-    match decode(octets) {
+    match frame.read() {
         Ok(Message::FollowUp(_)) => true,
         _ => false,
     }
@@ -382,7 +383,7 @@ pub(crate) fn second_uses(done: &Done) -> bool
             answer: Some(Answer::Used),
             frame,
             ..
-        } => *clock == ClockId::from(2) && is_follow_up(frame.as_slice()),
+        } => *clock == ClockId::from(2) && is_follow_up(frame),
         _ => false,
     }
 }
@@ -425,8 +426,8 @@ pub(crate) fn receive<F: Fate + Drop>(
     }
 }
 
-/// The offset of the second by the first two acts after 27.125 s: it hears a Sync, and then the Follow_Up. It is no more
-/// than rounding. Refused for want of memory alone.
+/// The offset of the second by the first two acts after 27.125 s: it hears a Sync, and then the Follow_Up. It is no
+/// more than rounding. Refused for want of memory alone.
 #[tactic(auto, using(crate::proofs::ExactLemmas::exact_pair))]
 pub fn exact_in_time<F: Fate + Drop>(
     alloc: Global,
@@ -440,11 +441,11 @@ pub fn exact_in_time<F: Fate + Drop>(
 }
 
 /// The port that an Announce came from.
-fn announcer(octets: &[u8]) -> Option<PortId>
-    ensures { IfSome result (λ source. (m : AnnounceView) × Reads octets.now (messages.Announce m)
+fn announcer(frame: &Carried) -> Option<PortId>
+    ensures { IfSome result (λ source. (m : AnnounceView) × Reads frame.now.items (messages.Announce m)
         × (source ≡ m.head.source)) }
 {
-    match decode(octets) {
+    match frame.read() {
         Ok(Message::Announce(announce)) => Some(announce.head.source),
         _ => None,
     }
@@ -455,9 +456,7 @@ fn second_hears(done: &Done) -> Option<PortId>
     ensures { IfSome result (λ source. (m : AnnounceView) × HearsAnnounce 2 m done.now × (source ≡ m.head.source)) }
 {
     match done {
-        Done::Heard { clock, frame, .. } if *clock == ClockId::from(2) => {
-            announcer(frame.as_slice())
-        }
+        Done::Heard { clock, frame, .. } if *clock == ClockId::from(2) => { announcer(frame) }
         _ => None,
     }
 }

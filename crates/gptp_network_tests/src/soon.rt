@@ -3,7 +3,7 @@
 
 ghost use Rattle.std.specs.Prelude.{◌≡◌, IfOk, OnOk, Some};
 ghost use Rattle.gptp_network_tests.specs.Pair.{HasBegun, first_member, pair_document};
-ghost use Rattle.gptp_network_tests.specs.Ring.{dark_document, far_document, ring_document};
+ghost use Rattle.gptp_network_tests.specs.Ring.{dark_document, far_document, heard_document, ring_document};
 ghost use Rattle.gptp_network_tests.specs.Soon.{BetterClocksSettleSoon, ChoosesWithin, IsPairSoon, SettlesWithin, back_document, early_document};
 
 use crate::drawn::begun;
@@ -76,11 +76,11 @@ pub fn rings_settle_soon<F: Fate>()
     choice_bounds_hold::<F>();
 }
 
-/// Where the bridge of the ring fails at 30 s that is farthest from the root, the choice stands at once. The roles do 14 s
-/// later: the nine responses that may be lost, and five announce intervals more.
+/// Where the bridge of the ring fails at 30 s that is farthest from the root, the choice stands at once. The roles do
+/// 11 s later: a peer delay interval for each of the nine responses that may be lost, and two more.
 pub fn far_ends_settle_soon<F: Fate>()
     ensures choice { ChoosesWithin F.answers far_document 30000000000 0 }
-    ensures roles { SettlesWithin F.answers far_document 30000000000 14000000000 }
+    ensures roles { SettlesWithin F.answers far_document 30000000000 11000000000 }
 {
     choice_alone_bounds_hold::<F>();
     choice_bounds_hold::<F>();
@@ -90,6 +90,27 @@ pub fn far_ends_settle_soon<F: Fate>()
 pub fn lost_power_settles_soon<F: Fate>()
     ensures choice { ChoosesWithin F.answers dark_document 30000000000 0 }
     ensures roles { SettlesWithin F.answers dark_document 30000000000 0 }
+{
+    choice_alone_bounds_hold::<F>();
+    choice_bounds_hold::<F>();
+}
+
+/// Where the bridge of the ring fails at 30 s that the farthest one hears, that one has another way, which is as long. The
+/// choice stands once it doesn't hold any more what it heard: three announce intervals, and what a frame takes, later. The
+/// roles do 11 s later.
+pub fn heard_systems_settle_soon<F: Fate>()
+    ensures choice { ChoosesWithin F.answers heard_document 30000000000 3000000410 }
+    ensures roles { SettlesWithin F.answers heard_document 30000000000 11000000000 }
+{
+    choice_alone_bounds_hold::<F>();
+    choice_bounds_hold::<F>();
+}
+
+/// Where a link of the ring goes down at 30 s at its root, the bridge at the other end turns to its other neighbour.
+/// Choice and roles stand 2460 ns later: twice the greatest delay of three links.
+pub fn turned_rings_settle_soon<F: Fate>()
+    ensures choice { ChoosesWithin F.answers ring_document 30000000000 2460 }
+    ensures roles { SettlesWithin F.answers ring_document 30000000000 2460 }
 {
     choice_alone_bounds_hold::<F>();
     choice_bounds_hold::<F>();

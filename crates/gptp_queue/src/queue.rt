@@ -130,6 +130,19 @@ impl Queue {
         ensures succeeds { 0 < self.old.room → IsOk result }
     {
         self.reserve(1)?;
+        Ok(self.put_reserved(kind, place, time))
+    }
+
+    /// The same where room for it is reserved, so that it isn't refused.
+    pub fn put_reserved(&mut self, kind: usize, place: usize, time: u64) -> u64
+        requires place { place < self.old.places }
+        requires room { 0 < self.old.room }
+        ensures number { result ≡ self.old.next }
+        ensures next { self.new.next ≡ self.old.next + 1 }
+        ensures entries { self.new.entries ≡ without_place place self.old.entries ++ entry time self.old.next place ∷ [] }
+        ensures places { self.new.places ≡ self.old.places }
+        ensures room { self.old.room ≤ self.new.room + 1 }
+    {
         let number = self.table.next();
         self.table.put(place, time);
         self.order.put(
@@ -142,7 +155,7 @@ impl Queue {
         );
         drop_stale_at(&mut self.order, &self.table, place);
         self.spare -= 1;
-        Ok(number)
+        number
     }
 
     /// When something is due at a place, in ns, if anything is.

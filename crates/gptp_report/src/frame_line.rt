@@ -6,7 +6,8 @@ ghost use Rattle.gptp_words.specs.Lines.{text_of};
 ghost use Rattle.gptp_report.specs.FrameLine.{IsOfType, frame_line, refusal_number, frame_type_of};
 ghost use Rattle.gptp_sink.specs.Sink.{AppendsSome};
 
-use gptp_messages::{Message, Refused, decode};
+use gptp_messages::{Message, Refused};
+use gptp_model::Carried;
 use gptp_sink::sink::Sink;
 use gptp_sink::{Cut, write_whole};
 use gptp_system::Answer;
@@ -68,10 +69,10 @@ fn type_of_message(message: &Message<'_>) -> FrameType
 }
 
 /// The type of the message in a frame, or [`FrameType::Unread`] where there is none.
-pub fn type_of(frame: &[u8]) -> FrameType
-    ensures { IsOfType frame.now result }
+pub fn type_of(frame: &Carried) -> FrameType
+    ensures { IsOfType frame.now.items result }
 {
-    match decode(frame) {
+    match frame.read() {
         Ok(message) => type_of_message(&message),
         Err(_) => FrameType::Unread,
     }
@@ -148,20 +149,22 @@ pub fn write_frame_line<K: Sink>(
     clock: ClockId,
     port: u16,
     answer: Option<Answer>,
-    frame: &[u8],
+    frame: &Carried,
 ) -> Result<(), Cut>
-    ensures some { (kind : FrameType) × IsOfType frame.now kind
+    ensures some { (kind : FrameType) × IsOfType frame.now.items kind
         × AppendsSome (K.written sink.old) (K.written sink.new)
-        (text_of (frame_line at clock port kind answer frame.now ∷ [])) }
-    ensures whole { OnOk result ((kind : FrameType) × IsOfType frame.now kind
+        (text_of (frame_line at clock port kind answer frame.now.items ∷ [])) }
+    ensures whole { OnOk result ((kind : FrameType) × IsOfType frame.now.items kind
         × Appends (K.written sink.old) (K.written sink.new)
-        (text_of (frame_line at clock port kind answer frame.now ∷ []))) }
+        (text_of (frame_line at clock port kind answer frame.now.items ∷ []))) }
     ensures works { result ≢ Err Cut.Write → K.failures sink.new ≡ K.failures sink.old }
     ensures fails { result ≡ Err Cut.Write → K.failures sink.new ≢ K.failures sink.old }
 {
     let kind = type_of(frame);
+    let mut octets = Vec::new(alloc);
+    frame.write(&mut octets)?;
     let mut line = String::new(alloc);
-    append_frame_line(&mut line, at, clock, port, kind, answer, frame)?;
+    append_frame_line(&mut line, at, clock, port, kind, answer, &octets)?;
     write_whole(sink, line.as_bytes())?;
     Ok(())
 }

@@ -26,7 +26,7 @@ fn write_done<K: Sink>(alloc: Global, sink: &mut K, at: u64, done: &Done) -> Res
             port,
             answer,
             frame,
-        } => write_frame_line(alloc, sink, at, *clock, *port, *answer, frame.as_slice()),
+        } => write_frame_line(alloc, sink, at, *clock, *port, *answer, frame),
     }
 }
 
@@ -41,6 +41,10 @@ impl Observer for Frames {
     ghost use Rattle.gptp_report.specs.Following.{tells_frames};
 
     ghost tells = { tells_frames };
+
+    fn wants(&self) -> bool {
+        self.asked
+    }
 
     fn observe<F: Fate + Drop, K: Sink>(
         &mut self,

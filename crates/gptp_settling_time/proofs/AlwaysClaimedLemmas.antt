@@ -32,7 +32,7 @@ use Rattle.gptp_bmca_machine.specs.Frame.{Announce, AnnounceFrame as SeenFrame, 
 use Rattle.gptp_bmca_machine.specs.Levels.{Invariant}
 use Rattle.gptp_bmca_machine.specs.Network.{IsSettlingNetwork, Network, network_setting}
 use Rattle.gptp_bmca_machine.specs.Sound.{ReceivedFits}
-use Rattle.gptp_bmca_machine.specs.Station.{Disabled, Port as SeenPort, Station as SeenStation}
+use Rattle.gptp_bmca_machine.specs.Station.{Disabled, MachineState, Port as SeenPort, Station as SeenStation}
 use Rattle.gptp_bmca_machine.proofs.LevelLemmas.{invariant_kept}
 use Rattle.gptp_bmca_machine.proofs.SoundEverywhereLemmas.{on_links}
 use Rattle.gptp_bmca_machine.proofs.SoundLemmas.{received_fits}
@@ -44,7 +44,7 @@ use Rattle.gptp_invariants.specs.ChoiceView.{lane_place, frame_view, held_view, 
 use Rattle.gptp_invariants.specs.DelayLinkView.{IsLinkOf, LinkPlace, link_frame_view, other_direction, pair}
 use Rattle.gptp_invariants.specs.DelayMeasured.{LinkIsMeasured, LinkStandsAt}
 use Rattle.gptp_invariants.specs.WorldEncodableLaws.{SetsAnOctet}
-use Rattle.gptp_invariants.specs.WorldNews.{AreSilentBy, IsNews, at_news, news_network}
+use Rattle.gptp_invariants.specs.WorldNews.{IsNews, at_news, news_network}
 use Rattle.gptp_invariants.specs.WorldStanding.{channel_is_used, live_stations, snapshot_of}
 use Rattle.gptp_invariants.proofs.ChoiceCalmKeptLemmas.{KeepsNetwork, acts_keep, delay_kept, links_quiet, same_network_with}
 use Rattle.gptp_invariants.proofs.ChoiceCalmLemmas.{calm, nothing_lapses}
@@ -56,7 +56,7 @@ use Rattle.gptp_invariants.proofs.ChoiceSeenLaneLemmas.{lane_there}
 use Rattle.gptp_invariants.proofs.ChoiceSettlesAsMachineLemmas.{kept_back}
 use Rattle.gptp_invariants.proofs.DelayLinkLemmas.{sender_opposite, good_between}
 use Rattle.gptp_invariants.proofs.WorldGreatestDelayLemmas.{delay_of_used}
-use Rattle.gptp_invariants.proofs.WorldNewsLemmas.{news_are_kept, news_go_on, silent_off}
+use Rattle.gptp_invariants.proofs.WorldNewsLemmas.{news_are_kept, news_go_on}
 use Rattle.gptp_invariants.proofs.WorldStandsLemmas.{stands_well}
 use Rattle.gptp_invariants.proofs.WorldWayLemmas.{IsWay, one_way, way_of}
 use Rattle.gptp_settling_time.specs.Starts.{DelaysVaryLittle}
@@ -72,6 +72,7 @@ use Rattle.gptp_invariants.proofs.WorldStandsLemmas.{used_up}
 use Rattle.gptp_model.proofs.BareLemmas.{bare}
 use Rattle.gptp_setup.specs.SettlingParams.{largest_interval}
 use Rattle.gptp_settling_time.proofs.HeardLemmas.{IsHeardAt, heard_acts, heard_due, heard_later, heard_link, heard_now, heard_on}
+use Rattle.gptp_settling_time.proofs.LastAnsweredLemmas.{AreOffBy, off_by, silent_are_off}
 use Rattle.gptp_settling_time.proofs.LinkStoodLemmas.{stood_in}
 use Rattle.gptp_settling_time.proofs.OrderedLemmas.{link_seen, tells}
 use Rattle.gptp_invariants.proofs.DelayCapableKeptLemmas.{stood}
@@ -250,17 +251,57 @@ same_start p m start w w' keeps =
     (delay_kept w w' keeps)
     ∙ same_network_with w w' keeps p m start (at_news p w))
 
+-- a state that is calm is so whenever its network began and settles, where its facts are
+pub calm_timed : (n : Network) (start sound slack : ℕ) (claimed until : ℕ → PortIdentity → ℕ) (w : MachineState)
+    → StationFacts
+    (network_setting
+    (record n { start = start; sound = sound; slack = slack; claimed = claimed; until = until })) w
+    → Calm n w → Calm (record n { start = start; sound = sound; slack = slack; claimed = claimed; until = until }) w
+calm_timed n start sound slack claimed until w facts c = record {
+  facts = facts;
+  stations = λ i s there lives.
+      let x = c.stations i s there lives in
+      record {
+        at_rest = x.at_rest;
+        ports = λ place q at.
+            let y = x.ports place q at in
+            record {
+              log = y.log;
+              interval = y.interval;
+              timer = y.timer;
+              capable = y.capable;
+              bare = y.bare;
+              unlinked = y.unlinked;
+              long = y.long;
+            };
+      };
+  placed = c.placed;
+  there = λ s member.
+      let x = c.there s member in
+      record { station = x.station; there = x.there; live = x.live; is = x.is };
+  lanes = λ from to joins.
+      let x = c.lanes from to joins in
+      record { lane = x.lane; there = x.there; from = x.from; to = x.to; loss = x.loss; is_up = x.is_up };
+  apart = c.apart;
+  left = c.left;
+}
+
 -- ---- a world whose ports are capable from a start on, whatever it holds
 
 pub record IsStanding (p : SettlingParams) (start : ℕ) (w : WorldState) : Type 0 where
   pub pace : KeepPace p
   pub world : IsWorld p w
   pub measured : LinkIsMeasured w
-  pub silent : AreSilentBy p start w
+  pub off : AreOffBy p start w
 
 -- such is a world since news
 abbrev pub standing : {p : SettlingParams} {start : ℕ} {w : WorldState} → IsNews p start w → IsStanding p start w
-standing news = record { pace = news.pace; world = news.world; measured = news.measured; silent = news.silent }
+standing {p} {start} {w} news = record {
+  pace = news.pace;
+  world = news.world;
+  measured = news.measured;
+  off = silent_are_off p start w news.silent;
+}
 
 -- ---- ports are capable from the start on
 
@@ -331,7 +372,7 @@ module _ (p : SettlingParams) (start : ℕ) (w : WorldState) (news : IsStanding 
             (linked_capable p start w world heard quiet late place station here i q to there joins
             (way_of w (port_identity_number (own station.system (suc i))) to joins));
         unlinked = λ none. elim (linked_or_off p w world
-            (silent_off p start w news.pace world news.silent late) place station here lives i q there) [
+            (off_by p start w news.pace world news.off late) place station here lives i q there) [
               | inl linked ↦ absurd (none linked)
               | inr off ↦ (shown.each i h q stands there).off off
             ];
@@ -418,35 +459,7 @@ module _ (p : SettlingParams) (start : ℕ) (w : WorldState) (news : IsStanding 
 
   pub start_calm : (m : ℕ) → Calm (start_network p m start w) (view w)
   start_calm m =
-      let c : Calm (news_network p m start w) (view w) = seen_calm m in
-      record {
-        facts = start_facts m;
-        stations = λ i s there lives.
-            let x = c.stations i s there lives in
-            record {
-              at_rest = x.at_rest;
-              ports = λ place q at.
-                  let y = x.ports place q at in
-                  record {
-                    log = y.log;
-                    interval = y.interval;
-                    timer = y.timer;
-                    capable = y.capable;
-                    bare = y.bare;
-                    unlinked = y.unlinked;
-                    long = y.long;
-                  };
-            };
-        placed = c.placed;
-        there = λ s member.
-            let x = c.there s member in
-            record { station = x.station; there = x.there; live = x.live; is = x.is };
-        lanes = λ from to joins.
-            let x = c.lanes from to joins in
-            record { lane = x.lane; there = x.there; from = x.from; to = x.to; loss = x.loss; is_up = x.is_up };
-        apart = c.apart;
-        left = c.left;
-      }
+      calm_timed (news_network p m start w) 0 0 start (λ d port. 0) (λ d port. 0) (view w) (start_facts m) (seen_calm m)
 
 -- the first of the frames in a queue, as another sees it
 seen_first : {X Y Z : Type 0} (f : X → Y) (g : X → Z) (xs : List X) (y : Y) (ys : List Y) → map f xs ≡ y ∷ ys

@@ -5,6 +5,8 @@ use Rattle.gptp_roles.specs.Selection.{clock_of}
 use Rattle.gptp_scenario.specs.Calm.{IsCalm, IsLive, IsQuiet, IsUsed, NothingLapses, Rests}
 use Rattle.gptp_scenario.specs.Change.{is_at, link_acted, link_after, standing, system_acted, system_after, with_live, with_up}
 use Rattle.gptp_scenario.specs.Network.{NetworkState}
+use Rattle.gptp_scenario.specs.declared.change.Act.TheVariants.{Change as Changing}
+use Rattle.gptp_scenario.specs.declared.change.Change.TheVariants.{Fail}
 use Rattle.gptp_scenario.specs.declared.change.Timed.{Timed}
 use Rattle.gptp_scenario.specs.declared.network.LinkSpec.{LinkSpec}
 use Rattle.gptp_scenario.specs.declared.network.SystemSpec.{SystemSpec}
@@ -42,20 +44,23 @@ module _ (n : NetworkState) (made : List Timed) (event : Timed) (off : NothingLa
       less_calm : IsCalm n later
       less_calm = record { links = λ i d early. rests _ (calm.links i d early); lapses = inl off }
 
-    pub fails_calm : FailsFarEnd n made event → IsCalm n later
-    fails_calm fails =
+    pub failure_calm : (clock : ℕ) → event.act ≡ Changing (Fail clock) → IsCalm n later
+    failure_calm clock act =
         less_calm (λ m live.
-        gone m (fails.clock == clock_of m.identity)
+        gone m (clock == clock_of m.identity)
         (sym (ap (λ s. s.live)
         (system_behind made event (clock_of m.identity) (standing m)
-        ∙ ap (λ act. system_acted act (clock_of m.identity) (system_after made m)) fails.act)) ∙ live))
-        (λ v up. link_behind made event v ∙ ap (λ act. link_acted act (link_after made v)) fails.act)
+        ∙ ap (λ act. system_acted act (clock_of m.identity) (system_after made m)) act)) ∙ live))
+        (λ v up. link_behind made event v ∙ ap (λ act. link_acted act (link_after made v)) act)
       where
         gone : (m : SystemSpec) (test : Bool)
             → (cond test (with_live false (system_after made m)) (system_after made m)).live ≡ true
             → (system_after made m).live ≡ true
         gone m true none = absurd cc
         gone m false live = live
+
+    pub fails_calm : FailsFarEnd n made event → IsCalm n later
+    fails_calm fails = failure_calm fails.clock fails.act
 
     pub lowers_calm : LowersUnused n made event → IsCalm n later
     lowers_calm lowers =

@@ -21,6 +21,7 @@ use Rattle.gptp_invariants.specs.ChoiceCalm.{HaveQuietLinks, delay_in}
 use Rattle.gptp_invariants.specs.ChoiceSettlesAsMachine.{IsWorld}
 use Rattle.gptp_invariants.specs.ChoiceView.{says_announce, view}
 use Rattle.gptp_invariants.specs.DelayMeasured.{LinkIsMeasured}
+use Rattle.gptp_invariants.specs.WorldNews.{AreSilentBy}
 use Rattle.gptp_invariants.specs.WorldStanding.{channel_is_used, live_stations, snapshot_of}
 use Rattle.gptp_invariants.proofs.ChoiceCalmKeptLemmas.{KeepsNetwork, delay_kept, same_snapshot}
 use Rattle.gptp_invariants.proofs.WorldNewsLemmas.{ready_goes_through}
@@ -30,11 +31,11 @@ use Rattle.gptp_settling_time.proofs.BegunLeftLemmas.{begins_left}
 use Rattle.gptp_settling_time.proofs.AlwaysClaimedLemmas.{IsStanding}
 use Rattle.gptp_settling_time.proofs.FailedUpLemmas.{delay_set, used_set}
 use Rattle.gptp_settling_time.proofs.FitsLemmas.{IsLeftUnmoved, UnlinkedHoldNothing}
-use Rattle.gptp_settling_time.proofs.LeftClaimedLemmas.{HaveAskedLong, IsLeftAlways, left_network, left_seen}
+use Rattle.gptp_settling_time.proofs.LeftClaimedLemmas.{HaveAskedBy, HaveAskedLong, IsLeftAlways, left_network, left_seen}
 use Rattle.gptp_settling_time.proofs.LoweredLemmas.{StandsReduced, StayOrAreAlone, less, other, told, wires}
 use Rattle.gptp_settling_time.proofs.ReducedLemmas.{IsReduced}
 use Rattle.gptp_settling_time.proofs.SettledSeenLemmas.{IsSettledSeen}
-use Rattle.gptp_settling_time.proofs.TakenDownLemmas.{silent_down, stood_down, told_keeps}
+use Rattle.gptp_settling_time.proofs.TakenDownLemmas.{off_down, silent_down, stood_down, told_keeps}
 use Rattle.gptp_settling_time.proofs.UnlinkedLemmas.{IsLeftSeen, LostAreFarther}
 use Rattle.gptp_settling_time.proofs.WidenedLemmas.{ready_first}
 
@@ -88,7 +89,7 @@ module _ (p : SettlingParams) (before : Snapshot) (silent owner port : ℕ) (w :
         (dead k.place k.channel (record { here = k.is.here; joined = k.is.joined }))
 
     -- what is in use stays
-    snapshot_now : g' ≡ g
+    pub snapshot_now : g' ≡ g
     snapshot_now =
         same_snapshot taken w' keeps
         ∙ (λ i. record {
@@ -118,7 +119,7 @@ module _ (p : SettlingParams) (before : Snapshot) (silent owner port : ℕ) (w :
     stands : StandsReduced taken w'
     stands = told p w is k.place k.channel k.is.here draws w' is' tells seen left.near stay
 
-    reduced : IsReduced (view w) (view w')
+    pub reduced : IsReduced (view w) (view w')
     reduced = less p w is k.place k.channel k.is.here draws w' is' tells seen left.near stay
 
     -- ---- what is claimed of ports
@@ -128,27 +129,38 @@ module _ (p : SettlingParams) (before : Snapshot) (silent owner port : ℕ) (w :
       pace = left.standing.pace;
       world = is';
       measured = measured';
-      silent = silent_down p w is k.place k.channel k.is.here draws w' is' tells stands.channels silent
-          left.standing.silent;
+      off = off_down p w is k.place k.channel k.is.here draws w' is' tells silent left.standing.off;
     }
 
-    asked' : HaveAskedLong w'
-    asked' at s =
-        let (one, by, soon, x) = left.asked at
-        (stood_down p w is k.place k.channel k.is.here draws w' is' tells stands.channels at s) in
+    -- ports beside failed systems stay silent
+    pub silent_on : AreSilentBy p silent w → AreSilentBy p silent w'
+    silent_on = silent_down p w is k.place k.channel k.is.here draws w' is' tells silent
+
+    -- ports at links have asked as they had
+    pub asked_on : (since : ℕ) → HaveAskedBy since w → HaveAskedBy since w'
+    asked_on since asked at s =
+        let (one, by, soon, x) = asked at
+        (stood_down p w is k.place k.channel k.is.here draws w' is' tells at s) in
         let ready = ready_goes_through p by at (Changing (LinkDown owner port)) w w' draws done is.sound
         left.standing.measured
-        (other p silent owner port w draws done w' left.standing.pace is is' left.standing.measured measured' acts up
-        seen left.near stay at s) acts (inl (one, x.is)) in
+        (other p silent owner port w draws done w' left.standing.pace is is' left.standing.measured measured' acts up at
+        s) acts (inl (one, x.is)) in
         let late = x.late in
         let time = stands.time in
-        let change = keeps.change in
         let (first, then) = ready_first p by w' is' (omega (arith, late, time)) at ready in (
           first,
           by,
-          omega (arith, late, change),
+          soon,
           record { is = then; late = omega (arith, late, time) },
         )
+
+    asked' : HaveAskedLong w'
+    asked' at s =
+        let (first, by, soon, x) = asked_on w.last_change left.asked at s in
+        let late = x.late in
+        let time = stands.time in
+        let change = keeps.change in
+        (first, by, omega (arith, late, time, change), x)
 
     -- ---- what is held and in flight
 
@@ -183,6 +195,6 @@ module _ (p : SettlingParams) (before : Snapshot) (silent owner port : ℕ) (w :
     pub dead_left : IsLeftAlways p before silent w'
     dead_left =
         begins_left p before silent w w' is' left.well seen reduced unchanged still
-        (wires p w is k.place k.channel k.is.here draws w' is' tells seen left.near stay (left_network p silent w')
-        delay_now refl) fits standing' asked' (λ quiet'. unlinked') (subst AllAreNear (sym snapshot_now) left.near)
+        (wires p w is k.place k.channel k.is.here draws w' is' tells seen left.near (left_network p silent w') delay_now
+        refl) fits standing' asked' (λ quiet'. unlinked') (subst AllAreNear (sym snapshot_now) left.near)
         (subst (LostAreFarther before) (sym snapshot_now) left.farther) now_late

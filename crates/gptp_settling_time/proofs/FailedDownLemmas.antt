@@ -297,7 +297,7 @@ module _ (p : SettlingParams) (start : ℕ) (w : WorldState) (news : IsNews p st
         }
 
     stood : (at : LinkPlace) → LinkStandsAt at w' → LinkStandsAt at w
-    stood = stood_down p w is place channel here draws w' is' k channels_now
+    stood = stood_down p w is place channel here draws w' is' k
 
     pub down_like : StandsLike w w'
     down_like = record {
@@ -324,7 +324,7 @@ module _ (p : SettlingParams) (start : ℕ) (w : WorldState) (news : IsNews p st
     -- ---- ports beside failed systems
 
     pub down_silent : AreSilentBy p start w'
-    down_silent = silent_down p w is place channel here draws w' is' k channels_now start news.silent
+    down_silent = silent_down p w is place channel here draws w' is' k start news.silent
 
     -- ---- what is held and in flight
 

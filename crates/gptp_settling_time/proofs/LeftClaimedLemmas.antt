@@ -40,7 +40,6 @@ use Rattle.gptp_invariants.proofs.DelayCapableKeptLemmas.{stood}
 use Rattle.gptp_invariants.proofs.DelayChangeKeptLemmas.{acts_measured, later_measured}
 use Rattle.gptp_invariants.proofs.WorldBoundedLemmas.{bounded_by}
 use Rattle.gptp_invariants.proofs.WorldNewsCourseLemmas.{later_keeps}
-use Rattle.gptp_invariants.proofs.WorldNewsLemmas.{acts_silent, silent_later}
 use Rattle.gptp_invariants.proofs.WorldOutlineLemmas.{acts_time}
 use Rattle.gptp_invariants.proofs.WorldSettledLemmas.{still_acts_stay, time_stays}
 use Rattle.gptp_invariants.proofs.WorldStandsLemmas.{stands_well}
@@ -48,6 +47,7 @@ use Rattle.gptp_settling_time.specs.ChoiceAlone.{ChoiceStands}
 use Rattle.gptp_settling_time.proofs.AlwaysClaimedLemmas.{AreHeard, IsStanding, linked_on, same_start, start_calm, start_network}
 use Rattle.gptp_settling_time.proofs.FitsLemmas.{IsLeftUnmoved, UnlinkedHoldNothing}
 use Rattle.gptp_settling_time.proofs.HeardLemmas.{IsFirstLong, first_acted, first_later}
+use Rattle.gptp_settling_time.proofs.LastAnsweredLemmas.{acts_off, off_later, silent_are_off}
 use Rattle.gptp_settling_time.proofs.LinkStoodLemmas.{stood_in}
 use Rattle.gptp_settling_time.proofs.NewsMeasuredLemmas.{ready_measures}
 use Rattle.gptp_settling_time.proofs.SeenSettledLemmas.{seen_chooses, seen_settles}
@@ -56,16 +56,16 @@ use Rattle.gptp_settling_time.proofs.UnlinkedLemmas.{IsLeftSeen, LostAreFarther,
 
 -- ---- what holds of a world whose ports are capable from a start on
 
-standing_later : (p : SettlingParams) (start time : ℕ) (w : WorldState) → w.time ≤ time
+pub standing_later : (p : SettlingParams) (start time : ℕ) (w : WorldState) → w.time ≤ time
     → NothingBefore time w.net.pending → IsStanding p start w → IsStanding p start (at_time time w)
 standing_later p start time w later first is = record {
   pace = is.pace;
   world = time_stays p w time later (later_sound w time w.last_change is.world.sound first) is.world;
   measured = later_measured time w later is.measured;
-  silent = silent_later p start time w is.silent;
+  off = off_later p start time w is.off;
 }
 
-standing_acts : (p : SettlingParams) (start : ℕ) (act : Act) (w : WorldState) (draws : List Draw) (done : Done)
+pub standing_acts : (p : SettlingParams) (start : ℕ) (act : Act) (w : WorldState) (draws : List Draw) (done : Done)
     (w' : WorldState) → IsNoChange act → SetsAnOctet act → Acts act w draws done w' → IsStanding p start w
     → IsStanding p start w'
 standing_acts p start act w draws done w' none octet k is =
@@ -73,20 +73,42 @@ standing_acts p start act w draws done w' none octet k is =
       pace = is.pace;
       world = still_acts_stay p act w draws done w' none k is.world;
       measured = acts_measured act w w' draws done is.world.sound is.measured octet k;
-      silent = acts_silent p start act w draws done w' none k is.world is.measured is.silent;
+      off = acts_off p start act w draws done w' none k is.world is.measured is.off;
     }
 
--- each port at a link first asked long enough before the last change
+-- each port at a link first asked long enough before a time
+abbrev pub HaveAskedBy : ℕ → WorldState → Type 0
+HaveAskedBy since w = (at : LinkPlace) → LinkStandsAt at w
+    → (first : ℕ) × (by : ℕ) × (by ≤ since) × IsFirstLong first by at w
+
+-- before the last change
 abbrev pub HaveAskedLong : WorldState → Type 0
-HaveAskedLong w = (at : LinkPlace) → LinkStandsAt at w
-    → (first : ℕ) × (by : ℕ) × (by ≤ w.last_change) × IsFirstLong first by at w
+HaveAskedLong w = HaveAskedBy w.last_change w
+
+pub asked_later : (p : SettlingParams) (since time : ℕ) (w : WorldState) → IsWorld p w → w.time ≤ time
+    → NothingBefore time w.net.pending → HaveAskedBy since w → HaveAskedBy since (at_time time w)
+asked_later p since time w world later first asked at stands =
+    let (one, by, before, x) = asked at (stood_in at (at_time time w) w stands refl stands.here) in
+    (one, by, before, first_later p one by at time w world later first x)
+
+pub asked_acts : (p : SettlingParams) (since silent : ℕ) (act : Act) (w : WorldState) (draws : List Draw)
+    (done : Done) (w' : WorldState) → IsNoChange act → Acts act w draws done w' → IsStanding p silent w
+    → IsWorld p w' → HaveAskedBy since w → HaveAskedBy since w'
+asked_acts p since silent act w draws done w' none acts standing world' asked at stands =
+    let keeps = acts_keep act w draws done w' none acts in
+    let (one, by, before, x) = asked at (stood p w w' standing.world world' keeps at stands) in (
+      one,
+      by,
+      before,
+      first_acted p silent act w draws done w' none acts standing.world world' standing.measured at one by x,
+    )
 
 -- so what is told to it is heard, and it has measured the link
 pub asked_heard : (p : SettlingParams) (start : ℕ) (w : WorldState) → HaveAskedLong w → AreHeard p start w
 asked_heard p start w asked at stands =
     let (first, by, before, x) = asked at stands in inr (inr (inr (first, by, x)))
 
-asked_ready : (p : SettlingParams) (w : WorldState) → HaveAskedLong w → AreReadyBy p w.last_change w
+pub asked_ready : (p : SettlingParams) (w : WorldState) → HaveAskedLong w → AreReadyBy p w.last_change w
 asked_ready p w asked at stands =
     let (first, by, before, x) = asked at stands in
     let soon = x.is.1 in
@@ -112,7 +134,7 @@ left_net p silent w is =
       link = λ d port linked. inl (refl, refl);
     }))
 
-same_left : (p : SettlingParams) (silent : ℕ) (w w' : WorldState) → KeepsNetwork w w'
+pub same_left : (p : SettlingParams) (silent : ℕ) (w w' : WorldState) → KeepsNetwork w w'
     → left_network p silent w' ≡ left_network p silent w
 same_left p silent w w' keeps =
     ap (λ (n : Network). record n { bare = 0; off = silent })
@@ -219,8 +241,7 @@ pub left_later : (p : SettlingParams) (g : Snapshot) (silent time : ℕ) (w : Wo
     → NothingBefore time w.net.pending → IsLeftAlways p g silent w → IsLeftAlways p g silent (at_time time w)
 left_later p g silent time w later first is =
     left_step p g silent w (at_time time w) is (standing_later p silent time w later first is.standing)
-    (λ at stands. let (one, by, before, x) = is.asked at (stood_in at (at_time time w) w stands refl stands.here) in
-    (one, by, before, first_later p one by at time w is.standing.world later first x)) (later_keeps time w)
+    (asked_later p w.last_change time w is.standing.world later first is.asked) (later_keeps time w)
     (inl (record { time = time; later = later; is = refl })) later
 
 pub left_acts : (p : SettlingParams) (g : Snapshot) (silent : ℕ) (act : Act) (w : WorldState) (draws : List Draw)
@@ -232,13 +253,8 @@ left_acts p g silent act w draws done w' none octet acts is =
     let keeps = acts_keep act w draws done w' none acts in
     let time = acts_time act w draws done w' acts in
     left_step p g silent w w' is standing'
-    (λ at stands. let (one, by, before, x) = is.asked at (stood p w w' world standing'.world keeps at stands) in
-    let change = keeps.change in (
-      one,
-      by,
-      omega (arith, before, change),
-      first_acted p silent act w draws done w' none acts world standing'.world is.standing.measured at one by x,
-    )) keeps
+    (subst (λ t. HaveAskedBy t w') (sym keeps.change)
+    (asked_acts p w.last_change silent act w draws done w' none acts is.standing standing'.world is.asked)) keeps
     (inr (acts_seen act w draws done w' none world.sound world.encodable acts)) (omega (arith, time))
 
 -- where no port is unanswered, ports without a link aren't capable from now on
@@ -249,7 +265,7 @@ left_now p g silent w is none = record {
     pace = is.standing.pace;
     world = is.standing.world;
     measured = is.standing.measured;
-    silent = none;
+    off = silent_are_off p w.time w none;
   };
   asked = is.asked;
   well = is.well;

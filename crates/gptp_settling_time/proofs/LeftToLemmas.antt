@@ -51,6 +51,26 @@ pub record IsLeftTo (d : DocumentState) (events : List Timed) (silent : ℕ) (w 
   pub before : Snapshot
   pub since : IsLeftAlways (pace_of d.network) before silent w
 
+module _ (d : DocumentState) (events : List Timed) where
+  -- no port is unanswered where each link that is up is in use
+  pub none_unanswered : (w : WorldState) → KeepsTo d events w → (start : ℕ) → UpIsUsed d.network events
+      → AreSilentBy (pace_of d.network) start w
+  none_unanswered w keeps start used at s =
+      let world = keeps.claim.world in
+      let (v, there, same) = alike (link_after events) channel_wire d.network.links w.net.channels
+      (sym keeps.stands.links) at.link s.channel s.here in
+      let up = ap (λ (x : LinkSpec). x.up) same ∙ s.up in
+      let lives = receiver_lives w at.direction s.channel
+      (used_so d.network events w keeps.stands world.sound s.channel
+      (subst (IsUsed d.network.systems events) same (used at.link v there up))) in
+      let beyond = s.answering in
+      let place = world.sound.wired.clocks at.answering lives.place beyond.station lives.at.station beyond.here
+      lives.at.here (beyond.named ∙ sym lives.at.named) in
+      let one = same_there w.stations lives.place beyond.station lives.at.station
+      (ap (slice_get w.stations) (sym place) ∙ beyond.here) lives.at.here in
+      let both : false ≡ true = sym beyond.failed ∙ ap (λ (x : Station). x.live) one ∙ lives.at.live in
+      absurd cc
+
 module _ (d : DocumentState) (events : List Timed) (silent : ℕ) where
   pub left_to_later : (w : WorldState) (time : ℕ) → w.time ≤ time → NothingBefore time w.net.pending
       → IsLeftTo d events silent w → IsLeftTo d events silent (at time w)
@@ -83,27 +103,10 @@ module _ (d : DocumentState) (events : List Timed) (silent : ℕ) where
     pub left_to_chooses : ChoiceStands w
     left_to_chooses = left_chooses (pace_of d.network) so.before silent w so.since quiet off
 
-    -- no port is unanswered where each link that is up is in use
-    none_unanswered : UpIsUsed d.network events → AreSilentBy (pace_of d.network) w.time w
-    none_unanswered used at s =
-        let world = so.keeps.claim.world in
-        let (v, there, same) = alike (link_after events) channel_wire d.network.links w.net.channels
-        (sym so.keeps.stands.links) at.link s.channel s.here in
-        let up = ap (λ (x : LinkSpec). x.up) same ∙ s.up in
-        let lives = receiver_lives w at.direction s.channel
-        (used_so d.network events w so.keeps.stands world.sound s.channel
-        (subst (IsUsed d.network.systems events) same (used at.link v there up))) in
-        let beyond = s.answering in
-        let place = world.sound.wired.clocks at.answering lives.place beyond.station lives.at.station beyond.here
-        lives.at.here (beyond.named ∙ sym lives.at.named) in
-        let one = same_there w.stations lives.place beyond.station lives.at.station
-        (ap (slice_get w.stations) (sym place) ∙ beyond.here) lives.at.here in
-        let both : false ≡ true = sym beyond.failed ∙ ap (λ (x : Station). x.live) one ∙ lives.at.live in
-        absurd cc
-
     -- it has settled
     pub left_to_settled : (silent ≤ w.time) ⊎ UpIsUsed d.network events → Settled w × IsBoundedWorld w
     left_to_settled (inl late) = left_settles (pace_of d.network) so.before silent w so.since quiet off late
     left_to_settled (inr used) =
         left_settles (pace_of d.network) so.before w.time w
-        (left_now (pace_of d.network) so.before silent w so.since (none_unanswered used)) quiet off (omega arith)
+        (left_now (pace_of d.network) so.before silent w so.since
+        (none_unanswered d events w so.keeps w.time used)) quiet off (omega arith)

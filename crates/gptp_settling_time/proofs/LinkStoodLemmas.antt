@@ -98,7 +98,7 @@ stood_untold p w net w' is is' =
 module _ (input : ℕ → Input) (channel : Channel) (w : WorldState) (draws : List Draw) (w' : WorldState)
     (k : TellsEnds input channel w draws w') (apart : channel.a.clock ≢ channel.b.clock) where
   -- they are different systems
-  ends_apart : k.place_a ≢ k.place_b
+  pub ends_apart : k.place_a ≢ k.place_b
   ends_apart same =
       let one : k.station_a ≡ k.station_b =
       same_there w.stations k.place_b k.station_a k.station_b

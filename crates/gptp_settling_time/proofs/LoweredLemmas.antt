@@ -9,7 +9,7 @@ use Rattle.gptp_lists.proofs.PlaceLemmas.{get-set_other, get-set_same, same_plac
 use Rattle.gptp_graph.specs.PathBound.{path_bound}
 use Rattle.gptp_graph.specs.Snapshot.{IsLinked, IsWellFormed, Joins, PortIdentity, Snapshot, System, clocks, port_of}
 use Rattle.gptp_graph.proofs.ExistenceLemmas.{distance_exists}
-use Rattle.gptp_graph.proofs.LinkLemmas.{Joins-clock}
+use Rattle.gptp_graph.proofs.LinkLemmas.{Joins-clock, Joins-sym}
 use Rattle.gptp_graph.proofs.SystemLemmas.{In-clocks}
 use Rattle.gptp_vector.specs.Vector.{path_of, system_vector}
 use Rattle.gptp_vector.specs.declared.port.PortId.{PortId}
@@ -37,7 +37,7 @@ use Rattle.gptp_model.specs.Act.{all_timers, in_state}
 use Rattle.gptp_model.specs.Acts.{Acts, AtLink}
 use Rattle.gptp_model.specs.Changing.{CallsIfLive, GoesDownIf, IsChannel, TellsEnds, lost, taken_down}
 use Rattle.gptp_model.specs.Sends.{SendsAll}
-use Rattle.gptp_model.specs.World.{Channel, Net, WorldState, port_id, sender}
+use Rattle.gptp_model.specs.World.{Channel, Net, WorldState, port_id, receiver, sender}
 use Rattle.gptp_model.specs.declared.done.Done.{Done}
 use Rattle.gptp_model.specs.declared.station.Station.{Station}
 use Rattle.gptp_bmca_machine.specs.Calm.{Calm}
@@ -67,12 +67,13 @@ use Rattle.gptp_invariants.proofs.WorldWayLemmas.{one_way, used_joins, way_of}
 use Rattle.gptp_settling_time.specs.Losses.{IsCutOff, IsUnmoved, IsUnmovedOrCutOff}
 use Rattle.gptp_settling_time.proofs.BegunLeftLemmas.{begins_left}
 use Rattle.gptp_settling_time.proofs.AlwaysClaimedLemmas.{AreHeard, IsStanding, same_start, start_calm, start_network}
-use Rattle.gptp_settling_time.proofs.FitsLemmas.{IsLeftUnmoved, UnlinkedHoldNothing, at_zero, lived}
+use Rattle.gptp_settling_time.proofs.FitsLemmas.{IsLeftUnmoved, UnlinkedHoldNothing, at_zero, joined_stays, lived}
 use Rattle.gptp_settling_time.proofs.GoesDownLemmas.{AreDisabled, GoesDownQuietly, goes_down_alone, goes_down_quietly, held_among, others_disabled, without}
+use Rattle.gptp_settling_time.proofs.LastAnsweredLemmas.{silent_are_off}
 use Rattle.gptp_settling_time.proofs.LeftClaimedLemmas.{HaveAskedLong, IsLeftAlways, asked_heard, left_network}
 use Rattle.gptp_settling_time.proofs.LinkStoodLemmas.{second_still}
 use Rattle.gptp_settling_time.proofs.LinkUpLemmas.{lane_set}
-use Rattle.gptp_settling_time.proofs.ReducedLemmas.{HoldsAsMuch, IsReduced, IsReducedStation, holds_as_much, reduced_itself}
+use Rattle.gptp_settling_time.proofs.ReducedLemmas.{HoldsAsMuch, IsLess, IsReduced, IsReducedStation, NearerStay, holds_as_much, reduced_itself}
 use Rattle.gptp_settling_time.proofs.SettledSeenLemmas.{IsSettledSeen, sound_fits, wired_as}
 use Rattle.gptp_settling_time.proofs.TakenDownLemmas.{silent_down, stood_down, told_keeps, up_apart}
 use Rattle.gptp_settling_time.proofs.UnlinkedLemmas.{LostAreFarther}
@@ -108,7 +109,7 @@ reduced live i a b sends quiet = record {
         ≡ ports_view (span_at a) (without i a.held) (change_at silenced i a.ports)
     same = λ k. ports_view (spans k) (quiet.held k) (quiet.ports k)
 
-reduced_on : (a b c : SeenStation) → IsReducedStation a b → IsReducedStation b c → IsReducedStation a c
+pub reduced_on : (a b c : SeenStation) → IsReducedStation a b → IsReducedStation b c → IsReducedStation a c
 reduced_on a b c first second = record {
   live = second.live ∙ first.live;
   clock = second.clock ∙ first.clock;
@@ -121,19 +122,19 @@ reduced_on a b c first second = record {
 -- ---- a call
 
 -- without its port at this place something else is as good as what it follows
-record HasAnother (s : SystemState) (place : ℕ) : Type 0 where
-  left : Vector
-  among : IsIn left (system_vector s.identity ∷ path_vectors (without place s.held))
-  root : left.root ≡ s.root
-  steps : left.steps ≡ s.steps
+pub record HasAnother (s : SystemState) (place : ℕ) : Type 0 where
+  pub left : Vector
+  pub among : IsIn left (system_vector s.identity ∷ path_vectors (without place s.held))
+  pub root : left.root ≡ s.root
+  pub steps : left.steps ≡ s.steps
 
 -- what is known of a system whose port goes down: so it is of it, or no other port takes part
-record CanLose (station : Station) (port : ℕ) : Type 0 where
-  held : AreHeld station.system
-  rest : IsAtRest station.system
-  place : ℕ
-  number : port ≡ suc place
-  others : HasAnother station.system place ⊎ AreDisabled (without place station.system.held)
+pub record CanLose (station : Station) (port : ℕ) : Type 0 where
+  pub held : AreHeld station.system
+  pub rest : IsAtRest station.system
+  pub place : ℕ
+  pub number : port ≡ suc place
+  pub others : HasAnother station.system place ⊎ AreDisabled (without place station.system.held)
 
 -- systems are reduced at most, and links are as they were
 pub record StandsReduced (w w' : WorldState) : Type 0 where
@@ -167,7 +168,7 @@ set_reduced stations place old new here less i s there =
           )
     ]
 
-goes_down_reduced : (place port : ℕ) (w : WorldState) (draws : List Draw) (w' : WorldState)
+pub goes_down_reduced : (place port : ℕ) (w : WorldState) (draws : List Draw) (w' : WorldState)
     → ((station : Station) → slice_get w.stations place ≡ Some station → station.live ≡ true → CanLose station port)
     → CallsIfLive place (PortDown port) w draws w' → StandsReduced w w'
 goes_down_reduced place port w draws w' can (inr (failed, none, same)) =
@@ -244,7 +245,7 @@ StayOrAreAlone w w' = (v : ℕ) → In v (clocks (snapshot_of w'))
 module _ (p : SettlingParams) (w : WorldState) (is : IsWorld p w) (place : ℕ) (channel : Channel)
     (here : slice_get w.net.channels place ≡ Some channel) (draws : List Draw) (w' : WorldState) (is' : IsWorld p w')
     (k : TellsEnds PortDown channel (record w { net = taken_down place channel w.net; last_change = w.time }) draws w')
-    (seen : IsSettledSeen p w) (near : AllAreNear (snapshot_of w)) (stay : StayOrAreAlone w w') where
+    (seen : IsSettledSeen p w) (near : AllAreNear (snapshot_of w)) where
   abbrev pub taken : WorldState
   taken = record w { net = taken_down place channel w.net; last_change = w.time }
 
@@ -288,17 +289,14 @@ module _ (p : SettlingParams) (w : WorldState) (is : IsWorld p w) (place : ℕ) 
     }
   ]
 
-  left : IsLeftUnmoved g g'
-  left = record {
+  -- what is left was there
+  pub less_then : IsLess g g'
+  less_then = record {
     systems = λ s member. subst (In s) keeps.systems member;
     links = λ a b joins.
         links_more taken w (same_systems (live_stations w.stations)) were_there a b
         (subst (λ h. Joins h a b) (same_snapshot taken w' keeps) joins);
-    unmoved = λ v known. elim (stay v known) [ inl unmoved ↦ inl unmoved | inr (cut, dark) ↦ inr cut ];
   }
-
-  left_seen : IsLeftUnmoved seen.n.graph g'
-  left_seen = subst (λ h. IsLeftUnmoved h g') (sym seen.graph) left
 
   -- no link is at its ends any more
   unlinked : (way : Direction) → IsLinked g' (port_identity_number (sender way channel)) → ⊥
@@ -317,15 +315,20 @@ module _ (p : SettlingParams) (w : WorldState) (is : IsWorld p w) (place : ℕ) 
       apart (one_way w is.sound is.encodable x.link place x.direction way x.channel channel was here x.from).same_link
 
   -- any other link is there still
-  still_joins : (p q : PortIdentity) → Joins g p q
-      → Joins g' p q ⊎ ((direction : Direction) × (p ≡ port_identity_number (sender direction channel)))
+  pub still_joins : (p q : PortIdentity) → Joins g p q
+      → Joins g' p q ⊎ ((direction : Direction) × (p ≡ port_identity_number (sender direction channel))
+      × (q ≡ port_identity_number (receiver direction channel)))
   still_joins p q joins =
       let x = way_of w p q joins in
       elim (same_place x.link place) [
         | inl same ↦
             let one : x.channel ≡ channel =
             same_Some x.channel channel (sym x.here ∙ ap (slice_get w.net.channels) same ∙ here) in
-            inr (x.direction, sym x.from ∙ ap (λ c. port_identity_number (sender x.direction c)) one)
+            inr (
+              x.direction,
+              sym x.from ∙ ap (λ c. port_identity_number (sender x.direction c)) one,
+              sym x.to ∙ ap (λ c. port_identity_number (receiver x.direction c)) one,
+            )
         | inr apart ↦
             let there = used_joins taken x.link x.direction x.channel
             (get-set_other w.net.channels place x.link (lost channel) apart ∙ x.here) x.used in
@@ -341,19 +344,24 @@ module _ (p : SettlingParams) (w : WorldState) (is : IsWorld p w) (place : ℕ) 
     among : In (standing_system station) (live_stations w.stations)
     among = live_there w.stations at station stands live
 
-    known : In (clock station.system) (clocks g')
+    pub known : In (clock station.system) (clocks g')
     known = In-clocks g' (standing_system station) (subst (In (standing_system station)) (sym keeps.systems) among)
 
-    as_much : IsUnmoved g g' (clock station.system) → HoldsAsMuch g' (station_view station)
-    as_much stays =
+    as_much : IsUnmoved g g' (clock station.system) → NearerStay g g' (clock station.system)
+        → HoldsAsMuch g' (station_view station)
+    as_much stays beside =
         let x = clock station.system in
         let (d, far, close) = near x (In-clocks g (standing_system station) among) in
-        holds_as_much says_announce seen.n seen.net (view w) seen.calm seen.invariant seen.late g' well' left_seen at
-        (station_view station) (station_there w.stations at station stands) live
-        (subst (λ h. IsUnmoved h g' x) (sym seen.graph) stays) d close (stays.far d far)
+        holds_as_much says_announce seen.n seen.net (view w) seen.calm seen.invariant seen.late g' well'
+        (subst (λ h. IsLess h g') (sym seen.graph) less_then) at (station_view station)
+        (station_there w.stations at station stands) live (subst (λ h. IsUnmoved h g' x) (sym seen.graph) stays)
+        (subst (λ h. NearerStay h g' x) (sym seen.graph) beside) d close (stays.far d far)
 
-    can_lose : CanLose station (sender way channel).port
-    can_lose = by (sender way channel).port refl (is.sound.wired.ports place at way channel station here stands named)
+    pub can_lose : (IsUnmoved g g' (clock station.system) × NearerStay g g' (clock station.system))
+        ⊎ (IsCutOff g' (clock station.system) × UnlinkedAreOff g (view w))
+        → CanLose station (sender way channel).port
+    can_lose one =
+        by (sender way channel).port refl (is.sound.wired.ports place at way channel station here stands named)
       where
         another : (i : ℕ) → (sender way channel).port ≡ suc i → HoldsAsMuch g' (station_view station)
             → HasAnother station.system i
@@ -383,7 +391,7 @@ module _ (p : SettlingParams) (w : WorldState) (is : IsWorld p w) (place : ℕ) 
             → IsLinked g (port_of (clock station.system) (suc j)) → ⊥
         alone i is_n cut j apart (q, joins) = elim (still_joins (port_of (clock station.system) (suc j)) q joins) [
           | inl there ↦ cut q.clock (suc j, q.port, there)
-          | inr (direction, is_end) ↦
+          | inr (direction, is_end, other_end) ↦
               let clocks_are : (sender direction channel).clock ≡ (sender way channel).clock =
               ap (λ (x : PortIdentity). x.clock) (sym is_end) ∙ named in
               let one = same_end channel way direction (is.between place channel here).apart clocks_are in
@@ -413,53 +421,14 @@ module _ (p : SettlingParams) (w : WorldState) (is : IsWorld p w) (place : ℕ) 
               rest = steady.rest;
               place = i;
               number = refl;
-              others = elim (stay (clock station.system) known) [
-                | inl unmoved ↦ inl (another i is_n (as_much unmoved))
+              others = elim one [
+                | inl (stays, beside) ↦ inl (another i is_n (as_much stays beside))
                 | inr (cut, dark) ↦ inr (off i is_n cut dark steady.shown)
               ];
             }
 
-  still_b : slice_get k.between.stations k.place_b ≡ Some k.station_b
+  pub still_b : slice_get k.between.stations k.place_b ≡ Some k.station_b
   still_b = second_still PortDown channel taken draws w' k (is.between place channel here).apart
-
-  pub told : StandsReduced taken w'
-  told =
-      stands_on taken k.between w'
-      (goes_down_reduced k.place_a channel.a.port taken k.first k.between (λ station stands live.
-      let one = same_there w.stations k.place_a station k.station_a stands k.is_a.here in
-      can_lose FromA k.place_a station stands (ap (λ (x : Station). clock x.system) one ∙ k.is_a.named) live) k.at_a)
-      (goes_down_reduced k.place_b channel.b.port k.between k.second w' (λ station stands live.
-      let one = same_there k.between.stations k.place_b station k.station_b stands still_b in
-      can_lose FromB k.place_b station (k.is_b.here ∙ ap (λ x. Some x) (sym one))
-      (ap (λ (x : Station). clock x.system) one ∙ k.is_b.named) live) k.at_b)
-
-  none_lost : (direction : Direction) → (lane_view direction (lost channel)).frames ≡ []
-  none_lost FromA = refl
-  none_lost FromB = refl
-
-  lanes : (j : ℕ) (l : Lane) → slice_get (view w').lanes j ≡ Some l
-      → (slice_get (view w).lanes j ≡ Some l) ⊎ ((l.frames ≡ []) × (l.is_up ≡ false))
-  lanes j l there =
-      let x = lane_from w'.net.channels j l there in
-      elim (same_place x.link place) [
-        | inl same ↦
-            let one : x.channel ≡ lost channel =
-            same_Some x.channel (lost channel)
-            (sym x.here ∙ ap (λ cs. slice_get cs x.link) told.channels
-            ∙ ap (slice_get (slice_set w.net.channels place (lost channel))) same
-            ∙ get-set_same w.net.channels place channel (lost channel) here) in
-            let lane = x.is ∙ ap (lane_view x.direction) one in
-            inr (ap (λ (m : Lane). m.frames) lane ∙ none_lost x.direction, ap (λ (m : Lane). m.is_up) lane)
-        | inr apart ↦
-            let stood : slice_get w.net.channels x.link ≡ Some x.channel =
-            sym (get-set_other w.net.channels place x.link (lost channel) apart)
-            ∙ ap (λ cs. slice_get cs x.link) (sym told.channels) ∙ x.here in
-            inl (ap (slice_get (view w).lanes) x.at
-            ∙ lane_there w.net.channels x.link x.direction x.channel stood ∙ ap (λ m. Some m) (sym x.is))
-      ]
-
-  pub less : IsReduced (view w) (view w')
-  less = record { time = told.time; stations = λ i s there live. told.stations i s there; lanes = lanes }
 
   -- a network of the world then has the wiring of one that it had
   pub wires : (n : Network) → delay_in w' ≡ delay_in w → n ≡ wired_as n (start_network p 0 0 w') → SameWiring seen.n n
@@ -480,55 +449,120 @@ module _ (p : SettlingParams) (w : WorldState) (is : IsWorld p w) (place : ℕ) 
         most = omega (arith, delay, delays, most);
       }
 
-  -- ---- the claims
-
-  near_then : AllAreNear g'
-  near_then v known = elim (stay v known) [
-    | inl unmoved ↦
-        let (d, far, close) = near v (lived g g' well well' left v known) in (d, unmoved.far d far, close)
-    | inr (cut, dark) ↦
-        let (e, here_far) = distance_exists g' v well' known in
-        let zero_is = at_zero g' v e well' cut here_far in (e, here_far, omega (arith, zero_is))
-  ]
-
-  -- all systems live that did
-  farther_then : LostAreFarther g g'
-  farther_then p q joins known gone =
-      absurd (gone (subst (λ (systems : List System). In p.clock (map (λ (s : System). s.clock) systems))
-      (sym keeps.systems) (Joins-clock g p q well joins)))
-
-  module _ (next : ℕ) (pace : KeepPace p) (measured' : LinkIsMeasured w') (past : next ≤ w.time)
-      (delay : delay_in w' ≡ delay_in w) (way : pred (path_bound g') * delay_in w' ≤ w'.time)
-      (sound : IsSoundWorld w) (ready' : AreReadyBy p next w') (silent : AreSilentBy p next w) where
-    by_now : next ≤ w'.time
-    by_now = let time = told.time in omega (arith, past, time)
-
-    standing_then : IsStanding p next w'
-    standing_then = record {
-      pace = pace;
-      world = is';
-      measured = measured';
-      silent = silent_down p w is place channel here draws w' is' k told.channels next silent;
+  module _ (stay : StayOrAreAlone w w') where
+    left : IsLeftUnmoved g g'
+    left = record {
+      systems = less_then.systems;
+      links = less_then.links;
+      unmoved = λ v known. elim (stay v known) [ inl unmoved ↦ inl unmoved | inr (cut, dark) ↦ inr cut ];
     }
 
-    asked_then : HaveAskedLong w'
-    asked_then at stands =
-        let (first, by) = ready_first p next w' is' by_now at (ready' at stands) in
-        let change = keeps.change in
-        (first, next, omega (arith, past, change), record { is = by; late = by_now })
+    -- so are those beside it
+    joined_too : (v : ℕ) → In v (clocks g')
+        → (IsUnmoved g g' v × NearerStay g g' v) ⊎ (IsCutOff g' v × UnlinkedAreOff g (view w))
+    joined_too v known_v = elim (stay v known_v) [
+      | inr alone ↦ inr alone
+      | inl unmoved ↦ inl (
+        unmoved,
+        (λ y e joined nearer here_far.
+            let (m, j, joins) = joined in
+            joined_stays g g' well well' left (port_of y j) (port_of v m)
+            (Joins-sym g' (port_of v m) (port_of y j) joins)),
+      )
+    ]
 
-    -- ports that no link is at are off
-    unlinked_then : HaveQuietLinks p.params w' → UnlinkedHoldNothing g' (view w')
-    unlinked_then quiet' i s place r there live none (q, at, holds) =
-        let calm : Calm (start_network p 0 next w') (view w') =
-        start_calm p next w' standing_then (asked_heard p next w' asked_then) quiet' 0 in
-        let off : q.held ≡ Disabled = ((calm.stations i s there live).ports place q at).unlinked by_now none in
-        absurd (let both : Received r ≡ Disabled = sym holds ∙ off in cc)
+    pub told : StandsReduced taken w'
+    told =
+        stands_on taken k.between w'
+        (goes_down_reduced k.place_a channel.a.port taken k.first k.between (λ station stands live.
+        let one = same_there w.stations k.place_a station k.station_a stands k.is_a.here in
+        let named = ap (λ (x : Station). clock x.system) one ∙ k.is_a.named in
+        can_lose FromA k.place_a station stands named live
+        (joined_too (clock station.system) (known FromA k.place_a station stands named live))) k.at_a)
+        (goes_down_reduced k.place_b channel.b.port k.between k.second w' (λ station stands live.
+        let one = same_there k.between.stations k.place_b station k.station_b stands still_b in
+        let stands = k.is_b.here ∙ ap (λ x. Some x) (sym one) in
+        let named = ap (λ (x : Station). clock x.system) one ∙ k.is_b.named in
+        can_lose FromB k.place_b station stands named live
+        (joined_too (clock station.system) (known FromB k.place_b station stands named live))) k.at_b)
 
-    pub lowered_left : IsLeftAlways p g next w'
-    lowered_left =
-        begins_left p g next w w' is' well seen less left left (wires (left_network p next w') delay refl)
-        (sound_fits p w seen sound) standing_then asked_then unlinked_then near_then farther_then way
+    none_lost : (direction : Direction) → (lane_view direction (lost channel)).frames ≡ []
+    none_lost FromA = refl
+    none_lost FromB = refl
+
+    lanes : (j : ℕ) (l : Lane) → slice_get (view w').lanes j ≡ Some l
+        → (slice_get (view w).lanes j ≡ Some l) ⊎ ((l.frames ≡ []) × (l.is_up ≡ false))
+    lanes j l there =
+        let x = lane_from w'.net.channels j l there in
+        elim (same_place x.link place) [
+          | inl same ↦
+              let one : x.channel ≡ lost channel =
+              same_Some x.channel (lost channel)
+              (sym x.here ∙ ap (λ cs. slice_get cs x.link) told.channels
+              ∙ ap (slice_get (slice_set w.net.channels place (lost channel))) same
+              ∙ get-set_same w.net.channels place channel (lost channel) here) in
+              let lane = x.is ∙ ap (lane_view x.direction) one in
+              inr (ap (λ (m : Lane). m.frames) lane ∙ none_lost x.direction, ap (λ (m : Lane). m.is_up) lane)
+          | inr apart ↦
+              let stood : slice_get w.net.channels x.link ≡ Some x.channel =
+              sym (get-set_other w.net.channels place x.link (lost channel) apart)
+              ∙ ap (λ cs. slice_get cs x.link) (sym told.channels) ∙ x.here in
+              inl (ap (slice_get (view w).lanes) x.at
+              ∙ lane_there w.net.channels x.link x.direction x.channel stood ∙ ap (λ m. Some m) (sym x.is))
+        ]
+
+    pub less : IsReduced (view w) (view w')
+    less = record { time = told.time; stations = λ i s there live. told.stations i s there; lanes = lanes }
+
+    -- ---- the claims
+
+    near_then : AllAreNear g'
+    near_then v known = elim (stay v known) [
+      | inl unmoved ↦
+          let (d, far, close) = near v (lived g g' well well' left v known) in (d, unmoved.far d far, close)
+      | inr (cut, dark) ↦
+          let (e, here_far) = distance_exists g' v well' known in
+          let zero_is = at_zero g' v e well' cut here_far in (e, here_far, omega (arith, zero_is))
+    ]
+
+    -- all systems live that did
+    farther_then : LostAreFarther g g'
+    farther_then p q joins lives gone =
+        absurd (gone (subst (λ (systems : List System). In p.clock (map (λ (s : System). s.clock) systems))
+        (sym keeps.systems) (Joins-clock g p q well joins)))
+
+    module _ (next : ℕ) (pace : KeepPace p) (measured' : LinkIsMeasured w') (past : next ≤ w.time)
+        (delay : delay_in w' ≡ delay_in w) (way : pred (path_bound g') * delay_in w' ≤ w'.time)
+        (sound : IsSoundWorld w) (ready' : AreReadyBy p next w') (silent : AreSilentBy p next w) where
+      by_now : next ≤ w'.time
+      by_now = let time = told.time in omega (arith, past, time)
+
+      standing_then : IsStanding p next w'
+      standing_then = record {
+        pace = pace;
+        world = is';
+        measured = measured';
+        off = silent_are_off p next w' (silent_down p w is place channel here draws w' is' k next silent);
+      }
+
+      asked_then : HaveAskedLong w'
+      asked_then at stands =
+          let (first, by) = ready_first p next w' is' by_now at (ready' at stands) in
+          let change = keeps.change in
+          (first, next, omega (arith, past, change), record { is = by; late = by_now })
+
+      -- ports that no link is at are off
+      unlinked_then : HaveQuietLinks p.params w' → UnlinkedHoldNothing g' (view w')
+      unlinked_then quiet' i s place r there live none (q, at, holds) =
+          let calm : Calm (start_network p 0 next w') (view w') =
+          start_calm p next w' standing_then (asked_heard p next w' asked_then) quiet' 0 in
+          let off : q.held ≡ Disabled = ((calm.stations i s there live).ports place q at).unlinked by_now none in
+          absurd (let both : Received r ≡ Disabled = sym holds ∙ off in cc)
+
+      pub lowered_left : IsLeftAlways p g next w'
+      lowered_left =
+          begins_left p g next w w' is' well seen less left left (wires (left_network p next w') delay refl)
+          (sound_fits p w seen sound) standing_then asked_then unlinked_then near_then farther_then way
 
 -- ---- the act
 
@@ -544,30 +578,36 @@ module _ (p : SettlingParams) (next owner port : ℕ) (w : WorldState) (draws : 
       → (direction : Direction) × (sender direction channel ≡ port_id owner port)
   begins_at place channel at = elim at.joined [ inl a ↦ (FromA, a) | inr b ↦ (FromB, b) ]
 
-  module _ (up : at_link.channel.up ≡ true) (seen : IsSettledSeen p w) (near : AllAreNear (snapshot_of w)) where
-    ends : TellsEnds PortDown at_link.channel
+  module _ (up : at_link.channel.up ≡ true) where
+    pub ends : TellsEnds PortDown at_link.channel
         (record w { net = taken_down at_link.place at_link.channel w.net; last_change = w.time }) draws w'
     ends =
         subst (λ b. GoesDownIf b at_link.place at_link.channel (record w { last_change = w.time }) draws w') up
         at_link.so
 
-    stands : StayOrAreAlone w w'
-        → StandsReduced (record w { net = taken_down at_link.place at_link.channel w.net; last_change = w.time }) w'
-    stands stay = told p w is at_link.place at_link.channel at_link.is.here draws w' is' ends seen near stay
-
     -- a link that stands then is another
-    pub other : StayOrAreAlone w w' → (at : LinkPlace) → LinkStandsAt at w' → IsOtherLink at (port_id owner port) w
-    other stay at s place channel at_port same =
+    pub other : (at : LinkPlace) → LinkStandsAt at w' → IsOtherLink at (port_id owner port) w
+    other at s place channel at_port same =
         let (way, begins) = begins_at place channel at_port in
         let (direction, starts) = begins_at at_link.place at_link.channel at_link.is in
         let one : place ≡ at_link.place =
         is.sound.wired.apart place at_link.place way direction channel at_link.channel at_port.here at_link.is.here
         (begins ∙ sym starts) in
-        up_apart p w is at_link.place at_link.channel at_link.is.here draws w' is' ends (stands stay).channels at.link
-        s.channel s.here s.up (sym same ∙ one)
+        up_apart p w is at_link.place at_link.channel at_link.is.here draws w' is' ends at.link s.channel s.here s.up
+        (sym same ∙ one)
 
-    module _ (quiet : HaveQuietLinks p.params w) (past : next ≤ w.time) (ready : AreReadyBy p next w)
-        (silent : AreSilentBy p next w)
+    -- ports beside failed systems stay silent
+    pub silent_on : AreSilentBy p next w → AreSilentBy p next w'
+    silent_on = silent_down p w is at_link.place at_link.channel at_link.is.here draws w' is' ends next
+
+    -- ports at links that are left are ready as they were
+    pub ready_on : AreReadyBy p next w → AreReadyBy p next w'
+    ready_on ready at s =
+        ready_goes_through p next at (Changing (LinkDown owner port)) w w' draws done is.sound measured (other at s)
+        acts (ready at (stood_down p w is at_link.place at_link.channel at_link.is.here draws w' is' ends at s))
+
+    module _ (seen : IsSettledSeen p w) (near : AllAreNear (snapshot_of w)) (quiet : HaveQuietLinks p.params w)
+        (past : next ≤ w.time) (ready : AreReadyBy p next w) (silent : AreSilentBy p next w)
         (unmoved : (v : ℕ) → In v (clocks (snapshot_of w')) → IsUnmovedOrCutOff (snapshot_of w) (snapshot_of w') v)
       where
         -- ports that no link was at were off
@@ -578,21 +618,19 @@ module _ (p : SettlingParams) (next owner port : ℕ) (w : WorldState) (draws : 
             let (first, by) = ready_first p next w is past at (ready at stands) in
             inr (inr (inr (first, next, record { is = by; late = past })))) in
             let calm : Calm (start_network p 0 next w) (view w) =
-            start_calm p next w (record { pace = pace; world = is; measured = measured; silent = silent }) heard quiet
-            0 in
+            start_calm p next w (record {
+              pace = pace;
+              world = is;
+              measured = measured;
+              off = silent_are_off p next w silent;
+            }) heard quiet 0 in
             ((calm.stations i s there live).ports place q at).unlinked past unlinked
 
-        stay : StayOrAreAlone w w'
+        pub stay : StayOrAreAlone w w'
         stay v known = elim (unmoved v known) [ inl is ↦ inl is | inr cut ↦ inr (cut, dark) ]
 
         pub act_left : delay_in w' ≡ delay_in w → pred (path_bound (snapshot_of w')) * delay_in w' ≤ w'.time
             → IsSoundWorld w → IsLeftAlways p (snapshot_of w) next w'
         act_left delay way sound =
             lowered_left p w is at_link.place at_link.channel at_link.is.here draws w' is' ends seen near stay next
-            pace measured' past delay way sound
-            (λ at s.
-            ready_goes_through p next at (Changing (LinkDown owner port)) w w' draws done is.sound measured
-            (other stay at s) acts (ready at
-            (stood_down p w is at_link.place at_link.channel at_link.is.here draws w' is' ends (stands stay).channels
-            at s)))
-            silent
+            pace measured' past delay way sound (ready_on ready) silent

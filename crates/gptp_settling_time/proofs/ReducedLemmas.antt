@@ -6,10 +6,11 @@ use Rattle.gptp_lists.specs.Members.{In}
 use Rattle.gptp_graph.specs.Distance.{IsDistance}
 use Rattle.gptp_graph.specs.Snapshot.{Adjacent, IsLinked, IsWellFormed, Joins, PortIdentity, Snapshot, System, clocks, port_of}
 use Rattle.gptp_graph.proofs.BestLemmas.{IsBest-neighbour}
-use Rattle.gptp_graph.proofs.DistanceLemmas.{best_at_zero, nearer_neighbour}
+use Rattle.gptp_graph.proofs.DistanceLemmas.{IsDistance-clock, IsDistance-unique, best_at_zero, nearer_neighbour}
+use Rattle.gptp_graph.proofs.ExistenceLemmas.{distance_exists}
 use Rattle.gptp_graph.proofs.LinkLemmas.{Joins-clock, Joins-sym}
 use Rattle.gptp_graph.proofs.PathBoundLemmas.{IsDistance-within}
-use Rattle.gptp_graph.proofs.SystemLemmas.{same_clock}
+use Rattle.gptp_graph.proofs.SystemLemmas.{In-clocks, same_clock, system_of}
 use Rattle.gptp_bmca_machine.specs.Calm.{Calm}
 use Rattle.gptp_bmca_machine.specs.Clean.{CameFits}
 use Rattle.gptp_bmca_machine.specs.Facts.{station_system}
@@ -157,15 +158,29 @@ HoldsAsMuch g s =
     ⊎ ((p : ℕ) × (r : Reception) × IsLinked g (port_of s.clock (suc p)) × HoldsAt s p r × (r.said.root ≡ s.root)
     × (suc r.said.steps ≡ s.steps))
 
+-- the second snapshot has systems and links of the first alone
+pub record IsLess (g g' : Snapshot) : Type 0 where
+  pub systems : (s : System) → In s g'.systems → In s g.systems
+  pub links : (p q : PortIdentity) → Joins g' p q → Joins g p q
+
+-- the neighbours that are nearer than the system are unmoved
+abbrev pub NearerStay : Snapshot → Snapshot → ℕ → Type 0
+NearerStay g g' v = (y e : ℕ) → Adjacent g' v y → IsDistance g' y e → IsDistance g' v (suc e) → IsUnmoved g g' y
+
 module _ (says : Spelling) (n : Network) (net : IsSettlingNetwork n) (w : MachineState) (calm : Calm n w)
     (invariant : Invariant says n w) (late : settled_from n ≤ w.time) (g : Snapshot) (well : IsWellFormed g)
-    (left : IsLeftUnmoved n.graph g) (i : ℕ) (s : Station) (at : slice_get w.stations i ≡ Some s)
-    (live : s.live ≡ true) (unmoved : IsUnmoved n.graph g s.clock) where
+    (left : IsLess n.graph g) (i : ℕ) (s : Station) (at : slice_get w.stations i ≡ Some s) (live : s.live ≡ true)
+    (unmoved : IsUnmoved n.graph g s.clock) (beside : NearerStay n.graph g s.clock) where
   at_place : slice_get w.stations (n.place s.clock) ≡ Some s
   at_place = subst (λ k. slice_get w.stations k ≡ Some s) (calm.placed i s at) at
 
   was_far : (v e : ℕ) → IsUnmoved n.graph g v → IsDistance g v e → IsDistance n.graph v e
-  was_far = distance_before n.graph g net.graph well left
+  was_far v e stays there =
+      let (x, here, clock) = system_of g v (IsDistance-clock g v e well there) in
+      let known : In v (clocks n.graph) =
+      subst (λ c. In c (clocks n.graph)) clock (In-clocks n.graph x (left.systems x here)) in
+      let (f, was) = distance_exists n.graph v net.graph known in
+      subst (IsDistance n.graph v) (IsDistance-unique g v f e well (stays.far f was) there) was
 
   by_now : (e : ℕ) → IsDistance n.graph s.clock e → since n e ≤ w.time
   by_now e here =
@@ -199,9 +214,7 @@ module _ (says : Spelling) (n : Network) (net : IsSettlingNetwork n) (w : Machin
             (subst (λ j. Joins g (port_of s.clock j) (port_of y k)) is_p joins) in
             let was : Joins n.graph (port_of s.clock (suc p)) (port_of y (suc q)) =
             left.links (port_of s.clock (suc p)) (port_of y (suc q)) over in
-            let back = Joins-sym g (port_of s.clock (suc p)) (port_of y (suc q)) over in
-            let stays : IsUnmoved n.graph g y =
-            joined_stays n.graph g net.graph well left (port_of y (suc q)) (port_of s.clock (suc p)) back in
+            let stays : IsUnmoved n.graph g y = beside y e (suc p, suc q, over) nearer here in
             let best = far.best in
             let leads : LeadsFarther n.graph e best y q s.clock p =
             record {

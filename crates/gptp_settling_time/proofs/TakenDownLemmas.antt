@@ -1,11 +1,13 @@
 -- A link is taken down, and its ends are told: what stands elsewhere stood before, and ports beside failed systems stay
 -- silent.
 use Rattle.std.proofs.Common.{◌≡◌, ◌≢◌, ◌+◌, ℕ, Bool, true, false, List, map, Some, slice_get, slice_set, refl, sym, ap, subst, ◌∙◌, inl, inr}
+use Rattle.std.specs.Prelude.{max}
 use Rattle.std.proofs.lemmas.Option.{same_Some}
 use Rattle.gptp_lists.proofs.MappedLemmas.{alike, same_there}
 use Rattle.gptp_lists.proofs.PlaceLemmas.{get-set_other, get-set_same, map-set_same}
 use Rattle.gptp_vector.specs.declared.port.PortId.{PortId}
 use Rattle.gptp_links.specs.declared.link.Direction.{Direction}
+use Rattle.gptp_links.specs.declared.link.Direction.TheVariants.{FromA, FromB}
 use Rattle.gptp_links.specs.Fate.{Draw}
 use Rattle.gptp_setup.specs.Intervals.{interval_of}
 use Rattle.gptp_setup.specs.SettlingParams.{SettlingParams, largest_interval}
@@ -20,24 +22,35 @@ use Rattle.gptp_model.specs.declared.station.Station.{Station}
 use Rattle.gptp_model.specs.Sound.{HaveOwnClocks}
 use Rattle.gptp_model.specs.World.{Channel, WorldState, receiver, sender}
 use Rattle.gptp_model.proofs.ActsByLemmas.{join_among}
+use Rattle.gptp_model.proofs.BareLemmas.{bare}
 use Rattle.gptp_model.proofs.EndLemmas.{each_end_told}
 use Rattle.gptp_model.proofs.StayLemmas.{JoinTheSame, begins_same, join_on, set_join, stays_clocks}
 use Rattle.gptp_model.proofs.SteadyLemmas.{same_clock}
 use Rattle.gptp_pdelay_machine.specs.Setting.{Setting}
 use Rattle.gptp_pdelay_machine.specs.Silence.{InvUnanswered}
 use Rattle.gptp_invariants.specs.ChoiceSettlesAsMachine.{IsWorld}
-use Rattle.gptp_invariants.specs.DelayLinkView.{LinkPlace, asker_view}
+use Rattle.gptp_invariants.specs.DelayLinkView.{LinkPlace, asker_view, other_direction}
 use Rattle.gptp_invariants.specs.DelayMeasured.{LinkStandsAt, StationIsLiveAt}
-use Rattle.gptp_invariants.specs.FailedUnanswered.{IsFailedAmong, IsNeverAnswered, IsSilent, IsUnansweredAt, StandsUnanswered, silent_setting, silent_view}
-use Rattle.gptp_invariants.specs.WorldNews.{AreSilentBy}
+use Rattle.gptp_invariants.specs.FailedUnanswered.{IsFailedAmong, IsNeverAnswered, IsOldBy, IsSilent, IsUnansweredAt, StandsUnanswered, silent_setting, silent_view}
+use Rattle.gptp_invariants.specs.WorldNews.{AreSilentBy, IsSilentBy}
 use Rattle.gptp_invariants.proofs.ChoiceCalmKeptLemmas.{KeepsNetwork, calls_keep, keeps_on, net_keeps}
 use Rattle.gptp_invariants.proofs.FailedNeverAnsweredLemmas.{never_called}
 use Rattle.gptp_invariants.proofs.FailedUnansweredCallLemmas.{CallStep, call_seen, view_stays}
+use Rattle.gptp_settling_time.proofs.LastAnsweredLemmas.{AreOffBy, IsLastAnswered, IsSince, last_then}
 use Rattle.gptp_settling_time.proofs.LinkStoodLemmas.{stood_in, stood_untold}
 use Rattle.gptp_settling_time.proofs.ReactsLemmas.{lives_as}
 use Rattle.gptp_settling_time.proofs.SamePartsLemmas.{of_down}
 
 -- ---- the network
+
+-- its ends don't depend on what is in flight
+sender_bare : (direction : Direction) (a b : Channel) → bare a ≡ bare b → sender direction a ≡ sender direction b
+sender_bare FromA a b same = ap (λ (c : Channel). c.a) same
+sender_bare FromB a b same = ap (λ (c : Channel). c.b) same
+
+receiver_bare : (direction : Direction) (a b : Channel) → bare a ≡ bare b → receiver direction a ≡ receiver direction b
+receiver_bare FromA a b same = ap (λ (c : Channel). c.b) same
+receiver_bare FromB a b same = ap (λ (c : Channel). c.a) same
 
 if_live_keeps : (place port : ℕ) (w : WorldState) (draws : List Draw) (w' : WorldState)
     → CallsIfLive place (PortDown port) w draws w' → KeepsNetwork w w'
@@ -53,7 +66,7 @@ told_keeps channel w draws w' k =
     (if_live_keeps k.place_b channel.b.port k.between k.second w' k.at_b)
 
 -- all systems live and are named as they were
-if_live_stand : (place port : ℕ) (w : WorldState) (draws : List Draw) (w' : WorldState)
+pub if_live_stand : (place port : ℕ) (w : WorldState) (draws : List Draw) (w' : WorldState)
     → CallsIfLive place (PortDown port) w draws w' → map lives_as w'.stations ≡ map lives_as w.stations
 if_live_stand place port w draws w' (inl (answer, c)) =
     let named = same_clock (PortDown port) w.time c.station.system c.after c.sends answer c.steps in
@@ -72,153 +85,212 @@ told_stand channel w draws w' k =
 
 module _ (gone : ℕ) (at : LinkPlace) (place : ℕ) (port : PortId) (w : WorldState) (draws : List Draw) (w' : WorldState)
     (named : (station : Station) → slice_get w.stations place ≡ Some station → clock station.system ≡ port.clock)
-    (clocks : HaveOwnClocks w) (is : IsSilent gone at w) (apart : sender at.direction is.link.channel ≢ port) where
+    (clocks : HaveOwnClocks w) (l : IsUnansweredAt at w) (old : IsOldBy gone at w l)
+    (apart : sender at.direction l.channel ≢ port) where
   module _ (answer : Answer) (k : Calls place (PortDown port.port) w draws answer w') where
-    step : CallStep place (PortDown port.port) gone at w w' is.link
-    step = call_seen gone at place (PortDown port.port) w draws answer w' k clocks is.link is.old (λ same. tt)
+    step : CallStep place (PortDown port.port) gone at w w' l
+    step = call_seen gone at place (PortDown port.port) w draws answer w' k clocks l old (λ same. tt)
 
-    other : at.asking ≡ place → (sender at.direction is.link.channel).port ≢ port.port
+    other : at.asking ≡ place → (sender at.direction l.channel).port ≢ port.port
     other same number_is =
-        let clock_is : (sender at.direction is.link.channel).clock ≡ port.clock =
-        sym is.link.asking.named
-        ∙ named is.link.asking.station (ap (slice_get w.stations) (sym same) ∙ is.link.asking.here) in
+        let clock_is : (sender at.direction l.channel).clock ≡ port.clock =
+        sym l.asking.named ∙ named l.asking.station (ap (slice_get w.stations) (sym same) ∙ l.asking.here) in
         apart (λ i. record { clock = clock_is i; port = number_is i })
 
-    same_part : measure_at step.after.asking.state ≡ measure_at is.link.asking.state
+    same_part : measure_at step.after.asking.state ≡ measure_at l.asking.state
     same_part = elim step.part [
-      | inl called ↦ of_down.leaves is.link.asking.station.system w.time port.port
-          (sender at.direction is.link.channel).port (measure_at is.link.asking.state)
-          (measure_at step.after.asking.state) (other called.0) called.1
+      | inl called ↦ of_down.leaves l.asking.station.system w.time port.port (sender at.direction l.channel).port
+          (measure_at l.asking.state) (measure_at step.after.asking.state) (other called.0) called.1
       | inr left ↦ left.1
     ]
 
-    same_view : silent_view at w' step.after ≡ silent_view at w is.link
-    same_view = view_stays step (ap (asker_view (interval_of is.link.asking.station.setup.params.pdelay)) same_part)
+    same_view : silent_view at w' step.after ≡ silent_view at w l
+    same_view = view_stays step (ap (asker_view (interval_of l.asking.station.setup.params.pdelay)) same_part)
 
-    called_silent : IsSilent gone at w'
-    called_silent = record {
+    called_silent : InvUnanswered (silent_setting at w l) gone (silent_view at w l) → IsSilent gone at w'
+    called_silent inv = record {
       link = step.after;
       old = step.old;
       inv = subst (λ (x : Setting). InvUnanswered x gone (silent_view at w' step.after)) (sym step.settled)
-          (subst (InvUnanswered (silent_setting at w is.link) gone) (sym same_view) is.inv);
+          (subst (InvUnanswered (silent_setting at w l) gone) (sym same_view) inv);
     }
+
+-- so it is where its last request that is answered is known
+abbrev IsLastBy : ℕ → ℕ → LinkPlace → WorldState → Type 0
+IsLastBy gone sent at w = (last : IsLastAnswered sent at w) × IsOldBy gone at w last.link
+
+called_last : (gone sent : ℕ) (at : LinkPlace) (place : ℕ) (port : PortId) (w : WorldState) (draws : List Draw)
+    (w' : WorldState)
+    → ((station : Station) → slice_get w.stations place ≡ Some station → clock station.system ≡ port.clock)
+    → HaveOwnClocks w → (is : IsLastBy gone sent at w) → sender at.direction is.0.link.channel ≢ port
+    → (answer : Answer) → Calls place (PortDown port.port) w draws answer w' → IsLastBy gone sent at w'
+called_last gone sent at place port w draws w' named clocks (last, old) apart answer k =
+    let x = step gone at place port w draws w' named clocks last.link old apart answer k in
+    let same = same_view gone at place port w draws w' named clocks last.link old apart answer k in (
+      last_then sent at w w' last x.after x.settled x.fewer
+          (subst (IsSince (silent_setting at w last.link) sent) (sym same) last.since),
+      x.old,
+    )
 
 -- ---- the link goes down
 
 module _ (p : SettlingParams) (w : WorldState) (is : IsWorld p w) (place : ℕ) (channel : Channel)
     (here : slice_get w.net.channels place ≡ Some channel) (draws : List Draw) (w' : WorldState) (is' : IsWorld p w')
     (k : TellsEnds PortDown channel (record w { net = taken_down place channel w.net; last_change = w.time }) draws w')
-    (channels_now : w'.net.channels ≡ slice_set w.net.channels place (lost channel)) where
-  abbrev taken : WorldState
-  taken = record w { net = taken_down place channel w.net; last_change = w.time }
+  where
+    abbrev taken : WorldState
+    taken = record w { net = taken_down place channel w.net; last_change = w.time }
 
-  -- what is up is another link
-  pub up_apart : (link : ℕ) (other : Channel) → slice_get w'.net.channels link ≡ Some other → other.up ≡ true
-      → link ≢ place
-  up_apart link other there is_up same =
-      let one : other ≡ lost channel =
-      same_Some other (lost channel)
-      (sym there ∙ ap (λ cs. slice_get cs link) channels_now
-      ∙ ap (slice_get (slice_set w.net.channels place (lost channel))) same
-      ∙ get-set_same w.net.channels place channel (lost channel) here) in
-      let both : true ≡ false = sym is_up ∙ ap (λ (c : Channel). c.up) one in
-      cc
+    keeps : KeepsNetwork taken w'
+    keeps = told_keeps channel taken draws w' k
 
-  pub stood_down : (at : LinkPlace) → LinkStandsAt at w' → LinkStandsAt at w
-  stood_down at s =
-      let old = stood_untold p w (taken_down place channel w.net) w' is is'
-      (told_keeps channel taken draws w' k) at s in
-      let apart = up_apart at.link old.channel
-      (ap (λ cs. slice_get cs at.link) channels_now ∙ old.here) old.up in
-      stood_in at taken w old refl (sym (get-set_other w.net.channels place at.link (lost channel) apart) ∙ old.here)
+    -- the link that is taken is down
+    taken_apart : (link : ℕ) (other : Channel) → slice_get taken.net.channels link ≡ Some other → other.up ≡ true
+        → link ≢ place
+    taken_apart link other there is_up same =
+        let one : other ≡ lost channel =
+        same_Some other (lost channel)
+        (sym there ∙ ap (slice_get (slice_set w.net.channels place (lost channel))) same
+        ∙ get-set_same w.net.channels place channel (lost channel) here) in
+        let both : true ≡ false = sym is_up ∙ ap (λ (c : Channel). c.up) one in
+        cc
 
-  -- ---- ports beside failed systems
+    -- what stands is as it was but for what is in flight
+    stood_so : (link : ℕ) (other : Channel) → slice_get w'.net.channels link ≡ Some other
+        → (old : Channel) × (slice_get taken.net.channels link ≡ Some old) × (bare old ≡ bare other)
+    stood_so link other there = alike bare bare taken.net.channels w'.net.channels (sym keeps.links) link other there
 
-  stand : map lives_as w'.stations ≡ map lives_as w.stations
-  stand = told_stand channel taken draws w' k
+    -- what is up is another link
+    pub up_apart : (link : ℕ) (other : Channel) → slice_get w'.net.channels link ≡ Some other → other.up ≡ true
+        → link ≢ place
+    up_apart link other there is_up =
+        let (old, old_there, same) = stood_so link other there in
+        taken_apart link old old_there (ap (λ (c : Channel). c.up) same ∙ is_up)
 
-  lived : (at number : ℕ) → StationIsLiveAt at number w' → StationIsLiveAt at number w
-  lived at number x =
-      let (old, old_here, same) = alike lives_as lives_as w.stations w'.stations (sym stand) at x.station x.here in
-      record {
-        station = old;
-        here = old_here;
-        live = ap (λ (y : Bool × ℕ). y.0) same ∙ x.live;
-        named = ap (λ (y : Bool × ℕ). y.1) same ∙ x.named;
+    pub stood_down : (at : LinkPlace) → LinkStandsAt at w' → LinkStandsAt at w
+    stood_down at s =
+        let old = stood_untold p w (taken_down place channel w.net) w' is is' keeps at s in
+        let apart = taken_apart at.link old.channel old.here old.up in
+        stood_in at taken w old refl (sym (get-set_other w.net.channels place at.link (lost channel) apart) ∙ old.here)
+
+    -- ---- ports beside failed systems
+
+    stand : map lives_as w'.stations ≡ map lives_as w.stations
+    stand = told_stand channel taken draws w' k
+
+    lived : (at number : ℕ) → StationIsLiveAt at number w' → StationIsLiveAt at number w
+    lived at number x =
+        let (old, old_here, same) = alike lives_as lives_as w.stations w'.stations (sym stand) at x.station x.here in
+        record {
+          station = old;
+          here = old_here;
+          live = ap (λ (y : Bool × ℕ). y.0) same ∙ x.live;
+          named = ap (λ (y : Bool × ℕ). y.1) same ∙ x.named;
+        }
+
+    had_failed : (at number : ℕ) → IsFailedAmong at number w'.stations → IsFailedAmong at number w.stations
+    had_failed at number x =
+        let (old, old_here, same) = alike lives_as lives_as w.stations w'.stations (sym stand) at x.station x.here in
+        record {
+          station = old;
+          here = old_here;
+          failed = ap (λ (y : Bool × ℕ). y.0) same ∙ x.failed;
+          named = ap (λ (y : Bool × ℕ). y.1) same ∙ x.named;
+        }
+
+    module _ (at : LinkPlace) (s : StandsUnanswered at w') where
+      apart : at.link ≢ place
+      apart = up_apart at.link s.channel s.here s.up
+
+      before : StandsUnanswered at w
+      before =
+          let (old, old_there, same) = stood_so at.link s.channel s.here in
+          record {
+            channel = old;
+            here = sym (get-set_other w.net.channels place at.link (lost channel) apart) ∙ old_there;
+            up = ap (λ (c : Channel). c.up) same ∙ s.up;
+            asking = lived at.asking (sender at.direction old).clock
+                (subst (λ (e : PortId). StationIsLiveAt at.asking e.clock w')
+                (sym (sender_bare at.direction old s.channel same)) s.asking);
+            answering = had_failed at.answering (receiver at.direction old).clock
+                (subst (λ (e : PortId). IsFailedAmong at.answering e.clock w'.stations)
+                (sym (receiver_bare at.direction old s.channel same)) s.answering);
+          }
+
+      joins : JoinTheSame w.net.channels taken.net.channels
+      joins = set_join w.net.channels place channel (lost channel) here refl refl
+
+      -- its port is none of the link that goes down
+      no_end : (v : WorldState) → JoinTheSame w.net.channels v.net.channels → (l : IsUnansweredAt at v)
+          (way : Direction) → sender at.direction l.channel ≢ sender way channel
+      no_end v on l way same =
+          let was = on at.link l.channel l.here in
+          apart (is.sound.wired.apart at.link place at.direction way was.old channel was.here here
+          (sym (begins_same w.net.channels at.link at.direction l.channel was) ∙ same))
+
+      ports : (direction : Direction) → IsPortAmong (sender direction channel) taken.stations
+      ports = join_among w place channel is.sound.wired.ports here
+
+      link_taken : (l : IsUnansweredAt at w) → IsUnansweredAt at taken
+      link_taken l = record {
+        channel = l.channel;
+        here = get-set_other w.net.channels place at.link (lost channel) apart ∙ l.here;
+        up = l.up;
+        asking = l.asking;
+        answering = l.answering;
       }
 
-  had_failed : (at number : ℕ) → IsFailedAmong at number w'.stations → IsFailedAmong at number w.stations
-  had_failed at number x =
-      let (old, old_here, same) = alike lives_as lives_as w.stations w'.stations (sym stand) at x.station x.here in
-      record {
-        station = old;
-        here = old_here;
-        failed = ap (λ (y : Bool × ℕ). y.0) same ∙ x.failed;
-        named = ap (λ (y : Bool × ℕ). y.1) same ∙ x.named;
-      }
+      silent_at : (gone : ℕ) → IsSilent gone at w → IsSilent gone at w'
+      unfolding link_taken
+      silent_at gone one =
+          each_end_told PortDown channel taken (IsSilent gone at)
+          (λ direction q v ds answer v' c stays named number so.
+          called_silent gone at q (sender direction channel) v ds v'
+          (λ station there.
+          ap (λ (x : Station). clock x.system) (same_there v.stations q station c.station there c.here) ∙ named)
+          (stays_clocks taken v stays is.sound.wired.clocks) so.link so.old
+          (no_end v (join_on w.net.channels taken.net.channels v.net.channels joins stays.links) so.link direction)
+          answer c so.inv) is.sound.wired.setups ports draws w' k
+          (record { link = link_taken one.link; old = one.old; inv = one.inv })
 
-  module _ (at : LinkPlace) (s : StandsUnanswered at w') where
-    apart : at.link ≢ place
-    apart = up_apart at.link s.channel s.here s.up
+      last_at : (sent : ℕ) → IsLastAnswered sent at w → IsLastAnswered sent at w'
+      unfolding link_taken
+      last_at sent one =
+          let gone : ℕ = max (w.time + one.link.channel.bounds.max) (w.last_change + largest_interval p) in
+          (each_end_told PortDown channel taken (IsLastBy gone sent at)
+          (λ direction q v ds answer v' c stays named number so.
+          called_last gone sent at q (sender direction channel) v ds v'
+          (λ station there.
+          ap (λ (x : Station). clock x.system) (same_there v.stations q station c.station there c.here) ∙ named)
+          (stays_clocks taken v stays is.sound.wired.clocks) so
+          (no_end v (join_on w.net.channels taken.net.channels v.net.channels joins stays.links) so.0.link direction)
+          answer c) is.sound.wired.setups ports draws w' k (
+            record { link = link_taken one.link; replies = one.replies; since = one.since },
+            λ f member.
+                is.known.fresh.frames at.link (other_direction at.direction) one.link.channel f one.link.here member,
+          )).0
 
-    before : StandsUnanswered at w
-    before = record {
-      channel = s.channel;
-      here = sym (get-set_other w.net.channels place at.link (lost channel) apart)
-          ∙ ap (λ cs. slice_get cs at.link) (sym channels_now) ∙ s.here;
-      up = s.up;
-      asking = lived at.asking (sender at.direction s.channel).clock s.asking;
-      answering = had_failed at.answering (receiver at.direction s.channel).clock s.answering;
-    }
+      never_at : IsNeverAnswered at w → IsNeverAnswered at w'
+      unfolding link_taken
+      never_at one =
+          each_end_told PortDown channel taken (IsNeverAnswered at)
+          (λ direction q v ds answer v' c stays named number so.
+          never_called at q (PortDown (sender direction channel).port) v ds answer v' c
+          (stays_clocks taken v stays is.sound.wired.clocks) so (λ same. tt) (λ same. tt)) is.sound.wired.setups ports
+          draws w' k
+          (record { link = link_taken one.link; mute = one.mute; unmeasured = one.unmeasured })
 
-    joins : JoinTheSame w.net.channels taken.net.channels
-    joins = set_join w.net.channels place channel (lost channel) here refl refl
+    silent_still : (start : ℕ) (at : LinkPlace) → StandsUnanswered at w' → IsSilentBy p start at w
+        → IsSilentBy p start at w'
+    silent_still start at s (inl never) = inl (never_at at s never)
+    silent_still start at s (inr (change, one, soon)) =
+        inr (change, silent_at at s (change + largest_interval p) one, soon)
 
-    -- its port is none of the link that goes down
-    no_end : (v : WorldState) → JoinTheSame w.net.channels v.net.channels → (l : IsUnansweredAt at v)
-        (way : Direction) → sender at.direction l.channel ≢ sender way channel
-    no_end v on l way same =
-        let was = on at.link l.channel l.here in
-        apart (is.sound.wired.apart at.link place at.direction way was.old channel was.here here
-        (sym (begins_same w.net.channels at.link at.direction l.channel was) ∙ same))
+    pub silent_down : (start : ℕ) → AreSilentBy p start w → AreSilentBy p start w'
+    silent_down start silent at s = silent_still start at s (silent at (before at s))
 
-    ports : (direction : Direction) → IsPortAmong (sender direction channel) taken.stations
-    ports = join_among w place channel is.sound.wired.ports here
-
-    link_taken : (l : IsUnansweredAt at w) → IsUnansweredAt at taken
-    link_taken l = record {
-      channel = l.channel;
-      here = get-set_other w.net.channels place at.link (lost channel) apart ∙ l.here;
-      up = l.up;
-      asking = l.asking;
-      answering = l.answering;
-    }
-
-    silent_at : (gone : ℕ) → IsSilent gone at w → IsSilent gone at w'
-    unfolding link_taken
-    silent_at gone one =
-        each_end_told PortDown channel taken (IsSilent gone at)
-        (λ direction q v ds answer v' c stays named number so.
-        called_silent gone at q (sender direction channel) v ds v'
-        (λ station there.
-        ap (λ (x : Station). clock x.system) (same_there v.stations q station c.station there c.here) ∙ named)
-        (stays_clocks taken v stays is.sound.wired.clocks) so
-        (no_end v (join_on w.net.channels taken.net.channels v.net.channels joins stays.links) so.link direction)
-        answer c) is.sound.wired.setups ports draws w' k
-        (record { link = link_taken one.link; old = one.old; inv = one.inv })
-
-    never_at : IsNeverAnswered at w → IsNeverAnswered at w'
-    unfolding link_taken
-    never_at one =
-        each_end_told PortDown channel taken (IsNeverAnswered at)
-        (λ direction q v ds answer v' c stays named number so.
-        never_called at q (PortDown (sender direction channel).port) v ds answer v' c
-        (stays_clocks taken v stays is.sound.wired.clocks) so (λ same. tt) (λ same. tt)) is.sound.wired.setups ports
-        draws w' k
-        (record { link = link_taken one.link; mute = one.mute; unmeasured = one.unmeasured })
-
-  pub silent_down : (start : ℕ) → AreSilentBy p start w → AreSilentBy p start w'
-  silent_down start silent at s = elim (silent at (before at s)) [
-    | inl never ↦ inl (never_at at s never)
-    | inr (change, one, soon) ↦ inr (change, silent_at at s (change + largest_interval p) one, soon)
-  ]
+    pub off_down : (start : ℕ) → AreOffBy p start w → AreOffBy p start w'
+    off_down start off at s = elim (off at (before at s)) [
+      | inl silent ↦ inl (silent_still start at s silent)
+      | inr (sent, last, soon) ↦ inr (sent, last_at at s sent last, soon)
+    ]

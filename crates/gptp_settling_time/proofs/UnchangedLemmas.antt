@@ -6,7 +6,8 @@ use Rattle.gptp_network.specs.Snapshot.{events_by}
 use Rattle.gptp_settling_time.specs.InTurn.{ChoosesAfter, SettlesAfter}
 use Rattle.gptp_settling_time.specs.Unchanged.{ActsLeaveChoice, ActsLeaveShown}
 use Rattle.gptp_settling_time.proofs.DocumentLemmas.{run_to}
-use Rattle.gptp_settling_time.proofs.InTurnLemmas.{IsAfter, after_chooses, after_keeps, after_later, after_settles, passed_in_turn}
+use Rattle.gptp_settling_time.proofs.AfterLemmas.{IsAfter, after_chooses, after_keeps, after_later, after_settles}
+use Rattle.gptp_settling_time.proofs.InTurnLemmas.{passed_in_turn}
 use Rattle.gptp_settling_time.proofs.StepLemmas.{step_leaves, step_leaves_choice}
 
 pub acts_leave_shown : {F : Type 0} (answers : Bounds → ℕ → F → Option ℕ → F → Type 0) → ActsLeaveShown answers

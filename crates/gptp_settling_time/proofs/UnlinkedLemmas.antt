@@ -45,8 +45,9 @@ LostAreFarther g g' = (p q : PortIdentity) → Joins g p q → In q.clock (clock
     → IsUnmoved g g' q.clock × IsFarther g p q
 
 -- what a port received after a touch it had received before, or it just heard an Announce that replaces what it held
-mid_taken : (c n now : ℕ) (touch : StationTouch) (held mid : Held) (r : Reception) → HeldInTouch c n touch now held mid
-    → mid ≡ Received r → (held ≡ Received r) ⊎ ((a : Announce) × (touch ≡ Hear n a) × Replaces c n a held)
+pub mid_taken : (c n now : ℕ) (touch : StationTouch) (held mid : Held) (r : Reception)
+    → HeldInTouch c n touch now held mid → mid ≡ Received r
+    → (held ≡ Received r) ⊎ ((a : Announce) × (touch ≡ Hear n a) × Replaces c n a held)
 mid_taken c n now (Hear m a) held mid r (inl (same, on, inl takes)) e =
     inr (a, (λ i. Hear (sym same i) a), takes.replaces)
 mid_taken c n now (Hear m a) held mid r (inl (same, on, inr refuses)) e = inl (sym refuses.is ∙ e)

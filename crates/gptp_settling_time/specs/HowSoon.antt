@@ -20,8 +20,9 @@
 -- link goes down by it and no system is moved but such as are cut off. Nor does the choice ask for time where by the
 -- first event a system fails that is the far end of each of its links, and no other comes but links that go down of
 -- which an end has failed. Roles stand once the ports beside it aren't capable any more, or at once where no link is up
--- that isn't in use.
-use Rattle.std.specs.Prelude.{◌≡◌, ◌<◌, ◌≤◌, ◌⊎◌, ◌+◌, ◌*◌, ◌==◌, ℕ, ⊤, pred, suc, List, [], ◌∷◌, ◌++◌, filter}
+-- that isn't in use. Where by the one event a link goes down that so moves one system alone, which isn't cut off,
+-- choice and roles ask for twice the greatest delay for each system of a path but one.
+use Rattle.std.specs.Prelude.{◌≡◌, ◌<◌, ◌≤◌, ◌⊎◌, ◌+◌, ◌*◌, ◌==◌, ℕ, ⊤, min, pred, suc, List, [], ◌∷◌, ◌++◌, filter}
 use Rattle.gptp_lists.specs.Members.{In}
 use Rattle.gptp_setup.specs.Intervals.{interval_of}
 use Rattle.gptp_setup.specs.SettlingParams.{SettlingParams, largest_interval}
@@ -39,8 +40,8 @@ use Rattle.gptp_model.specs.World.{port_id}
 use Rattle.gptp_network.specs.Document.{DocumentState}
 use Rattle.gptp_network.specs.Snapshot.{events_by}
 use Rattle.gptp_settling_time.specs.Gains.{ChangesNothing, EndHasFailed, LeavesCapable, TakesNothing}
-use Rattle.gptp_settling_time.specs.InTurn.{AddsHeard, BettersClock, MakesNothing, NoneUsed, TellsNothing, UsedVaryLittle, WidensLink}
-use Rattle.gptp_settling_time.specs.Losses.{FailsFarEnd, LeavesChoice, LowersLink, LowersUnused, UpIsUsed}
+use Rattle.gptp_settling_time.specs.InTurn.{AddsHeard, BettersClock, FlightIsGone, MakesNothing, NoneUsed, TellsNothing, UsedVaryLittle, WidensLink, echo_span}
+use Rattle.gptp_settling_time.specs.Losses.{CutsFarEnd, FailsFarEnd, FailsHeard, LeavesChoice, LowersLink, LowersUnused, TurnsLink, UpIsUsed, aging_span, silence_span}
 
 -- ---- times
 
@@ -174,19 +175,24 @@ BoundsChoice n Sharp events choice =
     ⊎ (NothingLapses n.params
     × ((choice ≡ settling_span_at_once (pace_of n) (sync_paths n events)) ⊎ Sharp)))
 
--- A choice bound at a time, by the times before it, the latest first. The first of all is 0.
-abbrev pub IsChoiceBoundAfter : NetworkState → List Timed → List ℕ → ℕ → ℕ → Type 0
-IsChoiceBoundAfter n events [] time choice =
+-- At time 0 no time comes before.
+abbrev pub BoundsFirst : NetworkState → List Timed → ℕ → ℕ → Type 0
+BoundsFirst n events time choice =
     (time ≡ 0)
     × BoundsChoice n (BoundsStart n (events_by time events) choice) (events_by time events) choice
-IsChoiceBoundAfter n events (last ∷ earlier) time choice =
+
+-- At a later one the time before has bounds of such a kind, and the sharp ones come behind one of them.
+abbrev pub BoundsNext : NetworkState → List Timed → (ℕ → Type 0) → ℕ → ℕ → ℕ → Type 0
+BoundsNext n events Then last time choice =
     (last < time)
     × NoneBetween events last time
     × BoundsChoice n
-    ((choice_then : ℕ) × IsChoiceBoundAfter n events earlier last choice_then
-    × (last + choice_then < time)
-    × BoundsEvents n (events_by last events) (events_at time events) (last + choice_then) time choice)
+    ((then : ℕ) × Then then
+    × (last + then < time)
+    × BoundsEvents n (events_by last events) (events_at time events) (last + then) time choice)
     (events_by time events) choice
+
+-- ---- losses
 
 -- one event comes, which is such a one
 abbrev pub OneEvent : (List Timed → Timed → Type 0) → List Timed → List Timed → Type 0
@@ -198,6 +204,14 @@ OneEvent Is made (event ∷ other ∷ events) = ⊥
 abbrev pub LowersOneLink : NetworkState → List Timed → List Timed → Type 0
 LowersOneLink n = OneEvent (LowersLink n)
 
+-- and it so cuts off a far end
+abbrev pub CutsOneEnd : NetworkState → List Timed → List Timed → Type 0
+CutsOneEnd n = OneEvent (CutsFarEnd n)
+
+-- by it a link goes down and so moves one system alone
+abbrev pub TurnsOneLink : NetworkState → List Timed → List Timed → Type 0
+TurnsOneLink n = OneEvent (TurnsLink n)
+
 -- By the first of them a system fails that is the far end of each of its links. By the others links go down that are
 -- up, and of which an end has failed.
 abbrev pub FailsEndFirst : NetworkState → List Timed → List Timed → Type 0
@@ -208,32 +222,90 @@ FailsEndFirst n made (event ∷ events) =
 -- after them the roles stand so soon
 abbrev pub RolesAfterFailure : NetworkState → List Timed → ℕ → Type 0
 RolesAfterFailure n events roles =
-    (UpIsUsed n events × (roles ≡ 0)) ⊎ (roles ≡ capability_span (pace_of n))
+    (UpIsUsed n events × (roles ≡ 0)) ⊎ (roles ≡ silence_span (pace_of n))
 
--- Bounds at a time of a loss, by the times before it, the latest first: of the choice, and of the roles. Nothing
--- lapses, and the events come to a calm network behind the choice bound before. The choice stands at once. So do roles
--- after a link goes down by one event. After a system fails they do where each link that is up then is in use, as where
--- it loses its power; else once the ports beside it have been unanswered for long enough. No later bound builds on
--- these.
-abbrev pub IsLossBoundAfter : NetworkState → List Timed → List ℕ → ℕ → ℕ → ℕ → Type 0
-IsLossBoundAfter n events [] time choice roles = ⊥
-IsLossBoundAfter n events (last ∷ earlier) time choice roles =
+-- by the first of them a system fails that others hear, and by the others such links go down
+abbrev pub FailsHeardFirst : NetworkState → List Timed → List Timed → Type 0
+FailsHeardFirst n made [] = ⊥
+FailsHeardFirst n made (event ∷ events) =
+    FailsHeard n made event × EachEvent (LowersUnused n) (made ++ event ∷ []) events
+
+-- After them the choice stands so soon, and the roles do: at once where each link that is up is in use; else the choice
+-- once what is held of the failed system has aged, or no port beside it is capable, whichever is sooner.
+abbrev pub BoundsAging : NetworkState → List Timed → List Timed → ℕ → ℕ → Type 0
+BoundsAging n made now choice roles =
+    (UpIsUsed n (made ++ now) × (choice ≡ 0) × (roles ≡ 0))
+    ⊎ ((choice ≡ min (aging_span (pace_of n) (sync_paths n made)) (silence_span (pace_of n)))
+    × (roles ≡ silence_span (pace_of n)))
+
+-- What the events of a time take away asks for so much: of the choice, and of the roles. The choice stands at once
+-- where no system is moved, and so do roles after a link goes down. After a system fails they do where each link that
+-- is up then is in use, as where it loses its power; else once too many requests of the ports beside it are lost. Where
+-- one system is moved its neighbours hold what it tells then, and it what they tell, after a way each.
+-- Where a system fails that others hear the choice asks for what they hold of it to age.
+abbrev pub BoundsLoss : NetworkState → List Timed → List Timed → ℕ → ℕ → Type 0
+BoundsLoss n made now choice roles =
+    ((choice ≡ 0)
+    × ((LowersOneLink n made now × (roles ≡ 0))
+    ⊎ (FailsEndFirst n made now × RolesAfterFailure n (made ++ now) roles)))
+    ⊎ ((TurnsOneLink n made now × (choice ≡ 2 * way_span (sync_paths n (made ++ now))) × (roles ≡ choice))
+    ⊎ (FailsHeardFirst n made now × BoundsAging n made now choice roles))
+
+-- Events at a time take something away, and ask for so much: nothing lapses, and they come to a calm network behind one
+-- of the bounds of the time before.
+abbrev pub LosesNext : NetworkState → List Timed → (ℕ → Type 0) → ℕ → ℕ → (List Timed → List Timed → Type 0) → Type 0
+LosesNext n events Then last time Asks =
     (last < time)
     × NoneBetween events last time
     × IsCalm n (events_by time events)
     × NothingLapses n.params
-    × ((choice_then : ℕ) × IsChoiceBoundAfter n events earlier last choice_then × (last + choice_then < time))
-    × (choice ≡ 0)
-    × ((LowersOneLink n (events_by last events) (events_at time events) × (roles ≡ 0))
-    ⊎ (FailsEndFirst n (events_by last events) (events_at time events)
-    × RolesAfterFailure n (events_by time events) roles))
+    × ((then : ℕ) × Then then × (last + then < time))
+    × Asks (events_by last events) (events_at time events)
+
+-- ---- rest
+
+-- After the loss of a far end a network has come to rest so much later: what was in flight is gone. Where a link is up
+-- then that isn't in use, roles stand, and the greatest delay has passed for each system of a path but one. After
+-- another such link goes down right traces are told before.
+abbrev pub RestsAfterLoss : NetworkState → List Timed → List Timed → ℕ → Type 0
+RestsAfterLoss n made now rest =
+    (CutsOneEnd n made now × FlightIsGone n made rest)
+    ⊎ ((FailsEndFirst n made now
+    × ((UpIsUsed n (made ++ now) × FlightIsGone n made rest)
+    ⊎ (rest ≡ capability_span (pace_of n) + way_span (sync_paths n (made ++ now)))))
+    ⊎ (LowersOneLink n made now
+    × ((gone : ℕ) × FlightIsGone n (made ++ now) gone × (rest ≡ echo_span n (made ++ now) + gone))))
+
+-- By so much later than a time the network has come to rest, by the times before it, the latest first: it has settled,
+-- and nothing that is held, or in flight, names what is gone. The first time of all is 0.
+abbrev pub IsRestBoundAfter : NetworkState → List Timed → List ℕ → ℕ → ℕ → Type 0
+IsRestBoundAfter n events [] time rest = BoundsFirst n events time rest
+IsRestBoundAfter n events (last ∷ earlier) time rest =
+    BoundsNext n events (λ then. IsRestBoundAfter n events earlier last then) last time rest
+    ⊎ LosesNext n events (λ then. IsRestBoundAfter n events earlier last then) last time
+    (λ made now. RestsAfterLoss n made now rest)
+
+-- ---- bounds
+
+-- A choice bound at a time, by the times before it: such a bound, but after a loss.
+abbrev pub IsChoiceBoundAfter : NetworkState → List Timed → List ℕ → ℕ → ℕ → Type 0
+IsChoiceBoundAfter n events [] time choice = BoundsFirst n events time choice
+IsChoiceBoundAfter n events (last ∷ earlier) time choice =
+    BoundsNext n events (λ then. IsRestBoundAfter n events earlier last then) last time choice
+
+-- Bounds at a time of a loss, by the times before it: of the choice, and of the roles.
+abbrev pub IsLossBoundAfter : NetworkState → List Timed → List ℕ → ℕ → ℕ → ℕ → Type 0
+IsLossBoundAfter n events [] time choice roles = ⊥
+IsLossBoundAfter n events (last ∷ earlier) time choice roles =
+    LosesNext n events (λ then. IsRestBoundAfter n events earlier last then) last time
+    (λ made now. BoundsLoss n made now choice roles)
 
 -- a choice bound of a document at a time: by then the choice stands, and the roles do
 abbrev pub IsChoiceBound : DocumentState → ℕ → ℕ → Type 0
 IsChoiceBound d time choice =
     (earlier : List ℕ)
     × (IsChoiceBoundAfter d.network d.events earlier time choice
-    ⊎ IsLossBoundAfter d.network d.events earlier time 0 choice)
+    ⊎ ((alone : ℕ) × IsLossBoundAfter d.network d.events earlier time alone choice))
 
 -- a bound of the choice alone
 abbrev pub IsChoiceAloneBound : DocumentState → ℕ → ℕ → Type 0

@@ -15,8 +15,13 @@
 -- settled. That network is *left*: its choice stands, but what is held may name links that are gone. So it is where a
 -- system fails that is the far end of each of its links: roles stand once the ports beside it aren't capable any more,
 -- or once no link is up that isn't in use. A network that is left stays so where a link goes down of which an end has
--- failed.
-use Rattle.std.specs.Prelude.{◌≡◌, ◌<◌, ◌≤◌, ◌⊎◌, ◌+◌, ◌*◌, ℕ, ⊤, pred, List, [], ◌∷◌, ◌++◌, Option, Some, slice_get}
+-- failed. Where a system is lost that was the far end of its links, nobody holds what names it: the network is
+-- *cleared*. So it is where another such link goes down, once right traces have been told by distance. When what was in
+-- flight is gone, and ports without a link aren't capable, it has come to rest as if all had been heard. Where a system
+-- fails that others hear, what they hold of it ages; the choice stands once that is gone. Where a link goes down that
+-- so moves one system alone, it has *turned*, and the network settles 1 ns and the greatest delay for each system of a
+-- path but one later.
+use Rattle.std.specs.Prelude.{◌≡◌, ◌<◌, ◌≤◌, ◌⊎◌, ◌+◌, ◌*◌, ℕ, ⊤, pred, suc, List, [], ◌∷◌, ◌++◌, Option, Some, slice_get}
 use Rattle.gptp_lists.specs.Members.{In}
 use Rattle.gptp_vector.specs.declared.port.PortId.{PortId}
 use Rattle.gptp_links.specs.declared.bounds.Bounds.{Bounds}
@@ -41,16 +46,22 @@ use Rattle.gptp_settling_time.specs.ChoiceAlone.{ChoiceStandsAs}
 use Rattle.gptp_settling_time.specs.Documents.{IsSettledAs}
 use Rattle.gptp_settling_time.specs.Exactly.{SettlesBy}
 use Rattle.gptp_settling_time.specs.Gains.{AreCapableAnyway, AreCapableNext, AreCapableStill, ChangesNothing, EndHasFailed, HasRested, IsDownAfter, IsNoWorse, JoinsLive, LeavesCapable, TakesNothing, UsesNoLink, exchanged_from}
-use Rattle.gptp_settling_time.specs.Losses.{FailsFarEnd, LeavesChoice, LowersLink, LowersUnused, UpIsUsed}
+use Rattle.gptp_settling_time.specs.Losses.{CutsFarEnd, FailsFarEnd, FailsHeard, LeavesChoice, LowersLink, LowersUnused, TurnsLink, UpIsUsed, aging_span, silence_span}
 
 -- what a network came from, and from when on its ports are capable; of one that is left, from when on ports without a
--- link aren't
+-- link aren't; of one in which a system has turned, from when on they aren't, and when it did; of one that is cleared,
+-- from when on its ports are capable, from when on those without a link aren't, from when on what is held is right, and
+-- by when what was in flight is gone; of one in which what is held of a failed
+-- system ages, from when on it is gone, and from when on ports without a link aren't capable
 pub data Past : Type 0 where
   AnyPast : Past
   Starting : Past
   Gained : ℕ → Past
   Heard : ℕ → Past
   Left : ℕ → Past
+  Turned : ℕ → ℕ → Past
+  Cleared : ℕ → ℕ → ℕ → ℕ → Past
+  Aging : ℕ → ℕ → Past
 
 -- ---- events at time 0
 
@@ -182,6 +193,12 @@ pub record LowersCalm (n : NetworkState) (before : List Timed) (event : Timed) :
   pub calm : IsCalm n before
   pub off : NothingLapses n.params
 
+-- a link goes down that so moves one system, in such a network
+pub record TurnsCalm (n : NetworkState) (before : List Timed) (event : Timed) : Type 0 where
+  pub turns : TurnsLink n before event
+  pub calm : IsCalm n before
+  pub off : NothingLapses n.params
+
 -- a system fails that is the far end of each of its links, in such a network
 pub record FailsCalm (n : NetworkState) (before : List Timed) (event : Timed) : Type 0 where
   pub fails : FailsFarEnd n before event
@@ -195,11 +212,51 @@ pub record LowersUnusedCalm (n : NetworkState) (before : List Timed) (event : Ti
   pub off : NothingLapses n.params
 
 -- After either of the first two the choice stands. Ports without a link aren't capable from the next time on: as from
--- the one before where a link goes down, and beside a system that fails once they have been unanswered for long enough.
+-- the one before where a link goes down, and beside a system that fails once too many of their requests are lost.
 abbrev pub LeavesStanding : NetworkState → List Timed → Timed → ℕ → ℕ → Type 0
 LeavesStanding n before event start next =
     (LowersCalm n before event × (next ≡ start))
-    ⊎ (FailsCalm n before event × (next ≡ event.at + capability_span (pace_of n)))
+    ⊎ (FailsCalm n before event × (next ≡ suc (event.at + silence_span (pace_of n))))
+
+-- a link goes down that cuts off a far end, in such a network
+pub record CutsCalm (n : NetworkState) (before : List Timed) (event : Timed) : Type 0 where
+  pub cuts : CutsFarEnd n before event
+  pub calm : IsCalm n before
+  pub off : NothingLapses n.params
+
+-- What is in flight is gone so much later: by the greatest delay of a link in use, where each link that is up is in
+-- use; else by an announce interval.
+abbrev pub FlightIsGone : NetworkState → List Timed → ℕ → Type 0
+FlightIsGone n events gone =
+    (UpIsUsed n events × (gone ≡ (sync_paths n events).delay)) ⊎ (gone ≡ largest_interval (pace_of n))
+
+-- After either of these nothing that is held names what is gone, nor anything in flight that is taken.
+abbrev pub ClearsFarEnd : NetworkState → List Timed → Timed → ℕ → ℕ → ℕ → ℕ → Type 0
+ClearsFarEnd n before event start silent right old =
+    ((CutsCalm n before event × (silent ≡ start))
+    ⊎ (FailsCalm n before event × (silent ≡ event.at + capability_span (pace_of n))))
+    × (right ≡ 0)
+    × ((gone : ℕ) × FlightIsGone n before gone × (old ≡ event.at + gone))
+
+-- Who is told a right trace holds it, and tells it, an announce interval and the greatest delay later: by so much for
+-- each system of a path but one.
+abbrev pub echo_span : NetworkState → List Timed → ℕ
+echo_span n events =
+    pred (sync_paths n events).systems * (largest_interval (pace_of n) + (sync_paths n events).delay)
+
+-- After such a link goes down traces may name it until then.
+abbrev pub ClearsTraces : NetworkState → List Timed → Timed → ℕ → ℕ → ℕ → ℕ → Type 0
+ClearsTraces n before event start silent right old =
+    LowersCalm n before event
+    × (silent ≡ start)
+    × (right ≡ event.at + 1 + echo_span n (before ++ event ∷ []))
+    × ((gone : ℕ) × FlightIsGone n (before ++ event ∷ []) gone
+    × (old ≡ event.at + echo_span n (before ++ event ∷ []) + gone))
+
+abbrev pub ClearsBy : NetworkState → List Timed → Timed → ℕ → ℕ → ℕ → ℕ → ℕ → Type 0
+ClearsBy n before event start since silent right old =
+    (since ≡ start)
+    × (ClearsFarEnd n before event start silent right old ⊎ ClearsTraces n before event start silent right old)
 
 -- the network has settled from any past by this time, or from such a start, where something may not be heard or all is
 pub record HasSettledAnyhow (n : NetworkState) (events : List Timed) (time : ℕ) : Type 0 where
@@ -227,6 +284,9 @@ LeadsToGain n before Starting event next = ⊥
 LeadsToGain n before (Gained start) event next = AreCapableStill n before start event next
 LeadsToGain n before (Heard start) event next = AreCapableStill n before start event next
 LeadsToGain n before (Left silent) event next = ⊥
+LeadsToGain n before (Turned silent time) event next = ⊥
+LeadsToGain n before (Cleared since silent right old) event next = ⊥
+LeadsToGain n before (Aging aged silent) event next = ⊥
 
 abbrev pub LeadsToHeard : NetworkState → List Timed → Past → Timed → ℕ → Type 0
 LeadsToHeard n before AnyPast event next =
@@ -247,6 +307,9 @@ LeadsToHeard n before (Heard start) event next =
     × (BettersClock n before event next ⊎ (LeavesSettled n before event next ⊎ WidensFrom n before event start next)))
     ⊎ (MakesNothing n before event start × (next ≡ start)))
 LeadsToHeard n before (Left silent) event next = ⊥
+LeadsToHeard n before (Turned silent time) event next = ⊥
+LeadsToHeard n before (Cleared since silent right old) event next = ⊥
+LeadsToHeard n before (Aging aged silent) event next = ⊥
 
 -- a network that had settled is left so
 abbrev pub LeadsToLeft : NetworkState → List Timed → Past → Timed → ℕ → Type 0
@@ -259,6 +322,67 @@ LeadsToLeft n before (Gained start) event next =
 LeadsToLeft n before (Heard start) event next =
     HasSettledHeard n before start event.at × LeavesStanding n before event start next
 LeadsToLeft n before (Left silent) event next = LowersUnusedCalm n before event × (next ≡ silent)
+LeadsToLeft n before (Turned silent time) event next = ⊥
+LeadsToLeft n before (Cleared since silent right old) event next = ⊥
+LeadsToLeft n before (Aging aged silent) event next = ⊥
+
+-- in a network that had settled a system turns by it now
+abbrev pub TurnsNow : NetworkState → List Timed → Timed → ℕ → ℕ → ℕ → Type 0
+TurnsNow n before event start silent time = TurnsCalm n before event × (silent ≡ start) × (time ≡ event.at)
+
+abbrev pub LeadsToTurned : NetworkState → List Timed → Past → Timed → ℕ → ℕ → Type 0
+LeadsToTurned n before AnyPast event silent time =
+    HasSettledAnyhow n before event.at
+    × TurnsNow n before event (last_change before + capability_span (pace_of n)) silent time
+LeadsToTurned n before Starting event silent time = ⊥
+LeadsToTurned n before (Gained start) event silent time =
+    HasSettledSince n before start event.at × TurnsNow n before event start silent time
+LeadsToTurned n before (Heard start) event silent time =
+    HasSettledHeard n before start event.at × TurnsNow n before event start silent time
+LeadsToTurned n before (Left start) event silent time = ⊥
+LeadsToTurned n before (Turned start now) event silent time = ⊥
+LeadsToTurned n before (Cleared since start right old) event silent time = ⊥
+LeadsToTurned n before (Aging aged start) event silent time = ⊥
+
+-- a network that had settled is cleared, and one that is so stays so
+abbrev pub LeadsToCleared : NetworkState → List Timed → Past → Timed → ℕ → ℕ → ℕ → ℕ → Type 0
+LeadsToCleared n before AnyPast event since silent right old =
+    HasSettledAnyhow n before event.at
+    × ClearsBy n before event (last_change before + capability_span (pace_of n)) since silent right old
+LeadsToCleared n before Starting event since silent right old = ⊥
+LeadsToCleared n before (Gained start) event since silent right old =
+    HasSettledSince n before start event.at × ClearsBy n before event start since silent right old
+LeadsToCleared n before (Heard start) event since silent right old =
+    HasSettledHeard n before start event.at × ClearsBy n before event start since silent right old
+LeadsToCleared n before (Left start) event since silent right old = ⊥
+LeadsToCleared n before (Turned start now) event since silent right old = ⊥
+LeadsToCleared n before (Cleared start dark clean last) event since silent right old =
+    LowersUnusedCalm n before event × (clean ≤ event.at)
+    × ((since ≡ start) × (silent ≡ dark) × (right ≡ clean) × (old ≡ last))
+LeadsToCleared n before (Aging aged start) event since silent right old = ⊥
+
+-- In a network that had settled a system fails that others hear, so that what they hold of it ages.
+pub record FailsNow (n : NetworkState) (before : List Timed) (event : Timed) (aged silent : ℕ) : Type 0 where
+  pub fails : FailsHeard n before event
+  pub calm : IsCalm n before
+  pub off : NothingLapses n.params
+  pub gone : aged ≡ suc (event.at + aging_span (pace_of n) (sync_paths n before))
+  pub unanswered : silent ≡ suc (event.at + silence_span (pace_of n))
+
+-- It goes on to age where a link goes down of which an end has failed.
+abbrev pub LeadsToAging : NetworkState → List Timed → Past → Timed → ℕ → ℕ → Type 0
+LeadsToAging n before AnyPast event aged silent =
+    HasSettledAnyhow n before event.at × FailsNow n before event aged silent
+LeadsToAging n before Starting event aged silent = ⊥
+LeadsToAging n before (Gained start) event aged silent =
+    HasSettledSince n before start event.at × FailsNow n before event aged silent
+LeadsToAging n before (Heard start) event aged silent =
+    HasSettledHeard n before start event.at × FailsNow n before event aged silent
+LeadsToAging n before (Left start) event aged silent = ⊥
+LeadsToAging n before (Turned start now) event aged silent = ⊥
+LeadsToAging n before (Cleared since start right old) event aged silent = ⊥
+LeadsToAging n before (Aging gone start) event aged silent =
+    LowersUnusedCalm n before event × (aged ≡ gone) × (silent ≡ start)
 
 -- a gain, and what is heard, stays so from the start that it had
 abbrev pub StaysFrom : Past → ℕ → Type 0
@@ -267,6 +391,9 @@ StaysFrom Starting next = ⊥
 StaysFrom (Gained start) next = next ≡ start
 StaysFrom (Heard start) next = next ≡ start
 StaysFrom (Left silent) next = ⊥
+StaysFrom (Turned silent time) next = ⊥
+StaysFrom (Cleared since silent right old) next = ⊥
+StaysFrom (Aging aged silent) next = ⊥
 
 -- nothing is told as the network starts, and this is the last event then
 abbrev pub StartsFrom : NetworkState → List Timed → Past → Timed → ℕ → Type 0
@@ -275,6 +402,9 @@ StartsFrom n before Starting event next = StartsWith n before event next
 StartsFrom n before (Gained start) event next = ⊥
 StartsFrom n before (Heard start) event next = ⊥
 StartsFrom n before (Left silent) event next = ⊥
+StartsFrom n before (Turned silent time) event next = ⊥
+StartsFrom n before (Cleared since silent right old) event next = ⊥
+StartsFrom n before (Aging aged silent) event next = ⊥
 
 -- nothing is told as the network starts, nor after this event
 abbrev pub StartsStill : Past → Timed → Type 0
@@ -283,6 +413,9 @@ StartsStill Starting event = (event.at ≡ 0) × TellsNothing event.act
 StartsStill (Gained start) event = ⊥
 StartsStill (Heard start) event = ⊥
 StartsStill (Left silent) event = ⊥
+StartsStill (Turned silent time) event = ⊥
+StartsStill (Cleared since silent right old) event = ⊥
+StartsStill (Aging aged silent) event = ⊥
 
 abbrev pub EventLeads : NetworkState → List Timed → Past → Timed → Past → Type 0
 EventLeads n before past event AnyPast = ⊤
@@ -292,12 +425,39 @@ EventLeads n before past event (Gained next) =
     ⊎ ((MakesNothing n before event next × StaysFrom past next) ⊎ StartsFrom n before past event next)
 EventLeads n before past event (Heard next) = LeadsToHeard n before past event next
 EventLeads n before past event (Left next) = LeadsToLeft n before past event next
+EventLeads n before past event (Turned silent time) = LeadsToTurned n before past event silent time
+EventLeads n before past event (Cleared since silent right old) = LeadsToCleared n before past event since silent right
+    old
+EventLeads n before past event (Aging aged silent) = LeadsToAging n before past event aged silent
+
+-- ---- rest
+
+-- A cleared network has come to rest by a time, as one whose ports are capable from a start on. What was in flight is
+-- gone. Ports without a link aren't capable from the start on, or no link is up that isn't in use. And the greatest
+-- delay has passed for each system of a path but one.
+pub record HasCleared (n : NetworkState) (events : List Timed) (since silent old start time : ℕ) : Type 0 where
+  pub calm : IsCalm n events
+  pub off : NothingLapses n.params
+  pub gone : old < time
+  pub later : since ≤ start
+  pub unlinked : (silent ≤ start) ⊎ UpIsUsed n events
+  pub over : HasSettledHeard n events start time
+
+-- then it is as if all had been heard from that start on
+abbrev pub RestsAs : NetworkState → List Timed → Past → ℕ → Past → Type 0
+RestsAs n events (Cleared since silent right old) time (Heard start) = HasCleared n events since silent old start time
+RestsAs n events past time seen = ⊥
+
+-- what the network is taken to come from as an event comes at this time
+abbrev pub IsTakenAs : NetworkState → List Timed → Past → ℕ → Past → Type 0
+IsTakenAs n events past time seen = (seen ≡ past) ⊎ RestsAs n events past time seen
 
 -- each event leads from one to the next
 abbrev pub LeadOn : NetworkState → List Timed → Past → List Timed → Past → Type 0
 LeadOn n before past [] last = last ≡ past
 LeadOn n before past (event ∷ events) last =
-    (next : Past) × EventLeads n before past event next × LeadOn n (before ++ event ∷ []) next events last
+    (seen : Past) × IsTakenAs n before past event.at seen × (next : Past) × EventLeads n before seen event next
+    × LeadOn n (before ++ event ∷ []) next events last
 
 -- ---- a document
 
@@ -309,6 +469,9 @@ BeginsBy n Starting = ⊤
 BeginsBy n (Gained start) = AreCapableSoon n [] start
 BeginsBy n (Heard start) = UsedVaryLittle n [] × AreCapableSoon n [] start
 BeginsBy n (Left silent) = ⊥
+BeginsBy n (Turned silent time) = ⊥
+BeginsBy n (Cleared since silent right old) = ⊥
+BeginsBy n (Aging aged silent) = ⊥
 
 -- By this time a calm network has settled after these events. From any past the span has to pass, the sharper one where
 -- nothing lapses. Else ports become capable; then an announce interval passes where something may not be heard; and
@@ -326,14 +489,25 @@ SettlesAfter n events (Heard start) settled =
     NothingLapses n.params
     × (start + pred (sync_paths n events).systems * (sync_paths n events).delay ≤ settled)
 SettlesAfter n events (Left silent) settled = NothingLapses n.params × ((silent ≤ settled) ⊎ UpIsUsed n events)
+SettlesAfter n events (Turned silent time) settled =
+    NothingLapses n.params
+    × (time + 1 + pred (sync_paths n events).systems * (sync_paths n events).delay ≤ settled)
+SettlesAfter n events (Cleared since silent right old) settled = NothingLapses n.params ×
+    ((silent ≤ settled) ⊎ UpIsUsed n events)
+SettlesAfter n events (Aging aged silent) settled = NothingLapses n.params × ((silent ≤ settled) ⊎ UpIsUsed n events)
 
 -- By this time the choice stands after these events: as soon as it has settled, and at once in a network that is left.
+-- Where something ages it does once that is gone.
 abbrev pub ChoosesAfter : NetworkState → List Timed → Past → ℕ → Type 0
 ChoosesAfter n events AnyPast settled = SettlesAfter n events AnyPast settled
 ChoosesAfter n events Starting settled = ⊥
 ChoosesAfter n events (Gained start) settled = SettlesAfter n events (Gained start) settled
 ChoosesAfter n events (Heard start) settled = SettlesAfter n events (Heard start) settled
 ChoosesAfter n events (Left silent) settled = NothingLapses n.params
+ChoosesAfter n events (Turned silent time) settled = SettlesAfter n events (Turned silent time) settled
+ChoosesAfter n events (Cleared since silent right old) settled = NothingLapses n.params
+ChoosesAfter n events (Aging aged silent) settled =
+    NothingLapses n.params × ((aged ≤ settled) ⊎ ((silent ≤ settled) ⊎ UpIsUsed n events))
 
 -- A document comes by a time to what so comes after its events up to another, one after another.
 pub record ComesByEvents (So : NetworkState → List Timed → Past → ℕ → Type 0) (d : DocumentState)

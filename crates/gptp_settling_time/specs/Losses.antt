@@ -1,12 +1,12 @@
--- Events by which no system is moved, or none but such as are cut off.
+-- Events by which no system is moved, or none but such as are cut off, or one.
 --
 -- An event *moves* a system that lives after it where another system, or the same with another identity, is the best of
 -- its component then, or it is nearer to that or farther from it. So its root or its steps are others.
-use Rattle.std.specs.Prelude.{◌≡◌, ◌⊎◌, ◌<◌, ◌≤◌, ℕ, true, List, [], ◌∷◌, ◌++◌, Some, slice_get}
+use Rattle.std.specs.Prelude.{◌≡◌, ◌≢◌, ◌⊎◌, ◌<◌, ◌≤◌, ◌+◌, ◌*◌, ℕ, suc, true, List, [], ◌∷◌, ◌++◌, Some, slice_get}
 use Rattle.gptp_lists.specs.Members.{In}
 use Rattle.gptp_graph.specs.Best.{IsBest}
 use Rattle.gptp_graph.specs.Distance.{IsDistance}
-use Rattle.gptp_graph.specs.Snapshot.{Adjacent, Snapshot, System, clocks}
+use Rattle.gptp_graph.specs.Snapshot.{Adjacent, Joins, Snapshot, System, clocks, port_of}
 use Rattle.gptp_network.specs.Snapshot.{StandsAfter}
 use Rattle.gptp_scenario.specs.Calm.{IsLive, IsUsed}
 use Rattle.gptp_scenario.specs.Change.{link_after}
@@ -16,7 +16,10 @@ use Rattle.gptp_scenario.specs.declared.change.Act.TheVariants.{Change as Changi
 use Rattle.gptp_scenario.specs.declared.change.Change.TheVariants.{Fail, LinkDown, Priority1}
 use Rattle.gptp_scenario.specs.declared.change.Timed.{Timed}
 use Rattle.gptp_scenario.specs.declared.network.LinkSpec.{LinkSpec}
+use Rattle.gptp_scenario.specs.declared.sync_wait.SyncPaths.{SyncPaths}
 use Rattle.gptp_model.specs.World.{port_id}
+use Rattle.gptp_setup.specs.Intervals.{interval_of}
+use Rattle.gptp_setup.specs.SettlingParams.{SettlingParams, longest_span}
 use Rattle.gptp_settling_time.specs.Gains.{EndHasFailed, IsUpAfter}
 
 -- in the second snapshot the system has the best that it has in the first, and is as far from it
@@ -87,14 +90,86 @@ abbrev pub IsFarEnd : Snapshot → ℕ → Type 0
 IsFarEnd g v = (u far near : ℕ) → Adjacent g v u → IsDistance g v far → IsDistance g u near
     → (near < far) ⊎ ((near ≡ far) × (u < v))
 
--- After these events this one lets a live system fail that is the far end of each of its links, and no system is moved.
+-- By such an event a system is cut off that was the far end of its links.
+pub record CutsFarEnd (n : NetworkState) (before : List Timed) (event : Timed) : Type 0 where
+  pub lowers : LowersLink n before event
+  pub lost : ℕ
+  pub lost_end : (place : ℕ) (v : LinkSpec) → slice_get n.links place ≡ Some v
+      → IsEnd (port_id lowers.clock lowers.port) (link_after before v)
+      → ((link_after before v).a.clock ≡ lost) ⊎ ((link_after before v).b.clock ≡ lost)
+  pub far : (g : Snapshot) → StandsAfter n before g → IsFarEnd g lost
+  pub cut : (g : Snapshot) → StandsAfter n (before ++ event ∷ []) g → IsCutOff g lost
+
+-- How long a port beside a system that fails may stay capable. Its last request that is answered went before that. The
+-- next goes a peer delay interval later. It is lost, as are those after it: each is given up an interval after it went,
+-- until one more is lost than may be.
+abbrev pub silence_span : SettlingParams → ℕ
+silence_span p = (p.params.lost + 2) * interval_of p.params.pdelay
+
+-- After these events this one lets a live system fail that is the far end of each of its links, and no system is moved
+-- but such as are cut off, which there are none of then.
 -- The greatest delay of a link in use stays, and no path gets longer. None had more than 255 systems.
 pub record FailsFarEnd (n : NetworkState) (before : List Timed) (event : Timed) : Type 0 where
   pub clock : ℕ
   pub act : event.act ≡ Changing (Fail clock)
   pub live : IsLive n.systems before clock
   pub far : (g : Snapshot) → StandsAfter n before g → IsFarEnd g clock
-  pub moves : MovesNone n before event
+  pub moves : MovesNoneJoined n before event
+  pub delay : (sync_paths n (before ++ event ∷ [])).delay ≡ (sync_paths n before).delay
+  pub paths : (sync_paths n (before ++ event ∷ [])).systems ≤ (sync_paths n before).systems
+  pub few : (sync_paths n before).systems ≤ 255
+
+-- After these events this one lets a live system fail, whoever hears it, and no system is moved but such as are cut
+-- off. The greatest delay of a link in use stays, and no path gets longer. None had more than 255 systems.
+pub record FailsHeard (n : NetworkState) (before : List Timed) (event : Timed) : Type 0 where
+  pub clock : ℕ
+  pub act : event.act ≡ Changing (Fail clock)
+  pub live : IsLive n.systems before clock
+  pub moves : MovesNoneJoined n before event
+  pub delay : (sync_paths n (before ++ event ∷ [])).delay ≡ (sync_paths n before).delay
+  pub paths : (sync_paths n (before ++ event ∷ [])).systems ≤ (sync_paths n before).systems
+  pub few : (sync_paths n before).systems ≤ 255
+
+-- What a failed system told comes to its neighbours within the greatest delay of a link, and they hold it for the
+-- longest receipt timeout. Then it has aged.
+abbrev pub aging_span : SettlingParams → SyncPaths → ℕ
+aging_span p paths = longest_span p + paths.delay
+
+-- From the first snapshot to the second one system is moved alone, from one distance of its best to a greater one. What
+-- it isn't joined to any more was nearer than it. It has one link at most with each other system then, and is the far
+-- end of each. Where it is farther by more than one, each neighbour that it has was the far end of its own links.
+pub record IsTurned (g g' : Snapshot) (x d e : ℕ) (best : System) : Type 0 where
+  pub others : (v : ℕ) → In v (clocks g') → v ≢ x → IsUnmoved g g' v
+  pub was_best : IsBest g x best
+  pub is_best : IsBest g' x best
+  pub was : IsDistance g x d
+  pub is : IsDistance g' x e
+  pub more : d < e
+  pub lost : (u far : ℕ) → Adjacent g x u → IsDistance g u far → Adjacent g' x u ⊎ (far < d)
+  pub far : IsFarEnd g' x
+  pub single : (p q p' q' y : ℕ) → Joins g' (port_of x p) (port_of y q) → Joins g' (port_of x p') (port_of y q')
+      → q ≡ q'
+  pub tells : (e ≡ suc d) ⊎ ((y : ℕ) → Adjacent g' x y → IsFarEnd g y)
+
+-- after these events this one so moves this system
+abbrev pub TurnsSystem : NetworkState → List Timed → Timed → ℕ → Type 0
+TurnsSystem n before event x = (g g' : Snapshot) → StandsAfter n before g → StandsAfter n (before ++ event ∷ []) g'
+    → (d : ℕ) × (e : ℕ) × (best : System) × IsTurned g g' x d e best
+
+-- After these events this one takes down a link in use and so moves the system at one of its ends. The greatest delay
+-- of a link in use stays, and no path gets longer. None had more than 255 systems.
+pub record TurnsLink (n : NetworkState) (before : List Timed) (event : Timed) : Type 0 where
+  pub clock : ℕ
+  pub port : ℕ
+  pub act : event.act ≡ Changing (LinkDown clock port)
+  pub used : (place : ℕ) (v : LinkSpec) → slice_get n.links place ≡ Some v
+      → IsEnd (port_id clock port) (link_after before v)
+      → IsUsed n.systems before (link_after before v)
+  pub moved : ℕ
+  pub moved_end : (place : ℕ) (v : LinkSpec) → slice_get n.links place ≡ Some v
+      → IsEnd (port_id clock port) (link_after before v)
+      → ((link_after before v).a.clock ≡ moved) ⊎ ((link_after before v).b.clock ≡ moved)
+  pub turns : TurnsSystem n before event moved
   pub delay : (sync_paths n (before ++ event ∷ [])).delay ≡ (sync_paths n before).delay
   pub paths : (sync_paths n (before ++ event ∷ [])).systems ≤ (sync_paths n before).systems
   pub few : (sync_paths n before).systems ≤ 255

@@ -12,9 +12,9 @@ pub fn choice_bounds_hold<F: Fate>()
     ensures { ChoiceBoundsHold F.answers }
 {}
 
-/// A bound of the choice alone holds of every run, whatever is drawn for the frames: the choice stands in the world after
-/// each act that is later by more, and before the next event. Where every live system is near, the act leaves no system
-/// another as to whether it lives, its root, its steps and its Slave port.
+/// A bound of the choice alone holds of every run, whatever is drawn for the frames: the choice stands in the world
+/// after each act that is later by more, and before the next event. Where every live system is near, the act leaves no
+/// system another as to whether it lives, its root, its steps and its Slave port.
 pub fn choice_alone_bounds_hold<F: Fate>()
     ensures { ChoiceAloneBoundsHold F.answers }
 {}

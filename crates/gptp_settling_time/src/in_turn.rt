@@ -12,14 +12,15 @@ use gptp_links::Fate;
 /// below twice its least: what was held and in flight elsewhere is sound and stays at its stage, and the first Announce
 /// over the new link comes to a port that is capable already. Nor has one after a better priority1, which its system
 /// tells at once. And an event that changes nothing asks for no time in a network that had settled, whatever it came
-/// from; nor does a priority1 by which no system is moved.
+/// from; nor does a priority1 by which no system is moved. After a link goes down by which one system alone is moved
+/// the greatest delay for each system of a path but one has to pass, and 1 ns.
 pub fn documents_settle_in_turn<F: Fate>()
     ensures { ActsFindSettledInTurn F.answers }
 {}
 
-/// By the last of these events the choice stands in the world after each act of a run, once the document has had the time
-/// for it. That is when it is settled; but at once after such a loss: a link goes down, and no system is moved but such
-/// as are cut off, or a system fails that is the far end of each of its links, and none is moved.
+/// By the last of these events the choice stands in the world after each act of a run, once the document has had the
+/// time for it. That is when it is settled; but at once after such a loss: a link goes down, and no system is moved but
+/// such as are cut off, or a system fails that is the far end of each of its links, and none is moved.
 pub fn choice_stands_in_turn<F: Fate>()
     ensures { ActsFindChoiceInTurn F.answers }
 {}

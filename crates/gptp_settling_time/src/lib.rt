@@ -12,10 +12,12 @@
 //! Where the greatest delay of each new link is below twice its least no announce interval has to pass: after a start
 //! (`specs/Starts.antt`), and event by event after links come up and a priority1 gets better. An event that changes
 //! nothing asks for no time (`specs/InTurn.antt`), nor does a priority1 by which no system is moved
-//! (`specs/Losses.antt`). Once a document has settled no act leaves a system another (`specs/Unchanged.antt`), and
-//! offsets are exact as soon as a Sync has come down a way (`specs/ExactInTurn.antt`). So the choice stands by the
-//! bound that `specs/HowSoon.antt` has for each time of a document (`specs/ChoiceBounds.antt`). After a system fails that
-//! is the far end of its links the choice stands though roles change still (`specs/ChoiceAlone.antt`).
+//! (`specs/Losses.antt`). After a link goes down by which one system alone is moved, 1 ns and the greatest delay for
+//! each system of a path but one have to pass. Once a document has settled no act leaves a system another
+//! (`specs/Unchanged.antt`), and offsets are exact as soon as a Sync has come down a way (`specs/ExactInTurn.antt`). So
+//! the choice stands by the bound that `specs/HowSoon.antt` has for each time of a document
+//! (`specs/ChoiceBounds.antt`). After a system fails that is the far end of its links the choice stands though roles
+//! change still (`specs/ChoiceAlone.antt`).
 //!
 //! Each function of this crate is a law: it does nothing, and its contract is a theorem about the definitions.
 #![tactic(auto)]

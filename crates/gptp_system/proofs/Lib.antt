@@ -33,6 +33,7 @@ pub mod SyncLemmas
 pub mod DueLemmas
 pub mod CountLemmas
 pub mod TypeLemmas
+pub mod OctetLemmas
 pub mod WithinLemmas
 pub mod CounterLemmas
 pub mod CalmLemmas

@@ -1,10 +1,12 @@
 -- What a system can be given, and what one step makes of it.
 use Rattle.std.specs.Prelude.{ℕ, ⊤, List}
+use Rattle.gptp_messages.specs.Grammar.{Written}
 use Rattle.gptp_system.specs.declared.answer.Answer.{Answer}
 use Rattle.gptp_system.specs.declared.input.Input.{Input as Lent}
 use Rattle.gptp_system.specs.declared.input.Input.TheVariants as lent
 use Rattle.gptp_system.specs.declared.sending.Sending.{Sending}
 use Rattle.gptp_setup.specs.declared.timer.Timer.{Timer}
+use Rattle.gptp_system.specs.Sends.{message_sent}
 use Rattle.gptp_system.specs.State.{SystemState}
 use Rattle.gptp_system.specs.Measuring.{ComesUp, GoesDown}
 use Rattle.gptp_system.specs.Announcing.{ChangesPriority}
@@ -17,11 +19,12 @@ pub data Input : Type 0 where
   Expires : (timer : Timer) → Input
   Priority : (value : ℕ) → Input
 
--- the input that a system is lent
+-- the input that a system is lent: a message that was sent is a frame of the octets that it has
 abbrev pub given : Lent → Input
 given (lent.PortUp p) = PortUp p
 given (lent.PortDown p) = PortDown p
 given (lent.Frame p octets) = Frame p octets.now
+given (lent.Sent p sent) = Frame p (Written (message_sent sent.now))
 given (lent.Expires timer) = Expires timer
 given (lent.Priority value) = Priority value
 

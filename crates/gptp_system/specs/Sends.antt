@@ -5,10 +5,15 @@ use Rattle.gptp_vector.specs.declared.port.PortId.{PortId}
 use Rattle.gptp_scaled.specs.Stamp.{Timestamp}
 use Rattle.gptp_messages.specs.declared.announce.AnnounceBody.{AnnounceBody}
 use Rattle.gptp_messages.specs.declared.head.Head.{Head}
+use Rattle.gptp_messages.specs.declared.message.Message.{Message}
+use Rattle.gptp_messages.specs.declared.message.Message.TheVariants as messages
 use Rattle.gptp_pdelay.specs.declared.answer.Answer.{Answer}
 use Rattle.gptp_system.specs.declared.port.Port.{Port}
 use Rattle.gptp_system.specs.declared.sending.Sending.{Sending}
+use Rattle.gptp_system.specs.declared.sending.Body.{Body}
 use Rattle.gptp_system.specs.declared.sending.Body.TheVariants as bodies
+use Rattle.gptp_system.specs.declared.sending.Sent.{Sent}
+use Rattle.gptp_system.specs.declared.sending.Sent.TheVariants as sents
 
 -- the header of a message that a port sends
 abbrev pub head_from : PortId → ℕ → ℤ → ℤ → Bool → Head
@@ -64,6 +69,26 @@ response_follow_up own answer stamp rest = record {
   head = head_from own answer.sequence (pos rest) no_interval false;
   body = bodies.PdelayRespFollowUp stamp answer.requester;
 }
+
+-- The message of a send: an Announce has this path, that of its system as the call leaves it (10.3.9.23).
+abbrev pub sent_message : List ℕ → Head → Body → Message
+sent_message path head (bodies.Announce body) = messages.Announce (record { head = head; body = body; path = path })
+sent_message path head bodies.Sync = messages.Sync head
+sent_message path head (bodies.FollowUp origin rate) =
+    messages.FollowUp (record { head = head; origin = origin; rate = rate })
+sent_message path head bodies.PdelayReq = messages.PdelayReq head
+sent_message path head (bodies.PdelayResp stamp requester) =
+    messages.PdelayResp (record { head = head; stamp = stamp; requester = requester })
+sent_message path head (bodies.PdelayRespFollowUp stamp requester) =
+    messages.PdelayRespFollowUp (record { head = head; stamp = stamp; requester = requester })
+
+-- the message that was sent, whose path isn't needed
+abbrev pub message_sent : Sent → Message
+message_sent (sents.Sync head) = messages.Sync head
+message_sent (sents.PdelayReq head) = messages.PdelayReq head
+message_sent (sents.PdelayResp m) = messages.PdelayResp m
+message_sent (sents.FollowUp m) = messages.FollowUp m
+message_sent (sents.PdelayRespFollowUp m) = messages.PdelayRespFollowUp m
 
 -- how many sends in front are of ports up to this one
 abbrev pub sends_up_to : ℕ → List Sending → ℕ

@@ -3,7 +3,7 @@
 ghost use Rattle.std.specs.Prelude.{◌≡◌};
 
 use crate::answer::Answer;
-use crate::sending::Outbox;
+use crate::sending::{Outbox, Sent};
 use crate::state::State;
 use crate::timers_changed::{
     TimersChanged, asking_touches, heard_touches, is_used, selected_if, timed_if,
@@ -25,6 +25,13 @@ pub enum Input<'a> {
         /// The octets of the frame.
         octets: &'a [u8],
     },
+    /// A port hears a message that was sent, as it hears a frame of its octets. None of them is written.
+    Sent {
+        /// The number of the port that hears it.
+        port: u8,
+        /// The message.
+        message: &'a Sent,
+    },
     /// A timer expires.
     Expires(Timer),
     /// The priority1 of the system becomes this (IEEE 802.1AS-2020, 8.6.2.1).
@@ -34,7 +41,7 @@ pub enum Input<'a> {
 /// What a step of a system came to, besides what it sends.
 #[derive(Clone, Copy, Debug)]
 pub struct Stepped {
-    /// What became of a frame. An input that is no frame has no answer, and Used stands here.
+    /// What became of a frame, or of a message that was sent. Other inputs have no answer, and Used stands here.
     pub answer: Answer,
     /// The timers that the step can have set or stopped.
     pub touched: TimersChanged,
@@ -55,8 +62,10 @@ impl State {
     ghost use Rattle.gptp_receipt.specs.declared.held.Held.TheVariants.{Disabled};
     ghost use Rattle.gptp_system.specs.Facts.{AreHeld, IsAtRest, IsSystem};
     ghost use Rattle.gptp_system.specs.Input.{given, Frame, IsTimely, Steps};
+    ghost use Rattle.gptp_messages.specs.Grammar.{Written};
     ghost use Rattle.gptp_setup.specs.Intervals.{IsMoment};
     ghost use Rattle.gptp_system.specs.Ready.{IsReady, state_of};
+    ghost use Rattle.gptp_system.specs.Sends.{message_sent};
     ghost use Rattle.gptp_system.specs.State.{held_at, is_capable_at};
     ghost use Rattle.gptp_system.specs.Steps.{Expires, HearsFrame, HearsMessage, HasPortNumber, IsDue, IsTimerOf};
     ghost use Rattle.gptp_system.specs.TimersChanged.{MessageTouches, timer_touches, Touches};
@@ -130,6 +139,60 @@ impl State {
         }
     }
 
+    /// A port hears what another one sent.
+    fn hear_message(&mut self, port: u8, message: &Sent, now: u64, outbox: &mut Outbox) -> Stepped
+        requires ready { IsReady (state_of self.old) }
+        requires moment { IsMoment now }
+        requires port { HasPortNumber (state_of self.old) port }
+        requires empty { outbox.old.items ≡ [] }
+        ensures step { HearsMessage port (message_sent message.now) now (state_of self.old)
+            (state_of self.new) outbox.new.items result.answer }
+        ensures touched { MessageTouches port (message_sent message.now) now (state_of self.old)
+            (state_of self.new) result.answer result.touched }
+        ensures ready { IsReady (state_of self.new) }
+    {
+        match message {
+            Sent::Sync { head } => Stepped {
+                answer: self.hear_sync(port, head, now),
+                touched: TimersChanged::Nothing,
+            },
+            Sent::PdelayReq { head } => Stepped {
+                answer: self.hear_request(port, head, now),
+                touched: TimersChanged::One(Timer::Respond(port)),
+            },
+            Sent::PdelayResp(response) => Stepped {
+                answer: self.hear_response(port, response, now),
+                touched: TimersChanged::Nothing,
+            },
+            Sent::FollowUp(follow_up) => {
+                let answer = self.hear_follow_up(port, follow_up, now);
+                let touched = timed_if(is_used(answer));
+                Stepped { answer, touched }
+            }
+            Sent::PdelayRespFollowUp(follow_up) => {
+                let (turned, answer) = self.hear_response_follow_up(port, follow_up, now, outbox);
+                let touched = selected_if(turned);
+                Stepped { answer, touched }
+            }
+        }
+    }
+
+    /// A port hears a message that was sent, as a frame of its octets is heard.
+    fn hear_sent(&mut self, port: u8, message: &Sent, now: u64, outbox: &mut Outbox) -> Stepped
+        requires ready { IsReady (state_of self.old) }
+        requires moment { IsMoment now }
+        requires port { HasPortNumber (state_of self.old) port }
+        requires empty { outbox.old.items ≡ [] }
+        ensures step { HearsFrame port (Written (message_sent message.now)) now (state_of self.old)
+            (state_of self.new) outbox.new.items result.answer }
+        ensures touches { Touches (Frame port (Written (message_sent message.now))) result.touched
+            (state_of self.old) (state_of self.new) }
+        ensures ready { IsReady (state_of self.new) }
+    {
+        message.fits();
+        self.hear_message(port, message, now, outbox)
+    }
+
     /// A timer runs out.
     fn expire(&mut self, timer: Timer, now: u64, outbox: &mut Outbox) -> TimersChanged
         requires ready { IsReady (state_of self.old) }
@@ -176,6 +239,7 @@ impl State {
             Input::PortUp(port) => self.port_up(port, now, outbox),
             Input::PortDown(port) => self.port_down(port, now, outbox),
             Input::Frame { port, octets } => return self.hear_frame(port, octets, now, outbox),
+            Input::Sent { port, message } => return self.hear_sent(port, message, now, outbox),
             Input::Expires(timer) => return unanswered(self.expire(timer, now, outbox)),
             Input::Priority(value) => self.set_priority(value, now, outbox),
         }

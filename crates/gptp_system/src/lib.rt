@@ -32,6 +32,6 @@ pub use gptp_setup::{Params, Setup, Timer};
 pub use input::{Input, Stepped};
 pub use reach::Reach;
 pub use reading::{Reading, TimeRead};
-pub use sending::{Body, MOST_SENDS, Outbox, Sending};
+pub use sending::{Body, MOST_SENDS, Outbox, Sending, Sent};
 pub use system::System;
 pub use timers_changed::TimersChanged;

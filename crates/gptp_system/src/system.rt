@@ -95,8 +95,9 @@ impl System {
     }
 
     /// The system is given an input at `now`, in ns: what became of it, and which timers the step can have set or
-    /// stopped. A port is one of the system; a frame comes where the link is up, and a timer expires when it is due.
-    /// The outbox is empty at entry of this and of every other call, and holds what the step sends.
+    /// stopped. A port is one of the system; a frame, or a message that was sent, comes where the link is up, and a
+    /// timer expires when it is due. The outbox is empty at entry of this and of every other call, and holds what the
+    /// step sends.
     pub fn step(&mut self, input: Input<'_>, now: u64, outbox: &mut Outbox) -> Stepped
         requires moment { IsMoment now }
         requires timely { IsTimely self.old now (given input) }

@@ -33,6 +33,8 @@ mod same;
 #[cfg(test)]
 mod scaled;
 #[cfg(test)]
+mod sent;
+#[cfg(test)]
 mod sorted_list;
 #[cfg(test)]
 mod sync_messages;

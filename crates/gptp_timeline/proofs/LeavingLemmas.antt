@@ -6,6 +6,7 @@ use Rattle.std.specs.Option.{option_map_or}
 use Rattle.std.proofs.lemmas.Bool.Decides.{nat_tests}
 use Rattle.std.proofs.lemmas.Option.{same_Some, slice_get-map}
 use Rattle.gptp_model.specs.Act.{in_state, Calls, Hears}
+use Rattle.gptp_model.specs.Carried.{first_type}
 use Rattle.gptp_model.specs.World.{WorldState, receiver}
 use Rattle.gptp_model.specs.declared.done.Done.{Done}
 use Rattle.gptp_model.specs.declared.done.Done.TheVariants.{Heard, Quiet}
@@ -235,11 +236,10 @@ type_leaves type quiet octet octets is = record {
     by : (type : ℕ) → (type == 0 || (type == 2 || type == 3)) ≡ true → type == 8 ≡ false
     by type quiet = grind (arith, nat_tests)
 
--- a frame by its first octet
-pub first_leaves : (octets : List ℕ) (octet : ℕ) → slice_get octets 0 ≡ Some octet → TypeLeaves (octet % 16)
-    → FrameLeaves octets
-first_leaves [] octet first leaves = absurd cc
-first_leaves (o ∷ os) octet first leaves = leaves o os (ap (λ n. n % 16) (same_Some o octet first))
+-- a frame by its messageType
+pub first_leaves : (octets : List ℕ) (type : ℕ) → first_type octets ≡ Some type → TypeLeaves type → FrameLeaves octets
+first_leaves [] type first leaves = absurd cc
+first_leaves (o ∷ os) type first leaves = leaves o os (same_Some (o % 16) type first)
 
 -- ---- acts
 

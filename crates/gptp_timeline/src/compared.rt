@@ -3,6 +3,7 @@
 ghost use Rattle.std.specs.Prelude.{◌≡◌};
 ghost use Rattle.gptp_timeline.specs.Compared.{compared_by_expiry, compared_by_frame, compared_by_type};
 
+use gptp_model::Carried;
 use gptp_setup::Timer;
 
 /// What is compared of the system that an act is done to. Where that is as it was shown, so is all that is shown of it.
@@ -47,11 +48,11 @@ fn compared_by_type(port: u16, number: u8) -> Compared
 }
 
 /// What is compared of a system that heard a frame at a port.
-pub(crate) fn compared_by_frame(port: u16, frame: &[u8]) -> Compared
-    ensures { result ≡ compared_by_frame port frame.now }
+pub(crate) fn compared_by_frame(port: u16, frame: &Carried) -> Compared
+    ensures { result ≡ compared_by_frame port frame.now.items }
 {
-    match frame.first() {
-        Some(octet) => compared_by_type(port, octet % 16),
+    match frame.message_type() {
+        Some(number) => compared_by_type(port, number),
         None => Compared::All,
     }
 }

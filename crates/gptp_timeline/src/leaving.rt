@@ -5,6 +5,7 @@ ghost use Rattle.gptp_links.specs.declared.link.Direction.{Direction};
 ghost use Rattle.gptp_scenario.specs.declared.change.Act.TheVariants.{Deliver};
 ghost use Rattle.gptp_timeline.specs.Leaving.{FrameLeaves, LeavesAll, TimerLeaves, TypeLeaves, can_take_over};
 
+use gptp_model::Carried;
 use gptp_setup::Timer;
 use gptp_world::{Act, Done};
 
@@ -28,11 +29,11 @@ fn type_leaves(number: u8) -> bool
 }
 
 /// Whether a frame does so.
-fn frame_leaves(frame: &[u8]) -> bool
-    ensures { result ≡ true → FrameLeaves frame.now }
+fn frame_leaves(frame: &Carried) -> bool
+    ensures { result ≡ true → FrameLeaves frame.now.items }
 {
-    match frame.first() {
-        Some(octet) => type_leaves(octet % 16),
+    match frame.message_type() {
+        Some(number) => type_leaves(number),
         None => false,
     }
 }
@@ -44,7 +45,7 @@ fn delivery_leaves(done: &Done) -> bool
 {
     match done {
         Done::Quiet => false,
-        Done::Heard { frame, .. } => frame_leaves(frame.as_slice()),
+        Done::Heard { frame, .. } => frame_leaves(frame),
     }
 }
 

@@ -31,6 +31,7 @@ mod ports;
 mod readings;
 mod receipts;
 mod run_so_far;
+mod seeing;
 mod shown;
 mod sources;
 mod stretch;

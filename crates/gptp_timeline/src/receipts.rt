@@ -9,7 +9,7 @@ ghost use Rattle.gptp_timeline.specs.Receipts.{offset_error, is_follow_up, offse
 use crate::amounts::SignedOrNone;
 use crate::readings::told_by;
 use gptp_links::Fate;
-use gptp_model::Done;
+use gptp_model::{Carried, Done};
 use gptp_scaled::ScaledNs;
 use gptp_system::{Answer, System};
 use gptp_vector::ClockId;
@@ -18,18 +18,18 @@ use gptp_world::World;
 use std::alloc::AllocError;
 
 /// Whether a frame is a Follow_Up, by its messageType.
-pub(crate) fn is_follow_up(frame: &[u8]) -> bool
-    ensures { result ≡ is_follow_up frame.now }
+pub(crate) fn is_follow_up(frame: &Carried) -> bool
+    ensures { result ≡ is_follow_up frame.now.items }
 {
-    match frame.first() {
-        Some(octet) => octet % 16 == 8,
+    match frame.message_type() {
+        Some(number) => number == 8,
         None => false,
     }
 }
 
 /// The clock, where a frame that was answered so is a Follow_Up that was used.
-fn receiver(clock: ClockId, answer: Option<Answer>, frame: &[u8]) -> Option<ClockId>
-    ensures { result ≡ receiver_clock clock answer frame.now }
+fn receiver(clock: ClockId, answer: Option<Answer>, frame: &Carried) -> Option<ClockId>
+    ensures { result ≡ receiver_clock clock answer frame.now.items }
 {
     match answer {
         Some(Answer::Used) => match is_follow_up(frame) {
@@ -51,7 +51,7 @@ pub(crate) fn received_by(done: &Done) -> Option<ClockId>
             port: _,
             answer,
             frame,
-        } => receiver(*clock, *answer, frame.as_slice()),
+        } => receiver(*clock, *answer, frame),
     }
 }
 

@@ -195,8 +195,8 @@ choice_is d at choice above ([], inl (first, bounds)) =
     choice_of d.network _ (events_by at d.events) choice above bounds
 choice_is d at choice above ((last ∷ earlier), inl (late, between, bounds)) =
     choice_of d.network _ (events_by at d.events) choice above bounds
-choice_is d at choice above ([], inr none) = absurd none
-choice_is d at choice above ((last ∷ earlier), inr (late, between, calm, off, before, none, which)) =
+choice_is d at choice above ([], inr (alone, none)) = absurd none
+choice_is d at choice above ((last ∷ earlier), inr (alone, (late, between, calm, off, before, loses))) =
     absurd (omega (arith, off, above))
 
 pub over_by : (d : DocumentState) (at from : ℕ) → IsTold d at from → 0 < d.network.params.sync_timeout

@@ -1,5 +1,5 @@
 -- A document without its events after a time.
-use Rattle.std.proofs.Common.{◌≡◌, ◌⊎◌, inl, inr, ◌<◌, ◌≤◌, ◌+◌, ℕ, Bool, true, false, nat_le, List, [], ◌∷◌, refl, sym, ap, subst, arith}
+use Rattle.std.proofs.Common.{◌≡◌, inl, inr, ◌<◌, ◌≤◌, ◌+◌, ℕ, Bool, true, false, nat_le, List, [], ◌∷◌, refl, sym, ap, subst, arith}
 use Rattle.std.specs.Prelude.{◌==◌, if◌then◌else◌}
 use Rattle.std.proofs.lemmas.Bool.{ne_eqb}
 use Rattle.std.proofs.lemmas.Bool.Decides.{nat_tests}
@@ -12,7 +12,7 @@ use Rattle.gptp_network.proofs.SnapshotLemmas.{from_filter}
 use Rattle.gptp_scenario.specs.Calm.{IsCalm}
 use Rattle.gptp_scenario.specs.Network.{NetworkState}
 use Rattle.gptp_scenario.specs.declared.change.Timed.{Timed}
-use Rattle.gptp_settling_time.specs.HowSoon.{BoundsChoice, BoundsEvents, BoundsStart, FailsEndFirst, IsChoiceAloneBound, IsChoiceBound, IsChoiceBoundAfter, IsLossBoundAfter, LowersOneLink, RolesAfterFailure, events_at}
+use Rattle.gptp_settling_time.specs.HowSoon.{BoundsChoice, BoundsEvents, BoundsFirst, BoundsLoss, BoundsNext, BoundsStart, IsChoiceAloneBound, IsChoiceBound, IsChoiceBoundAfter, IsLossBoundAfter, IsRestBoundAfter, LosesNext, RestsAfterLoss, events_at}
 use Rattle.gptp_theorem.specs.PlayedLaws.{IsPlayable}
 use Rattle.gptp_timeline.proofs.EventLemmas.{filter_each, filter_in_order}
 use Rattle.gptp_timeline.proofs.PastLemmas.{by_sooner}
@@ -56,42 +56,6 @@ bounds_by n Sharp More events choice more (calm, inr (off, inl any)) = (calm, in
 bounds_by n Sharp More events choice more (calm, inr (off, inr sharp)) = (calm, inr (off, inr (more sharp)))
 
 module _ (n : NetworkState) (all : List Timed) (until : ℕ) where
-  bound_by : (earlier : List ℕ) (time choice : ℕ) → time ≤ until → IsChoiceBoundAfter n all earlier time choice
-      → IsChoiceBoundAfter n (events_by until all) earlier time choice
-  bound_by [] time choice le (start, bounds) = (
-    start,
-    subst (λ es. BoundsChoice n (BoundsStart n es choice) es choice) (sym (by_sooner time until all le)) bounds,
-  )
-  bound_by (last ∷ earlier) time choice le (late, between, bounds) = (
-    late,
-    λ event member. between event (from_filter (λ (t : Timed). nat_le t.at until) event all member).0,
-    subst (λ es. BoundsChoice n
-        ((choice_then : ℕ) × IsChoiceBoundAfter n (events_by until all) earlier last choice_then
-        × (last + choice_then < time)
-        × BoundsEvents n (events_by last (events_by until all)) (events_at time (events_by until all))
-        (last + choice_then) time choice)
-        es choice) (sym (by_sooner time until all le))
-        (bounds_by n
-        ((choice_then : ℕ) × IsChoiceBoundAfter n all earlier last choice_then × (last + choice_then < time)
-        × BoundsEvents n (events_by last all) (events_at time all) (last + choice_then) time choice)
-        ((choice_then : ℕ) × IsChoiceBoundAfter n (events_by until all) earlier last choice_then
-        × (last + choice_then < time)
-        × BoundsEvents n (events_by last (events_by until all)) (events_at time (events_by until all))
-        (last + choice_then) time choice)
-        (events_by time all) choice
-        (λ sharp. (
-          sharp.0,
-          bound_by earlier last sharp.0 (omega (arith, late, le)) sharp.1,
-          sharp.2,
-          subst (λ made. BoundsEvents n made (events_at time (events_by until all)) (last + sharp.0) time choice)
-              (sym (by_sooner last until all (omega (arith, late, le))))
-              (subst (λ now. BoundsEvents n (events_by last all) now (last + sharp.0) time choice)
-              (sym (at_sooner time until all le))
-              sharp.3),
-        ))
-        bounds),
-  )
-
   -- what is so of the events of a time is so where later ones are left out
   events_so : (So : List Timed → List Timed → Type 0) (last time : ℕ) → last ≤ until → time ≤ until
       → So (events_by last all) (events_at time all)
@@ -100,38 +64,84 @@ module _ (n : NetworkState) (all : List Timed) (until : ℕ) where
       subst (λ made. So made (events_at time (events_by until all))) (sym (by_sooner last until all late))
       (subst (So (events_by last all)) (sym (at_sooner time until all le)) is)
 
+  first_by : (time choice : ℕ) → time ≤ until → BoundsFirst n all time choice
+      → BoundsFirst n (events_by until all) time choice
+  first_by time choice le (start, bounds) = (
+    start,
+    subst (λ es. BoundsChoice n (BoundsStart n es choice) es choice) (sym (by_sooner time until all le)) bounds,
+  )
+
+  -- of a later time, behind what is so of the time before
+  module _ (Then More : ℕ → Type 0) (last time : ℕ) (le : time ≤ until)
+      (more : last ≤ until → (before : ℕ) → Then before → More before) where
+    abbrev IsSharp : (ℕ → Type 0) → List Timed → ℕ → Type 0
+    IsSharp So events choice = (before : ℕ) × So before × (last + before < time)
+        × BoundsEvents n (events_by last events) (events_at time events) (last + before) time choice
+
+    next_by : (choice : ℕ) → BoundsNext n all Then last time choice
+        → BoundsNext n (events_by until all) More last time choice
+    next_by choice (late, between, bounds) = (
+      late,
+      λ event member. between event (from_filter (λ (t : Timed). nat_le t.at until) event all member).0,
+      subst (λ es. BoundsChoice n (IsSharp More (events_by until all) choice) es choice)
+          (sym (by_sooner time until all le))
+          (bounds_by n (IsSharp Then all choice) (IsSharp More (events_by until all) choice) (events_by time all) choice
+          (λ sharp. (
+            sharp.0,
+            more (omega (arith, late, le)) sharp.0 sharp.1,
+            sharp.2,
+            events_so (λ made now. BoundsEvents n made now (last + sharp.0) time choice) last time
+                (omega (arith, late, le)) le sharp.3,
+          ))
+          bounds),
+    )
+
+    loses_by : (Asks : List Timed → List Timed → Type 0) → LosesNext n all Then last time Asks
+        → LosesNext n (events_by until all) More last time Asks
+    loses_by Asks (late, between, calm, off, (before, bound, soon), loses) = (
+      late,
+      λ event member. between event (from_filter (λ (t : Timed). nat_le t.at until) event all member).0,
+      subst (IsCalm n) (sym (by_sooner time until all le)) calm,
+      off,
+      (before, more (omega (arith, late, le)) before bound, soon),
+      events_so Asks last time (omega (arith, late, le)) le loses,
+    )
+
+  rest_by : (earlier : List ℕ) (time rest : ℕ) → time ≤ until → IsRestBoundAfter n all earlier time rest
+      → IsRestBoundAfter n (events_by until all) earlier time rest
+  rest_by [] time rest le bounds = first_by time rest le bounds
+  rest_by (last ∷ earlier) time rest le (inl bounds) =
+      inl (next_by (λ before. IsRestBoundAfter n all earlier last before)
+      (λ before. IsRestBoundAfter n (events_by until all) earlier last before) last time le
+      (λ soon before. rest_by earlier last before soon) rest bounds)
+  rest_by (last ∷ earlier) time rest le (inr loses) =
+      inr (loses_by (λ before. IsRestBoundAfter n all earlier last before)
+      (λ before. IsRestBoundAfter n (events_by until all) earlier last before) last time le
+      (λ soon before. rest_by earlier last before soon) (λ made now. RestsAfterLoss n made now rest) loses)
+
+  bound_by : (earlier : List ℕ) (time choice : ℕ) → time ≤ until → IsChoiceBoundAfter n all earlier time choice
+      → IsChoiceBoundAfter n (events_by until all) earlier time choice
+  bound_by [] time choice le bounds = first_by time choice le bounds
+  bound_by (last ∷ earlier) time choice le bounds =
+      next_by (λ before. IsRestBoundAfter n all earlier last before)
+      (λ before. IsRestBoundAfter n (events_by until all) earlier last before) last time le
+      (λ soon before. rest_by earlier last before soon) choice bounds
+
   loss_by : (earlier : List ℕ) (time choice roles : ℕ) → time ≤ until
       → IsLossBoundAfter n all earlier time choice roles
       → IsLossBoundAfter n (events_by until all) earlier time choice roles
   loss_by [] time choice roles le none = absurd none
-  loss_by (last ∷ earlier) time choice roles le (late, between, calm, off, (choice_then, bound, soon), none, which) = (
-    late,
-    λ event member. between event (from_filter (λ (t : Timed). nat_le t.at until) event all member).0,
-    subst (IsCalm n) (sym (by_sooner time until all le)) calm,
-    off,
-    (choice_then, bound_by earlier last choice_then (omega (arith, late, le)) bound, soon),
-    none,
-    by which,
-  )
-    where
-      by : (LowersOneLink n (events_by last all) (events_at time all) × (roles ≡ 0))
-          ⊎ (FailsEndFirst n (events_by last all) (events_at time all) × RolesAfterFailure n (events_by time all) roles)
-          → (LowersOneLink n (events_by last (events_by until all)) (events_at time (events_by until all))
-          × (roles ≡ 0))
-          ⊎ (FailsEndFirst n (events_by last (events_by until all)) (events_at time (events_by until all))
-          × RolesAfterFailure n (events_by time (events_by until all)) roles)
-      by (inl (lowers, is)) = inl (events_so (LowersOneLink n) last time (omega (arith, late, le)) le lowers, is)
-      by (inr (fails, after)) = inr (
-        events_so (FailsEndFirst n) last time (omega (arith, late, le)) le fails,
-        subst (λ es. RolesAfterFailure n es roles) (sym (by_sooner time until all le)) after,
-      )
+  loss_by (last ∷ earlier) time choice roles le loses =
+      loses_by (λ before. IsRestBoundAfter n all earlier last before)
+      (λ before. IsRestBoundAfter n (events_by until all) earlier last before) last time le
+      (λ soon before. rest_by earlier last before soon) (λ made now. BoundsLoss n made now choice roles) loses
 
 pub short_bound : (d : DocumentState) (until time choice : ℕ) → time ≤ until → IsChoiceBound d time choice
     → IsChoiceBound (shortened until d) time choice
 short_bound d until time choice le (earlier, inl bound) =
     (earlier, inl (bound_by d.network d.events until earlier time choice le bound))
-short_bound d until time choice le (earlier, inr lost) =
-    (earlier, inr (loss_by d.network d.events until earlier time 0 choice le lost))
+short_bound d until time choice le (earlier, inr (alone, lost)) =
+    (earlier, inr (alone, loss_by d.network d.events until earlier time alone choice le lost))
 
 -- so it has the same bounds of the choice alone
 pub short_alone : (d : DocumentState) (until time choice : ℕ) → time ≤ until → IsChoiceAloneBound d time choice

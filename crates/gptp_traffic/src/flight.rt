@@ -1,14 +1,15 @@
 //! Frames in flight.
 
+use gptp_model::Carried;
 use std::alloc::AllocError;
 use std::marker::Model;
 
-/// A frame in flight: its place in the queue, when it is due, in ns, and its octets.
+/// A frame in flight: its place in the queue, when it is due, in ns, and what the link carries.
 #[derive(Drop)]
 pub(crate) struct Flight {
     pub place: usize,
     pub due: u64,
-    pub octets: Vec<u8>,
+    pub carried: Carried,
 }
 
 impl Model for Flight {
@@ -16,7 +17,7 @@ impl Model for Flight {
 
     ghost Value = { FlightState };
 
-    ghost view = { λ f. record { place = f.place; due = f.due; octets = f.octets.items } };
+    ghost view = { λ f. record { place = f.place; due = f.due; octets = f.carried.items } };
 }
 
 impl Clone for Flight {
@@ -28,7 +29,7 @@ impl Clone for Flight {
         Ok(Flight {
             place: self.place,
             due: self.due,
-            octets: self.octets.clone()?,
+            carried: self.carried.clone()?,
         })
     }
 }

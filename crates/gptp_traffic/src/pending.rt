@@ -15,7 +15,7 @@ use crate::flight::Flight;
 use crate::pending_index::{TIMER_KINDS, TIMER_SPAN, arrival_place, timer_kind, timer_place};
 use gptp_chain::Queues;
 use gptp_links::Direction;
-use gptp_model::Item;
+use gptp_model::{Carried, Item};
 use gptp_queue::Queue;
 use gptp_system::Timer;
 use std::alloc::{AllocError, Global};
@@ -48,7 +48,7 @@ fn put_item(
     ensures room { queue.old.room ≤ queue.new.room + 1 }
 {
     items[place] = item;
-    let _ = queue.put(kind, place, time).unwrap();
+    queue.put_reserved(kind, place, time);
 }
 
 /// Makes one more place for arrivals, at which nothing is due, behind those of so many timers. There is room to keep
@@ -275,14 +275,13 @@ impl Pending {
         self.queue.take(timer_place(place, timer));
     }
 
-    /// Puts an arrival over a link in a direction, of a frame with these octets, due at this time, in ns. Takes no
-    /// memory.
-    pub fn put_arrival(&mut self, link: usize, direction: Direction, due: u64, octets: Vec<u8>)
+    /// Puts an arrival over a link in a direction, of what the link carries, due at this time, in ns. Takes no memory.
+    pub fn put_arrival(&mut self, link: usize, direction: Direction, due: u64, carried: Carried)
         requires link { link < self.old.links }
         requires room { 0 < self.old.room }
         ensures kept { self.new ≡ record self.old {
           entries = put due (Arrival link direction) self.old.entries;
-          frames = slice_set self.old.frames (arrival_place link direction) (frames_at link direction self.old.frames ++ frame due octets.items ∷ []);
+          frames = slice_set self.old.frames (arrival_place link direction) (frames_at link direction self.old.frames ++ frame due carried.items ∷ []);
           room = self.new.room;
         } }
         ensures room { self.old.room ≤ self.new.room + 1 }
@@ -299,13 +298,17 @@ impl Pending {
                 direction,
             },
         );
-        let flight = Flight { place, due, octets };
+        let flight = Flight {
+            place,
+            due,
+            carried,
+        };
         self.flights.push(arrival_place(link, direction), flight);
         self.spare -= 1;
     }
 
-    /// Takes the first arrival over a link in a direction out, with the octets of its frame, if there is one.
-    pub fn take_arrival(&mut self, link: usize, direction: Direction) -> Option<Vec<u8>>
+    /// Takes the first arrival over a link in a direction out, with its frame, if there is one.
+    pub fn take_arrival(&mut self, link: usize, direction: Direction) -> Option<Carried>
         requires { link < self.old.links }
         ensures kept { self.new ≡ record self.old {
           entries = without_first_entry (Arrival link direction) self.old.entries;
@@ -313,7 +316,7 @@ impl Pending {
           room = self.new.room;
         } }
         ensures room { self.old.room ≤ self.new.room }
-        ensures taken { IfSome result (λ octets. IsTaken (frames_at link direction self.old.frames) octets.items (drop 1 (frames_at link direction self.old.frames))) }
+        ensures taken { IfSome result (λ carried. IsTaken (frames_at link direction self.old.frames) carried.items (drop 1 (frames_at link direction self.old.frames))) }
         ensures none { IfNone result (times_of_item (Arrival link direction) self.old.entries ≡ []) }
         ensures no_frame { IfNone result (frames_at link direction self.old.frames ≡ []) }
         ensures one { IfSome result (λ _. length self.new.entries < length self.old.entries) }
@@ -323,7 +326,7 @@ impl Pending {
             Some(flight) => {
                 self.queue.take(flight.place);
                 put_back(&mut self.free, flight.place);
-                Some(flight.octets)
+                Some(flight.carried)
             }
             None => None,
         }

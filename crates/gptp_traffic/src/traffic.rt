@@ -18,7 +18,7 @@ ghost use Rattle.gptp_traffic.specs.Traffic.{idle_channel, join_of, SentOne};
 use crate::joined_link::{Join, JoinedLink, Lane};
 use crate::pending::Pending;
 use gptp_links::{Bounds, Fate};
-use gptp_model::Item;
+use gptp_model::{Carried, Item};
 use gptp_system::Timer;
 use std::alloc::{AllocError, Global};
 use std::marker::Model;
@@ -157,14 +157,14 @@ impl Traffic {
 
 /// Frames.
 impl Traffic {
-    /// A frame with these octets goes onto a lane whose link is up, at the time `now`, in ns: unless the fate draws that
-    /// it is lost it is in flight, and its arrival pending. Takes no memory.
-    pub fn send<F: Fate>(&mut self, lane: Lane, octets: Vec<u8>, now: u64, fate: &mut F)
+    /// A frame goes onto a lane whose link is up, at the time `now`, in ns: unless the fate draws that it is lost it is
+    /// in flight, and its arrival pending. Takes no memory.
+    pub fn send<F: Fate>(&mut self, lane: Lane, carried: Carried, now: u64, fate: &mut F)
         requires early { IsMoment now }
         requires link { lane.link < length self.old.net.channels }
         requires room { 0 < self.old.room }
         requires up { (channel : Channel) → slice_get self.old.net.channels lane.link ≡ Some channel → channel.up ≡ true }
-        ensures sent { (channel : Channel) → slice_get self.old.net.channels lane.link ≡ Some channel → SentOne F.answers now (sender lane.direction channel) octets.items fate.old fate.new self.old.net self.new.net }
+        ensures sent { (channel : Channel) → slice_get self.old.net.channels lane.link ≡ Some channel → SentOne F.answers now (sender lane.direction channel) carried.items fate.old fate.new self.old.net self.new.net }
         ensures systems { self.new.systems ≡ self.old.systems }
         ensures room { self.old.room ≤ self.new.room + 1 }
         ensures joins { map join_of self.new.net.channels ≡ map join_of self.old.net.channels }
@@ -173,12 +173,12 @@ impl Traffic {
         if let Some(delay) = fate.fate(&self.links[lane.link].bounds, now) {
             let due = (now + delay).max(self.pending.newest_due(lane.link, lane.direction));
             self.pending
-                .put_arrival(lane.link, lane.direction, due, octets);
+                .put_arrival(lane.link, lane.direction, due, carried);
         }
     }
 
     /// The oldest frame of a lane, which is due at some time, leaves its link whole, and is no longer pending.
-    pub fn take(&mut self, lane: Lane) -> Vec<u8>
+    pub fn take(&mut self, lane: Lane) -> Carried
         requires { (now : ℕ) × AtPlace lane.link self.old.net (IsOldestDue lane.direction now) }
         ensures takes { (now : ℕ) (channel : Channel) → slice_get self.old.net.channels lane.link ≡ Some channel → IsOldestDue lane.direction now channel
             → TakesFrame lane.link lane.direction now result.items channel self.old.net self.new.net }

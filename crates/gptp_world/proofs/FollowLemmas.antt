@@ -11,7 +11,7 @@ use Rattle.gptp_model.specs.Pending.{Entry, IsNext, NothingBefore}
 use Rattle.gptp_model.proofs.AdvanceLemmas.{nothing_sooner}
 use Rattle.gptp_model.proofs.MomentLemmas.{nothing_before-next}
 use Rattle.gptp_model.specs.World.{WorldState}
-use Rattle.gptp_world.specs.Following.{Follows, IsUpcoming, PassesSeen}
+use Rattle.gptp_world.specs.Following.{Follows, HappensUnseen, IsUpcoming, PassesSeen}
 use Rattle.gptp_world.specs.Observing.{Observed, Tells, TellsAct}
 use Rattle.gptp_world.specs.Transitions.{Passes, ActTrace, transition}
 use Rattle.gptp_words.specs.Lines.{text_of}
@@ -120,6 +120,14 @@ module _ {F O : Type 0} (answers : Bounds → ℕ → F → Option ℕ → F →
     passes = (fate_after, refl, happens, (refl, refl));
     observed = observed_one tells (transition timed done w w') o o_after So told;
   }
+
+  -- one act of which nothing is told
+  pub follows_unseen : (time : ℕ) (fate fate_after : F) (w w' : WorldState) (o : O) (So : List ℕ → Type 0)
+      → HappensUnseen answers time fate fate_after w w' → ((told : Told) (x : WorldState) → tells told x o o [])
+      → So [] → Follows answers tells time fate fate_after w w' o o So
+  follows_unseen time fate fate_after w w' o So unseen nothing so =
+      follows_one time unseen.told.timed unseen.told.done fate fate_after w w' o o So unseen.happens
+      ([], nothing unseen.told w', so)
 
   pub follows_so : (until : ℕ) (fate fate_after : F) (w w' : WorldState) (o o_after : O) (So More : List ℕ → Type 0)
       → ((text : List ℕ) → So text → More text) → Follows answers tells until fate fate_after w w' o o_after So

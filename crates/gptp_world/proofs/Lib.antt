@@ -15,6 +15,7 @@ pub mod ExpiringLemmas
 pub mod DeliveringLemmas
 pub mod PerformingLemmas
 pub mod ComingUpLemmas
+pub mod UnseenLemmas
 pub mod FollowLemmas
 pub mod TimingLemmas
 pub mod DirectoryLemmas

@@ -105,3 +105,9 @@ pub record ActIsDone {F : Type 0} (answers : Bounds → ℕ → F → Option ℕ
   pub draws : List Draw
   pub drawn : Draws answers fate draws fate_after
   pub acts : Acts act (world_of parts) draws done (world_of stage_after)
+
+-- it was carried out, whatever is told of it
+abbrev pub IsDone : {F : Type 0} → (Bounds → ℕ → F → Option ℕ → F → Type 0) → Act → F → F → WorldParts → WorldParts
+    → Type 0
+IsDone answers act fate fate_after parts stage_after =
+    (done : Done) × ActIsDone answers act done fate fate_after parts stage_after

@@ -14,7 +14,7 @@ use gptp_model::{Done, Item, Timed};
 use gptp_sink::Cut;
 use gptp_sink::sink::Sink;
 use gptp_traffic::Lane;
-use std::alloc::Global;
+use std::alloc::{AllocError, Global};
 
 /// What an item is about.
 fn aim_of(item: Item) -> ActTarget
@@ -33,11 +33,11 @@ fn aim_of(item: Item) -> ActTarget
 }
 
 impl WorldCore {
-    ghost use Rattle.std.specs.Prelude.{◌≡◌, ◌+◌, ◌≤◌, IfNone, IfSome};
+    ghost use Rattle.std.specs.Prelude.{◌≡◌, ◌+◌, ◌≤◌, IfNone, IfSome, OnErr, OnOk};
     ghost use Rattle.gptp_model.specs.Acts.{at};
     ghost use Rattle.gptp_model.specs.Pending.{IsNext, NothingBefore};
     ghost use Rattle.gptp_model.specs.Views.{IsActOf};
-    ghost use Rattle.gptp_world.specs.Following.{IsUpcoming};
+    ghost use Rattle.gptp_world.specs.Following.{HappensUnseen, IsUpcoming};
 
     /// What is next, and its time.
     fn upcoming(&self) -> Option<(u64, Item)>
@@ -62,7 +62,7 @@ impl WorldCore {
         }
     }
 
-    /// The buffer of a frame that arrived stands ready for another.
+    /// The buffer of a frame that arrived, where its octets stand in one, stands ready for another.
     fn recycle(&mut self, done: Done)
         ensures { self.new ≡ self.old }
     {
@@ -72,9 +72,24 @@ impl WorldCore {
                 port: _,
                 answer: _,
                 frame,
-            } => self.parts.net.buffers.put_back(frame),
+            } => self.parts.net.buffers.put_back_of(frame),
             Done::Quiet => {}
         }
+    }
+
+    /// What is next happens at its time, and nothing is told of it. Refused where there is no memory for what it can
+    /// leave, and then nothing changes.
+    fn pass<F: Fate>(&mut self, time: u64, item: Item, fate: &mut F) -> Result<(), AllocError>
+        requires moment { IsMoment time }
+        requires next { IsNext self.old.net.pending time item }
+        ensures done { OnOk result (HappensUnseen F.answers time fate.old fate.new self.old self.new) }
+        ensures kept { OnErr result (self.new ≡ self.old) }
+        ensures fate { OnErr result (fate.new ≡ fate.old) }
+    {
+        self.parts.make_room_to_pass(item)?;
+        self.parts.now = time;
+        self.parts.pass(item, fate);
+        Ok(())
     }
 
     /// The act of what is next, at its time.
@@ -111,7 +126,7 @@ impl<F: Fate + Drop> World<F> {
 
     /// What is next is done at its time, and seen; then the buffer of a frame that arrived stands ready for another.
     /// [`Cut::Memory`] where there is no memory for what it can leave, and then nothing changes.
-    fn do_next<O: Observer, K: Sink>(
+    fn do_seen<O: Observer, K: Sink>(
         &mut self,
         alloc: Global,
         time: u64,
@@ -139,6 +154,35 @@ impl<F: Fate + Drop> World<F> {
         let seen = observer.observe(alloc, self, &timed, &done, sink);
         self.world_core.recycle(done);
         seen
+    }
+
+    /// What is next is done at its time, and seen where the observer wants that. [`Cut::Memory`] where there is no memory
+    /// for what it can leave, and then nothing changes.
+    fn do_next<O: Observer, K: Sink>(
+        &mut self,
+        alloc: Global,
+        time: u64,
+        item: Item,
+        observer: &mut O,
+        sink: &mut K,
+    ) -> Result<(), Cut>
+        requires next { IsNext self.old.world_core.net.pending time item }
+        requires moment { IsMoment time }
+        ensures went { (o_after : O) × Follows F.answers O.tells time self.old.fate self.new.fate self.old.world_core
+            self.new.world_core observer.old o_after (AppendsSome (K.written sink.old) (K.written sink.new)) }
+        ensures followed { OnOk result (Follows F.answers O.tells time self.old.fate self.new.fate self.old.world_core
+            self.new.world_core observer.old observer.new (Appends (K.written sink.old) (K.written sink.new))) }
+        ensures less { OnOk result
+            (due_by time self.new.world_core.net.pending < due_by time self.old.world_core.net.pending) }
+        ensures first { OnOk result (NothingBefore time self.new.world_core.net.pending) }
+        ensures works { result ≢ Err Cut.Write → K.failures sink.new ≡ K.failures sink.old }
+        ensures fails { result ≡ Err Cut.Write → K.failures sink.new ≢ K.failures sink.old }
+    {
+        if observer.wants() {
+            return self.do_seen(alloc, time, item, observer, sink);
+        }
+        self.world_core.pass(time, item, &mut self.fate)?;
+        Ok(())
     }
 
     /// All that is due at a time, before which nothing is pending, is done and seen, and what is put for that time

@@ -2,6 +2,7 @@
 
 use crate::net::Net;
 use gptp_links::Bounds;
+use gptp_model::Carried;
 use gptp_traffic::Lane;
 
 impl Net {
@@ -49,7 +50,7 @@ impl Net {
     }
 
     /// The oldest frame of a lane, which is due then, leaves its link, and is no longer pending.
-    pub(crate) fn take_frame(&mut self, lane: Lane) -> Vec<u8>
+    pub(crate) fn take_frame(&mut self, lane: Lane) -> Carried
         requires net { IsNet self.old }
         requires due { (now : ℕ) × AtPlace lane.link (between self.old) (IsOldestDue lane.direction now) }
         ensures net { IsNet self.new }

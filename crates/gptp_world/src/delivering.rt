@@ -5,7 +5,8 @@ ghost use Rattle.gptp_setup.specs.declared.limits.TheConstants.{MOST_PORTS};
 
 use crate::world_parts::WorldParts;
 use gptp_links::Fate;
-use gptp_system::{Answer, Input};
+use gptp_model::Carried;
+use gptp_system::Answer;
 use gptp_traffic::Lane;
 use gptp_vector::PortId;
 use std::alloc::AllocError;
@@ -15,7 +16,7 @@ use std::alloc::AllocError;
 pub(crate) struct Reached {
     pub at: PortId,
     pub answer: Option<Answer>,
-    pub frame: Vec<u8>,
+    pub frame: Carried,
 }
 
 /// The number of a port in one octet.
@@ -40,26 +41,19 @@ impl WorldParts {
         &mut self,
         place: usize,
         port: u8,
-        frame: &[u8],
+        frame: &Carried,
         fate: &mut F,
     ) -> Option<Answer>
         requires parts { IsWorldParts self.old }
         requires place { place < length self.old.stations.items }
         requires heard { IsHeardAt place port self.old }
-        requires set { AreSetFor (Frame port frame.now) place self.old }
+        requires set { AreSetFor (Frame port frame.now.items) place self.old }
         requires room { HasRoomToCall place self.old }
         ensures parts { IsWorldParts self.new }
-        ensures heard { HeardAt F.answers place port frame.now result fate.old fate.new self.old self.new }
+        ensures heard { HeardAt F.answers place port frame.now.items result fate.old fate.new self.old self.new }
     {
         match self.stations[place].live {
-            true => Some(self.step_system(
-                place,
-                Input::Frame {
-                    port,
-                    octets: frame,
-                },
-                fate,
-            )),
+            true => Some(self.step_system(place, frame.input(port), fate)),
             false => None,
         }
     }

@@ -21,7 +21,6 @@ mod no_observer;
 mod observer;
 mod octets;
 mod performing;
-mod pool;
 mod room;
 mod starting;
 mod telling;

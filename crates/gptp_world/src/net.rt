@@ -2,12 +2,13 @@
 
 use crate::buffers::Buffers;
 use crate::directory::Directory;
-use crate::octets::{write_octets, write_send};
+use crate::octets::{carried, write_octets};
 use gptp_links::Fate;
+use gptp_model::Carried;
 use gptp_system::{Sending, System};
 use gptp_traffic::{Lane, Traffic};
 
-/// What is between the systems, with the buffers that frames are written into.
+/// What is between the systems, with the buffers that octets are written into.
 #[derive(Drop)]
 pub(crate) struct Net {
     pub directory: Directory,
@@ -60,9 +61,10 @@ impl Net {
         ensures systems { self.new.traffic.systems ≡ self.old.traffic.systems }
         ensures sent { (channel : Channel) → slice_get self.old.traffic.net.channels lane.link ≡ Some channel → SentOne F.answers now (sender lane.direction channel) octets.now fate.old fate.new (between self.old) (between self.new) }
     {
-        let mut frame = self.buffers.take_long();
-        write_octets(octets, &mut frame);
-        self.traffic.send(lane, frame, now, fate);
+        let mut buffer = self.buffers.take();
+        write_octets(octets, &mut buffer);
+        self.traffic
+            .send(lane, Carried::of_octets(buffer), now, fate);
     }
 
     /// One send of the system at a place goes onto its link, where that is up.
@@ -83,9 +85,8 @@ impl Net {
         ensures sent { SentNext F.answers now (own system.now send.now.port) (written system.now send.now) fate.old fate.new (between self.old) (between self.new) }
     {
         if let Some(lane) = self.up_lane(place, send.port) {
-            let mut octets = self.buffers.take_for(&send.body);
-            write_send(system, send, &mut octets);
-            self.traffic.send(lane, octets, now, fate);
+            let frame = carried(system, send, &mut self.buffers);
+            self.traffic.send(lane, frame, now, fate);
         }
     }
 

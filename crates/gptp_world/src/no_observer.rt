@@ -17,6 +17,10 @@ impl Observer for NoObserver {
 
     ghost tells = { tells_nothing };
 
+    fn wants(&self) -> bool {
+        false
+    }
+
     fn observe<F: Fate + Drop, K: Sink>(
         &mut self,
         _alloc: Global,

@@ -1,6 +1,6 @@
 //! What is told of acts, as they are done.
 
-ghost use Rattle.std.specs.Prelude.{◌≡◌, ◌≢◌, ℕ, List, OnOk};
+ghost use Rattle.std.specs.Prelude.{◌≡◌, ◌≢◌, ℕ, false, List, [], OnOk};
 ghost use Rattle.std.specs.Io.KnownBytes.{Appends};
 ghost use Rattle.gptp_setup.specs.Intervals.{IsMoment};
 ghost use Rattle.gptp_model.specs.Advancing.{Told};
@@ -19,6 +19,10 @@ use std::alloc::Global;
 pub trait Observer {
     // what it tells of an act, after which the world is this, and how the observer stands before and after it
     ghost tells: { Told → WorldState → Self → Self → List (List ℕ) → Type 0 };
+
+    /// Whether it wants to see acts. One that doesn't tells nothing of any, whatever it would see, and stays as it is.
+    fn wants(&self) -> bool
+        ensures unseen { result ≡ false → (told : Told) (w : WorldState) → tells told w self.now self.now [] };
 
     /// It sees an act that was done at a time of at most `LAST_MOMENT`, and writes its lines.
     ///

@@ -7,7 +7,7 @@ use crate::act_target::ActTarget;
 use crate::delivering::Reached;
 use crate::world_parts::WorldParts;
 use gptp_links::{Bounds, Fate};
-use gptp_model::{Act, Change, Done};
+use gptp_model::{Act, Change, Done, Item};
 use gptp_traffic::Lane;
 use std::alloc::AllocError;
 
@@ -37,7 +37,7 @@ impl WorldParts {
     ghost use Rattle.gptp_model.specs.Agrees.{Agrees};
     ghost use Rattle.gptp_world.specs.Delivering.{HasRoomToHear};
     ghost use Rattle.gptp_world.specs.Net.{LinkIs};
-    ghost use Rattle.gptp_world.specs.Performing.{ActIsDone, CanChange, HasRoomForTarget, Injected, Turned, TurnsOver};
+    ghost use Rattle.gptp_world.specs.Performing.{ActIsDone, CanChange, HasRoomForTarget, Injected, IsDone, Turned, TurnsOver};
     ghost use Rattle.gptp_model.specs.Sound.{IsWired};
     ghost use Rattle.gptp_world.specs.Room.{for_frame, WorldHasRoom};
     ghost use Rattle.gptp_world.specs.WorldParts.{world_of, IsWorldParts, SystemIs};
@@ -61,6 +61,21 @@ impl WorldParts {
             answer,
             frame,
         }
+    }
+
+    /// The oldest frame of a lane, which is due now, arrives, and nothing is told of it. Its buffer, where its octets
+    /// stand in one, stands ready for another.
+    fn arrive_unseen<F: Fate>(&mut self, lane: Lane, fate: &mut F)
+        requires parts { IsWorldParts self.old }
+        requires wired { IsWired (world_of self.old) }
+        requires agrees { Agrees (world_of self.old) }
+        requires due { AtPlace lane.link (world_of self.old).net (IsOldestDue lane.direction self.old.now) }
+        requires room { HasRoomToHear lane self.old }
+        ensures parts { IsWorldParts self.new }
+        ensures arrived { IsDone F.answers (Deliver lane.link lane.direction) fate.old fate.new self.old self.new }
+    {
+        let reached = self.deliver(lane, fate);
+        self.net.buffers.put_back_of(reached.frame);
     }
 
     /// A link goes down, where it is up.
@@ -220,6 +235,58 @@ impl WorldParts {
                 self.last_change = self.now;
                 self.change(target, fate);
                 Done::Quiet
+            }
+        }
+    }
+}
+
+impl WorldParts {
+    ghost use Rattle.std.specs.Prelude.{◌≡◌, ℕ, OnOk};
+    ghost use Rattle.gptp_scenario.specs.declared.change.Act.{Act};
+    ghost use Rattle.gptp_model.specs.Pending.{IsNext};
+    ghost use Rattle.gptp_model.specs.Sound.{IsSound};
+    ghost use Rattle.gptp_model.specs.Views.{IsActOf};
+    ghost use Rattle.gptp_world.specs.ActTarget.{aim_of};
+    ghost use Rattle.gptp_world.specs.Performing.{HasRoomForTarget, IsDone};
+    ghost use Rattle.gptp_world.specs.WorldParts.{world_of, IsWorldParts};
+
+    /// Makes room for whatever can be left where what is next happens. Refused where there is no memory for it. The
+    /// state of the world doesn't change.
+    pub(crate) fn make_room_to_pass(&mut self, item: Item) -> Result<(), AllocError>
+        requires parts { IsWorldParts self.old }
+        requires sound { IsSound (world_of self.old) }
+        requires next { (time : ℕ) × IsNext (world_of self.old).net.pending time item }
+        ensures parts { IsWorldParts self.new }
+        ensures world { world_of self.new ≡ world_of self.old }
+        ensures room { OnOk result (HasRoomForTarget (aim_of item) self.new) }
+    {
+        match item {
+            Item::Expiry { place, timer: _ } => self.make_room(usize::from(place)),
+            Item::Arrival { link, direction } => self.make_room_to_hear(Lane {
+                link: usize::from(link),
+                direction,
+            }),
+        }
+    }
+
+    /// What is next, which is due now, happens, and nothing is told of it.
+    pub(crate) fn pass<F: Fate>(&mut self, item: Item, fate: &mut F)
+        requires parts { IsWorldParts self.old }
+        requires sound { IsSound (world_of self.old) }
+        requires next { IsNext (world_of self.old).net.pending self.old.now item }
+        requires room { HasRoomForTarget (aim_of item) self.old }
+        ensures parts { IsWorldParts self.new }
+        ensures done { (act : Act) → IsActOf item (world_of self.old) act
+            → IsDone F.answers act fate.old fate.new self.old self.new }
+    {
+        match item {
+            Item::Expiry { place, timer } => self.run_out(usize::from(place), timer, fate),
+            Item::Arrival { link, direction } => {
+                let lane = Lane {
+                    link: usize::from(link),
+                    direction,
+                };
+                self.arrive_unseen(lane, fate);
             }
         }
     }

@@ -4,7 +4,7 @@ ghost use Rattle.gptp_setup.specs.Intervals.{IsMoment};
 
 use crate::far::line;
 use crate::same::{same, same_at};
-use crate::world::{ARRIVAL, ARRIVAL_FROM_B, SPREAD, act, advance, begun, clock, timed};
+use crate::world::{ARRIVAL, ARRIVAL_FROM_B, SPREAD, act, advance, begun, clock, octets_of, timed};
 use gptp_links::{Fate, ListFate, PcgFate};
 use gptp_messages::Refused as Unread;
 use gptp_network::Document;
@@ -36,7 +36,13 @@ fn inject<F: Fate + Drop>(
 }
 
 /// Whether an act told that port 1 of the system with this clock answered these octets so.
-fn tells(done: &Done, number: u64, answer: Option<Answer>, octets: &[u8]) -> bool {
+fn tells(
+    alloc: Global,
+    done: &Done,
+    number: u64,
+    answer: Option<Answer>,
+    octets: &[u8],
+) -> Result<bool, Fail> {
     match done {
         Done::Heard {
             clock: hearer,
@@ -44,9 +50,11 @@ fn tells(done: &Done, number: u64, answer: Option<Answer>, octets: &[u8]) -> boo
             answer: told,
             frame,
         } => {
-            *hearer == clock(number) && *port == 1 && *told == answer && frame.as_slice() == octets
+            let heard = octets_of(alloc, frame)?;
+            let same = heard.as_slice() == octets;
+            Ok(*hearer == clock(number) && *port == 1 && *told == answer && same)
         }
-        Done::Quiet => false,
+        Done::Quiet => Ok(false),
     }
 }
 
@@ -62,7 +70,7 @@ fn each_front_of_an_announce_is_short(rt: HostRuntime) -> Result<(), Fail> {
         same_at(&rt, &length, refused, None);
         same_at(&rt, &length, advance(&mut world, at + 499), Ok(()));
         let done = act(&mut world, at + 500, ARRIVAL)?;
-        let short = tells(&done, 2, Some(Answer::Refused(Unread::Short)), front);
+        let short = tells(alloc, &done, 2, Some(Answer::Refused(Unread::Short)), front)?;
         same_at(&rt, &length, short, true);
     }
     Ok(())
@@ -128,9 +136,9 @@ fn a_failed_system_stops_no_injection(rt: HostRuntime) -> Result<(), Fail> {
         same_at(&rt, &number, refused, None);
     }
     let done = act(&mut world, 10_500, ARRIVAL)?;
-    assert!(rt; tells(&done, 2, Some(Answer::Disabled), &FIRST_ANNOUNCE));
+    assert!(rt; tells(alloc, &done, 2, Some(Answer::Disabled), &FIRST_ANNOUNCE)?);
     let done = act(&mut world, 10_500, ARRIVAL_FROM_B)?;
-    assert!(rt; tells(&done, 1, None, &FIRST_ANNOUNCE));
+    assert!(rt; tells(alloc, &done, 1, None, &FIRST_ANNOUNCE)?);
     Ok(())
 }
 
@@ -145,7 +153,7 @@ const ACTS: u32 = 1_000;
 
 /// The number of the clock that heard a frame of so many octets, and what it answered; `None` where an act told of
 /// none.
-fn heard(done: &Done, length: usize) -> Option<(u64, Answer)> {
+fn heard(alloc: Global, done: &Done, length: usize) -> Result<Option<(u64, Answer)>, Fail> {
     match done {
         Done::Heard {
             clock: hearer,
@@ -153,18 +161,22 @@ fn heard(done: &Done, length: usize) -> Option<(u64, Answer)> {
             frame,
             ..
         } => {
-            if frame.len() == length {
-                return Some((u64::from(*hearer), *answer));
+            if octets_of(alloc, frame)?.len() == length {
+                return Ok(Some((u64::from(*hearer), *answer)));
             }
-            None
+            Ok(None)
         }
-        _ => None,
+        _ => Ok(None),
     }
 }
 
 /// The number of the clock that hears the next frame of so many octets, by an act until [`END`], and what it answers;
 /// `None` where no act tells of one.
-fn next_of(world: &mut World<PcgFate>, length: usize) -> Result<Option<(u64, Answer)>, Refused> {
+fn next_of(
+    alloc: Global,
+    world: &mut World<PcgFate>,
+    length: usize,
+) -> Result<Option<(u64, Answer)>, Fail> {
     for _ in 0..ACTS {
         let Some(next) = world.next() else {
             return Ok(None);
@@ -173,7 +185,7 @@ fn next_of(world: &mut World<PcgFate>, length: usize) -> Result<Option<(u64, Ans
             return Ok(None);
         }
         let done = world.act(next)?;
-        let told = heard(&done, length);
+        let told = heard(alloc, &done, length)?;
         if told.is_some() {
             return Ok(told);
         }
@@ -195,9 +207,9 @@ fn a_trace_of_255_strangers_goes_one_hop(rt: HostRuntime) -> Result<(), Fail> {
     let refused = inject(&mut world, alloc, SETTLED, (1, 2), forged.as_slice())?;
     same(&rt, refused, None);
     // 68 octets, and 8 for each clock
-    let near = next_of(&mut world, 2_108)?;
+    let near = next_of(alloc, &mut world, 2_108)?;
     same(&rt, near, Some((2, Answer::Superior)));
-    let far = next_of(&mut world, 2_116)?;
+    let far = next_of(alloc, &mut world, 2_116)?;
     same(&rt, far, Some((3, Answer::Long)));
     let forged_root = Some((identity(1, 99), 1, Some(1)));
     same(&rt, world.follows(clock(2)), forged_root);
@@ -220,7 +232,13 @@ fn injections_of_one_moment_stay_in_order(rt: HostRuntime) -> Result<(), Fail> {
     same(&rt, advance(&mut world, 1_199), Ok(()));
     for octet in [1, 2] {
         let done = act(&mut world, 1_200, ARRIVAL)?;
-        let short = tells(&done, 2, Some(Answer::Refused(Unread::Short)), &[octet]);
+        let short = tells(
+            alloc,
+            &done,
+            2,
+            Some(Answer::Refused(Unread::Short)),
+            &[octet],
+        )?;
         same_at(&rt, &octet, short, true);
     }
     Ok(())

@@ -7,6 +7,7 @@ ghost use Rattle.gptp_scenario.specs.Allowed.{IsFitAct};
 
 use crate::same::same;
 use gptp_links::{Direction, Fate, ListFate, PcgFate};
+use gptp_model::Carried;
 use gptp_network::Document;
 use gptp_samples::TWO;
 use gptp_system::Timer;
@@ -158,16 +159,26 @@ pub(crate) fn timed(at: u64, act: Act) -> Timed
     Timed { at, act }
 }
 
+/// The octets of a frame.
+pub(crate) fn octets_of(alloc: Global, frame: &Carried) -> Result<Vec<u8>, Fail> {
+    let mut octets = Vec::new(alloc);
+    frame.write(&mut octets)?;
+    Ok(octets)
+}
+
 /// Whether an act told that port 1 of clock 2 heard that request.
-fn tells_request(done: &Done) -> bool {
+fn tells_request(alloc: Global, done: &Done) -> Result<bool, Fail> {
     match done {
         Done::Heard {
             clock: hearer,
             port,
             frame,
             ..
-        } => *hearer == clock(2) && *port == 1 && frame.as_slice() == REQUEST.as_slice(),
-        Done::Quiet => false,
+        } => {
+            let octets = octets_of(alloc, frame)?;
+            Ok(*hearer == clock(2) && *port == 1 && octets.as_slice() == REQUEST.as_slice())
+        }
+        Done::Quiet => Ok(false),
     }
 }
 
@@ -187,7 +198,7 @@ fn an_act_is_refused_by_the_first_test(rt: HostRuntime) -> Result<(), Fail> {
     same(&rt, act(&mut world, 0, STRAY).err(), Some(Refused::NoSuch));
     same(&rt, world.now(), 0);
     let done = act(&mut world, 500, ARRIVAL)?;
-    same(&rt, tells_request(&done), true);
+    same(&rt, tells_request(rt.alloc(), &done)?, true);
     same(&rt, world.now(), 500);
     same(&rt, advance(&mut world, 1_000), Ok(()));
     same(

@@ -10,5 +10,5 @@ returns-clause-choice g c =
 
 pub returns-clause-roles : goal.returns-clause-roles
 returns-clause-roles g c =
-    settles_within g.F.Fate.answers c.choice_bounds_hold.ensures far_document far_playable 30000000000 14000000000
+    settles_within g.F.Fate.answers c.choice_bounds_hold.ensures far_document far_playable 30000000000 11000000000
     far_bound

@@ -1,3 +1,4 @@
+use Rattle.std.proofs.Common.{refl}
 use Rattle.std.specs.Io.KnownBytes.{Appends}
 use Rattle.std.proofs.lemmas.Result.{on_ok_weaker}
 use Rattle.gptp_sink.specs.Sink.{AppendsSome}
@@ -7,13 +8,13 @@ use Rattle.gptp_report.proofs.frames.write_done.Goals as goal
 pub returns-in-Heard-clause-some : goal.returns-in-Heard-clause-some
 returns-in-Heard-clause-some g c =
     let heard = c.in-Heard in
-    rw heard.is (heard_shown c.args.at heard.clock heard.port heard.answer heard.frame.items c.as_slice.result.now
+    rw heard.is (heard_shown c.args.at heard.clock heard.port heard.answer heard.frame.items heard.frame.items
     (AppendsSome (g.K.Sink.written c.args.sink.now) (g.K.Sink.written c.write_frame_line.new.sink))
-    c.as_slice.ensures.value c.write_frame_line.ensures.some)
+    refl c.write_frame_line.ensures.some)
 
 pub returns-in-Heard-clause-whole : goal.returns-in-Heard-clause-whole
 returns-in-Heard-clause-whole g c = on_ok_weaker c.write_frame_line.result (λ written.
     let heard = c.in-Heard in
-    rw heard.is (heard_shown c.args.at heard.clock heard.port heard.answer heard.frame.items c.as_slice.result.now
+    rw heard.is (heard_shown c.args.at heard.clock heard.port heard.answer heard.frame.items heard.frame.items
     (Appends (g.K.Sink.written c.args.sink.now) (g.K.Sink.written c.write_frame_line.new.sink))
-    c.as_slice.ensures.value written)) c.write_frame_line.ensures.whole
+    refl written)) c.write_frame_line.ensures.whole

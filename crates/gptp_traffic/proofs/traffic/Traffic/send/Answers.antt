@@ -54,7 +54,7 @@ returns-in-Some-clause-sent g c = λ channel here.
     let kept = c.put_arrival.ensures.kept in
     let due = c.max-due.ensures ∙ ap (max (c.args.now + c.in-Some.delay)) c.newest_due.ensures in
     let after = net-sent t.links.items t.pending c.put_arrival.new.self lane.link lane.direction one channel there
-    stands place c.args.now c.in-Some.delay c.max-due.result c.args.octets.items due
+    stands place c.args.now c.in-Some.delay c.max-due.result c.args.carried.items due
     (ap (λ (p : PendingView). p.entries) kept) (ap (λ (p : PendingView). p.frames) kept) in
     record {
       draw = record { bounds = one.bounds; sent = c.args.now; answer = Some c.in-Some.delay };

@@ -26,12 +26,12 @@ returns-in-Some-clause-sent g c =
     let known = known_channel c.args.self.now (port_id (clock c.args.system.now) c.args.send.now.port) c.in-Some.lane
     c.requires.net up.begins in
     let sent = c.send.ensures.sent known.0 known.1 in
-    let octets = c.write_send.ensures in let from = known.2 in
+    let octets = c.carried-frame.ensures.is in let from = known.2 in
     rw (← octets) (inl (rw (← from) sent))
 
 pub returns-in-Some-clause-uses : goal.returns-in-Some-clause-uses
 returns-in-Some-clause-uses g c =
-    let e = c.send.ensures in let ready = c.take_for-octets.ensures.ready in
+    let e = c.send.ensures in let ready = c.carried-frame.ensures.ready in
     record {
       directory = refl;
       systems = e.systems;

@@ -99,6 +99,6 @@ returns-clause-delivered g c =
         takes = c.take_frame-frame.ensures.takes c.args.self.now.now due.channel due.here due.so;
         there = stands.here;
         is_end = stands.named ∙ ap (λ (p : PortId). p.clock) ends;
-        hears = rw (← port, ← c.deref.ensures.value) heard.hears;
+        hears = rw (← port) heard.hears;
       };
     }

@@ -2,7 +2,7 @@ use Rattle.std.proofs.Common.{arith}
 use Rattle.gptp_queue.specs.Waiting.{entry}
 use Rattle.gptp_queue.specs.Order.{AddsTo, Within}
 use Rattle.gptp_queue.proofs.QueueLemmas.{put_holds, others_put}
-use Rattle.gptp_queue.proofs.queue.Queue.put.Goals as goal
+use Rattle.gptp_queue.proofs.queue.Queue.put_reserved.Goals as goal
 
 pub put-requires-2-clause-highest : goal.put-requires-2-clause-highest
 put-requires-2-clause-highest c = λ e there.

@@ -1,0 +1,263 @@
+-- Worlds of a document after some events, by what its network came from: acts keep them so, and they settle.
+use Rattle.std.proofs.Common.{◌≡◌, inl, inr, ◌≤◌, ◌+◌, ◌*◌, ℕ, pred, List, [], Option, sym, ap, subst, arith}
+use Rattle.gptp_graph.specs.PathBound.{BoundsPaths, path_bound}
+use Rattle.gptp_graph.proofs.PathBoundLemmas.{paths_within}
+use Rattle.gptp_links.specs.declared.bounds.Bounds.{Bounds}
+use Rattle.gptp_setup.specs.SettlingParams.{SettlingParams}
+use Rattle.gptp_scenario.specs.Calm.{IsCalm, last_change}
+use Rattle.gptp_scenario.specs.Network.{pace_of}
+use Rattle.gptp_scenario.specs.SettlingAtOnce.{settling_span_at_once}
+use Rattle.gptp_scenario.specs.SettlingTime.{settling_span_with}
+use Rattle.gptp_scenario.specs.SyncWait.{sync_paths}
+use Rattle.gptp_scenario.specs.declared.change.Timed.{Timed}
+use Rattle.gptp_scenario.specs.declared.sync_wait.SyncPaths.{SyncPaths}
+use Rattle.gptp_model.specs.Acts.{at}
+use Rattle.gptp_model.specs.Course.{WasDone}
+use Rattle.gptp_model.specs.Pending.{NothingBefore}
+use Rattle.gptp_model.specs.Views.{IsNextAct}
+use Rattle.gptp_model.specs.World.{WorldState}
+use Rattle.gptp_world.specs.Transitions.{ActTrace}
+use Rattle.gptp_network.specs.Document.{DocumentState}
+use Rattle.gptp_report.specs.Transitions.{Unfolds}
+use Rattle.gptp_invariants.specs.ChoiceCalm.{sync_paths_of}
+use Rattle.gptp_invariants.specs.ChoiceSettled.{Settled}
+use Rattle.gptp_invariants.specs.WorldBounded.{IsBoundedWorld}
+use Rattle.gptp_invariants.specs.WorldCalmFor.{IsCalmFor, at_once_span, span_over}
+use Rattle.gptp_invariants.specs.WorldStanding.{snapshot_of}
+use Rattle.gptp_invariants.proofs.WorldBoundedLemmas.{bounded_at_once, bounded_by_paths}
+use Rattle.gptp_invariants.proofs.WorldSettlingInvariantLemmas.{settled_at_once, settled_by_paths}
+use Rattle.gptp_invariants.proofs.WorldStandsLemmas.{stands_well}
+use Rattle.gptp_theorem.specs.PlayedLaws.{IsPlayable}
+use Rattle.gptp_theorem.proofs.CalmLemmas.{pace_stands, quiet_stands}
+use Rattle.gptp_theorem.proofs.SyncPathLemmas.{paths_stand}
+use Rattle.gptp_settling_time.specs.ChoiceAlone.{ChoiceStands}
+use Rattle.gptp_settling_time.specs.Exactly.{SettlesBy}
+use Rattle.gptp_settling_time.specs.InTurn.{Aging, AnyPast, BeginsBy, ChoosesAfter, Cleared, Gained, Heard, IsTakenAs, Left, Past, RestsAs, SettlesAfter, Starting, Turned}
+use Rattle.gptp_settling_time.proofs.AgingToLemmas.{IsAgingTo, aging_to_act, aging_to_chooses, aging_to_later, aging_to_settled}
+use Rattle.gptp_settling_time.proofs.BegunLemmas.{begun_keeps}
+use Rattle.gptp_settling_time.proofs.ClaimedToLemmas.{IsClaimedTo, claimed_act, claimed_later, claimed_settled}
+use Rattle.gptp_settling_time.proofs.ClearedToLemmas.{IsClearedTo, cleared_left, cleared_to_act, cleared_to_claimed, cleared_to_later}
+use Rattle.gptp_settling_time.proofs.KeptToLemmas.{IsNewsTo, KeepsTo, keeps_act, keeps_later, news_act_to, news_later_to}
+use Rattle.gptp_settling_time.proofs.LeftToLemmas.{IsLeftTo, left_to_act, left_to_chooses, left_to_later, left_to_settled}
+use Rattle.gptp_settling_time.proofs.TurnedToLemmas.{IsTurnedTo, turned_to_act, turned_to_later, turned_to_settled}
+use Rattle.gptp_settling_time.proofs.StartEventLemmas.{IsStartingTo, begun_soon_claimed, begun_soon_news, starting_act, starting_begins, starting_later}
+use Rattle.gptp_settling_time.proofs.TimedNewsLemmas.{CanSettle, has_settled}
+
+-- what is so of a world after these events, by what its network came from
+abbrev pub IsAfter : DocumentState → List Timed → Past → WorldState → Type 0
+IsAfter d events AnyPast w = KeepsTo d events w
+IsAfter d events Starting w = IsStartingTo d events w
+IsAfter d events (Gained start) w = IsNewsTo d start events w
+IsAfter d events (Heard start) w = IsClaimedTo d events start w
+IsAfter d events (Left start) w = IsLeftTo d events start w
+IsAfter d events (Turned silent now) w = IsTurnedTo d events silent now w
+IsAfter d events (Cleared since silent right old) w = IsClearedTo d events since silent right old w
+IsAfter d events (Aging aged silent) w = IsAgingTo d events aged silent w
+
+module _ (d : DocumentState) (events : List Timed) where
+  pub after_keeps : (past : Past) (w : WorldState) → IsAfter d events past w → KeepsTo d events w
+  after_keeps AnyPast w so = so
+  after_keeps Starting w so = so.keeps
+  after_keeps (Gained start) w so = so.keeps
+  after_keeps (Heard start) w so = so.keeps
+  after_keeps (Left start) w so = so.keeps
+  after_keeps (Turned silent now) w so = so.keeps
+  after_keeps (Cleared since silent right old) w so = so.keeps
+  after_keeps (Aging aged silent) w so = so.keeps
+
+  pub after_later : (past : Past) (w : WorldState) (time : ℕ) → w.time ≤ time → NothingBefore time w.net.pending
+      → IsAfter d events past w → IsAfter d events past (at time w)
+  after_later AnyPast w time later first so = keeps_later d events w time later first so
+  after_later Starting w time later first so = starting_later d events w time later first so
+  after_later (Gained start) w time later first so = news_later_to d events start w time later first so
+  after_later (Heard start) w time later first so = claimed_later d events start w time later first so
+  after_later (Left start) w time later first so = left_to_later d events start w time later first so
+  after_later (Turned silent now) w time later first so = turned_to_later d events silent now w time later first so
+  after_later (Cleared since silent right old) w time later first so = cleared_to_later d events since silent right old
+      w time later first so
+  after_later (Aging aged silent) w time later first so = aging_to_later d events aged silent w time later first so
+
+  pub after_act : {F : Type 0} (answers : Bounds → ℕ → F → Option ℕ → F → Type 0) (past : Past) (t : ActTrace)
+      (fate drawn : F) (w : WorldState) → IsNextAct w t.told.timed
+      → WasDone answers t.told.timed fate drawn w t.after t.told.done → IsAfter d events past w
+      → IsAfter d events past t.after
+  after_act answers AnyPast t fate drawn w next was so = keeps_act d events answers t fate drawn w next was so
+  after_act answers Starting t fate drawn w next was so = starting_act d events answers t fate drawn w next was so
+  after_act answers (Gained start) t fate drawn w next was so =
+      news_act_to d events answers t fate drawn w next was start so
+  after_act answers (Heard start) t fate drawn w next was so = claimed_act d events start answers t fate drawn w next
+      was so
+  after_act answers (Left start) t fate drawn w next was so = left_to_act d events start answers t fate drawn w next was
+      so
+  after_act answers (Turned silent now) t fate drawn w next was so =
+      turned_to_act d events silent now answers t fate drawn w next was so
+  after_act answers (Cleared since silent right old) t fate drawn w next was so =
+      cleared_to_act d events since silent right old answers t fate drawn w next was so
+  after_act answers (Aging aged silent) t fate drawn w next was so =
+      aging_to_act d events aged silent answers t fate drawn w next was so
+
+-- ---- rest
+
+-- what is so of a world is so of it as it may be taken
+module _ (d : DocumentState) (playable : IsPlayable d) (events : List Timed) (w : WorldState) where
+  rests_as : (past seen : Past) → RestsAs d.network events past w.time seen → IsAfter d events past w
+      → IsAfter d events seen w
+  rests_as AnyPast seen none so = absurd none
+  rests_as Starting seen none so = absurd none
+  rests_as (Gained start) seen none so = absurd none
+  rests_as (Heard start) seen none so = absurd none
+  rests_as (Left silent) seen none so = absurd none
+  rests_as (Turned silent now) seen none so = absurd none
+  rests_as (Cleared since silent right old) AnyPast none so = absurd none
+  rests_as (Cleared since silent right old) Starting none so = absurd none
+  rests_as (Cleared since silent right old) (Gained start) none so = absurd none
+  rests_as (Cleared since silent right old) (Heard start) rest so = cleared_to_claimed d events since silent right old
+      w start so playable rest
+  rests_as (Cleared since silent right old) (Left start) none so = absurd none
+  rests_as (Cleared since silent right old) (Turned start now) none so = absurd none
+  rests_as (Cleared since silent right old) (Cleared start dark clean last) none so = absurd none
+  rests_as (Cleared since silent right old) (Aging gone start) none so = absurd none
+  rests_as (Aging aged silent) seen none so = absurd none
+
+  pub taken_as : (past seen : Past) → IsTakenAs d.network events past w.time seen → IsAfter d events past w
+      → IsAfter d events seen w
+  taken_as past seen (inl same) so = subst (λ x. IsAfter d events x w) (sym same) so
+  taken_as past seen (inr rests) so = rests_as past seen rests so
+
+-- ---- it begins
+
+pub begins_after : {F : Type 0} (answers : Bounds → ℕ → F → Option ℕ → F → Type 0) (d : DocumentState)
+    (playable : IsPlayable d) (fate : F) (until : ℕ) (first w : WorldState) (ts : List ActTrace)
+    → (k : Unfolds answers d until fate first ts w) → (past : Past) → BeginsBy d.network past → IsAfter d [] past first
+begins_after answers d playable fate until first w ts k AnyPast begins =
+    begun_keeps answers d playable fate k.started first k.begun
+begins_after answers d playable fate until first w ts k Starting begins =
+    starting_begins answers d playable fate k.started first k.begun
+begins_after answers d playable fate until first w ts k (Gained start) begins = record {
+  keeps = begun_keeps answers d playable fate k.started first k.begun;
+  news = inl (begun_soon_news answers d playable fate k.started first k.begun start begins);
+}
+begins_after answers d playable fate until first w ts k (Heard start) (little, begins) = record {
+  keeps = begun_keeps answers d playable fate k.started first k.begun;
+  since = begun_soon_claimed answers d playable fate k.started first k.begun start begins little;
+}
+begins_after answers d playable fate until first w ts k (Left start) none = absurd none
+begins_after answers d playable fate until first w ts k (Turned silent now) none = absurd none
+begins_after answers d playable fate until first w ts k (Cleared since silent right old) none = absurd none
+begins_after answers d playable fate until first w ts k (Aging aged silent) none = absurd none
+
+-- ---- it settles
+
+module _ (d : DocumentState) (playable : IsPlayable d) (all : List Timed) (calm : IsCalm d.network all) (settled : ℕ)
+    (w : WorldState) (on : settled ≤ w.time) where
+  abbrev pace : SettlingParams
+  pace = pace_of d.network
+
+  module _ (keeps : KeepsTo d all w) where
+    paths : sync_paths d.network all ≡ sync_paths_of w
+    paths = paths_stand d.network all w playable.network keeps.stands keeps.claim.world.sound
+
+    bounds : BoundsPaths (snapshot_of w) (path_bound (snapshot_of w))
+    bounds =
+        let world = keeps.claim.world in
+        paths_within (snapshot_of w) (stands_well w world.sound world.between world.encodable)
+
+    sharp : last_change all + settling_span_at_once pace (sync_paths d.network all) ≤ settled
+        → IsCalmFor (at_once_span (path_bound (snapshot_of w))) w
+    sharp passed =
+        let last = keeps.stands.last in
+        let late : last_change all + settling_span_at_once pace (sync_paths d.network all) ≤ w.time =
+        omega (arith, passed, on) in
+        record {
+          pace = pace;
+          set = pace_stands d.network all w keeps.stands;
+          quiet = quiet_stands d.network all w playable.network keeps.stands keeps.claim.world.sound calm;
+          late = subst (λ (x : SyncPaths). w.last_change + settling_span_at_once pace x ≤ w.time) paths (rw last late);
+        }
+
+    spanned : last_change all
+        + settling_span_with pace (sync_paths d.network all) (sync_paths d.network all).systems ≤ settled
+        → IsCalmFor (span_over (path_bound (snapshot_of w))) w
+    spanned passed =
+        let last = keeps.stands.last in
+        let late : last_change all
+        + settling_span_with pace (sync_paths d.network all) (sync_paths d.network all).systems ≤ w.time =
+        omega (arith, passed, on) in
+        record {
+          pace = pace;
+          set = pace_stands d.network all w keeps.stands;
+          quiet = quiet_stands d.network all w playable.network keeps.stands keeps.claim.world.sound calm;
+          late = subst (λ (x : SyncPaths). w.last_change + settling_span_with pace x x.systems ≤ w.time) paths
+              (rw last late);
+        }
+
+    can_settle : (start : ℕ) → SettlesBy pace (sync_paths d.network all) start settled
+        → CanSettle pace (sync_paths d.network all).systems start settled w
+    can_settle start settles =
+        let world = keeps.claim.world in
+        record {
+          quiet = (quiet_stands d.network all w playable.network keeps.stands world.sound calm).links;
+          bounded = subst (BoundsPaths (snapshot_of w)) (sym (ap (λ (x : SyncPaths). x.systems) paths)) bounds;
+          settles = subst (λ delay. SettlesBy pace
+              (record { systems = (sync_paths d.network all).systems; delay = delay }) start settled)
+              (ap (λ (x : SyncPaths). x.delay) paths) settles;
+        }
+
+  pub after_settles : (past : Past) → IsAfter d all past w → SettlesAfter d.network all past settled
+      → Settled w × IsBoundedWorld w
+  unfolding sharp
+  after_settles AnyPast keeps (inl (off, passed)) = (
+    settled_at_once (path_bound (snapshot_of w)) w (record { pace = pace; is = keeps.claim }) (bounds keeps)
+        (sharp keeps passed) off,
+    bounded_at_once (path_bound (snapshot_of w)) w (record { pace = pace; is = keeps.claim }) (bounds keeps)
+        (sharp keeps passed) off,
+  )
+  after_settles AnyPast keeps (inr passed) = (
+    settled_by_paths (path_bound (snapshot_of w)) w (record { pace = pace; is = keeps.claim }) (bounds keeps)
+        (spanned keeps passed),
+    bounded_by_paths (path_bound (snapshot_of w)) w (record { pace = pace; is = keeps.claim }) (bounds keeps)
+        (spanned keeps passed),
+  )
+  after_settles Starting so none = absurd none
+  after_settles (Gained start) so settles =
+      has_settled pace (sync_paths d.network all).systems start settled w so.news (can_settle so.keeps start settles) on
+  after_settles (Heard start) so (off, passed) =
+      claimed_settled d all start w so playable calm off (omega (arith, passed, on))
+  after_settles (Left silent) so (off, inl passed) =
+      left_to_settled d all silent w so playable calm off (inl (omega (arith, passed, on)))
+  after_settles (Left silent) so (off, inr used) = left_to_settled d all silent w so playable calm off (inr used)
+  after_settles (Turned silent now) so (off, passed) =
+      turned_to_settled d all silent now w so playable calm off
+      (subst (λ (x : SyncPaths). now + 1 + pred x.systems * x.delay ≤ w.time) (paths so.keeps)
+      (omega (arith, passed, on)))
+  after_settles (Cleared since silent right old) so (off, inl passed) =
+      left_to_settled d all silent w (cleared_left d all since silent right old w so) playable calm off
+      (inl (omega (arith, passed, on)))
+  after_settles (Cleared since silent right old) so (off, inr used) =
+      left_to_settled d all silent w (cleared_left d all since silent right old w so) playable calm off (inr used)
+  after_settles (Aging aged silent) so (off, inl passed) =
+      aging_to_settled d all aged silent w so playable calm off (inl (omega (arith, passed, on)))
+  after_settles (Aging aged silent) so (off, inr used) =
+      aging_to_settled d all aged silent w so playable calm off (inr used)
+
+  -- a settled system has its settled choice
+  chooses_so : Settled w → ChoiceStands w
+  chooses_so so place station here live near =
+      let x = so place station here live near in
+      record { root = x.root; steps = x.steps; slave = x.slave; parent = x.parent }
+
+  pub after_chooses : (past : Past) → IsAfter d all past w → ChoosesAfter d.network all past settled → ChoiceStands w
+  after_chooses AnyPast so settles = chooses_so (after_settles AnyPast so settles).0
+  after_chooses Starting so none = absurd none
+  after_chooses (Gained start) so settles = chooses_so (after_settles (Gained start) so settles).0
+  after_chooses (Heard start) so settles = chooses_so (after_settles (Heard start) so settles).0
+  after_chooses (Left silent) so off = left_to_chooses d all silent w so playable calm off
+  after_chooses (Turned silent now) so settles = chooses_so (after_settles (Turned silent now) so settles).0
+  after_chooses (Cleared since silent right old) so off =
+      left_to_chooses d all silent w (cleared_left d all since silent right old w so) playable calm off
+  after_chooses (Aging aged silent) so (off, inl gone) =
+      aging_to_chooses d all aged silent w so playable calm off (inl (omega (arith, gone, on)))
+  after_chooses (Aging aged silent) so (off, inr (inl late)) =
+      aging_to_chooses d all aged silent w so playable calm off (inr (inl (omega (arith, late, on))))
+  after_chooses (Aging aged silent) so (off, inr (inr used)) =
+      aging_to_chooses d all aged silent w so playable calm off (inr (inr used))

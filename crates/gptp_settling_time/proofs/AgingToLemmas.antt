@@ -1,0 +1,84 @@
+-- Worlds of documents since a system failed that others hear: what they hold of it ages.
+use Rattle.std.proofs.Common.{◌⊎◌, ◌≤◌, ℕ, Option, List, inl, inr, arith}
+use Rattle.gptp_graph.specs.Snapshot.{Snapshot}
+use Rattle.gptp_links.specs.declared.bounds.Bounds.{Bounds}
+use Rattle.gptp_scenario.specs.Calm.{IsCalm, NothingLapses}
+use Rattle.gptp_scenario.specs.Network.{pace_of}
+use Rattle.gptp_scenario.specs.declared.change.Timed.{Timed}
+use Rattle.gptp_model.specs.Acts.{at}
+use Rattle.gptp_model.specs.Course.{WasDone}
+use Rattle.gptp_model.specs.Pending.{NothingBefore}
+use Rattle.gptp_model.specs.Views.{IsNextAct}
+use Rattle.gptp_model.specs.World.{WorldState}
+use Rattle.gptp_world.specs.Transitions.{ActTrace}
+use Rattle.gptp_world.proofs.SettlingInvariantLemmas.{next_octet}
+use Rattle.gptp_network.specs.Document.{DocumentState}
+use Rattle.gptp_invariants.specs.ChoiceCalm.{HaveQuietLinks}
+use Rattle.gptp_invariants.specs.ChoiceSettled.{Settled}
+use Rattle.gptp_invariants.specs.WorldBounded.{IsBoundedWorld}
+use Rattle.gptp_theorem.specs.PlayedLaws.{IsPlayable}
+use Rattle.gptp_theorem.proofs.CalmLemmas.{quiet_stands}
+use Rattle.gptp_theorem.proofs.PlayedLemmas.{no_change}
+use Rattle.gptp_settling_time.specs.ChoiceAlone.{ChoiceStands}
+use Rattle.gptp_settling_time.specs.Losses.{UpIsUsed}
+use Rattle.gptp_settling_time.proofs.AgingClaimedLemmas.{IsAgingAlways, aging_acts, aging_chooses, aging_later, aging_now, aging_settles}
+use Rattle.gptp_settling_time.proofs.KeptToLemmas.{KeepsTo, keeps_act, keeps_later}
+use Rattle.gptp_settling_time.proofs.LeftToLemmas.{none_unanswered}
+
+-- A world of a document after these events, the last of which was such a failure: what is held at ports without a link
+-- ages before a time, and from another on they aren't capable.
+pub record IsAgingTo (d : DocumentState) (events : List Timed) (aged silent : ℕ) (w : WorldState) : Type 0 where
+  pub keeps : KeepsTo d events w
+  pub before : Snapshot
+  pub since : IsAgingAlways (pace_of d.network) before aged silent w
+
+module _ (d : DocumentState) (events : List Timed) (aged silent : ℕ) where
+  pub aging_to_later : (w : WorldState) (time : ℕ) → w.time ≤ time → NothingBefore time w.net.pending
+      → IsAgingTo d events aged silent w → IsAgingTo d events aged silent (at time w)
+  aging_to_later w time later first so = record {
+    keeps = keeps_later d events w time later first so.keeps;
+    before = so.before;
+    since = aging_later (pace_of d.network) so.before aged silent time w later first so.since;
+  }
+
+  pub aging_to_act : {F : Type 0} (answers : Bounds → ℕ → F → Option ℕ → F → Type 0) (t : ActTrace) (fate drawn : F)
+      (w : WorldState) → IsNextAct w t.told.timed → WasDone answers t.told.timed fate drawn w t.after t.told.done
+      → IsAgingTo d events aged silent w → IsAgingTo d events aged silent t.after
+  aging_to_act answers t fate drawn w next was so =
+      let timed = t.told.timed in
+      let p = pace_of d.network in
+      let then = aging_later p so.before aged silent timed.at w was.ready.timely.now was.ready.timely.first so.since in
+      record {
+        keeps = keeps_act d events answers t fate drawn w next was so.keeps;
+        before = so.before;
+        since = aging_acts p so.before aged silent timed.act (at timed.at w) was.draws t.told.done t.after
+            (no_change next.item timed.act w next.act) (next_octet next.item timed.act w next.act) was.acts then;
+      }
+
+  module _ (w : WorldState) (so : IsAgingTo d events aged silent w) (playable : IsPlayable d)
+      (calm : IsCalm d.network events) (off : NothingLapses d.network.params) where
+    quiet : HaveQuietLinks (pace_of d.network).params w
+    quiet = (quiet_stands d.network events w playable.network so.keeps.stands so.keeps.claim.world.sound calm).links
+
+    -- where each link that is up is in use ports without a link aren't capable now
+    unanswered : UpIsUsed d.network events → IsAgingAlways (pace_of d.network) so.before aged w.time w
+    unanswered used =
+        aging_now (pace_of d.network) so.before aged silent w so.since
+        (none_unanswered d events w so.keeps w.time used)
+
+    -- its choice stands
+    pub aging_to_chooses : (aged ≤ w.time) ⊎ ((silent ≤ w.time) ⊎ UpIsUsed d.network events) → ChoiceStands w
+    aging_to_chooses (inl gone) =
+        aging_chooses (pace_of d.network) so.before aged silent w so.since quiet off (inl gone)
+    aging_to_chooses (inr (inl late)) =
+        aging_chooses (pace_of d.network) so.before aged silent w so.since quiet off (inr late)
+    aging_to_chooses (inr (inr used)) =
+        aging_chooses (pace_of d.network) so.before aged w.time w (unanswered used) quiet off (inr (omega arith))
+
+    -- it has settled
+    pub aging_to_settled : (silent ≤ w.time) ⊎ UpIsUsed d.network events → Settled w × IsBoundedWorld w
+    aging_to_settled (inl late) =
+        aging_settles (pace_of d.network) so.before aged silent w so.since quiet off (inr late) late
+    aging_to_settled (inr used) =
+        let now : w.time ≤ w.time = omega arith in
+        aging_settles (pace_of d.network) so.before aged w.time w (unanswered used) quiet off (inr now) now

@@ -1,0 +1,404 @@
+-- A loss leads a network that has settled to what is left, or in which a system turns, or that is cleared.
+use Rattle.std.proofs.Common.{List, [], ap, append-nil, append_assoc, arith, inl, inr, refl, subst, suc, sym, ℕ, ◌*◌, ◌++◌, ◌+◌, ◌∙◌, ◌∷◌, ◌≡◌, ◌≤◌, ◌⊎◌}
+use Rattle.std.specs.List.{AllByRecursion}
+use Rattle.std.proofs.Math.Nat.{le-max_left, mul-le-mul_right}
+use Rattle.gptp_setup.specs.SettlingParams.{SettlingParams, largest_interval, longest_span}
+use Rattle.gptp_scenario.specs.Calm.{IsCalm, NothingLapses, last_change}
+use Rattle.gptp_scenario.specs.Network.{NetworkState, pace_of}
+use Rattle.gptp_scenario.specs.SettlingTime.{capability_span}
+use Rattle.gptp_scenario.specs.SyncWait.{sync_paths}
+use Rattle.gptp_scenario.specs.declared.change.Timed.{Timed}
+use Rattle.gptp_scenario.specs.declared.sync_wait.SyncPaths.{SyncPaths}
+use Rattle.gptp_settling_time.specs.HowSoon.{CutsOneEnd, EachEvent, FailsEndFirst, LowersOneLink, RestsAfterLoss, TurnsUnused, way_span}
+use Rattle.gptp_settling_time.specs.InTurn.{Aging, AnyPast, ChoosesAfter, Cleared, CutsCalm, EventLeads, FailsCalm, FailsNow, FlightIsGone, Gained, Heard, LeadOn, Left, LowersCalm, Past, SettlesAfter, Starting, Turned, TurnsCalm, echo_span}
+use Rattle.gptp_settling_time.specs.Losses.{CutsFarEnd, FailsFarEnd, LowersLink, LowersUnused, UpIsUsed, silence_span}
+use Rattle.gptp_settling_time.proofs.CalmLessLemmas.{fails_calm, lowers_calm}
+use Rattle.gptp_settling_time.proofs.SamePathsLemmas.{turned_paths}
+use Rattle.gptp_settling_time.proofs.LeftToLemmas.{less_way}
+use Rattle.gptp_settling_time.proofs.LeadOnLemmas.{HasSettled, IsLed}
+
+module _ (n : NetworkState) (made : List Timed) (event : Timed) (roles : ℕ) where
+  -- after a loss by which no system is moved the network is left so that its choice stands
+  pub record IsLeftBy (past : Past) : Type 0 where
+    pub silent : ℕ
+    pub leads : EventLeads n made past event (Left silent)
+    pub over : silent ≤ suc (event.at + roles)
+
+  abbrev pub LosesCalm : Type 0
+  LosesCalm = (LowersCalm n made event × (roles ≡ 0))
+      ⊎ (FailsCalm n made event × (roles ≡ silence_span (pace_of n)))
+
+  pub loss_leads : (past : Past) → HasSettled n made past event.at → LosesCalm → IsLeftBy past
+  loss_leads AnyPast settled (inl (lowers, none)) =
+      let passed = settled.passed in
+      let over = le-max_left (capability_span (pace_of n)) (2 * largest_interval (pace_of n)
+      + (sync_paths n made).systems * (longest_span (pace_of n) + (sync_paths n made).delay)) in
+      record {
+        silent = last_change made + capability_span (pace_of n);
+        leads = (settled, inl (lowers, refl));
+        over = omega (arith, passed, over);
+      }
+  loss_leads AnyPast settled (inr (fails, is)) = record {
+    silent = suc (event.at + silence_span (pace_of n));
+    leads = (settled, inr (fails, refl));
+    over = omega (arith, is);
+  }
+  loss_leads Starting settled loses = absurd settled
+  loss_leads (Gained start) settled (inl (lowers, none)) =
+      record { silent = start; leads = (settled, inl (lowers, refl)); over = omega (arith, settled) }
+  loss_leads (Gained start) settled (inr (fails, is)) = record {
+    silent = suc (event.at + silence_span (pace_of n));
+    leads = (settled, inr (fails, refl));
+    over = omega (arith, is);
+  }
+  loss_leads (Heard start) settled (inl (lowers, none)) =
+      record { silent = start; leads = (settled, inl (lowers, refl)); over = omega (arith, settled) }
+  loss_leads (Heard start) settled (inr (fails, is)) = record {
+    silent = suc (event.at + silence_span (pace_of n));
+    leads = (settled, inr (fails, refl));
+    over = omega (arith, is);
+  }
+  loss_leads (Left silent) settled loses = absurd settled
+  loss_leads (Turned silent now) settled loses = absurd settled
+  loss_leads (Cleared begun silent right old) settled loses = absurd settled
+  loss_leads (Aging aged silent) settled loses = absurd settled
+
+-- after one by which a system turns it has turned
+module _ (n : NetworkState) (made : List Timed) (event : Timed) where
+  pub turn_leads : (past : Past) → HasSettled n made past event.at → TurnsCalm n made event
+      → (silent : ℕ) × EventLeads n made past event (Turned silent event.at)
+  turn_leads AnyPast settled turns =
+      (last_change made + capability_span (pace_of n), (settled, (turns, refl, refl)))
+  turn_leads Starting settled turns = absurd settled
+  turn_leads (Gained start) settled turns = (start, (settled, (turns, refl, refl)))
+  turn_leads (Heard start) settled turns = (start, (settled, (turns, refl, refl)))
+  turn_leads (Left silent) settled turns = absurd settled
+  turn_leads (Turned silent now) settled turns = absurd settled
+  turn_leads (Cleared begun silent right old) settled turns = absurd settled
+  turn_leads (Aging aged silent) settled turns = absurd settled
+
+  -- after one of a system that others hear what they hold of it ages
+  pub ages_leads : (past : Past) (aged silent : ℕ) → HasSettled n made past event.at → FailsNow n made event aged silent
+      → EventLeads n made past event (Aging aged silent)
+  ages_leads AnyPast aged silent settled now = (settled, now)
+  ages_leads Starting aged silent settled now = absurd settled
+  ages_leads (Gained start) aged silent settled now = (settled, now)
+  ages_leads (Heard start) aged silent settled now = (settled, now)
+  ages_leads (Left start) aged silent settled now = absurd settled
+  ages_leads (Turned start was) aged silent settled now = absurd settled
+  ages_leads (Cleared begun start right old) aged silent settled now = absurd settled
+  ages_leads (Aging gone start) aged silent settled now = absurd settled
+
+-- what settles has its choice
+pub settles_chooses : (n : NetworkState) (events : List Timed) (past : Past) (settled : ℕ)
+    → SettlesAfter n events past settled → ChoosesAfter n events past settled
+settles_chooses n events AnyPast settled is = is
+settles_chooses n events Starting settled is = is
+settles_chooses n events (Gained start) settled is = is
+settles_chooses n events (Heard start) settled is = is
+settles_chooses n events (Left silent) settled (off, late) = off
+settles_chooses n events (Turned silent now) settled so = so
+settles_chooses n events (Cleared begun silent right old) settled (off, late) = off
+settles_chooses n events (Aging aged silent) settled (off, late) = (off, inr late)
+
+-- a network that is left stays so where links go down of which an end has failed
+pub dead_lead : (n : NetworkState) (made now : List Timed) (silent : ℕ) → NothingLapses n.params → IsCalm n made
+    → EachEvent (LowersUnused n) made now → LeadOn n made (Left silent) now (Left silent)
+dead_lead n made [] silent off calm each = refl
+dead_lead n made (event ∷ now) silent off calm (lowers, others) = (
+  Left silent,
+  inl refl,
+  Left silent,
+  (record { lowers = lowers; calm = calm; off = off }, refl),
+  dead_lead n (made ++ event ∷ []) now silent off (lowers_calm n made event off calm lowers) others,
+)
+
+-- so does one that is cleared
+dead_clear : (n : NetworkState) (made now : List Timed) (begun silent old : ℕ) → NothingLapses n.params
+    → IsCalm n made → EachEvent (LowersUnused n) made now
+    → LeadOn n made (Cleared begun silent 0 old) now (Cleared begun silent 0 old)
+dead_clear n made [] begun silent old off calm each = refl
+dead_clear n made (event ∷ now) begun silent old off calm (lowers, others) = (
+  Cleared begun silent 0 old,
+  inl refl,
+  Cleared begun silent 0 old,
+  (record { lowers = lowers; calm = calm; off = off }, omega arith, (refl, refl, refl, refl)),
+  dead_clear n (made ++ event ∷ []) now begun silent old off (lowers_calm n made event off calm lowers) others,
+)
+
+-- and what is in use stays
+dead_paths : (n : NetworkState) (made now : List Timed) → EachEvent (LowersUnused n) made now
+    → sync_paths n (made ++ now) ≡ sync_paths n made
+dead_paths n made [] each = ap (sync_paths n) (append-nil made)
+dead_paths n made (event ∷ now) (lowers, others) =
+    ap (sync_paths n) (sym (append_assoc made (event ∷ []) now))
+    ∙ dead_paths n (made ++ event ∷ []) now others
+    ∙ turned_paths n made event
+    (subst (TurnsUnused n made) (sym lowers.act) lowers.failed)
+
+-- and what ages goes on to age
+pub aging_lead : (n : NetworkState) (made now : List Timed) (aged silent : ℕ) → NothingLapses n.params → IsCalm n made
+    → EachEvent (LowersUnused n) made now → LeadOn n made (Aging aged silent) now (Aging aged silent)
+aging_lead n made [] aged silent off calm each = refl
+aging_lead n made (event ∷ now) aged silent off calm (lowers, others) = (
+  Aging aged silent,
+  inl refl,
+  Aging aged silent,
+  (record { lowers = lowers; calm = calm; off = off }, refl, refl),
+  aging_lead n (made ++ event ∷ []) now aged silent off (lowers_calm n made event off calm lowers) others,
+)
+
+-- after the loss of a far end it is cleared
+module _ (n : NetworkState) (made : List Timed) (event : Timed) (gone : ℕ) (flight : FlightIsGone n made gone) where
+  record IsClearedBy (past : Past) (by : ℕ → ℕ) : Type 0 where
+    since : ℕ
+    silent : ℕ
+    leads : EventLeads n made past event (Cleared since silent 0 (event.at + gone))
+    early : since + way_span (sync_paths n made) ≤ event.at
+    over : silent ≤ by since
+
+  -- by a link that cuts it off, as ports without a link were off
+  cut_leads : (past : Past) → HasSettled n made past event.at → CutsCalm n made event
+      → IsClearedBy past (λ since. since)
+  cut_leads AnyPast settled cuts =
+      let passed = settled.passed in
+      let over = le-max_left (capability_span (pace_of n)) (2 * largest_interval (pace_of n)
+      + (sync_paths n made).systems * (longest_span (pace_of n) + (sync_paths n made).delay)) in
+      record {
+        since = last_change made + capability_span (pace_of n);
+        silent = last_change made + capability_span (pace_of n);
+        leads = (settled, (refl, inl (inl (cuts, refl), refl, (gone, flight, refl))));
+        early = omega (arith, passed, over);
+        over = omega arith;
+      }
+  cut_leads Starting settled cuts = absurd settled
+  cut_leads (Gained start) settled cuts = record {
+    since = start;
+    silent = start;
+    leads = (settled, (refl, inl (inl (cuts, refl), refl, (gone, flight, refl))));
+    early = omega (arith, settled);
+    over = omega arith;
+  }
+  cut_leads (Heard start) settled cuts = record {
+    since = start;
+    silent = start;
+    leads = (settled, (refl, inl (inl (cuts, refl), refl, (gone, flight, refl))));
+    early = omega (arith, settled);
+    over = omega arith;
+  }
+  cut_leads (Left silent) settled cuts = absurd settled
+  cut_leads (Turned silent now) settled cuts = absurd settled
+  cut_leads (Cleared begun silent right last) settled cuts = absurd settled
+  cut_leads (Aging aged silent) settled cuts = absurd settled
+
+  -- or as it fails, once the ports beside it have been unanswered for long enough
+  fail_leads : (past : Past) → HasSettled n made past event.at → FailsCalm n made event
+      → IsClearedBy past (λ since. event.at + capability_span (pace_of n))
+  fail_leads AnyPast settled fails =
+      let passed = settled.passed in
+      let over = le-max_left (capability_span (pace_of n)) (2 * largest_interval (pace_of n)
+      + (sync_paths n made).systems * (longest_span (pace_of n) + (sync_paths n made).delay)) in
+      record {
+        since = last_change made + capability_span (pace_of n);
+        silent = event.at + capability_span (pace_of n);
+        leads = (settled, (refl, inl (inr (fails, refl), refl, (gone, flight, refl))));
+        early = omega (arith, passed, over);
+        over = omega arith;
+      }
+  fail_leads Starting settled fails = absurd settled
+  fail_leads (Gained start) settled fails = record {
+    since = start;
+    silent = event.at + capability_span (pace_of n);
+    leads = (settled, (refl, inl (inr (fails, refl), refl, (gone, flight, refl))));
+    early = omega (arith, settled);
+    over = omega arith;
+  }
+  fail_leads (Heard start) settled fails = record {
+    since = start;
+    silent = event.at + capability_span (pace_of n);
+    leads = (settled, (refl, inl (inr (fails, refl), refl, (gone, flight, refl))));
+    early = omega (arith, settled);
+    over = omega arith;
+  }
+  fail_leads (Left silent) settled fails = absurd settled
+  fail_leads (Turned silent now) settled fails = absurd settled
+  fail_leads (Cleared begun silent right last) settled fails = absurd settled
+  fail_leads (Aging aged silent) settled fails = absurd settled
+
+-- after another such link goes down it is, once right traces are told
+module _ (n : NetworkState) (made : List Timed) (event : Timed) (gone : ℕ)
+    (flight : FlightIsGone n (made ++ event ∷ []) gone) where
+  abbrev echo : ℕ
+  echo = echo_span n (made ++ event ∷ [])
+
+  record IsRightedBy (past : Past) : Type 0 where
+    since : ℕ
+    leads : EventLeads n made past event (Cleared since since (event.at + 1 + echo) (event.at + echo + gone))
+    early : since + way_span (sync_paths n made) ≤ event.at
+
+  right_leads : (past : Past) → HasSettled n made past event.at → LowersCalm n made event → IsRightedBy past
+  right_leads AnyPast settled lowers =
+      let passed = settled.passed in
+      let over = le-max_left (capability_span (pace_of n)) (2 * largest_interval (pace_of n)
+      + (sync_paths n made).systems * (longest_span (pace_of n) + (sync_paths n made).delay)) in
+      record {
+        since = last_change made + capability_span (pace_of n);
+        leads = (settled, (refl, inr (lowers, refl, refl, (gone, flight, refl))));
+        early = omega (arith, passed, over);
+      }
+  right_leads Starting settled lowers = absurd settled
+  right_leads (Gained start) settled lowers = record {
+    since = start;
+    leads = (settled, (refl, inr (lowers, refl, refl, (gone, flight, refl))));
+    early = omega (arith, settled);
+  }
+  right_leads (Heard start) settled lowers = record {
+    since = start;
+    leads = (settled, (refl, inr (lowers, refl, refl, (gone, flight, refl))));
+    early = omega (arith, settled);
+  }
+  right_leads (Left silent) settled lowers = absurd settled
+  right_leads (Turned silent now) settled lowers = absurd settled
+  right_leads (Cleared begun silent right last) settled lowers = absurd settled
+  right_leads (Aging aged silent) settled lowers = absurd settled
+
+-- an announce interval is over by when ports beside a system that failed aren't capable
+interval_span : (p : SettlingParams) → largest_interval p ≤ capability_span p
+interval_span p =
+    let more : 1 * largest_interval p ≤ (p.params.lost + 5) * largest_interval p =
+    mul-le-mul_right (largest_interval p) (omega arith) in
+    omega (arith, more)
+
+-- it has come to rest by so much later
+module _ (n : NetworkState) (off : NothingLapses n.params) (time : ℕ) (made now : List Timed) (past : Past) (rest : ℕ)
+    (at : AllByRecursion (λ (t : Timed). t.at ≡ time) now) (calm_then : IsCalm n made) (calm : IsCalm n (made ++ now))
+    (settled : HasSettled n made past time) where
+  -- the event that loses the end is the first of them
+  module _ (event : Timed) (others : List Timed) (same : now ≡ event ∷ others) where
+    here : event.at ≡ time
+    here = (subst (AllByRecursion (λ (t : Timed). t.at ≡ time)) same at).0
+
+    settled_then : HasSettled n made past event.at
+    settled_then = subst (HasSettled n made past) (sym here) settled
+
+    -- it is cleared, and taken as heard from this start on
+    led : (since silent right old start : ℕ) → EventLeads n made past event (Cleared since silent right old)
+        → LeadOn n (made ++ event ∷ []) (Cleared since silent right old) others (Cleared since silent right old)
+        → old ≤ time + rest → since ≤ start → (silent ≤ start) ⊎ UpIsUsed n (made ++ now)
+        → start + way_span (sync_paths n (made ++ now)) ≤ suc (time + rest)
+        → IsLed n made now past (suc (time + rest))
+    led since silent right old start leads lead less later unlinked over = record {
+      last = Cleared since silent right old;
+      lead = subst (λ es. LeadOn n made past es (Cleared since silent right old)) (sym same)
+          (past, inl refl, Cleared since silent right old, leads, lead);
+      settles = (
+        Heard start,
+        inr (record {
+          calm = calm;
+          off = off;
+          gone = omega (arith, less);
+          later = later;
+          unlinked = unlinked;
+          over = over;
+        }),
+        over,
+      );
+    }
+
+    -- the way that is left is no longer
+    module _ (others_lower : EachEvent (LowersUnused n) (made ++ event ∷ []) others)
+        (delay : (sync_paths n (made ++ event ∷ [])).delay ≡ (sync_paths n made).delay)
+        (fewer : (sync_paths n (made ++ event ∷ [])).systems ≤ (sync_paths n made).systems) where
+      way_then : way_span (sync_paths n (made ++ now)) ≤ way_span (sync_paths n made)
+      way_then =
+          let parts : made ++ now ≡ (made ++ event ∷ []) ++ others =
+          ap (λ es. made ++ es) same ∙ sym (append_assoc made (event ∷ []) others) in
+          let paths : sync_paths n (made ++ now) ≡ sync_paths n (made ++ event ∷ []) =
+          ap (sync_paths n) parts ∙ dead_paths n (made ++ event ∷ []) others others_lower in
+          subst (λ (x : SyncPaths). way_span x ≤ way_span (sync_paths n made)) (sym paths)
+          (less_way (sync_paths n made).systems (sync_paths n (made ++ event ∷ [])).systems (sync_paths n made).delay
+          (sync_paths n (made ++ event ∷ [])).delay fewer delay)
+
+    cut_led : CutsFarEnd n made event → others ≡ [] → FlightIsGone n made rest
+        → IsLed n made now past (suc (time + rest))
+    cut_led cuts alone flight =
+        let x = cut_leads n made event rest flight past settled_then
+        (record { cuts = cuts; calm = calm_then; off = off }) in
+        let l = cuts.lowers in
+        let less = way_then (subst (EachEvent (LowersUnused n) (made ++ event ∷ [])) (sym alone) tt) l.delay l.paths in
+        let before = here in
+        let early = x.early in
+        led x.since x.silent 0 (event.at + rest) x.since x.leads
+        (subst (λ es. LeadOn n (made ++ event ∷ []) (Cleared x.since x.silent 0 (event.at + rest)) es
+        (Cleared x.since x.silent 0 (event.at + rest))) (sym alone) refl) (omega (arith, before)) (omega arith)
+        (inl x.over) (omega (arith, early, before, less))
+
+    -- another such link goes down
+    right_led : LowersLink n made event → others ≡ [] → (gone : ℕ) → FlightIsGone n (made ++ now) gone
+        → rest ≡ echo_span n (made ++ now) + gone → IsLed n made now past (suc (time + rest))
+    right_led lowers alone gone flight is =
+        let one : made ++ now ≡ made ++ event ∷ [] =
+        ap (λ es. made ++ es) (same ∙ ap (λ es. event ∷ es) alone) in
+        let x = right_leads n made event gone (subst (λ es. FlightIsGone n es gone) one flight) past settled_then
+        (record { lowers = lowers; calm = calm_then; off = off }) in
+        let less = way_then (subst (EachEvent (LowersUnused n) (made ++ event ∷ [])) (sym alone) tt) lowers.delay
+        lowers.paths in
+        let echo_is : echo_span n (made ++ now) ≡ echo_span n (made ++ event ∷ []) = ap (echo_span n) one in
+        let before = here in
+        let early = x.early in
+        led x.since x.since (event.at + 1 + echo_span n (made ++ event ∷ []))
+        (event.at + echo_span n (made ++ event ∷ []) + gone) x.since x.leads
+        (subst (λ es. LeadOn n (made ++ event ∷ []) (Cleared x.since x.since
+        (event.at + 1 + echo_span n (made ++ event ∷ [])) (event.at + echo_span n (made ++ event ∷ []) + gone)) es
+        (Cleared x.since x.since (event.at + 1 + echo_span n (made ++ event ∷ []))
+        (event.at + echo_span n (made ++ event ∷ []) + gone))) (sym alone) refl)
+        (omega (arith, before, is, echo_is)) (omega arith) (inl (omega arith))
+        (omega (arith, early, before, less))
+
+    fail_led : FailsFarEnd n made event → EachEvent (LowersUnused n) (made ++ event ∷ []) others
+        → (UpIsUsed n (made ++ now) × FlightIsGone n made rest)
+        ⊎ (rest ≡ capability_span (pace_of n) + way_span (sync_paths n (made ++ now)))
+        → IsLed n made now past (suc (time + rest))
+    fail_led fails lowers (inl (used, flight)) =
+        let x = fail_leads n made event rest flight past settled_then
+        (record { fails = fails; calm = calm_then; off = off }) in
+        let less = way_then lowers fails.delay fails.paths in
+        let before = here in
+        let early = x.early in
+        led x.since x.silent 0 (event.at + rest) x.since x.leads
+        (dead_clear n (made ++ event ∷ []) others x.since x.silent (event.at + rest) off
+        (fails_calm n made event off calm_then fails) lowers) (omega (arith, before)) (omega arith) (inr used)
+        (omega (arith, early, before, less))
+    fail_led fails lowers (inr is) =
+        let gone = largest_interval (pace_of n) in
+        let x = fail_leads n made event gone (inr refl) past settled_then
+        (record { fails = fails; calm = calm_then; off = off }) in
+        let before = here in
+        let early = x.early in
+        let over = x.over in
+        let short = interval_span (pace_of n) in
+        led x.since x.silent 0 (event.at + gone) (time + capability_span (pace_of n)) x.leads
+        (dead_clear n (made ++ event ∷ []) others x.since x.silent (event.at + gone) off
+        (fails_calm n made event off calm_then fails) lowers) (omega (arith, is, short, before))
+        (omega (arith, early, before)) (inl (omega (arith, over, before))) (omega (arith, is))
+
+  lost_led : (es : List Timed) → now ≡ es
+      → (CutsOneEnd n made es × FlightIsGone n made rest)
+      ⊎ ((FailsEndFirst n made es
+      × ((UpIsUsed n (made ++ now) × FlightIsGone n made rest)
+      ⊎ (rest ≡ capability_span (pace_of n) + way_span (sync_paths n (made ++ now)))))
+      ⊎ (LowersOneLink n made es
+      × ((gone : ℕ) × FlightIsGone n (made ++ now) gone × (rest ≡ echo_span n (made ++ now) + gone))))
+      → IsLed n made now past (suc (time + rest))
+  lost_led [] same (inl (none, flight)) = absurd none
+  lost_led [] same (inr (inl (none, after))) = absurd none
+  lost_led [] same (inr (inr (none, after))) = absurd none
+  lost_led (event ∷ other ∷ others) same (inl (none, flight)) = absurd none
+  lost_led (event ∷ other ∷ others) same (inr (inr (none, after))) = absurd none
+  lost_led (event ∷ []) same (inl (cuts, flight)) = cut_led event [] same cuts refl flight
+  lost_led (event ∷ []) same (inr (inr (lowers, (gone, flight, is)))) =
+      right_led event [] same lowers refl gone flight is
+  lost_led (event ∷ others) same (inr (inl ((fails, lowers), by))) = fail_led event others same fails lowers by
+
+  pub cleared_led : RestsAfterLoss n made now rest → IsLed n made now past (suc (time + rest))
+  cleared_led loses = lost_led now refl loses
