@@ -1,11 +1,11 @@
 //! What the systems of a world say.
 
-ghost use Rattle.std.specs.Prelude.{◌≡◌, ◌∷◌, ◌++◌, [], ℕ, length, map, option_map, IfOk, OnOk, Some, slice_get};
+ghost use Rattle.std.specs.Prelude.{◌≡◌, ◌∷◌, ◌++◌, [], ℕ, length, map, IfOk, OnOk, Some, slice_get};
 ghost use Rattle.std.specs.List.{range_with_len};
 ghost use Rattle.gptp_system.specs.State.{clock, parent};
 ghost use Rattle.gptp_model.specs.Acts.{AnySystem, AtSystem};
 ghost use Rattle.gptp_model.specs.Views.{rising_clocks};
-ghost use Rattle.gptp_certificate_text.specs.Certificate.{line_of, lines_of, parent_of, port_line_of};
+ghost use Rattle.gptp_certificate_text.specs.Certificate.{line_of, lines_of, port_line_of};
 ghost use Rattle.gptp_certificate.specs.Settled.{IsRightInTime};
 ghost use Rattle.gptp_certificate.specs.Stated.{stated_line, stated_port, States};
 ghost use Rattle.gptp_certificate.specs.Stating.{Adds, AreSaid};

@@ -9,7 +9,7 @@ use Rattle.gptp_lists.proofs.SystemSpecLemmas.{In-left, In-parts}
 use Rattle.gptp_setup.specs.SettlingParams.{largest_interval, longest_span}
 use Rattle.gptp_scenario.specs.Calm.{NothingLapses}
 use Rattle.gptp_scenario.specs.Network.{NetworkState, pace_of}
-use Rattle.gptp_scenario.specs.SettlingTime.{capability_span, window_span}
+use Rattle.gptp_scenario.specs.SettlingTime.{window_span}
 use Rattle.gptp_scenario.specs.SyncWait.{sync_paths}
 use Rattle.gptp_scenario.specs.declared.change.Timed.{Timed}
 use Rattle.gptp_network.specs.Document.{DocumentState}

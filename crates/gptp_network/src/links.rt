@@ -1,6 +1,6 @@
 //! The sections `[[link]]`.
 
-ghost use Rattle.std.specs.Prelude.{◌≡◌, ◌≤◌, Ok, OnOk, IfOk, IfSome};
+ghost use Rattle.std.specs.Prelude.{◌≡◌, ◌≤◌, Ok, OnOk, IfSome};
 ghost use Rattle.toml.specs.View.{view, items_view, table_view};
 ghost use Rattle.gptp_network.specs.Found.{link_from, system_from};
 ghost use Rattle.gptp_network.specs.ReadLinks.{first_taken, first_without, is_there, link_why, no_port, put_link, read_link, read_with_link, read_with_links, taken};

@@ -1,6 +1,6 @@
 //! What one exchange of messages measures.
 
-ghost use Rattle.std.specs.Prelude.{◌≡◌, ◌-ℤ◌, pos};
+ghost use Rattle.std.specs.Prelude.{◌≡◌, ◌-ℤ◌};
 ghost use Rattle.std.specs.Option.{ForSome};
 ghost use Rattle.gptp_scaled.specs.Rate.{IsNeighborRate, scaled_by};
 ghost use Rattle.gptp_scaled.specs.ScaledNs.{FitsScaled};

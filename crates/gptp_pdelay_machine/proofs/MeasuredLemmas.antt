@@ -1,11 +1,10 @@
 -- What a port has measured: every act keeps what is known of it.
-use Rattle.std.proofs.Common.{◌≡◌, ◌≤◌, ◌<◌, ◌+◌, ◌-◌, ◌*◌, ℕ, zero, suc, ℤ, ◌-ℤ◌, true, List, [], ◌∷◌, length, take, Option, Some, refl, sym, ap, subst, ◌∙◌, inl, inr, arith}
+use Rattle.std.proofs.Common.{◌≡◌, ◌≤◌, ◌<◌, ◌+◌, ◌-◌, ◌*◌, ℕ, zero, suc, ℤ, ◌-ℤ◌, true, List, [], ◌∷◌, length, take, Some, refl, sym, ap, subst, ◌∙◌, inl, inr, arith}
 use Rattle.std.proofs.lemmas.List.{length-take}
 use Rattle.std.proofs.lemmas.Nat.{mul-le}
 use Rattle.gptp_lists.specs.Members.{In}
 use Rattle.gptp_graph.specs.Snapshot.{PortIdentity}
 use Rattle.gptp_scaled.specs.Rate.{rate_of}
-use Rattle.gptp_pdelay.specs.declared.exchange.Measurement.{Measurement}
 use Rattle.gptp_pdelay.specs.declared.exchange.Times.{Times}
 use Rattle.gptp_pdelay.specs.Exchange.{neighbor_rate, oldest, times_of}
 use Rattle.gptp_pdelay.specs.GoodLink.{IsGoodLink}
@@ -21,7 +20,7 @@ use Rattle.gptp_pdelay_machine.specs.Phases.{Phase, Rests, RequestGoes, AnswerWa
 use Rattle.gptp_pdelay_machine.specs.Invariant.{PortInvariant, IsJustChanged}
 use Rattle.gptp_pdelay_machine.specs.Meter.{Kept, Measures, Meter, MeterActs, MeterPasses, TakesMeasure, act_of}
 use Rattle.gptp_pdelay_machine.specs.Meter.{meter_asks, meter_hears, meter_heard, meter_answered, meter_rests}
-use Rattle.gptp_pdelay_machine.specs.Measured.{Chain, HasMeasured, IsTaken, MeasuredSince, MeterInv}
+use Rattle.gptp_pdelay_machine.specs.Measured.{Chain, HasMeasured, MeasuredSince, MeterInv}
 use Rattle.gptp_pdelay_machine.specs.Runs.{IsMeterRun}
 use Rattle.gptp_pdelay_machine.proofs.FactLemmas.{timing_is_enough}
 use Rattle.gptp_pdelay_machine.proofs.InvariantLemmas.{inv_forgets, inv_from_begins, inv_from_kept, inv_from_later, nothing_pends, completes_well}

@@ -12,7 +12,7 @@ pub struct Entry {
 }
 
 impl Model for Entry {
-    ghost use Rattle.std.specs.Prelude.{◌<◌, refl};
+    ghost use Rattle.std.specs.Prelude.{◌<◌};
     ghost use Rattle.gptp_queue.specs.Entry.{Entry as Due};
 
     ghost Value = { Due };

@@ -1,6 +1,6 @@
 //! Entries of any time: a run for each kind, and a heap for those that are put out of order.
 
-ghost use Rattle.std.specs.Prelude.{◌≡◌, ℕ, ◌+◌, ◌<◌, ◌≤◌, ◌∷◌, ◌++◌, [], length, true, false, IsSome, IfOk, IfSome, OnOk, None, slice_set};
+ghost use Rattle.std.specs.Prelude.{◌≡◌, ◌+◌, ◌<◌, ◌≤◌, ◌∷◌, ◌++◌, [], length, true, false, IsSome, IfOk, IfSome, OnOk, None, slice_set};
 ghost use Rattle.gptp_queue.specs.Order.{first_of, part_at, AddsTo, IsLeastOf, Sweeps, Takes, TakesLeast, Within};
 
 use crate::entry::Entry;

@@ -1,6 +1,6 @@
 //! Entries that were put in any order.
 
-ghost use Rattle.std.specs.Prelude.{◌≡◌, ◌+◌, ◌<◌, ◌≤◌, [], IsOk, IfOk, OnOk};
+ghost use Rattle.std.specs.Prelude.{◌≡◌, ◌+◌, ◌<◌, ◌≤◌, [], IfOk, OnOk};
 ghost use Rattle.gptp_queue.specs.Order.{among, first_of, Adds, IsLeastOf, IsSwept, Takes};
 
 use crate::entry::Entry;

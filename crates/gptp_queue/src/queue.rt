@@ -1,6 +1,6 @@
 //! A queue of what is due.
 
-ghost use Rattle.std.specs.Prelude.{◌≡◌, ℕ, ◌+◌, ◌^◌, ◌<◌, ◌≤◌, ◌≢◌, [], ◌∷◌, ◌++◌, max, IsOk, OnOk, OnErr, IfOk, IfSome, IfNone};
+ghost use Rattle.std.specs.Prelude.{◌≡◌, ◌+◌, ◌^◌, ◌<◌, ◌≤◌, ◌≢◌, [], ◌∷◌, ◌++◌, max, IsOk, OnOk, OnErr, IfOk, IfSome, IfNone};
 ghost use Rattle.std.specs.List.{AllByRecursion, Contains};
 ghost use Rattle.gptp_queue.specs.Waiting.{entry, time_at, without_place, IsFirst, PlacesDiffer, RiseFrom};
 ghost use Rattle.gptp_queue.specs.Order.{IsLeast, Within};

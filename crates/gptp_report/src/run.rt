@@ -3,7 +3,7 @@
 ghost use Rattle.std.specs.Prelude.{◌≡◌, ◌≢◌, ◌⊎◌, [], true, List, ℕ, IfOk, OnErr, OnOk, nat_le};
 ghost use Rattle.std.specs.Io.KnownBytes.{Appends};
 ghost use Rattle.gptp_setup.specs.Intervals.{IsMoment};
-ghost use Rattle.gptp_model.specs.Course.{Begun, WasDone};
+ghost use Rattle.gptp_model.specs.Course.{Begun};
 ghost use Rattle.gptp_scenario.specs.Allowed.{AreAllowed, IsAllowed};
 ghost use Rattle.gptp_model.specs.Prompt.{AllDelaysFitIntervals, DelaysFitIntervals};
 ghost use Rattle.gptp_report.specs.Following.{BreaksAbout, MakesIf};

@@ -1,6 +1,6 @@
 //! Rates of clocks.
 
-ghost use Rattle.std.specs.Prelude.{◌≡◌, ◌+ℤ◌, ◌-ℤ◌, ◌*ℤ◌, ◌<ℤ◌, ◌<◌, ◌^◌, neg_ℤ, pos, unsigned_abs, OkIff};
+ghost use Rattle.std.specs.Prelude.{◌≡◌, ◌+ℤ◌, ◌-ℤ◌, ◌<ℤ◌, ◌<◌, ◌^◌, neg_ℤ, pos, unsigned_abs, OkIff};
 ghost use Rattle.gptp_scaled.specs.Rate.{FitsRate, IsNeighborRate, scaled_by, unscaled_by, neighbor_rate_of, rate_of};
 ghost use Rattle.gptp_scaled.specs.ScaledNs.{FitsScaled};
 

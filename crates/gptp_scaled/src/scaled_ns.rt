@@ -1,6 +1,6 @@
 //! Times and intervals in 2^-16 ns.
 
-ghost use Rattle.std.specs.Prelude.{◌≡◌, ◌↔◌, ◌<ℤ◌, ◌+ℤ◌, ◌-ℤ◌, pos, IsOk, IfOk, OkIff};
+ghost use Rattle.std.specs.Prelude.{◌≡◌, ◌↔◌, ◌+ℤ◌, ◌-ℤ◌, pos, IsOk, IfOk, OkIff};
 ghost use Rattle.gptp_scaled.specs.Floor.{floor_div};
 ghost use Rattle.gptp_scaled.specs.ScaledNs.{FitsScaled};
 ghost use Rattle.gptp_scaled.specs.Stamp.{FitsStamp, IsSplit};

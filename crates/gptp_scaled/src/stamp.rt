@@ -1,6 +1,6 @@
 //! Timestamps.
 
-ghost use Rattle.std.specs.Prelude.{◌≡◌, ◌≤◌, ◌<◌, ◌*◌, ◌^◌, ◌↔◌, ◌≤ℤ◌, ℤ, pos, IsOk, IfOk, IsErrOf};
+ghost use Rattle.std.specs.Prelude.{◌≡◌, ◌≤◌, ◌<◌, ◌*◌, ◌^◌, ◌↔◌, IsOk, IfOk, IsErrOf};
 ghost use Rattle.gptp_scaled.specs.Stamp.{Timestamp, IsTimestamp, FitsStamp, IsSplit, nanos_of, scaled_of};
 
 use crate::{OutOfRange, ScaledNs};

@@ -1,6 +1,6 @@
 //! An agenda of what is to be done.
 
-ghost use Rattle.std.specs.Prelude.{◌≡◌, ℕ, ◌+◌, ◌^◌, ◌<◌, ◌≤◌, [], ◌∷◌, ◌++◌, IsOk, OnOk, OnErr, IfOk, IfSome, IfNone, option_copied, Some, is_some, max};
+ghost use Rattle.std.specs.Prelude.{◌≡◌, ◌+◌, ◌^◌, ◌<◌, ◌≤◌, [], ◌∷◌, ◌++◌, IsOk, OnOk, OnErr, IfOk, IfSome, IfNone, option_copied, Some, is_some, max};
 ghost use Rattle.std.specs.Option.{option_map};
 ghost use Rattle.slab.specs.Slab.{get};
 ghost use Rattle.gptp_scheduler.specs.Pending.{entry, entry_at, AgendaEntry, without_number, IsFirst, NothingDue, RiseFrom};

@@ -1,9 +1,9 @@
 //! Chains through the entries, one for each slot, by rising number.
 
-ghost use Rattle.std.specs.Prelude.{◌≡◌, ℕ, ◌≤◌, ◌<◌, ◌==◌, length, Option, Some, None, IsSome, IfSome, option_copied};
+ghost use Rattle.std.specs.Prelude.{◌≡◌, ◌<◌, ◌==◌, length, Option, Some, None};
 ghost use Rattle.std.specs.Option.{option_map};
 ghost use Rattle.slab.specs.Slab.{get, Updates};
-ghost use Rattle.gptp_scheduler.specs.Chain.{with_after, with_before, with_place, entry_joined_after, joined_before, ends_at, ends_with, ends_without, earlier_key, least_with, entry_time, SameEntryRoom, EntriesAreChained, StandsIn, IsAboveAll, Moves, Relinks, OUT as OUTSIDE};
+ghost use Rattle.gptp_scheduler.specs.Chain.{with_after, with_before, with_place, entry_joined_after, joined_before, ends_without, earlier_key, least_with, entry_time, SameEntryRoom, EntriesAreChained, StandsIn, IsAboveAll, Moves, Relinks, OUT as OUTSIDE};
 
 use crate::key::{Key, Node, OUT};
 use crate::slots::{Ends, Slots};

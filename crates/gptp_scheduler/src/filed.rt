@@ -1,6 +1,6 @@
 //! Entries by number.
 
-ghost use Rattle.std.specs.Prelude.{◌≡◌, ℕ, ◌-◌, ◌≤◌, IsOk, OnOk, IfSome, IfNone, vec_capacity, vec_len};
+ghost use Rattle.std.specs.Prelude.{◌≡◌, ℕ, ◌-◌, ◌≤◌, OnOk, IfSome, IfNone, vec_capacity, vec_len};
 ghost use Rattle.slab.specs.Slab.{get};
 ghost use Rattle.gptp_scheduler.specs.Chain.{held};
 ghost use Rattle.gptp_scheduler.specs.Filed.{filed_at, listed, entry_lives, AreFiled, IsInSlab, Rises};

@@ -1,6 +1,6 @@
 //! Where an entry stands in the wheel.
 
-ghost use Rattle.std.specs.Prelude.{◌≡◌, ℕ, IfSome, is_some, Some};
+ghost use Rattle.std.specs.Prelude.{◌≡◌, IfSome, is_some, Some};
 ghost use Rattle.gptp_scheduler.specs.Pending.{entry_at, AgendaEntry};
 ghost use Rattle.gptp_scheduler.specs.Places.{StandsAtLevel};
 

@@ -1,6 +1,6 @@
 //! The ends of all chains, and which slots have an entry. Its bits follow those of the wheel of the `futures` crate.
 
-ghost use Rattle.std.specs.Prelude.{◌≡◌, ℕ, ◌≤◌, ◌<◌, [], length, OnOk, OnErr, IfSome, IfNone, IsSome, None, slice_set};
+ghost use Rattle.std.specs.Prelude.{◌≡◌, ℕ, ◌≤◌, ◌<◌, [], length, OnOk, IfSome, IfNone, IsSome, None, slice_set};
 ghost use Rattle.gptp_scheduler.specs.Chain.{ends_at};
 ghost use Rattle.gptp_scheduler.specs.Slots.{SameEnds};
 

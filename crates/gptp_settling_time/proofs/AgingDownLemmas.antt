@@ -1,6 +1,6 @@
 -- Where what is held of a failed system ages a link goes down that is up, and of which an end has failed: it ages on.
 -- The lanes of the link are emptied first, and then the end that lives answers.
-use Rattle.std.proofs.Common.{◌≡◌, ◌⊎◌, ◌≤◌, ◌*◌, ℕ, pred, Bool, true, false, List, [], Some, slice_get, slice_set, refl, sym, ap, subst, ◌∙◌, inl, inr, arith}
+use Rattle.std.proofs.Common.{◌≡◌, ◌⊎◌, ◌≤◌, ◌*◌, ℕ, pred, Bool, true, false, List, [], Some, slice_get, refl, sym, ap, subst, ◌∙◌, inl, inr, arith}
 use Rattle.std.proofs.lemmas.Option.{same_Some}
 use Rattle.gptp_lists.specs.Members.{In}
 use Rattle.gptp_lists.proofs.MappedLemmas.{alike as alike_there}
@@ -28,13 +28,12 @@ use Rattle.gptp_model.specs.declared.done.Done.{Done}
 use Rattle.gptp_model.specs.declared.station.Station.{Station}
 use Rattle.gptp_model.specs.World.{Channel, WorldState, port_id, sender}
 use Rattle.gptp_model.proofs.ActsByLemmas.{join_among}
-use Rattle.gptp_model.proofs.EndLemmas.{HasPort, among_has, stays_has_port}
-use Rattle.gptp_model.proofs.StayLemmas.{calls_if_live_stay, stays_apart, taken_down_stays}
+use Rattle.gptp_model.proofs.EndLemmas.{HasPort, among_has}
+use Rattle.gptp_model.proofs.StayLemmas.{stays_apart, taken_down_stays}
 use Rattle.gptp_bmca_machine.specs.Acts.{MachineSteps}
 use Rattle.gptp_bmca_machine.specs.Frame.{Announce, Lane}
 use Rattle.gptp_bmca_machine.specs.LossLaws.{EverythingFits, IsAfterLoss, IsWhatIsLeft, Unmoved}
 use Rattle.gptp_bmca_machine.specs.Network.{Network, network_setting}
-use Rattle.gptp_bmca_machine.specs.RestLaws.{SameWiring}
 use Rattle.gptp_bmca_machine.specs.SoundLaws.{AllAreNear}
 use Rattle.gptp_bmca_machine.specs.Touch.{StationTouch, Disable, Grow, Hear}
 use Rattle.gptp_invariants.specs.ChoiceCalm.{HaveQuietLinks, delay_in}
@@ -42,7 +41,7 @@ use Rattle.gptp_invariants.specs.ChoiceSettlesAsMachine.{IsWorld}
 use Rattle.gptp_invariants.specs.ChoiceView.{lane_place, lane_view, lanes_view, port_identity_number, says_announce, touch_view, view}
 use Rattle.gptp_invariants.specs.DelayMeasured.{LinkIsMeasured}
 use Rattle.gptp_invariants.specs.WorldStanding.{channel_is_used, live_stations, snapshot_of, standing_system, stations_have_clock}
-use Rattle.gptp_invariants.proofs.ChoiceCalmKeptLemmas.{KeepsNetwork, delay_kept, links_quiet, same_snapshot}
+use Rattle.gptp_invariants.proofs.ChoiceCalmKeptLemmas.{KeepsNetwork, delay_kept, same_snapshot}
 use Rattle.gptp_invariants.proofs.ChoiceSeenCallLemmas.{IsCallSeen, calls_seen}
 use Rattle.gptp_invariants.proofs.ChoiceSeenLaneLemmas.{lane_from, lane_there}
 use Rattle.gptp_invariants.proofs.ChoiceSendLemmas.{lanes_apart}
@@ -66,7 +65,6 @@ use Rattle.gptp_settling_time.proofs.LeftClaimedLemmas.{HaveAskedLong}
 use Rattle.gptp_settling_time.proofs.LinkUpLemmas.{lane_set}
 use Rattle.gptp_settling_time.proofs.LoweredLemmas.{other}
 use Rattle.gptp_settling_time.proofs.ReactsLemmas.{lives_as}
-use Rattle.gptp_settling_time.proofs.ReducedLemmas.{fits_reduced}
 use Rattle.gptp_settling_time.proofs.TakenDownLemmas.{if_live_stand, off_down, stood_down, told_keeps}
 use Rattle.gptp_settling_time.proofs.WidenedLemmas.{ready_first}
 

@@ -1,6 +1,6 @@
 -- Where a system fails that others hear, what they hold of it ages: what is received at ports that no link is at any
 -- more, and what is in flight to them, is gone before a time.
-use Rattle.std.proofs.Common.{◌≡◌, ◌≤◌, ◌<◌, ◌+◌, ℕ, ℤ, suc, true, List, [], Some, slice_get, refl, sym, ap, subst, ◌∙◌, inl, inr, arith}
+use Rattle.std.proofs.Common.{◌≡◌, ◌≤◌, ◌<◌, ◌+◌, ℕ, ℤ, suc, true, List, Some, slice_get, refl, sym, ap, subst, ◌∙◌, inl, inr, arith}
 use Rattle.gptp_lists.specs.Members.{In}
 use Rattle.gptp_lists.proofs.SystemSpecLemmas.{In-parts}
 use Rattle.gptp_graph.specs.Snapshot.{IsLinked, PortIdentity, Snapshot, clocks, port_of}
@@ -9,7 +9,6 @@ use Rattle.gptp_graph.proofs.SystemLemmas.{In-clocks}
 use Rattle.gptp_bmca_machine.specs.Acts.{Arrives, MachineSteps, Pops, StationAnswers}
 use Rattle.gptp_bmca_machine.specs.Facts.{NetworkSetting, StationFacts, station_system}
 use Rattle.gptp_bmca_machine.specs.Frame.{Announce, AnnounceFrame, Lane, Spelling}
-use Rattle.gptp_bmca_machine.specs.Reacts.{IsOwn}
 use Rattle.gptp_bmca_machine.specs.Station.{Disabled, HoldsAt, MachineState, Received, Reception, Station}
 use Rattle.gptp_bmca_machine.specs.Touch.{Hear, StationTouch}
 use Rattle.gptp_bmca_machine.proofs.ReactsLemmas.{JustHeard, held_from}

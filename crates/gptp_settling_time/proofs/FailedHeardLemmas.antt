@@ -1,12 +1,12 @@
 -- A system fails that others hear, and no system is moved but such as are cut off: what is held of it ages from then
 -- on.
-use Rattle.std.proofs.Common.{◌≡◌, ◌⊎◌, ◌≤◌, ◌<◌, ◌+◌, ◌*◌, ℕ, ℤ, zero, suc, pred, Bool, true, false, cond, max, List, [], ◌∷◌, Some, slice_get, refl, sym, ap, subst, ◌∙◌, inl, inr, arith}
+use Rattle.std.proofs.Common.{◌≡◌, ◌⊎◌, ◌≤◌, ◌<◌, ◌+◌, ◌*◌, ℕ, suc, pred, Bool, true, false, cond, max, List, [], ◌∷◌, Some, slice_get, refl, sym, ap, subst, ◌∙◌, inl, inr, arith}
 use Rattle.gptp_lists.specs.Members.{In}
 use Rattle.gptp_graph.specs.Best.{IsBest}
 use Rattle.gptp_graph.specs.Distance.{IsDistance}
 use Rattle.gptp_graph.specs.Path.{IsPath}
 use Rattle.gptp_graph.specs.PathBound.{path_bound}
-use Rattle.gptp_graph.specs.Snapshot.{IsWellFormed, Joins, PortIdentity, Snapshot, System, clocks}
+use Rattle.gptp_graph.specs.Snapshot.{IsWellFormed, Joins, Snapshot, System, clocks}
 use Rattle.gptp_graph.proofs.ExistenceLemmas.{distance_exists}
 use Rattle.gptp_graph.proofs.LinkLemmas.{Joins-clock}
 use Rattle.gptp_links.specs.declared.link.Direction.TheVariants.{FromA}
@@ -20,7 +20,7 @@ use Rattle.gptp_model.specs.Acts.{Acts, AtSystem}
 use Rattle.gptp_model.specs.Changing.{FailsIf}
 use Rattle.gptp_model.specs.declared.done.Done.{Done}
 use Rattle.gptp_model.specs.World.{Channel, WorldState, receiver, sender}
-use Rattle.gptp_bmca_machine.specs.LossLaws.{EverythingFits, IsAfterLoss, IsWhatIsLeft, Unmoved}
+use Rattle.gptp_bmca_machine.specs.LossLaws.{EverythingFits, Unmoved}
 use Rattle.gptp_bmca_machine.specs.Network.{Network}
 use Rattle.gptp_bmca_machine.specs.RestLaws.{SameWiring}
 use Rattle.gptp_bmca_machine.specs.SoundLaws.{AllAreNear}
@@ -38,7 +38,7 @@ use Rattle.gptp_invariants.proofs.WorldWayLemmas.{used_joins}
 use Rattle.gptp_settling_time.specs.Losses.{IsUnmovedOrCutOff, silence_span}
 use Rattle.gptp_settling_time.proofs.AgingLemmas.{UnlinkedAge}
 use Rattle.gptp_settling_time.proofs.AgingClaimedLemmas.{IsAgingAlways, aging_after, aging_network, named_in, stay_of}
-use Rattle.gptp_settling_time.proofs.AgingStillLemmas.{IsAgingSeen, IsEmptied, ages_begin, still_emptied, still_settled}
+use Rattle.gptp_settling_time.proofs.AgingStillLemmas.{IsEmptied, ages_begin, still_emptied, still_settled}
 use Rattle.gptp_settling_time.proofs.AlwaysClaimedLemmas.{IsStanding}
 use Rattle.gptp_settling_time.proofs.FailedAloneLemmas as alone
 use Rattle.gptp_settling_time.proofs.FitsLemmas.{IsLeftUnmoved, at_zero, lived}

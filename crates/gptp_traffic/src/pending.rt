@@ -2,7 +2,6 @@
 
 ghost use Rattle.std.specs.Prelude.{◌≡◌, ℕ, ◌+◌, ◌*◌, ◌<◌, ◌≤◌, [], ◌∷◌, ◌++◌, drop, length, slice_index_or, slice_set, Option, IsOk, IfOk, OnOk, IfSome, IfNone};
 ghost use Rattle.std.specs.List.{AllByRecursion};
-ghost use Rattle.gptp_model.specs.Item.{timer_port};
 ghost use Rattle.gptp_model.specs.Pending.{arrival_place, timer_time, put, set_due, times_of_item, without, without_first_entry, IsKnownItem, IsNext};
 ghost use Rattle.gptp_model.specs.declared.item.Item.TheVariants.{Expiry, Arrival};
 ghost use Rattle.gptp_links.specs.declared.link.Direction.TheVariants.{FromA, FromB};

@@ -4,7 +4,7 @@ ghost use Rattle.std.specs.Prelude.{◌≡◌, ℕ, ◌+◌, ◌<◌, ◌≤◌,
 ghost use Rattle.std.specs.List.{AllByRecursion};
 ghost use Rattle.std.specs.Option.{option_map};
 ghost use Rattle.gptp_links.specs.Bounds.{Fit};
-ghost use Rattle.gptp_links.specs.Queue.{due_after, first_frame};
+ghost use Rattle.gptp_links.specs.Queue.{first_frame};
 ghost use Rattle.gptp_setup.specs.Intervals.{IsMoment};
 ghost use Rattle.gptp_model.specs.Act.{TakesFrame};
 ghost use Rattle.gptp_model.specs.Acts.{AtPlace, IsOldestDue};

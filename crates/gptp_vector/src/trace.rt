@@ -50,9 +50,7 @@ impl fmt::Display for Full {
 impl Error for Full {}
 
 impl Trace {
-    ghost use Rattle.std.specs.Prelude.{◌≡◌, ◌<◌, ◌≤◌, ◌↔◌, ◌+◌, ◌-◌, ◌*◌, ◌/◌, ℕ, [], ◌∷◌, ◌++◌, drop, length, map, slice_get, Contains, IsTrue, IsOk, IfErr, OnOk, OnErr};
-    ghost use Rattle.std.specs.List.{range_with_len};
-    ghost use Rattle.byteorder.specs.Endian.{big_number};
+    ghost use Rattle.std.specs.Prelude.{◌≡◌, ◌<◌, ◌≤◌, ◌↔◌, ◌+◌, ◌-◌, ◌*◌, ◌/◌, ℕ, [], ◌∷◌, ◌++◌, length, slice_get, Contains, IsTrue, IsOk, IfErr, OnOk, OnErr};
     ghost use Rattle.gptp_vector.specs.Trace.{clock_left_out};
 
     /// The trace with no clock.

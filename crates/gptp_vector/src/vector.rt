@@ -19,7 +19,7 @@ pub struct Vector {
 }
 
 impl Vector {
-    ghost use Rattle.std.specs.Prelude.{◌≡◌, ◌+◌, ◌<◌, ◌%◌, ◌^◌};
+    ghost use Rattle.std.specs.Prelude.{◌≡◌, ◌+◌, ◌<◌};
     ghost use Rattle.gptp_vector.specs.Vector.{order, path_of, system_vector, master_of};
 
     /// Which of two vectors is better: `Less` where this one is, by the first of root, steps, source

@@ -215,7 +215,7 @@ impl WorldParts {
     ghost use Rattle.std.specs.Prelude.{◌≡◌, ◌↔◌, ◌<◌, IsTrue, length, Some, slice_get};
     ghost use Rattle.gptp_system.specs.Steps.{IsTimerOf};
     ghost use Rattle.gptp_model.specs.declared.station.Station.{Station};
-    ghost use Rattle.gptp_model.specs.Acts.{IsDueThen, IsOldestDue};
+    ghost use Rattle.gptp_model.specs.Acts.{IsOldestDue};
     ghost use Rattle.gptp_world.specs.ActTarget.{IsTargetOf};
     ghost use Rattle.gptp_world.specs.WorldParts.{world_of, IsWorldParts};
     ghost use Rattle.gptp_model.specs.World.{station_due, Channel};

@@ -6,7 +6,7 @@ use gptp_model::Carried;
 use gptp_traffic::Lane;
 
 impl Net {
-    ghost use Rattle.std.specs.Prelude.{◌≡◌, ◌≤◌, ◌<◌, ℕ, length, Some, slice_get};
+    ghost use Rattle.std.specs.Prelude.{◌≡◌, ◌<◌, ℕ, length, Some, slice_get};
     ghost use Rattle.gptp_links.specs.Bounds.{Fit};
     ghost use Rattle.gptp_model.specs.Act.{TakesFrame};
     ghost use Rattle.gptp_model.specs.Acts.{AtPlace, IsOldestDue};

@@ -17,7 +17,7 @@ pub(crate) struct Net {
 }
 
 impl Net {
-    ghost use Rattle.std.specs.Prelude.{◌≡◌, ℕ, ◌*◌, ◌<◌, ◌≤◌, List, [], ◌∷◌, length, Some, slice_get, IfSome, IfNone, true};
+    ghost use Rattle.std.specs.Prelude.{◌≡◌, ℕ, ◌<◌, ◌≤◌, [], ◌∷◌, length, Some, slice_get, IfSome, IfNone, true};
     ghost use Rattle.gptp_setup.specs.Intervals.{IsMoment};
     ghost use Rattle.gptp_system.specs.State.{clock, own};
     ghost use Rattle.gptp_model.specs.Sends.{written, IsUnlinkedPort};

@@ -1,7 +1,6 @@
 use Rattle.std.proofs.Common.{rules}
 use Rattle.gptp_scheduler.proofs.SlotLemmas.{filled-same, resized}
 use Rattle.gptp_scheduler.proofs.slots.Slots.grow.Goals as goal
-use Rattle.gptp_scheduler.proofs.slots.Slots.grow.Goals.{After-resize}
 
 pub invariant_of-self-2 : goal.invariant_of-self-2
 invariant_of-self-2 c =

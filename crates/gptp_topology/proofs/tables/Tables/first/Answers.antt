@@ -1,5 +1,5 @@
 -- The tables are those of the network's links.
-use Rattle.std.proofs.Common.{◌≡◌, map, [], List, ap, ◌∙◌}
+use Rattle.std.proofs.Common.{◌≡◌, map, [], ap, ◌∙◌}
 use Rattle.gptp_topology.specs.After.{node_after}
 use Rattle.gptp_topology.specs.Course.{first, cable_wire}
 use Rattle.gptp_topology.specs.Tables.{cables_of, mark_of}
