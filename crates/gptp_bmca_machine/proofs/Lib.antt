@@ -24,6 +24,7 @@ pub mod NewsLemmas
 pub mod RestingLemmas
 pub mod ReactionLemmas
 pub mod LossLemmas
+pub mod CutTreeLemmas
 pub mod RunLemmas
 pub mod MatchingLemmas
 pub mod SyncStepLemmas
