@@ -298,10 +298,11 @@ module _ (says : Spelling) (n : Network) (v p u q : ℕ) where
 
     -- so every step does
     pub link_steps : MachineSteps says w w' → AtLink P w → AtLink P' w'
-    link_steps (inl wait) is s pu l at there at_l =
+    link_steps (inl wait) is =
+        (λ s pu l at there at_l.
         keeps.stays pu.held l.frames
         (is s pu l (subst (λ (x : MachineState). slice_get x.stations (n.place u) ≡ Some s) wait.is at) there
-        (subst (λ (x : MachineState). slice_get x.lanes (n.lane (port_of v (suc p))) ≡ Some l) wait.is at_l))
+        (subst (λ (x : MachineState). slice_get x.lanes (n.lane (port_of v (suc p))) ≡ Some l) wait.is at_l)))
     link_steps (inr (inl act)) is = comes act is
     link_steps (inr (inr (inl act))) is = drops act is
     link_steps (inr (inr (inr act))) is = runs act is

@@ -74,13 +74,15 @@ module _ (says : Spelling) (k : Wiring) (P : Announce → Type 0) (last : ℕ) w
     r = old.r;
     holds = old.holds;
     final = old.final;
-    young = elim old.young [
-      | (h, inl same, said, due) ↦ absurd (silent (subst (FrameSaysAnnounce says) same said))
-      | (h, inr among, said, due) ↦ (h, among, said, due)
+    young = let (h, at, said, due) = old.young in elim at [
+      | inl same ↦ absurd (silent (subst (FrameSaysAnnounce says) same said))
+      | inr among ↦ (h, among, said, due)
     ];
     told = elim old.told [
-      | inl (all, (h, inl same, said, due)) ↦ absurd (silent (subst (FrameSaysAnnounce says) same said))
-      | inl (all, (h, inr among, said, due)) ↦ rest_told f fs all h among said due
+      | inl (all, (h, at, said, due)) ↦ elim at [
+        | inl same ↦ absurd (silent (subst (FrameSaysAnnounce says) same said))
+        | inr among ↦ rest_told f fs all h among said due
+      ]
       | inr (before, told) ↦ told
     ];
   }
