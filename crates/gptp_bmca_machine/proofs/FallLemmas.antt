@@ -73,6 +73,11 @@ IsLeft says n best far last v p u q w =
 abbrev pub IsFreeAt : Spelling → Network → ℕ → ℕ → ℕ → ℕ → MachineState → Type 0
 IsFreeAt says n v p u q w = AtLink says n v p u q (IsFree says n.graph v u) w
 
+-- what the port at its end holds is of what is left
+abbrev pub HoldsLeft : Spelling → Network → ℕ → ℕ → ℕ → ℕ → MachineState → Type 0
+HoldsLeft says n v p u q w =
+    AtLink says n v p u q (λ held fs. (r : Reception) → held ≡ Received r → Whole n.graph v r.said) w
+
 abbrev pub DownStage : Spelling → Network → System → ℕ → ℕ → ℕ → ℕ → ℕ → ℕ → MachineState → Type 0
 DownStage says n best far last v p u q w =
     IsLed says n best far v p u q w
@@ -325,16 +330,21 @@ module _ (says : Spelling) (g : Snapshot) (n : Network) (top : ℕ) (best next :
 
   -- ---- in a state
 
-  module _ (w : MachineState) (m : IsAftermath says g n w) (falling : IsFalling w) where
+  module _ (w : MachineState) (m : IsAftermath says g n w) where
     -- the lane of a link
     lane_there : (v p u q : ℕ) → Joins n.graph (port_of v (suc p)) (port_of u (suc q))
         → (l : Lane) × (slice_get w.lanes (n.lane (port_of v (suc p))) ≡ Some l)
     lane_there v p u q joins =
         let has = m.kept.calm.lanes (port_of v (suc p)) (port_of u (suc q)) joins in (has.lane, has.there)
 
-    -- what each system of the tree holds
-    pub holds_in_tree : (x : ℕ) → IsBest n.graph x next → HoldsInTree x w
-    holds_in_tree x in_x s i r at (q, there, holds) = by_link (IsLinked-dec n.graph (port_of s.clock (suc i)))
+    -- what a system of the tree holds, by the links that lead to it
+    pub holds_by : (x : ℕ) → IsBest n.graph x next
+        → ((v p i : ℕ) → IsBest n.graph v next → Joins n.graph (port_of v (suc p)) (port_of x (suc i))
+        → depth x ≡ suc (depth v)
+        → DownStage says n best (base + depth v) (falls_by n start (suc (depth v))) v p x i w)
+        → ((v p i : ℕ) → IsBest n.graph v next → Joins n.graph (port_of v (suc p)) (port_of x (suc i))
+        → depth v ≡ suc (depth x) → HoldsLeft says n v p x i w) → HoldsInTree x w
+    holds_by x in_x down up s i r at (q, there, holds) = by_link (IsLinked-dec n.graph (port_of s.clock (suc i)))
       where
         is : (s.live ≡ true) × (s.clock ≡ x)
         is = is_x w m x in_x s at
@@ -410,54 +420,61 @@ module _ (says : Spelling) (g : Snapshot) (n : Network) (top : ℕ) (best next :
                     ⊎ ((depth x ≡ suc (depth to.clock)) × (r.said.root ≡ best.identity)
                     × (r.said.steps ≡ base + depth to.clock))
                 by_steps (inl child) =
-                    inl ((falling.up to.clock p x i in_v joins child s q lane.0 at there lane.1).hears r holds)
-                by_steps (inr deeper) = by_stage deeper (falling.down to.clock p x i in_v joins deeper)
+                    inl (up to.clock p i in_v joins child s q lane.0 at there lane.1 r holds)
+                by_steps (inr deeper) = by_stage deeper (down to.clock p i in_v joins deeper)
 
-    -- who has the root of before has it for a way at most
-    pub old_in_time : (d x : ℕ) → depth x ≡ d → IsBest n.graph x next → RootIs n w x best
-        → w.time ≤ falls_by n start d
-    old_in_time zero x deep in_x root = none (station_of g n t.well t.left w m.kept m.fits.stations x (in_left x in_x))
-      where
-        none : ((s : Station) × (slice_get w.stations (n.place x) ≡ Some s) × (s.live ≡ true) × (s.clock ≡ x))
-            → w.time ≤ falls_by n start 0
-        none (s, at, live, clock) =
-            let old = follows_old w m x in_x s at (holds_in_tree x in_x) (root s at) in
-            let deeper = old.deeper in
-            absurd (omega (arith, deeper, deep))
-    old_in_time (suc d) x deep in_x root =
-        go (λ v up in_v root_v. old_in_time d v up in_v root_v)
-        (station_of g n t.well t.left w m.kept m.fits.stations x (in_left x in_x))
-      where
-        go : ((v : ℕ) → depth v ≡ d → IsBest n.graph v next → RootIs n w v best → w.time ≤ falls_by n start d)
-            → ((s : Station) × (slice_get w.stations (n.place x) ≡ Some s) × (s.live ≡ true) × (s.clock ≡ x))
-            → w.time ≤ falls_by n start (suc d)
-        go sooner (s, at, live, clock) = by (falling.down old.v old.p x old.i old.in_v old.joins old.deeper)
-          where
-            old : FollowsOld w m x in_x s at (holds_in_tree x in_x)
-            old = follows_old w m x in_x s at (holds_in_tree x in_x) (root s at)
+    module _ (falling : IsFalling w) where
+      pub holds_in_tree : (x : ℕ) → IsBest n.graph x next → HoldsInTree x w
+      holds_in_tree x in_x =
+          holds_by x in_x (λ v p i in_v joins deeper. falling.down v p x i in_v joins deeper)
+          (λ v p i in_v joins higher s pu l at there at_l.
+          (falling.up v p x i in_v joins higher s pu l at there at_l).hears)
 
-            up : depth old.v ≡ d
-            up = let deeper = old.deeper in omega (arith, deeper, deep)
+      -- who has the root of before has it for a way at most
+      pub old_in_time : (d x : ℕ) → depth x ≡ d → IsBest n.graph x next → RootIs n w x best
+          → w.time ≤ falls_by n start d
+      old_in_time zero x deep in_x root = none (station_of g n t.well t.left w m.kept m.fits.stations x (in_left x in_x))
+        where
+          none : ((s : Station) × (slice_get w.stations (n.place x) ≡ Some s) × (s.live ≡ true) × (s.clock ≡ x))
+              → w.time ≤ falls_by n start 0
+          none (s, at, live, clock) =
+              let old = follows_old w m x in_x s at (holds_in_tree x in_x) (root s at) in
+              let deeper = old.deeper in
+              absurd (omega (arith, deeper, deep))
+      old_in_time (suc d) x deep in_x root =
+          go (λ v up in_v root_v. old_in_time d v up in_v root_v)
+          (station_of g n t.well t.left w m.kept m.fits.stations x (in_left x in_x))
+        where
+          go : ((v : ℕ) → depth v ≡ d → IsBest n.graph v next → RootIs n w v best → w.time ≤ falls_by n start d)
+              → ((s : Station) × (slice_get w.stations (n.place x) ≡ Some s) × (s.live ≡ true) × (s.clock ≡ x))
+              → w.time ≤ falls_by n start (suc d)
+          go sooner (s, at, live, clock) = by (falling.down old.v old.p x old.i old.in_v old.joins old.deeper)
+            where
+              old : FollowsOld w m x in_x s at (holds_in_tree x in_x)
+              old = follows_old w m x in_x s at (holds_in_tree x in_x) (root s at)
 
-            lane : (l : Lane) × (slice_get w.lanes (n.lane (port_of old.v (suc old.p))) ≡ Some l)
-            lane = lane_there old.v old.p x old.i old.joins
+              up : depth old.v ≡ d
+              up = let deeper = old.deeper in omega (arith, deeper, deep)
 
-            by : DownStage says n best (base + depth old.v) (falls_by n start (suc (depth old.v))) old.v old.p x old.i w
-                → w.time ≤ falls_by n start (suc d)
-            by (inl (root_v, stays)) =
-                let before : w.time ≤ falls_by n start d = sooner old.v up old.in_v root_v in
-                omega (arith, before)
-            by (inr (inl (not, told))) =
-                let left = told s old.holds.0 lane.0 at old.holds.1 lane.1 in
-                let (h, among, said, due) = told_due says (still n (base + depth old.v) best old.v old.p x old.i)
-                (IsNewTold n.graph (port_of old.v (suc old.p)) x) (falls_by n start (suc (depth old.v))) lane.0.frames
-                left.told in
-                let now = m.kept.calm.left (n.lane (port_of old.v (suc old.p))) lane.0 h lane.1 among in
-                let late : h.due ≤ falls_by n start (suc d) =
-                subst (λ k. h.due ≤ falls_by n start (suc k)) up due in
-                omega (arith, now, late)
-            by (inr (inr (not, free))) =
-                let whole = (free s old.holds.0 lane.0 at old.holds.1 lane.1).hears old.r old.holds.2 in
-                let over = whole_root old.v old.r.said old.in_v whole in
-                let root_is = old.root in
-                absurd (omega (arith, over, root_is))
+              lane : (l : Lane) × (slice_get w.lanes (n.lane (port_of old.v (suc old.p))) ≡ Some l)
+              lane = lane_there old.v old.p x old.i old.joins
+
+              by : DownStage says n best (base + depth old.v) (falls_by n start (suc (depth old.v))) old.v old.p x old.i w
+                  → w.time ≤ falls_by n start (suc d)
+              by (inl (root_v, stays)) =
+                  let before : w.time ≤ falls_by n start d = sooner old.v up old.in_v root_v in
+                  omega (arith, before)
+              by (inr (inl (not, told))) =
+                  let left = told s old.holds.0 lane.0 at old.holds.1 lane.1 in
+                  let (h, among, said, due) = told_due says (still n (base + depth old.v) best old.v old.p x old.i)
+                  (IsNewTold n.graph (port_of old.v (suc old.p)) x) (falls_by n start (suc (depth old.v))) lane.0.frames
+                  left.told in
+                  let now = m.kept.calm.left (n.lane (port_of old.v (suc old.p))) lane.0 h lane.1 among in
+                  let late : h.due ≤ falls_by n start (suc d) =
+                  subst (λ k. h.due ≤ falls_by n start (suc k)) up due in
+                  omega (arith, now, late)
+              by (inr (inr (not, free))) =
+                  let whole = (free s old.holds.0 lane.0 at old.holds.1 lane.1).hears old.r old.holds.2 in
+                  let over = whole_root old.v old.r.said old.in_v whole in
+                  let root_is = old.root in
+                  absurd (omega (arith, over, root_is))

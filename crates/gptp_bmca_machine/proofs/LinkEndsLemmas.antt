@@ -207,10 +207,12 @@ module _ (g : Snapshot) (n : Network) (wf : IsWellFormed n.graph) (left : IsWhat
         ((kept.calm.stations (n.place u) s at live).ports q pu there) in
         is_port.long r (port_of v (suc p)) holds joins (source_at s pu r at there holds) log
 
-    pub hears_by : (show : ShowEnds w) (s : Station) (pu : Port) → slice_get w.stations (n.place u) ≡ Some s
-        → slice_get s.ports q ≡ Some pu → HearsSettled (telling n before d best v p u q) pu
-    hears_by show s pu at there = record {
-      weaker = show.weaker s pu at there;
+    pub hears_by : (s : Station) (pu : Port) → slice_get w.stations (n.place u) ≡ Some s
+        → slice_get s.ports q ≡ Some pu → ((root steps : ℕ) → pu.held ≡ Mine root steps
+        → IsLower (final_vector (telling n before d best v p u q)) (master root steps u (suc q)))
+        → HearsSettled (telling n before d best v p u q) pu
+    hears_by s pu at there weaker = record {
+      weaker = weaker;
       source = λ r holds. source_at s pu r at there holds;
       long = λ r holds log. long_at s pu r at there holds log;
     }
@@ -242,7 +244,7 @@ module _ (g : Snapshot) (n : Network) (wf : IsWellFormed n.graph) (left : IsWhat
             settled = λ since ready. show.settled s pv at there ready;
             early = show.early s pv at there;
           };
-      hearer = λ s pu at there since. hears_by show s pu at there;
+      hearer = λ s pu at there since. hears_by s pu at there (show.weaker s pu at there);
     }
 
   -- every step keeps such a link at its stages

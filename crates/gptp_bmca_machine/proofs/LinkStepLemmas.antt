@@ -64,6 +64,7 @@ module _ (says : Spelling) (n : Network) (v p u q : ℕ) where
         → P held (f ∷ fs) → P held fs
     pub answers : (touch : StationTouch) (now root steps : ℕ) (pu pu' : Port) (sends : List Send)
         (fs : List AnnounceFrame) → StandsAtEnd w pu → StandsAtEnd w' pu' → now ≡ w.time
+        → ((h : AnnounceFrame) → In h fs → w.time ≤ h.due)
         → PortStep says u (suc q) now touch root steps pu pu' sends
         → ((a : Announce) → touch ≡ Hear (suc q) a → ⊥)
         → ((r : Reception) → touch ≡ Grow (suc q) → pu.held ≡ Received r → r.at + r.span ≤ w.time)
@@ -158,7 +159,7 @@ module _ (says : Spelling) (n : Network) (v p u q : ℕ) where
         called act.touch w act.call (λ i s at. at) refl P is (λ other. keeps.stays)
         (λ here pu pu' l end end' at_l there answer.
         keeps.answers act.touch w.time act.call.s'.root act.call.s'.steps pu pu' act.call.sends l.frames end end' refl
-        answer (λ a touched. act.deaf (suc q) a touched) (λ r grown holds. aged pu r there grown holds))
+        (λ h among. calm.left (n.lane (port_of v (suc p))) l h at_l among) answer (λ a touched. act.deaf (suc q) a touched) (λ r grown holds. aged pu r there grown holds))
       where
         aged : (pu : Port) (r : Reception) → slice_get act.call.s.ports q ≡ Some pu → act.touch ≡ Grow (suc q)
             → pu.held ≡ Received r → r.at + r.span ≤ w.time
@@ -202,7 +203,15 @@ module _ (says : Spelling) (n : Network) (v p u q : ℕ) where
             called act.touch act.mid act.call act.pops.stations act.pops.time P in_mid (λ far. keeps.stays)
             (λ here pu pu' l end end' at_l there answer.
             keeps.answers act.touch act.mid.time act.call.s'.root act.call.s'.steps pu pu' act.call.sends l.frames end
-            end' act.pops.time answer (deaf here) (λ r grown. absurd (act.young (suc q) grown)))
+            end' act.pops.time (λ h among. left_then l h at_l among) answer (deaf here)
+            (λ r grown. absurd (act.young (suc q) grown)))
+          where
+            left_then : (l : Lane) (h : AnnounceFrame) → slice_get act.mid.lanes (n.lane (port_of v (suc p))) ≡ Some l
+                → In h l.frames → w.time ≤ h.due
+            left_then l h at_l among = elim (act.pops.lanes (n.lane (port_of v (suc p))) l at_l) [
+              | inl (same, one) ↦ absurd (other same)
+              | inr (apart, stood) ↦ calm.left (n.lane (port_of v (suc p))) l h stood among
+            ]
 
       -- it comes over this one
       module _ (same : n.lane (port_of v (suc p)) ≡ act.j) where
@@ -250,8 +259,10 @@ module _ (says : Spelling) (n : Network) (v p u q : ℕ) where
             called act.touch act.mid act.call act.pops.stations act.pops.time P missed (λ far. absurd (far place))
             (λ here pu pu' l end end' at_l there answer.
             keeps.answers act.touch act.mid.time act.call.s'.root act.call.s'.steps pu pu' act.call.sends l.frames end
-            end' act.pops.time answer (λ a touched. deaf (suc q) a touched)
-            (λ r grown. absurd (act.young (suc q) grown)))
+            end' act.pops.time (λ h among.
+            calm.left (n.lane (port_of v (suc p))) act.l h lane_at
+            (subst (In h) (sym act.pops.frames) (inr (subst (In h) (frames_mid l at_l) among)))) answer
+            (λ a touched. deaf (suc q) a touched) (λ r grown. absurd (act.young (suc q) grown)))
           where
             missed : AtLink P act.mid
             missed s pu l at there at_l =
