@@ -71,6 +71,29 @@ module _ (says : Spelling) (c n now : ℕ) (touch : StationTouch) (root steps : 
     ]
   ]
 
+-- what a system that has left the root of before tells those below it
+pub tells_new : (says : Spelling) (g : Snapshot) (n : Network) (top : ℕ) (best next : System) (base : ℕ)
+    (depth : ℕ → ℕ) (t : CutsTree g n top best next base depth) (start : ℕ) (w : MachineState)
+    (m : IsAftermath says g n w) (x : ℕ) (in_x : IsBest n.graph x next) (s : Station)
+    (at : slice_get w.stations (n.place x) ≡ Some s)
+    (holds : HoldsInTree says g n top best next base depth t start x w) (not : s.root ≢ best.identity) (p u q : ℕ)
+    (joins : Joins n.graph (port_of x (suc p)) (port_of u (suc q))) (deeper : depth u ≡ suc (depth x)) (number : ℕ)
+    (a : Announce) → IsOwn s number a → IsMasterAt s number → number ≡ suc p
+    → IsNewTold n.graph (port_of x (suc p)) u a
+tells_new says g n top best next base depth t start w m x in_x s at holds not p u q joins deeper number a own
+    (i, pv, place, there, mine) is = record {
+  source = own.source ∙ (λ j. port_of (clock j) (is j));
+  whole = says_whole says g n top best next base depth t start w m x in_x s at holds not number a own;
+  usable = says_usable says g n top best next base depth t start w m x in_x s at holds not number a own p u q joins
+      deeper pv (subst (λ j. slice_get s.ports j ≡ Some pv) same there) s.root s.steps mine;
+}
+  where
+    clock : s.clock ≡ x
+    clock = (lives_at n w m.kept.calm x in_x.reached.1.begins s at).1
+
+    same : i ≡ p
+    same = let both = sym place ∙ is in omega (arith, both)
+
 -- A system of the tree answers, and whoever else is in it stands as it did: its sends enter the lanes to others.
 pub record TreeAnswers (says : Spelling) (n : Network) (next : System) (x : ℕ) (w w' : MachineState) : Type 0 where
   pub touch : StationTouch
@@ -123,22 +146,10 @@ module _ (says : Spelling) (g : Snapshot) (n : Network) (top : ℕ) (best next :
   -- what it tells since, those below it can use
   new_told : (y : Send) (a : Announce) → In y z.sends → port_of x (suc p) ≡ port_of z.s.clock y.port
       → says y.octets a → New a
-  new_told y a sent from said = by (z.reacts.tells y a sent said)
-    where
-      number : y.port ≡ suc p
-      number = ap (λ (k : PortIdentity). k.port) (sym from)
-
-      by : IsOwn z.s' y.port a × IsMasterAt z.s' y.port → New a
-      by (own, (i, pv, place, at, mine)) =
-          let same : i ≡ p = let both = sym place ∙ number in omega (arith, both) in
-          record {
-            source = own.source ∙ (λ j. port_of (is_x.1 j) (number j));
-            whole = says_whole says g n top best next base depth t start w' m' x in_x z.s' z.there holds' not' y.port a
-                own;
-            usable = says_usable says g n top best next base depth t start w' m' x in_x z.s' z.there holds' not' y.port
-                a own p u q joins deeper pv (subst (λ j. slice_get z.s'.ports j ≡ Some pv) same at) z.s'.root z.s'.steps
-                mine;
-          }
+  new_told y a sent from said =
+      let (own, master) = z.reacts.tells y a sent said in
+      tells_new says g n top best next base depth t start w' m' x in_x z.s' z.there holds' not' p u q joins deeper
+      y.port a own master (ap (λ (k : PortIdentity). k.port) (sym from))
 
   pub leaves_old : AtLink says n x p u q (HoldsTold says (still n far best x p u q)
       (IsNewTold n.graph (port_of x (suc p)) u) (falls_by n start (suc (depth x)))) w'
