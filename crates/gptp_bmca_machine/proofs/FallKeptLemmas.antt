@@ -82,34 +82,28 @@ module _ (says : Spelling) (g : Snapshot) (n : Network) (top : ℕ) (best next :
           let mine = (show_old.settled s pv at there (is_ready s pv at there)).mine in
           (mine, (teller.timer best.identity (base + depth v) mine).0)
 
-  module _ (w w' : MachineState) (m : IsAftermath says g n w) (m' : IsAftermath says g n w')
-      (step : MachineSteps says w w') (falling : IsFalling says g n top best next base depth t start w) where
-    holds_w : (x : ℕ) → IsBest n.graph x next → HoldsInTree says g n top best next base depth t start x w
-    holds_w x in_x = holds_in_tree says g n top best next base depth t start w m falling x in_x
+  -- ---- who hears what was told before
 
-    -- what is held over links up the tree is of what is left
-    up_held : (v p u q : ℕ) → IsBest n.graph v next → Joins n.graph (port_of v (suc p)) (port_of u (suc q))
-        → depth v ≡ suc (depth u) → HoldsLeft says n v p u q w'
-    up_held v p u q in_v joins higher =
-        free_held says g n top best next base depth t w w' m m' step v p u q joins
-        (falling.up v p u q in_v joins higher)
+  module _ (w : MachineState) (m : IsAftermath says g n w) (v p u q : ℕ) (in_v : IsBest n.graph v next)
+      (here_u : IsBest n.graph u next) (joins : Joins n.graph (port_of v (suc p)) (port_of u (suc q))) where
+    has_port : (s : Station) → slice_get w.stations (n.place u) ≡ Some s
+        → (pu : Port) × (slice_get s.ports q ≡ Some pu)
+    has_port s at =
+        port_there g n t.well t.left w m.kept m.fits.stations u q (port_of v (suc p)) s at
+        (Joins-sym n.graph (port_of v (suc p)) (port_of u (suc q)) joins)
 
-    -- who hears what was told before has that root, or the link is free
-    hearer_root : (v p u q : ℕ) → IsBest n.graph v next → IsBest n.graph u next
-        → Joins n.graph (port_of v (suc p)) (port_of u (suc q))
-        → DownStage says n best (base + depth v) (falls_by n start (suc (depth v))) v p u q w
-        → RootIs n w u best ⊎ (RootIsNot n w v best × IsFreeAt says n v p u q w)
-    hearer_root v p u q in_v here_u joins (inr (inr free)) = inr free
-    hearer_root v p u q in_v here_u joins (inr (inl (not, told))) = inl (λ s at.
-        let (pu, there) = port_there g n t.well t.left w m.kept m.fits.stations u q (port_of v (suc p)) s at
-        (Joins-sym n.graph (port_of v (suc p)) (port_of u (suc q)) joins) in
+    -- it has that root
+    pub left_root : (far last : ℕ) → IsLeft says n best far last v p u q w → RootIs n w u best
+    left_root far last (not, told) s at =
+        let (pu, there) = has_port s at in
         let has = m.kept.calm.lanes (port_of v (suc p)) (port_of u (suc q)) joins in
         let old = told s pu has.lane at there has.there in
         root_by_held says g n top best next base depth t start w m u here_u s at q old.r (pu, there, old.holds)
-        old.final.root)
-    hearer_root v p u q in_v here_u joins (inl (root, stays)) = inl (λ s at.
-        let (pu, there) = port_there g n t.well t.left w m.kept m.fits.stations u q (port_of v (suc p)) s at
-        (Joins-sym n.graph (port_of v (suc p)) (port_of u (suc q)) joins) in
+        old.final.root
+
+    pub led_root : (far : ℕ) → IsLed says n best far v p u q w → RootIs n w u best
+    led_root far (root, stays) s at =
+        let (pu, there) = has_port s at in
         let has = m.kept.calm.lanes (port_of v (suc p)) (port_of u (suc q)) joins in
         let (sv, at_v, live, clock) = station_of g n t.well t.left w m.kept m.fits.stations v
         in_v.reached.1.begins in
@@ -125,7 +119,26 @@ module _ (says : Spelling) (g : Snapshot) (n : Network) (top : ℕ) (best next :
           lane = has.there;
         }) in
         root_by_held says g n top best next base depth t start w m u here_u s at q stay.what (pu, there, stay.holds)
-        stay.final.root)
+        stay.final.root
+
+    -- or the link is free
+    pub hearer_root : (far last : ℕ) → DownStage says n best far last v p u q w
+        → RootIs n w u best ⊎ (RootIsNot n w v best × IsFreeAt says n v p u q w)
+    hearer_root far last (inl led) = inl (led_root far led)
+    hearer_root far last (inr (inl left)) = inl (left_root far last left)
+    hearer_root far last (inr (inr free)) = inr free
+
+  module _ (w w' : MachineState) (m : IsAftermath says g n w) (m' : IsAftermath says g n w')
+      (step : MachineSteps says w w') (falling : IsFalling says g n top best next base depth t start w) where
+    holds_w : (x : ℕ) → IsBest n.graph x next → HoldsInTree says g n top best next base depth t start x w
+    holds_w x in_x = holds_in_tree says g n top best next base depth t start w m falling x in_x
+
+    -- what is held over links up the tree is of what is left
+    up_held : (v p u q : ℕ) → IsBest n.graph v next → Joins n.graph (port_of v (suc p)) (port_of u (suc q))
+        → depth v ≡ suc (depth u) → HoldsLeft says n v p u q w'
+    up_held v p u q in_v joins higher =
+        free_held says g n top best next base depth t w w' m m' step v p u q joins
+        (falling.up v p u q in_v joins higher)
 
     -- what a link down the tree comes to, and that a free one stays so
     abbrev Then : ℕ → ℕ → ℕ → ℕ → Type 0
@@ -148,7 +161,8 @@ module _ (says : Spelling) (g : Snapshot) (n : Network) (top : ℕ) (best next :
 
       -- who has left the root of before doesn't come back to it
       root_stays : RootIsNot n w v best → RootIsNot n w' v best
-      root_stays not s' at' root' = by (hearer_root old.v old.p v old.i old.in_v in_v old.joins
+      root_stays not s' at' root' = by (hearer_root w m old.v old.p v old.i old.in_v in_v old.joins
+          (base + depth old.v) (falls_by n start (suc (depth old.v)))
           (falling.down old.v old.p v old.i old.in_v old.joins old.deeper))
         where
           old : FollowsOld says g n top best next base depth t start w' m' v in_v s' at' holds'
@@ -191,20 +205,22 @@ module _ (says : Spelling) (g : Snapshot) (n : Network) (top : ℕ) (best next :
           )
 
       -- it goes on to tell the root of before, or has left it now
-      led_then : IsLed says n best (base + depth v) v p u q w
-          → DownStage says n best (base + depth v) (falls_by n start (suc (depth v))) v p u q w'
+      pub led_then : IsLed says n best (base + depth v) v p u q w
+          → IsLed says n best (base + depth v) v p u q w'
+          ⊎ IsLeft says n best (base + depth v) (falls_by n start (suc (depth v))) v p u q w'
       led_then (root, stays) = by (station_of g n t.well t.left w' m'.kept m'.fits.stations v in_v.reached.1.begins)
         where
           by : ((s : Station) × (slice_get w'.stations (n.place v) ≡ Some s) × (s.live ≡ true) × (s.clock ≡ v))
-              → DownStage says n best (base + depth v) (falls_by n start (suc (depth v))) v p u q w'
+              → IsLed says n best (base + depth v) v p u q w'
+              ⊎ IsLeft says n best (base + depth v) (falls_by n start (suc (depth v))) v p u q w'
           by (s', at', live, clock) = elim (ℕ_discrete s'.root best.identity) [
             | yes root' ↦ inl (goes_on (λ s at. ap (λ (x : Station). x.root)
                 (same_there w'.stations (n.place v) s s' at at') ∙ root'))
-            | no not' ↦ inr (inl (
+            | no not' ↦ inr (
               (λ s at root'. not' (ap (λ (x : Station). x.root) (same_there w'.stations (n.place v) s' s at' at)
                   ∙ root')),
               leaves_now not' (answers_or_stands says n next v w w' m.kept.calm m'.kept.calm in_v step s' at'),
-            ))
+            )
           ]
             where
               goes_on : RootIs n w' v best → IsLed says n best (base + depth v) v p u q w'
@@ -267,7 +283,7 @@ module _ (says : Spelling) (g : Snapshot) (n : Network) (top : ℕ) (best next :
         where
           by : DownStage says n best (base + depth v) (falls_by n start (suc (depth v))) v p u q w
               → DownStage says n best (base + depth v) (falls_by n start (suc (depth v))) v p u q w'
-          by (inl led) = led_then led
+          by (inl led) = elim (led_then led) [ inl on ↦ inl on | inr told ↦ inr (inl told) ]
           by (inr (inr free)) = inr (inr (free_then free))
           by (inr (inl (not, told))) =
               let not' = root_stays not in
@@ -331,6 +347,15 @@ module _ (says : Spelling) (g : Snapshot) (n : Network) (top : ℕ) (best next :
                   absurd (let both : Mine call.s'.root call.s'.steps ≡ Received old.r =
                   sym mine ∙ ap (λ (x : Port). x.held) (sym same) ∙ old.holds.2 in cc)
             ]
+
+    -- a system that has the root of before goes on to tell it, or has left it now
+    pub led_next : (v p u q : ℕ) → IsBest n.graph v next → Joins n.graph (port_of v (suc p)) (port_of u (suc q))
+        → depth u ≡ suc (depth v) → IsLed says n best (base + depth v) v p u q w
+        → IsLed says n best (base + depth v) v p u q w'
+        ⊎ IsLeft says n best (base + depth v) (falls_by n start (suc (depth v))) v p u q w'
+    led_next v p u q in_v joins deeper led =
+        led_then v p u q in_v joins deeper (λ v0 p0 i in0 joined below.
+        then_below (depth v) v0 p0 v i in0 joined below (omega (arith, below))) led
 
     pub falling_kept : IsFalling says g n top best next base depth t start w'
     falling_kept = record {
