@@ -151,6 +151,52 @@ module _ (says : Spelling) (g : Snapshot) (n : Network) (top : ℕ) (best next :
       tells_new says g n top best next base depth t start w' m' x in_x z.s' z.there holds' not' p u q joins deeper
       y.port a own master (ap (λ (k : PortIdentity). k.port) (sym from))
 
+  -- ---- the lane to a system below it
+
+  module _ (l l' : Lane) (lane' : slice_get w'.lanes (n.lane (port_of x (suc p))) ≡ Some l')
+      (step : LaneStep z.s.clock z.sends l l') where
+    has_then : (y : Lane) × (y ≡ l') × (y.from ≡ port_of x (suc p)) × (y.loss ≡ 0) × (y.is_up ≡ true)
+    has_then =
+        let has = m'.kept.calm.lanes (port_of x (suc p)) (port_of u (suc q)) joins in (
+          has.lane,
+          same_there w'.lanes (n.lane (port_of x (suc p))) has.lane l' has.there lane',
+          has.from,
+          has.loss,
+          has.is_up,
+        )
+
+    pub from_x : l.from ≡ port_of x (suc p)
+    from_x = let (y, same, from, loss, up) = has_then in sym step.from ∙ ap (λ (y : Lane). y.from) (sym same) ∙ from
+
+    -- what enters it, those below can use
+    news_new : AllSay says (IsNewTold n.graph (port_of x (suc p)) u) step.news
+    news_new f a among said =
+        let (y, sent, from, octets) = step.sent f among in
+        new_told y a sent (sym from_x ∙ from) (subst (λ o. says o a) octets said)
+
+    -- and an Announce does at once
+    module _ (pv pv' : Port) (stood : slice_get z.s.ports p ≡ Some pv) (there' : slice_get z.s'.ports p ≡ Some pv')
+        (answer : PortStep says z.s.clock (suc p) w.time z.touch z.s'.root z.s'.steps pv pv' z.sends) where
+      pub tells_now : (f : AnnounceFrame) × In f step.news × FrameSaysAnnounce says f × (f.due ≤ w.time + n.most)
+      tells_now = by (leaves says x (suc p) w.time z.touch z.s'.root z.s'.steps pv pv' z.sends
+          (subst (λ c. PortStep says c (suc p) w.time z.touch z.s'.root z.s'.steps pv pv' z.sends) was_x answer)
+          best.identity far (old pv stood).0 not'
+          (teller_on g n t.well t.left n.most 0 best x p u q joins (omega arith) w' m'.kept m'.fits.stations z.s' pv'
+          z.there there') refuses)
+        where
+          by : ((y : Send) × In y z.sends × (y.port ≡ suc p) × ((a : Announce) × says y.octets a))
+              → (f : AnnounceFrame) × In f step.news × FrameSaysAnnounce says f × (f.due ≤ w.time + n.most)
+          by (y, sent, number, (a, said)) =
+              let (lane, same, from, loss, up) = has_then in
+              let (f, among, octets) = step.arrives (sym step.loss ∙ ap (λ (y : Lane). y.loss) (sym same) ∙ loss)
+              (sym step.is_up ∙ ap (λ (y : Lane). y.is_up) (sym same) ∙ up) y sent
+              (from_x ∙ (λ j. port_of (sym was_x j) (sym number j))) in
+              let by = (on_time g n t.well t.left n.most 0 best x p u q joins (omega arith) w' m'.kept
+              m'.fits.stations l' f lane' (subst (In f) (sym step.behind) (In-right f l.frames step.news among))).due
+              (omega arith) in
+              let same_time = z.time in
+              (f, among, (a, subst (λ o. says o a) (sym octets) said), omega (arith, by, same_time))
+
   pub leaves_old : AtLink says n x p u q (HoldsTold says (still n far best x p u q)
       (IsNewTold n.graph (port_of x (suc p)) u) (falls_by n start (suc (depth x)))) w'
   leaves_old su pu l' at there lane' =
@@ -162,37 +208,17 @@ module _ (says : Spelling) (g : Snapshot) (n : Network) (top : ℕ) (best next :
           → HoldsTold says k New last pu.held l'.frames
       by_lane (l, at_l, step) (pv', there') = by_port (z.reacts.ports p pv' there')
         where
-          from_is : l.from ≡ port_of x (suc p)
-          from_is =
-              let has = m'.kept.calm.lanes (port_of x (suc p)) (port_of u (suc q)) joins in
-              let same = same_there w'.lanes (n.lane (port_of x (suc p))) has.lane l' has.there lane' in
-              sym step.from ∙ ap (λ (y : Lane). y.from) (sym same) ∙ has.from
-
-          loss_is : l.loss ≡ 0
-          loss_is =
-              let has = m'.kept.calm.lanes (port_of x (suc p)) (port_of u (suc q)) joins in
-              let same = same_there w'.lanes (n.lane (port_of x (suc p))) has.lane l' has.there lane' in
-              sym step.loss ∙ ap (λ (y : Lane). y.loss) (sym same) ∙ has.loss
-
-          up_is : l.is_up ≡ true
-          up_is =
-              let has = m'.kept.calm.lanes (port_of x (suc p)) (port_of u (suc q)) joins in
-              let same = same_there w'.lanes (n.lane (port_of x (suc p))) has.lane l' has.there lane' in
-              sym step.is_up ∙ ap (λ (y : Lane). y.is_up) (sym same) ∙ has.is_up
-
-          news : AllSay says New step.news
-          news f a among said =
-              let (y, sent, from, octets) = step.sent f among in
-              new_told y a sent (sym from_is ∙ from) (subst (λ o. says o a) octets said)
-
           by_port : ((pv : Port) × (slice_get z.s.ports p ≡ Some pv)
               × PortStep says z.s.clock (suc p) w.time z.touch z.s'.root z.s'.steps pv pv' z.sends)
               → HoldsTold says k New last pu.held l'.frames
-          by_port (pv, stood, answer) = tells (leaves says x (suc p) w.time z.touch z.s'.root z.s'.steps pv pv' z.sends
-              (subst (λ c. PortStep says c (suc p) w.time z.touch z.s'.root z.s'.steps pv pv' z.sends) was_x answer)
-              best.identity far (old pv stood).0 not'
-              (teller_on g n t.well t.left n.most 0 best x p u q joins (omega arith) w' m'.kept m'.fits.stations z.s' pv'
-              z.there there') refuses)
+          by_port (pv, stood, answer) =
+              let (f, among, said, soon) = tells_now l l' lane' step pv pv' stood there' answer in
+              let due : f.due ≤ falls_by n start (suc (depth x)) = omega (arith, soon, in_time) in
+              let long = long_at g n t.well t.left n.most 0 best x p u q joins (omega arith) w' m'.kept
+              m'.fits.stations su pu stay.what at there stay.holds stay.final.log in
+              subst (HoldsTold says k New last pu.held) (sym step.behind)
+              (old_begins says k New last w.time pv.announce pu.held l.frames step.news f stay long (old pv stood).1
+              (news_new l l' lane' step) among said soon due)
             where
               stay : FinalAnnounceStays says k pv.announce pu.held l.frames
               stay = stays pv pu l (record {
@@ -204,23 +230,6 @@ module _ (says : Spelling) (g : Snapshot) (n : Network) (top : ℕ) (best next :
                 hearer_port = there;
                 lane = at_l;
               })
-
-              tells : ((y : Send) × In y z.sends × (y.port ≡ suc p) × ((a : Announce) × says y.octets a))
-                  → HoldsTold says k New last pu.held l'.frames
-              tells (y, sent, number, (a, said)) =
-                  let (f, among, octets) = step.arrives loss_is up_is y sent
-                  (from_is ∙ (λ j. port_of (sym was_x j) (sym number j))) in
-                  let by = (on_time g n t.well t.left n.most 0 best x p u q joins (omega arith) w' m'.kept
-                  m'.fits.stations l' f lane' (subst (In f) (sym step.behind) (In-right f l.frames step.news among))).due
-                  (omega arith) in
-                  let same = z.time in
-                  let soon : f.due ≤ w.time + n.most = omega (arith, by, same) in
-                  let due : f.due ≤ falls_by n start (suc (depth x)) = omega (arith, soon, in_time) in
-                  let long = long_at g n t.well t.left n.most 0 best x p u q joins (omega arith) w' m'.kept
-                  m'.fits.stations su pu stay.what at there stay.holds stay.final.log in
-                  subst (HoldsTold says k New last pu.held) (sym step.behind)
-                  (old_begins says k New last w.time pv.announce pu.held l.frames step.news f stay long (old pv stood).1
-                  news among (a, subst (λ o. says o a) (sym octets) said) soon due)
 
 -- ---- a step
 

@@ -44,11 +44,12 @@ module _ (says : Spelling) (g : Snapshot) (n : Network) (top : ℕ) (best next :
     abbrev k : Wiring
     k = telling n (before f) f next v p u q
 
-    delay : n.most ≤ before f
+    pub delay : n.most ≤ before f
     delay = let more = room f in omega (arith, more)
 
     -- what both ends show, where the link leads down the tree, or the system that hears has left the root of before
-    show : (w : MachineState) (m : IsAftermath says g n w) (falling : IsFalling says g n top best next base depth t start w)
+    pub show : (w : MachineState) (m : IsAftermath says g n w)
+        (falling : IsFalling says g n top best next base depth t start w)
         → w.time ≤ last → (depth u ≡ suc (depth v)) ⊎ RootIsNot n w u best
         → ShowEnds g n t.well t.left (before f) f next v p u q leads.joins delay w
     show w m falling in_time down = record {
@@ -90,7 +91,7 @@ module _ (says : Spelling) (g : Snapshot) (n : Network) (top : ℕ) (best next :
         ]
 
     -- who has the root of before hasn't settled
-    not_ready : (w : MachineState) → RootIs n w v best → LinkSettles says (telling n (before f) f next v p u q) w
+    pub not_ready : (w : MachineState) → RootIs n w v best → LinkSettles says (telling n (before f) f next v p u q) w
     not_ready w root since pv pu l stand ready =
         let is = root stand.v stand.teller in
         let has = ready.0.0 in
