@@ -1,22 +1,20 @@
 -- In a tree that is cut off, what doesn't pass a system doesn't come to those below it.
-use Rattle.std.proofs.Common.{◌≡◌, ◌≢◌, ◌⊎◌, ◌<◌, ◌≤◌, ◌+◌, ℕ, zero, suc, List, [], ◌∷◌, length, refl, reverse, sym, ap, subst, ◌∙◌, inl, inr, arith}
+use Rattle.std.proofs.Common.{◌≡◌, ◌≢◌, ◌+◌, ℕ, zero, suc, List, [], ◌∷◌, reverse, sym, ap, subst, ◌∙◌, inl, inr, arith}
 use Rattle.std.proofs.lemmas.List.{reverse-reverse}
 use native.Mathlib.Decide.{ℕ_discrete}
 use Rattle.gptp_lists.specs.Members.{In}
 use Rattle.gptp_lists.proofs.ReverseLemmas.{In-reverse}
 use Rattle.gptp_graph.specs.Best.{IsBest}
-use Rattle.gptp_graph.specs.Path.{Route, IsPath}
+use Rattle.gptp_graph.specs.Path.{Route}
 use Rattle.gptp_graph.specs.Snapshot.{System, PortIdentity, Snapshot, clocks, port_of, Joins, Adjacent}
 use Rattle.gptp_graph.proofs.BestLemmas.{IsBest-neighbour, IsBest-unique}
 use Rattle.gptp_graph.proofs.ExistenceLemmas.{best_exists}
-use Rattle.gptp_graph.proofs.LinkLemmas.{Adjacent-clock, Adjacent-sym}
-use Rattle.gptp_graph.proofs.SystemLemmas.{same_identity}
+use Rattle.gptp_graph.proofs.LinkLemmas.{Adjacent-sym}
 use Rattle.gptp_bmca_machine.specs.Clean.{Whole}
 use Rattle.gptp_bmca_machine.specs.CutTree.{CutsTree}
 use Rattle.gptp_bmca_machine.specs.Frame.{Announce}
 use Rattle.gptp_bmca_machine.specs.Network.{Network}
-use Rattle.gptp_bmca_machine.specs.Touch.{IsUsable}
-use Rattle.gptp_bmca_machine.proofs.NearestLemmas.{on_way, path_length, root_not_better}
+use Rattle.gptp_bmca_machine.proofs.NearestLemmas.{on_way}
 
 -- one stands so many links below the other
 abbrev pub IsBelowBy : Snapshot → (ℕ → ℕ) → ℕ → ℕ → ℕ → Type 0

@@ -1,13 +1,12 @@
 -- A link of a network at rest goes down, which cuts a tree off: its top answers, and it begins to fall back.
-use Rattle.std.proofs.Common.{◌≡◌, ◌≢◌, ◌⊎◌, ◌<◌, ◌≤◌, ◌+◌, ◌++◌, ℕ, suc, true, List, [], ◌∷◌, Some, slice_get, length, refl, reverse, sym, ap, subst, ◌∙◌, inl, inr, arith}
+use Rattle.std.proofs.Common.{◌≡◌, ◌≢◌, ◌⊎◌, ◌<◌, ◌≤◌, ◌+◌, ℕ, suc, true, List, ◌∷◌, Some, slice_get, length, refl, reverse, sym, ap, subst, ◌∙◌, inl, inr, arith}
 use Rattle.std.proofs.lemmas.List.{reverse-reverse}
 use native.Mathlib.Decide.{ℕ_discrete}
 use Rattle.gptp_lists.specs.Members.{In}
 use Rattle.gptp_lists.proofs.ReverseLemmas.{In-reverse}
 use Rattle.gptp_lists.proofs.SystemSpecLemmas.{In-left, In-parts}
 use Rattle.gptp_graph.specs.Best.{IsBest}
-use Rattle.gptp_graph.specs.Path.{Route}
-use Rattle.gptp_graph.specs.Snapshot.{Adjacent, Joins, PortIdentity, Snapshot, System, clocks, port_of}
+use Rattle.gptp_graph.specs.Snapshot.{Joins, PortIdentity, Snapshot, System, port_of}
 use Rattle.gptp_graph.proofs.DecisionLemmas.{in_dec}
 use Rattle.gptp_graph.proofs.LinkLemmas.{Joins-sym}
 use Rattle.gptp_graph.proofs.PathBoundLemmas.{IsDistance-within}
@@ -19,24 +18,24 @@ use Rattle.gptp_bmca_machine.specs.Clean.{Whole}
 use Rattle.gptp_bmca_machine.specs.CutTree.{CutsTree}
 use Rattle.gptp_bmca_machine.specs.Frame.{Announce, AnnounceFrame, Lane, Spelling}
 use Rattle.gptp_bmca_machine.specs.Levels.{Invariant, LeadsFarther}
-use Rattle.gptp_bmca_machine.specs.Link.{LinkSettles, Stand, TellerIsReady, TellerIsSettled}
-use Rattle.gptp_bmca_machine.specs.LinkStage.{AllFinal, FinalAnnounceStays, IsFinal, LinkStage, Wiring}
+use Rattle.gptp_bmca_machine.specs.Link.{LinkSettles, TellerIsSettled}
+use Rattle.gptp_bmca_machine.specs.LinkStage.{AllFinal, FinalAnnounceStays, LinkStage, Wiring}
 use Rattle.gptp_bmca_machine.specs.Network.{IsSettlingNetwork, Network, settled_from}
 use Rattle.gptp_bmca_machine.specs.Reacts.{PortStep}
 use Rattle.gptp_bmca_machine.specs.RestLaws.{LinkStays, SameWiring}
-use Rattle.gptp_bmca_machine.specs.Station.{Disabled, Held, HoldsAt, MachineState, Mine, Port, Received, Reception, Station}
+use Rattle.gptp_bmca_machine.specs.Station.{Disabled, HoldsAt, MachineState, Mine, Port, Received, Reception, Station}
 use Rattle.gptp_bmca_machine.specs.Touch.{Disable, Hear, HeldInTouch, IsUsable, Replaces}
 use Rattle.gptp_bmca_machine.proofs.CutTreeLemmas.{beside, stays_left}
 use Rattle.gptp_bmca_machine.proofs.EndsLemmas.{clear_at, is_station}
-use Rattle.gptp_bmca_machine.proofs.FallLeaveLemmas.{TreeAnswers, from_x, leaves_old, tells_now}
-use Rattle.gptp_bmca_machine.proofs.FallLemmas.{DownStage, HoldsInTree, HoldsLeft, IsAftermath, IsFalling, IsFree, IsFreeAt, RootIs, RootIsNot, falls_by, follows_old, holds_by}
-use Rattle.gptp_bmca_machine.proofs.FallLevelLemmas.{TreeSettles, delay, not_ready, show}
+use Rattle.gptp_bmca_machine.proofs.FallLeaveLemmas.{TreeAnswers, leaves_old, tells_now}
+use Rattle.gptp_bmca_machine.proofs.FallLemmas.{DownStage, HoldsInTree, HoldsLeft, IsAftermath, IsFalling, IsFreeAt, RootIs, RootIsNot, falls_by, follows_old, holds_by}
+use Rattle.gptp_bmca_machine.proofs.FallLevelLemmas.{TreeSettles, not_ready, show}
 use Rattle.gptp_bmca_machine.proofs.LinkEndsLemmas.{teller_on, telling}
 use Rattle.gptp_bmca_machine.proofs.LinkStageLemmas.{begins}
 use Rattle.gptp_bmca_machine.proofs.LinkStepLemmas.{lives_at}
 use Rattle.gptp_bmca_machine.proofs.PlaceLemmas.{same_there}
 use Rattle.gptp_bmca_machine.proofs.ReactsLemmas.{held_from}
-use Rattle.gptp_bmca_machine.proofs.RestLemmas.{Chooses, IsClear, is_master}
+use Rattle.gptp_bmca_machine.proofs.RestLemmas.{Chooses, is_master}
 use Rattle.gptp_bmca_machine.proofs.RestingLemmas.{all_choose, by_then_at, links_stay, stays_so}
 use Rattle.gptp_bmca_machine.proofs.StillLemmas.{live_before, port_there, still, still_stays}
 

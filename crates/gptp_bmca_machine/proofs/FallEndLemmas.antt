@@ -1,6 +1,6 @@
 -- Once a tree that is cut off has fallen back, all that is held fits what is left, and each link is at its stage: so it
 -- settles.
-use Rattle.std.proofs.Common.{◌≡◌, ◌⊎◌, ◌<◌, ◌≤◌, ◌+◌, ℕ, suc, true, Some, slice_get, refl, sym, ap, subst, ◌∙◌, inl, inr, arith}
+use Rattle.std.proofs.Common.{◌≡◌, ◌<◌, ◌≤◌, ◌+◌, ℕ, suc, Some, slice_get, refl, sym, ap, subst, ◌∙◌, arith}
 use Rattle.gptp_lists.specs.Members.{In}
 use Rattle.gptp_graph.specs.Best.{IsBest}
 use Rattle.gptp_graph.specs.Distance.{IsDistance}
@@ -21,7 +21,7 @@ use Rattle.gptp_bmca_machine.specs.LossLaws.{EverythingFits, IsAfterLoss}
 use Rattle.gptp_bmca_machine.specs.Network.{Network, since, wiring}
 use Rattle.gptp_bmca_machine.specs.Sound.{ReceivedFits}
 use Rattle.gptp_bmca_machine.specs.SoundLaws.{UnlinkedAreOff}
-use Rattle.gptp_bmca_machine.specs.Station.{HoldsAt, MachineState, Reception, Station}
+use Rattle.gptp_bmca_machine.specs.Station.{MachineState, Reception, Station}
 use Rattle.gptp_bmca_machine.proofs.CutTreeLemmas.{tree_dec}
 use Rattle.gptp_bmca_machine.proofs.FallKeptLemmas.{falling_kept}
 use Rattle.gptp_bmca_machine.proofs.FallLemmas.{IsAftermath, IsFalling, RootIsNot, falls_by, free_clear, holds_in_tree, old_in_time}

@@ -1,29 +1,28 @@
 -- A tree that is cut off falls back: what is known of each state since, and of what each of its systems holds.
-use Rattle.std.proofs.Common.{◌≡◌, ◌≢◌, ◌⊎◌, ◌<◌, ◌≤◌, ◌+◌, ◌*◌, ◌++◌, ℕ, zero, suc, true, List, [], ◌∷◌, Some, length, slice_get, refl, sym, ap, subst, ◌∙◌, inl, inr, arith}
-use native.Mathlib.Decide.{dec_le, ℕ_discrete}
+use Rattle.std.proofs.Common.{◌≡◌, ◌≢◌, ◌⊎◌, ◌<◌, ◌≤◌, ◌+◌, ◌*◌, ◌++◌, ℕ, zero, suc, true, List, [], ◌∷◌, Some, slice_get, sym, ap, subst, ◌∙◌, inl, inr, arith}
+use native.Mathlib.Decide.{dec_le}
 use Rattle.gptp_lists.specs.Members.{In}
 use Rattle.gptp_lists.proofs.SystemSpecLemmas.{In-parts}
 use Rattle.gptp_graph.specs.Best.{IsBest}
 use Rattle.gptp_graph.specs.Order.{IsLower}
 use Rattle.gptp_graph.specs.Path.{Reaches}
-use Rattle.gptp_graph.specs.Snapshot.{Adjacent, Joins, PortIdentity, Snapshot, System, clocks, port_of}
+use Rattle.gptp_graph.specs.Snapshot.{Joins, PortIdentity, Snapshot, System, clocks, port_of}
 use Rattle.gptp_graph.proofs.LinkDecisions.{IsLinked-dec}
-use Rattle.gptp_graph.proofs.LinkLemmas.{Joins-clock, Joins-sym}
+use Rattle.gptp_graph.proofs.LinkLemmas.{Joins-sym}
 use Rattle.gptp_graph.proofs.PathLemmas.{Reaches-self}
-use Rattle.gptp_bmca_machine.specs.AtRest.{ChoosesItself, ChoosesPort, StationIsAtRest}
-use Rattle.gptp_bmca_machine.specs.Clean.{IsWorse, Whole}
+use Rattle.gptp_bmca_machine.specs.AtRest.{StationIsAtRest}
+use Rattle.gptp_bmca_machine.specs.Clean.{Whole}
 use Rattle.gptp_bmca_machine.specs.CutTree.{CutsTree}
 use Rattle.gptp_bmca_machine.specs.Facts.{FollowsItself, FollowsPort, station_system}
 use Rattle.gptp_bmca_machine.specs.Frame.{Announce, AnnounceFrame, Lane, Spelling}
-use Rattle.gptp_bmca_machine.specs.LinkStage.{IsFinal}
 use Rattle.gptp_bmca_machine.specs.LossLaws.{EverythingFits, IsAfterLoss}
 use Rattle.gptp_bmca_machine.specs.Network.{Network}
-use Rattle.gptp_bmca_machine.specs.Reacts.{IsMasterAt, IsOwn}
+use Rattle.gptp_bmca_machine.specs.Reacts.{IsOwn}
 use Rattle.gptp_bmca_machine.specs.RestLaws.{LinkStays}
 use Rattle.gptp_bmca_machine.specs.SoundLaws.{UnlinkedAreOff}
 use Rattle.gptp_bmca_machine.specs.Station.{Disabled, Held, HoldsAt, MachineState, Mine, Port, Received, Reception, Station}
 use Rattle.gptp_bmca_machine.specs.Touch.{IsUsable}
-use Rattle.gptp_bmca_machine.specs.Vectors.{path_vector, system_vector}
+use Rattle.gptp_bmca_machine.specs.Vectors.{path_vector}
 use Rattle.gptp_bmca_machine.proofs.CutTreeLemmas.{beside, names_none}
 use Rattle.gptp_bmca_machine.proofs.LevelLemmas.{places_of}
 use Rattle.gptp_bmca_machine.proofs.LinkEndsLemmas.{source_at}

@@ -1,23 +1,22 @@
 -- A tree that is cut off falls back: meanwhile each link that leads farther from the best of the tree is at its stage
 -- as soon as the system that tells has settled.
-use Rattle.std.proofs.Common.{◌≡◌, ◌≢◌, ◌⊎◌, ◌<◌, ◌≤◌, ◌+◌, ℕ, suc, true, Some, slice_get, refl, sym, ap, subst, ◌∙◌, inl, inr, arith}
+use Rattle.std.proofs.Common.{◌≡◌, ◌⊎◌, ◌<◌, ◌≤◌, ◌+◌, ℕ, suc, Some, slice_get, refl, sym, ap, subst, ◌∙◌, inl, inr, arith}
 use native.Mathlib.Decide.{ℕ_discrete}
-use Rattle.gptp_lists.specs.Members.{In}
 use Rattle.gptp_graph.specs.Best.{IsBest}
 use Rattle.gptp_graph.specs.Order.{IsLower}
-use Rattle.gptp_graph.specs.Snapshot.{Joins, PortIdentity, Snapshot, System, port_of}
+use Rattle.gptp_graph.specs.Snapshot.{Joins, Snapshot, System, port_of}
 use Rattle.gptp_graph.proofs.LinkLemmas.{Joins-sym}
 use Rattle.gptp_bmca_machine.specs.Acts.{MachineSteps, StationActs}
 use Rattle.gptp_bmca_machine.specs.CutTree.{CutsTree}
-use Rattle.gptp_bmca_machine.specs.Frame.{Lane, Spelling}
+use Rattle.gptp_bmca_machine.specs.Frame.{Spelling}
 use Rattle.gptp_bmca_machine.specs.Levels.{LeadsFarther}
-use Rattle.gptp_bmca_machine.specs.Link.{LinkSettles, Stand, final_vector}
+use Rattle.gptp_bmca_machine.specs.Link.{LinkSettles, final_vector}
 use Rattle.gptp_bmca_machine.specs.LinkStage.{Wiring}
 use Rattle.gptp_bmca_machine.specs.Network.{Network}
 use Rattle.gptp_bmca_machine.specs.Station.{MachineState, Mine, Port, Received, Station}
 use Rattle.gptp_bmca_machine.proofs.CutTreeLemmas.{beside}
 use Rattle.gptp_bmca_machine.proofs.FallKeptLemmas.{hearer_root, led_next, led_root, left_root}
-use Rattle.gptp_bmca_machine.proofs.FallLemmas.{DownStage, HoldsInTree, IsAftermath, IsFalling, RootIs, RootIsNot, falls_by, follows_old, free_clear, holds_in_tree}
+use Rattle.gptp_bmca_machine.proofs.FallLemmas.{DownStage, IsAftermath, IsFalling, RootIs, RootIsNot, falls_by, follows_old, free_clear, holds_in_tree}
 use Rattle.gptp_bmca_machine.proofs.LinkEndsLemmas.{ShowEnds, telling, telling_kept, tells_clear, weaker_clear}
 use Rattle.gptp_bmca_machine.proofs.LinkStepLemmas.{lives_at}
 use Rattle.gptp_bmca_machine.proofs.PlaceLemmas.{same_there}

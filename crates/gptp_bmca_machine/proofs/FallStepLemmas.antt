@@ -1,28 +1,27 @@
 -- A tree that is cut off falls back: what a step makes of each link, by what is known of the system that tells.
-use Rattle.std.proofs.Common.{◌≡◌, ◌≢◌, ◌⊎◌, ◌<◌, ◌≤◌, ◌+◌, ◌++◌, ℕ, suc, true, List, [], ◌∷◌, Some, slice_get, refl, sym, ap, subst, ◌∙◌, inl, inr, arith}
+use Rattle.std.proofs.Common.{◌≡◌, ◌≢◌, ◌⊎◌, ◌≤◌, ◌+◌, ℕ, suc, true, List, ◌∷◌, Some, slice_get, refl, sym, subst, ◌∙◌, inl, inr, arith}
 use Rattle.std.specs.Bool.{⊤}
 use Rattle.gptp_lists.specs.Members.{In}
-use Rattle.gptp_lists.proofs.SystemSpecLemmas.{In-right}
 use Rattle.gptp_graph.specs.Best.{IsBest}
-use Rattle.gptp_graph.specs.Snapshot.{Joins, PortIdentity, Snapshot, System, port_of}
-use Rattle.gptp_bmca_machine.specs.Acts.{Arrives, LaneStep, MachineSteps, StationAnswers}
+use Rattle.gptp_graph.specs.Snapshot.{Joins, Snapshot, System, port_of}
+use Rattle.gptp_bmca_machine.specs.Acts.{MachineSteps, StationAnswers}
 use Rattle.gptp_bmca_machine.specs.Clean.{Whole}
 use Rattle.gptp_bmca_machine.specs.CutTree.{CutsTree}
 use Rattle.gptp_bmca_machine.specs.Frame.{Announce, AnnounceFrame, Lane, Send, Spelling}
 use Rattle.gptp_bmca_machine.specs.Link.{HearsSettled}
-use Rattle.gptp_bmca_machine.specs.LinkStage.{FinalAnnounceStays, FrameSaysAnnounce, IsFinal, Wiring}
+use Rattle.gptp_bmca_machine.specs.LinkStage.{IsFinal, Wiring}
 use Rattle.gptp_bmca_machine.specs.Network.{Network}
-use Rattle.gptp_bmca_machine.specs.Reacts.{IsOwn, PortStep}
+use Rattle.gptp_bmca_machine.specs.Reacts.{PortStep}
 use Rattle.gptp_bmca_machine.specs.Station.{Disabled, Held, MachineState, Mine, Port, Received, Reception, Station}
 use Rattle.gptp_bmca_machine.specs.Touch.{Grow, Hear, HeldInTouch, Replaces, StationTouch}
-use Rattle.gptp_bmca_machine.proofs.FallLemmas.{HoldsLeft, IsAftermath, IsFree, IsFreeAt, IsLeft, IsNewTold, RootIsNot}
+use Rattle.gptp_bmca_machine.proofs.FallLemmas.{HoldsLeft, IsAftermath, IsFree, IsFreeAt, IsNewTold}
 use Rattle.gptp_bmca_machine.proofs.HearingLemmas.{final_kept, final_taken, mid_on, mid_stays}
 use Rattle.gptp_bmca_machine.proofs.LinkEndsLemmas.{hearer_on, hears_by, link_back, long_at, on_time, weaker_clear}
-use Rattle.gptp_bmca_machine.proofs.LinkStepLemmas.{AtLink, KeepsAtLink, StandsAtEnd, link_steps, lives_at}
+use Rattle.gptp_bmca_machine.proofs.LinkStepLemmas.{AtLink, StandsAtEnd, link_steps, lives_at}
 use Rattle.gptp_bmca_machine.proofs.PlaceLemmas.{same_there}
 use Rattle.gptp_bmca_machine.proofs.ReactsLemmas.{JustHeard, mid_from}
 use Rattle.gptp_bmca_machine.proofs.StillLemmas.{clear_at, port_there, station_of, still}
-use Rattle.gptp_bmca_machine.proofs.ToldLemmas.{AllSay, HoldsTold, IsTold, all_more, old_hears, old_misses, old_more, told_front}
+use Rattle.gptp_bmca_machine.proofs.ToldLemmas.{HoldsTold, IsTold, all_more, old_hears, old_misses, old_more, told_front}
 
 -- ---- what a port holds that is free
 

@@ -1,6 +1,6 @@
 -- A link of which claims are made at all times is one of a network that makes claims of it, and whose systems settle
 -- later.
-use Rattle.std.proofs.Common.{◌≡◌, ◌<◌, ◌≤◌, ◌+◌, ℕ, suc, List, [], ◌∷◌, inl, inr, arith}
+use Rattle.std.proofs.Common.{◌≤◌, ℕ, suc, List, [], ◌∷◌, inl, inr, arith}
 use Rattle.gptp_graph.specs.Snapshot.{System}
 use Rattle.gptp_bmca_machine.specs.Frame.{Announce, AnnounceFrame, Spelling}
 use Rattle.gptp_bmca_machine.specs.Link.{LinkSettles}
