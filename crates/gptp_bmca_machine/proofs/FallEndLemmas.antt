@@ -32,26 +32,21 @@ use Rattle.gptp_bmca_machine.proofs.StillLemmas.{LeadsOn, StillSettles, levels_b
 use Rattle.gptp_bmca_machine.proofs.TimedLinkLemmas.{timed_link}
 
 module _ (says : Spelling) (g : Snapshot) (n : Network) (top : ℕ) (best next : System) (base : ℕ) (depth : ℕ → ℕ)
-    (t : CutsTree g n top best next base depth) (start : ℕ) (last : ℕ) (before : ℕ → ℕ)
-    (room : (f : ℕ) → last + n.most < before f) where
-  -- What is known of each state since, until that time: links from unmoved systems stay, each link of the tree is at
-  -- one of its stages, and each that leads farther from its best is as soon as the system that tells has settled.
+    (t : CutsTree g n top best next base depth) (start : ℕ) where
+  -- what is known of each state since: links from unmoved systems stay, and each link of the tree is at its stage
   pub record FallsBack (w : MachineState) : Type 0 where
     pub after : IsAftermath says g n w
     pub still : (f : ℕ) → StillSettles says g n f w
     pub falling : IsFalling says g n top best next base depth t start w
-    pub settles : TreeSettles says g n top best next base depth t start last before room w
 
-  pub falls_on : (w w' : MachineState) → w.time ≤ last → FallsBack w → IsAfterLoss n w' → UnlinkedAreOff n.graph w'
+  pub falls_on : (w w' : MachineState) → FallsBack w → IsAfterLoss n w' → UnlinkedAreOff n.graph w'
       → MachineSteps says w w' → FallsBack w'
-  falls_on w w' in_time is kept' dark' step = record {
+  falls_on w w' is kept' dark' step = record {
     after = after';
     still = λ f.
         levels_below says g n t.well t.left w w' is.after.kept kept' is.after.fits.stations fits'.stations step is.still
         (suc f) f (omega arith);
-    falling = falling';
-    settles = tree_settles_on says g n top best next base depth t start last before room w w' is.after after' step
-        is.falling falling' in_time is.settles;
+    falling = falling_kept says g n top best next base depth t start w w' is.after after' step is.falling;
   }
     where
       fits' : EverythingFits says g n w'
@@ -59,9 +54,6 @@ module _ (says : Spelling) (g : Snapshot) (n : Network) (top : ℕ) (best next :
 
       after' : IsAftermath says g n w'
       after' = record { kept = kept'; fits = fits'; dark = dark' }
-
-      falling' : IsFalling says g n top best next base depth t start w'
-      falling' = falling_kept says g n top best next base depth t start w w' is.after after' step is.falling
 
   -- ---- systems that aren't of the tree
 
@@ -122,7 +114,7 @@ module _ (says : Spelling) (g : Snapshot) (n : Network) (top : ℕ) (best next :
 
   -- ---- once that time is over
 
-  module _ (w : MachineState) (is : FallsBack w)
+  module _ (last : ℕ) (w : MachineState) (is : FallsBack w)
       (reached : (v : ℕ) → IsBest n.graph v next → falls_by n start (depth v) ≤ last) (over : last < w.time) where
     -- nobody has the root of before
     none_old : (x : ℕ) → IsBest n.graph x next → RootIsNot n w x best
@@ -132,7 +124,7 @@ module _ (says : Spelling) (g : Snapshot) (n : Network) (top : ℕ) (best next :
         let by = reached x in_x in
         absurd (omega (arith, late, by, over))
 
-    received_then : ReceivedFits n.graph w
+    pub received_then : ReceivedFits n.graph w
     received_then i s place r at live holds = by (tree_dec g n top best next base depth t s.clock known)
       where
         known : In s.clock (clocks n.graph)
@@ -149,7 +141,9 @@ module _ (says : Spelling) (g : Snapshot) (n : Network) (top : ℕ) (best next :
             (holds_in_tree says g n top best next base depth t start w is.after is.falling s.clock in_s)
             (none_old s.clock in_s s there)).held place r holds
 
-    module _ (slack : ℕ) (in_time : (f : ℕ) → before f ≤ since (record n { slack = slack }) (suc f))
+    module _ (before : ℕ → ℕ) (room : (f : ℕ) → last + n.most < before f)
+        (settles : TreeSettles says g n top best next base depth t start last before room w) (slack : ℕ)
+        (in_time : (f : ℕ) → before f ≤ since (record n { slack = slack }) (suc f))
         (delay : (f : ℕ) → n.most ≤ since (record n { slack = slack }) (suc f)) where
       levels_then : (f : ℕ) → LevelSettles says (record n { slack = slack }) f w
       levels_then f c v p u q close leads = by (tree_dec g n top best next base depth t v
@@ -160,7 +154,7 @@ module _ (says : Spelling) (g : Snapshot) (n : Network) (top : ℕ) (best next :
               let one : next ≡ c = IsBest-unique n.graph v next c t.well in_v leads.is_best in
               subst (λ b. LinkSettles says (wiring (record n { slack = slack }) f b v p u q) w) one
               (timed_link says n slack (before f) f next v p u q (in_time f) w
-              (is.settles f v p u q close (subst (λ b. LeadsFarther n.graph f b v p u q) (sym one) leads)))
+              (settles f v p u q close (subst (λ b. LeadsFarther n.graph f b v p u q) (sym one) leads)))
           by (no out) =
               let leads_on : LeadsOn g n f c v p u q =
               record {
