@@ -25,7 +25,7 @@ use Rattle.gptp_bmca_machine.specs.Station.{MachineState, Reception, Station}
 use Rattle.gptp_bmca_machine.proofs.CutTreeLemmas.{tree_dec}
 use Rattle.gptp_bmca_machine.proofs.FallKeptLemmas.{falling_kept}
 use Rattle.gptp_bmca_machine.proofs.FallLemmas.{IsAftermath, IsFalling, RootIsNot, falls_by, free_clear, holds_in_tree, old_in_time}
-use Rattle.gptp_bmca_machine.proofs.FallLevelLemmas.{TreeSettles, tree_settles_on}
+use Rattle.gptp_bmca_machine.proofs.FallLevelLemmas.{TreeSettles}
 use Rattle.gptp_bmca_machine.proofs.LossLemmas.{fits_kept}
 use Rattle.gptp_bmca_machine.proofs.PlaceLemmas.{same_there}
 use Rattle.gptp_bmca_machine.proofs.StillLemmas.{LeadsOn, StillSettles, levels_below, live_before}

@@ -99,9 +99,11 @@ pub mod TurnedLemmas
 pub mod OldLemmas
 pub mod MovedLemmas
 pub mod RestNamesLemmas
+pub mod EndAnswersLemmas
 pub mod TurnsAwayLemmas
 pub mod TurnsTellLemmas
 pub mod MovedAlwaysLemmas
+pub mod OneEndLemmas
 pub mod TurnsBeginLemmas
 pub mod TurnsDownLemmas
 pub mod TurnedToLemmas
