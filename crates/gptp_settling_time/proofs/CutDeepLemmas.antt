@@ -8,7 +8,7 @@ use Rattle.gptp_graph.specs.PathBound.{BoundsPaths}
 use Rattle.gptp_graph.specs.Snapshot.{Adjacent, IsWellFormed, Snapshot, System}
 use Rattle.gptp_graph.proofs.BestLemmas.{IsBest-neighbour}
 use Rattle.gptp_graph.proofs.DistanceLemmas.{IsDistance-unique, nearer_neighbour}
-use Rattle.gptp_settling_time.specs.Losses.{IsCutTree}
+use Rattle.gptp_settling_time.specs.TreeLosses.{IsCutTree}
 
 module _ (g g' : Snapshot) (well : IsWellFormed g) (well' : IsWellFormed g') (top other : ℕ) (best next : System)
     (base : ℕ) (depth : ℕ → ℕ) (t : IsCutTree g g' top other best next base depth) where

@@ -55,6 +55,10 @@ module _ (says : Spelling) (n0 n : Network) (top : ℕ) (best next : System) (ba
         | inr whole ↦ whole
       ]
 
+  -- it hears nothing
+  not_heard : (i : ℕ) (c : Announce) → Disable (suc lost) ≡ Hear (suc i) c → ⊥
+  not_heard i c touched = absurd cc
+
   -- the top answers
   lanes_then : (p q : PortIdentity) (l' : Lane) → Joins n.graph p q → slice_get w'.lanes (n.lane p) ≡ Some l'
       → (l : Lane) × (slice_get w.lanes (n.lane p) ≡ Some l) × LaneStep a.s.clock a.sends l l'
@@ -87,7 +91,7 @@ module _ (says : Spelling) (n0 n : Network) (top : ℕ) (best next : System) (ba
     reacts = a.reacts;
     others = λ c m in_c apart at. a.stood (n.place c) m at (place_apart c m in_c apart at) (outside c m in_c at);
     lanes = λ p q l' joins apart at. lanes_then p q l' joins at;
-    heard = λ i c touched. absurd (let both : Disable (suc lost) ≡ Hear (suc i) c = touched in cc);
+    heard = λ i c touched. absurd (not_heard i c touched);
   }
 
   after : IsAftermath says g n w'

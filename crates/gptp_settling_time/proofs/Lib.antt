@@ -105,6 +105,11 @@ pub mod TurnsTellLemmas
 pub mod MovedAlwaysLemmas
 pub mod OneEndLemmas
 pub mod TurnsBeginLemmas
+pub mod CutDeepLemmas
+pub mod FallAlwaysLemmas
+pub mod FallDownLemmas
+pub mod FallActLemmas
+pub mod NamedLemmas
 pub mod TurnsDownLemmas
 pub mod TurnedToLemmas
 pub mod AtRestLemmas
