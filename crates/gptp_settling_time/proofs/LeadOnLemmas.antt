@@ -14,7 +14,7 @@ use Rattle.gptp_scenario.specs.declared.change.Change.TheVariants.{LinkDown, Lin
 use Rattle.gptp_scenario.specs.declared.change.Timed.{Timed}
 use Rattle.gptp_scenario.specs.declared.sync_wait.SyncPaths.{SyncPaths}
 use Rattle.gptp_settling_time.specs.HowSoon.{AfterIdleEvents, AreGainEvents, AreHeardEvents, AreWiderEvents, EachEvent, IsGainEvent, IsGainToo, IsHeardEvent, IsHeardToo, IsIdleEvent, IsStillEvent, TurnsUnused, way_span}
-use Rattle.gptp_settling_time.specs.InTurn.{Aging, AnyPast, Cleared, EventLeads, Gained, HasSettledAnyhow, HasSettledHeard, HasSettledSince, Heard, IsTakenAs, LeadOn, LeavesSettled, Left, MakesNothing, Past, RestsAs, SettlesAfter, Starting, Turned, TurnsInVain, WidensLink}
+use Rattle.gptp_settling_time.specs.InTurn.{Aging, AnyPast, Cleared, EventLeads, Fallen, Gained, HasSettledAnyhow, HasSettledHeard, HasSettledSince, Heard, IsTakenAs, LeadOn, LeavesSettled, Left, MakesNothing, Past, RestsAs, SettlesAfter, Starting, Turned, TurnsInVain, WidensLink}
 use Rattle.gptp_settling_time.specs.Losses.{LeavesChoice}
 use Rattle.gptp_settling_time.proofs.MadeLemmas.{adds_later}
 use Rattle.gptp_settling_time.proofs.SamePathsLemmas.{idle_paths, priority_paths, turned_paths}
@@ -50,6 +50,7 @@ HasSettled n events (Gained start) time = HasSettledSince n events start time
 HasSettled n events (Heard start) time = HasSettledHeard n events start time
 HasSettled n events (Left start) time = ⊥
 HasSettled n events (Turned silent now) time = ⊥
+HasSettled n events (Fallen silent now) time = ⊥
 HasSettled n events (Cleared begun silent right old) time = ⊥
 HasSettled n events (Aging aged silent) time = ⊥
 
@@ -62,6 +63,7 @@ settled_later n events (Gained start) time later less is = omega (arith, is, les
 settled_later n events (Heard start) time later less is = omega (arith, is, less)
 settled_later n events (Left start) time later less is = absurd is
 settled_later n events (Turned silent now) time later less is = absurd is
+settled_later n events (Fallen silent now) time later less is = absurd is
 settled_later n events (Cleared begun silent right old) time later less is = absurd is
 settled_later n events (Aging aged silent) time later less is = absurd is
 
@@ -81,6 +83,7 @@ taken_later n events past seen time later less (inr rests) = inr (by past seen r
     by (Heard start) seen none = absurd none
     by (Left silent) seen none = absurd none
     by (Turned silent now) seen none = absurd none
+    by (Fallen silent now) seen none = absurd none
     by (Cleared begun silent right old) AnyPast none = absurd none
     by (Cleared begun silent right old) Starting none = absurd none
     by (Cleared begun silent right old) (Gained start) none = absurd none
@@ -97,6 +100,7 @@ taken_later n events past seen time later less (inr rests) = inr (by past seen r
         }
     by (Cleared begun silent right old) (Left start) none = absurd none
     by (Cleared begun silent right old) (Turned start now) none = absurd none
+    by (Cleared begun silent right old) (Fallen start now) none = absurd none
     by (Cleared begun silent right old) (Cleared start dark clean last) none = absurd none
     by (Cleared begun silent right old) (Aging gone start) none = absurd none
     by (Aging aged silent) seen none = absurd none
@@ -116,12 +120,14 @@ taken_on n events past seen other time (inr rests) (inr again) = absurd (by past
     by (Heard start) seen none again = none
     by (Left silent) seen none again = none
     by (Turned silent now) seen none again = none
+    by (Fallen silent now) seen none again = none
     by (Cleared begun silent right old) AnyPast none again = none
     by (Cleared begun silent right old) Starting none again = none
     by (Cleared begun silent right old) (Gained start) none again = none
     by (Cleared begun silent right old) (Heard start) rests again = again
     by (Cleared begun silent right old) (Left start) none again = none
     by (Cleared begun silent right old) (Turned start now) none again = none
+    by (Cleared begun silent right old) (Fallen start now) none again = none
     by (Cleared begun silent right old) (Cleared start dark clean last) none again = none
     by (Cleared begun silent right old) (Aging gone start) none again = none
     by (Aging aged silent) seen none again = none
@@ -134,6 +140,7 @@ settled_so n events (Gained start) time off is = inl (off, is)
 settled_so n events (Heard start) time off is = (off, is)
 settled_so n events (Left start) time off is = absurd is
 settled_so n events (Turned silent now) time off is = absurd is
+settled_so n events (Fallen silent now) time off is = absurd is
 settled_so n events (Cleared begun silent right old) time off is = absurd is
 settled_so n events (Aging aged silent) time off is = absurd is
 
@@ -151,6 +158,7 @@ rested_so n events past time off (seen, inr rests, is) = by past seen rests
     by (Heard start) seen none = absurd none
     by (Left silent) seen none = absurd none
     by (Turned silent now) seen none = absurd none
+    by (Fallen silent now) seen none = absurd none
     by (Cleared begun silent right old) AnyPast none = absurd none
     by (Cleared begun silent right old) Starting none = absurd none
     by (Cleared begun silent right old) (Gained start) none = absurd none
@@ -159,6 +167,7 @@ rested_so n events past time off (seen, inr rests, is) = by past seen rests
         (off, elim rest.unlinked [ inl soon ↦ inl (omega (arith, over, soon)) | inr used ↦ inr used ])
     by (Cleared begun silent right old) (Left start) none = absurd none
     by (Cleared begun silent right old) (Turned start now) none = absurd none
+    by (Cleared begun silent right old) (Fallen start now) none = absurd none
     by (Cleared begun silent right old) (Cleared start dark clean last) none = absurd none
     by (Cleared begun silent right old) (Aging gone start) none = absurd none
     by (Aging aged silent) seen none = absurd none
@@ -196,6 +205,7 @@ module _ (n : NetworkState) (made : List Timed) (event : Timed) where
       inl (takes, inl (inr (omega (arith, settled, less), leaves)))
   gain_leads (Left start) next settled less gain = absurd settled
   gain_leads (Turned silent now) next settled less gain = absurd settled
+  gain_leads (Fallen silent now) next settled less gain = absurd settled
   gain_leads (Cleared begun silent right old) next settled less gain = absurd settled
   gain_leads (Aging aged silent) next settled less gain = absurd settled
 
@@ -211,6 +221,7 @@ module _ (n : NetworkState) (made : List Timed) (event : Timed) where
   heard_leads (Heard start) next settled (inr better) = inr (inl (settled, inl better))
   heard_leads (Left start) next settled heard = absurd settled
   heard_leads (Turned silent now) next settled heard = absurd settled
+  heard_leads (Fallen silent now) next settled heard = absurd settled
   heard_leads (Cleared begun silent right old) next settled heard = absurd settled
   heard_leads (Aging aged silent) next settled heard = absurd settled
 
@@ -233,6 +244,7 @@ module _ (n : NetworkState) (made : List Timed) (event : Timed) where
     way_over (Heard start) settled = omega (arith, settled)
     way_over (Left start) settled = absurd settled
     way_over (Turned silent now) settled = absurd settled
+    way_over (Fallen silent now) settled = absurd settled
     way_over (Cleared begun silent right old) settled = absurd settled
     way_over (Aging aged silent) settled = absurd settled
 
@@ -271,6 +283,7 @@ module _ (n : NetworkState) (made : List Timed) (event : Timed) where
       idle_leads (Heard start) settled = inr (inl (settled, inr (inl (leaves_so (way_over (Heard start) settled)))))
       idle_leads (Left start) settled = absurd settled
       idle_leads (Turned silent now) settled = absurd settled
+      idle_leads (Fallen silent now) settled = absurd settled
       idle_leads (Cleared begun silent right old) settled = absurd settled
       idle_leads (Aging aged silent) settled = absurd settled
 
@@ -440,6 +453,7 @@ module _ (n : NetworkState) (network : IsNetwork n) where
     )
     widens_leads made event (Left start) settled by here calm is late widens soon = absurd is
     widens_leads made event (Turned silent now) settled by here calm is late widens soon = absurd is
+    widens_leads made event (Fallen silent now) settled by here calm is late widens soon = absurd is
     widens_leads made event (Cleared begun silent right old) settled by here calm is late widens soon = absurd is
     widens_leads made event (Aging aged silent) settled by here calm is late widens soon = absurd is
 

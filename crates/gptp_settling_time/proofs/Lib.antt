@@ -110,6 +110,9 @@ pub mod FallAlwaysLemmas
 pub mod FallDownLemmas
 pub mod FallActLemmas
 pub mod NamedLemmas
+pub mod FallenToLemmas
+pub mod FallMadeLemmas
+pub mod NamedAfterLemmas
 pub mod TurnsDownLemmas
 pub mod TurnedToLemmas
 pub mod AtRestLemmas

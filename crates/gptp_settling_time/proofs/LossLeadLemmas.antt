@@ -10,7 +10,7 @@ use Rattle.gptp_scenario.specs.SyncWait.{sync_paths}
 use Rattle.gptp_scenario.specs.declared.change.Timed.{Timed}
 use Rattle.gptp_scenario.specs.declared.sync_wait.SyncPaths.{SyncPaths}
 use Rattle.gptp_settling_time.specs.HowSoon.{CutsOneEnd, EachEvent, FailsEndFirst, LowersOneLink, RestsAfterLoss, TurnsUnused, way_span}
-use Rattle.gptp_settling_time.specs.InTurn.{Aging, AnyPast, ChoosesAfter, Cleared, CutsCalm, EventLeads, FailsCalm, FailsNow, FlightIsGone, Gained, Heard, LeadOn, Left, LowersCalm, Past, SettlesAfter, Starting, Turned, TurnsCalm, echo_span}
+use Rattle.gptp_settling_time.specs.InTurn.{Aging, AnyPast, ChoosesAfter, Cleared, CutsCalm, EventLeads, FailsCalm, FailsNow, Fallen, FallsCalm, FlightIsGone, Gained, Heard, LeadOn, Left, LowersCalm, Past, SettlesAfter, Starting, Turned, TurnsCalm, echo_span}
 use Rattle.gptp_settling_time.specs.Losses.{CutsFarEnd, FailsFarEnd, LowersLink, LowersUnused, UpIsUsed, silence_span}
 use Rattle.gptp_settling_time.proofs.CalmLessLemmas.{fails_calm, lowers_calm}
 use Rattle.gptp_settling_time.proofs.SamePathsLemmas.{turned_paths}
@@ -60,8 +60,25 @@ module _ (n : NetworkState) (made : List Timed) (event : Timed) (roles : ℕ) wh
   }
   loss_leads (Left silent) settled loses = absurd settled
   loss_leads (Turned silent now) settled loses = absurd settled
+  loss_leads (Fallen silent now) settled loses = absurd settled
   loss_leads (Cleared begun silent right old) settled loses = absurd settled
   loss_leads (Aging aged silent) settled loses = absurd settled
+
+-- after one by which a tree is cut off it falls back, where the choice had stood for an announce interval
+module _ (n : NetworkState) (made : List Timed) (event : Timed) (stood : ℕ) (later : last_change made < stood)
+    (quiet : stood + largest_interval (pace_of n) ≤ event.at) where
+  pub fall_leads : (past : Past) → HasSettled n made past stood → FallsCalm n made event
+      → (silent : ℕ) × EventLeads n made past event (Fallen silent event.at)
+  fall_leads AnyPast settled falls =
+      (last_change made + capability_span (pace_of n), (stood, settled, (later, quiet, falls, refl, refl)))
+  fall_leads Starting settled falls = absurd settled
+  fall_leads (Gained start) settled falls = (start, (stood, settled, (later, quiet, falls, refl, refl)))
+  fall_leads (Heard start) settled falls = (start, (stood, settled, (later, quiet, falls, refl, refl)))
+  fall_leads (Left silent) settled falls = absurd settled
+  fall_leads (Turned silent now) settled falls = absurd settled
+  fall_leads (Fallen silent now) settled falls = absurd settled
+  fall_leads (Cleared begun silent right old) settled falls = absurd settled
+  fall_leads (Aging aged silent) settled falls = absurd settled
 
 -- after one by which a system turns it has turned
 module _ (n : NetworkState) (made : List Timed) (event : Timed) where
@@ -74,6 +91,7 @@ module _ (n : NetworkState) (made : List Timed) (event : Timed) where
   turn_leads (Heard start) settled turns = (start, (settled, (turns, refl, refl)))
   turn_leads (Left silent) settled turns = absurd settled
   turn_leads (Turned silent now) settled turns = absurd settled
+  turn_leads (Fallen silent now) settled turns = absurd settled
   turn_leads (Cleared begun silent right old) settled turns = absurd settled
   turn_leads (Aging aged silent) settled turns = absurd settled
 
@@ -86,6 +104,7 @@ module _ (n : NetworkState) (made : List Timed) (event : Timed) where
   ages_leads (Heard start) aged silent settled now = (settled, now)
   ages_leads (Left start) aged silent settled now = absurd settled
   ages_leads (Turned start was) aged silent settled now = absurd settled
+  ages_leads (Fallen start was) aged silent settled now = absurd settled
   ages_leads (Cleared begun start right old) aged silent settled now = absurd settled
   ages_leads (Aging gone start) aged silent settled now = absurd settled
 
@@ -98,6 +117,7 @@ settles_chooses n events (Gained start) settled is = is
 settles_chooses n events (Heard start) settled is = is
 settles_chooses n events (Left silent) settled (off, late) = off
 settles_chooses n events (Turned silent now) settled so = so
+settles_chooses n events (Fallen silent now) settled so = so
 settles_chooses n events (Cleared begun silent right old) settled (off, late) = off
 settles_chooses n events (Aging aged silent) settled (off, late) = (off, inr late)
 
@@ -188,6 +208,7 @@ module _ (n : NetworkState) (made : List Timed) (event : Timed) (gone : ℕ) (fl
   }
   cut_leads (Left silent) settled cuts = absurd settled
   cut_leads (Turned silent now) settled cuts = absurd settled
+  cut_leads (Fallen silent now) settled cuts = absurd settled
   cut_leads (Cleared begun silent right last) settled cuts = absurd settled
   cut_leads (Aging aged silent) settled cuts = absurd settled
 
@@ -222,6 +243,7 @@ module _ (n : NetworkState) (made : List Timed) (event : Timed) (gone : ℕ) (fl
   }
   fail_leads (Left silent) settled fails = absurd settled
   fail_leads (Turned silent now) settled fails = absurd settled
+  fail_leads (Fallen silent now) settled fails = absurd settled
   fail_leads (Cleared begun silent right last) settled fails = absurd settled
   fail_leads (Aging aged silent) settled fails = absurd settled
 
@@ -259,6 +281,7 @@ module _ (n : NetworkState) (made : List Timed) (event : Timed) (gone : ℕ)
   }
   right_leads (Left silent) settled lowers = absurd settled
   right_leads (Turned silent now) settled lowers = absurd settled
+  right_leads (Fallen silent now) settled lowers = absurd settled
   right_leads (Cleared begun silent right last) settled lowers = absurd settled
   right_leads (Aging aged silent) settled lowers = absurd settled
 

@@ -12,6 +12,8 @@
 -- - Cleared: a system was lost that was the far end of its links, so that nobody holds what names it. Or another link
 --   went down that moved none, and right traces have been told by distance since. When what was in flight is gone, and
 --   ports without a link aren't capable, the network has come to rest as if all had been heard.
+-- - Fallen: a link went down and so cut a tree off. The network settles 1 ns and twice the greatest delay for each
+--   system of a path but one later.
 -- - Aging: a system failed that others heard. What they hold of it ages, and the choice stands once that is gone.
 --
 -- An event leads from one past to another (`EventLeads`). It may always lead to any past. At time 0, as the network
@@ -29,7 +31,8 @@
 -- A settled network is left where a link goes down by which no system is moved but such as are cut off. It is left,
 -- too, where a system fails that is the far end of each of its links. Then roles stand once the ports beside it aren't
 -- capable any more, or at once where each link that is up is in use. A network that is left stays so where a link goes
--- down of which an end has failed.
+-- down of which an end has failed. A tree that a link cuts off falls back where what is in flight names the best: where
+-- the choice had stood for an announce interval.
 use Rattle.std.specs.Prelude.{◌≡◌, ◌<◌, ◌≤◌, ◌⊎◌, ◌+◌, ◌*◌, ℕ, ⊤, pred, suc, List, [], ◌∷◌, ◌++◌, Option, Some, slice_get}
 use Rattle.gptp_lists.specs.Members.{In}
 use Rattle.gptp_vector.specs.declared.port.PortId.{PortId}
@@ -55,6 +58,7 @@ use Rattle.gptp_settling_time.specs.ChoiceAlone.{ChoiceStandsAs}
 use Rattle.gptp_settling_time.specs.Documents.{IsSettledAs}
 use Rattle.gptp_settling_time.specs.Exactly.{SettlesBy}
 use Rattle.gptp_settling_time.specs.Gains.{AreCapableAnyway, AreCapableNext, AreCapableStill, ChangesNothing, EndHasFailed, HasRested, IsDownAfter, IsNoWorse, JoinsLive, LeavesCapable, TakesNothing, UsesNoLink, exchanged_from}
+use Rattle.gptp_settling_time.specs.TreeLosses.{LowersTree}
 use Rattle.gptp_settling_time.specs.Losses.{CutsFarEnd, FailsFarEnd, FailsHeard, LeavesChoice, LowersLink, LowersUnused, TurnsLink, UpIsUsed, aging_span, silence_span}
 
 -- What a network came from. The numbers are times.
@@ -68,6 +72,8 @@ pub data Past : Type 0 where
   Left : ℕ → Past
   -- from the first on ports without a link aren't capable; at the second a system turned
   Turned : ℕ → ℕ → Past
+  -- from the first on ports without a link aren't capable; at the second a tree was cut off
+  Fallen : ℕ → ℕ → Past
   -- from the first on its ports are capable; from the second on those without a link aren't; from the third on what is
   -- held is right; and by the fourth what was in flight is gone
   Cleared : ℕ → ℕ → ℕ → ℕ → Past
@@ -210,6 +216,12 @@ pub record TurnsCalm (n : NetworkState) (before : List Timed) (event : Timed) : 
   pub calm : IsCalm n before
   pub off : NothingLapses n.params
 
+-- a link goes down that so cuts a tree off, in such a network
+pub record FallsCalm (n : NetworkState) (before : List Timed) (event : Timed) : Type 0 where
+  pub lowers : LowersTree n before event
+  pub calm : IsCalm n before
+  pub off : NothingLapses n.params
+
 -- a system fails that is the far end of each of its links, in such a network
 pub record FailsCalm (n : NetworkState) (before : List Timed) (event : Timed) : Type 0 where
   pub fails : FailsFarEnd n before event
@@ -298,6 +310,7 @@ LeadsToGain n before (Gained start) event next = AreCapableStill n before start 
 LeadsToGain n before (Heard start) event next = AreCapableStill n before start event next
 LeadsToGain n before (Left silent) event next = ⊥
 LeadsToGain n before (Turned silent time) event next = ⊥
+LeadsToGain n before (Fallen silent time) event next = ⊥
 LeadsToGain n before (Cleared since silent right old) event next = ⊥
 LeadsToGain n before (Aging aged silent) event next = ⊥
 
@@ -321,6 +334,7 @@ LeadsToHeard n before (Heard start) event next =
     ⊎ (MakesNothing n before event start × (next ≡ start)))
 LeadsToHeard n before (Left silent) event next = ⊥
 LeadsToHeard n before (Turned silent time) event next = ⊥
+LeadsToHeard n before (Fallen silent time) event next = ⊥
 LeadsToHeard n before (Cleared since silent right old) event next = ⊥
 LeadsToHeard n before (Aging aged silent) event next = ⊥
 
@@ -336,6 +350,7 @@ LeadsToLeft n before (Heard start) event next =
     HasSettledHeard n before start event.at × LeavesStanding n before event start next
 LeadsToLeft n before (Left silent) event next = LowersUnusedCalm n before event × (next ≡ silent)
 LeadsToLeft n before (Turned silent time) event next = ⊥
+LeadsToLeft n before (Fallen silent time) event next = ⊥
 LeadsToLeft n before (Cleared since silent right old) event next = ⊥
 LeadsToLeft n before (Aging aged silent) event next = ⊥
 
@@ -354,8 +369,30 @@ LeadsToTurned n before (Heard start) event silent time =
     HasSettledHeard n before start event.at × TurnsNow n before event start silent time
 LeadsToTurned n before (Left start) event silent time = ⊥
 LeadsToTurned n before (Turned start now) event silent time = ⊥
+LeadsToTurned n before (Fallen start now) event silent time = ⊥
 LeadsToTurned n before (Cleared since start right old) event silent time = ⊥
 LeadsToTurned n before (Aging aged start) event silent time = ⊥
+
+-- in a network whose choice had stood for an announce interval a tree is cut off by it now
+abbrev pub FallsNow : NetworkState → List Timed → Timed → ℕ → ℕ → ℕ → ℕ → Type 0
+FallsNow n before event start stood silent time =
+    (last_change before < stood) × (stood + largest_interval (pace_of n) ≤ event.at)
+    × FallsCalm n before event × (silent ≡ start) × (time ≡ event.at)
+
+abbrev pub LeadsToFallen : NetworkState → List Timed → Past → Timed → ℕ → ℕ → Type 0
+LeadsToFallen n before AnyPast event silent time =
+    (stood : ℕ) × HasSettledAnyhow n before stood
+    × FallsNow n before event (last_change before + capability_span (pace_of n)) stood silent time
+LeadsToFallen n before Starting event silent time = ⊥
+LeadsToFallen n before (Gained start) event silent time =
+    (stood : ℕ) × HasSettledSince n before start stood × FallsNow n before event start stood silent time
+LeadsToFallen n before (Heard start) event silent time =
+    (stood : ℕ) × HasSettledHeard n before start stood × FallsNow n before event start stood silent time
+LeadsToFallen n before (Left start) event silent time = ⊥
+LeadsToFallen n before (Turned start now) event silent time = ⊥
+LeadsToFallen n before (Fallen start now) event silent time = ⊥
+LeadsToFallen n before (Cleared since start right old) event silent time = ⊥
+LeadsToFallen n before (Aging aged start) event silent time = ⊥
 
 -- a network that had settled is cleared, and one that is so stays so
 abbrev pub LeadsToCleared : NetworkState → List Timed → Past → Timed → ℕ → ℕ → ℕ → ℕ → Type 0
@@ -369,6 +406,7 @@ LeadsToCleared n before (Heard start) event since silent right old =
     HasSettledHeard n before start event.at × ClearsBy n before event start since silent right old
 LeadsToCleared n before (Left start) event since silent right old = ⊥
 LeadsToCleared n before (Turned start now) event since silent right old = ⊥
+LeadsToCleared n before (Fallen start now) event since silent right old = ⊥
 LeadsToCleared n before (Cleared start dark clean last) event since silent right old =
     LowersUnusedCalm n before event × (clean ≤ event.at)
     × ((since ≡ start) × (silent ≡ dark) × (right ≡ clean) × (old ≡ last))
@@ -393,6 +431,7 @@ LeadsToAging n before (Heard start) event aged silent =
     HasSettledHeard n before start event.at × FailsNow n before event aged silent
 LeadsToAging n before (Left start) event aged silent = ⊥
 LeadsToAging n before (Turned start now) event aged silent = ⊥
+LeadsToAging n before (Fallen start now) event aged silent = ⊥
 LeadsToAging n before (Cleared since start right old) event aged silent = ⊥
 LeadsToAging n before (Aging gone start) event aged silent =
     LowersUnusedCalm n before event × (aged ≡ gone) × (silent ≡ start)
@@ -405,6 +444,7 @@ StaysFrom (Gained start) next = next ≡ start
 StaysFrom (Heard start) next = next ≡ start
 StaysFrom (Left silent) next = ⊥
 StaysFrom (Turned silent time) next = ⊥
+StaysFrom (Fallen silent time) next = ⊥
 StaysFrom (Cleared since silent right old) next = ⊥
 StaysFrom (Aging aged silent) next = ⊥
 
@@ -416,6 +456,7 @@ StartsFrom n before (Gained start) event next = ⊥
 StartsFrom n before (Heard start) event next = ⊥
 StartsFrom n before (Left silent) event next = ⊥
 StartsFrom n before (Turned silent time) event next = ⊥
+StartsFrom n before (Fallen silent time) event next = ⊥
 StartsFrom n before (Cleared since silent right old) event next = ⊥
 StartsFrom n before (Aging aged silent) event next = ⊥
 
@@ -427,6 +468,7 @@ StartsStill (Gained start) event = ⊥
 StartsStill (Heard start) event = ⊥
 StartsStill (Left silent) event = ⊥
 StartsStill (Turned silent time) event = ⊥
+StartsStill (Fallen silent time) event = ⊥
 StartsStill (Cleared since silent right old) event = ⊥
 StartsStill (Aging aged silent) event = ⊥
 
@@ -439,6 +481,7 @@ EventLeads n before past event (Gained next) =
 EventLeads n before past event (Heard next) = LeadsToHeard n before past event next
 EventLeads n before past event (Left next) = LeadsToLeft n before past event next
 EventLeads n before past event (Turned silent time) = LeadsToTurned n before past event silent time
+EventLeads n before past event (Fallen silent time) = LeadsToFallen n before past event silent time
 EventLeads n before past event (Cleared since silent right old) = LeadsToCleared n before past event since silent right
     old
 EventLeads n before past event (Aging aged silent) = LeadsToAging n before past event aged silent
@@ -483,6 +526,7 @@ BeginsBy n (Gained start) = AreCapableSoon n [] start
 BeginsBy n (Heard start) = UsedVaryLittle n [] × AreCapableSoon n [] start
 BeginsBy n (Left silent) = ⊥
 BeginsBy n (Turned silent time) = ⊥
+BeginsBy n (Fallen silent time) = ⊥
 BeginsBy n (Cleared since silent right old) = ⊥
 BeginsBy n (Aging aged silent) = ⊥
 
@@ -505,6 +549,9 @@ SettlesAfter n events (Left silent) settled = NothingLapses n.params × ((silent
 SettlesAfter n events (Turned silent time) settled =
     NothingLapses n.params
     × (time + 1 + pred (sync_paths n events).systems * (sync_paths n events).delay ≤ settled)
+SettlesAfter n events (Fallen silent time) settled =
+    NothingLapses n.params
+    × (time + 1 + 2 * (pred (sync_paths n events).systems * (sync_paths n events).delay) ≤ settled)
 SettlesAfter n events (Cleared since silent right old) settled = NothingLapses n.params ×
     ((silent ≤ settled) ⊎ UpIsUsed n events)
 SettlesAfter n events (Aging aged silent) settled = NothingLapses n.params × ((silent ≤ settled) ⊎ UpIsUsed n events)
@@ -518,6 +565,7 @@ ChoosesAfter n events (Gained start) settled = SettlesAfter n events (Gained sta
 ChoosesAfter n events (Heard start) settled = SettlesAfter n events (Heard start) settled
 ChoosesAfter n events (Left silent) settled = NothingLapses n.params
 ChoosesAfter n events (Turned silent time) settled = SettlesAfter n events (Turned silent time) settled
+ChoosesAfter n events (Fallen silent time) settled = SettlesAfter n events (Fallen silent time) settled
 ChoosesAfter n events (Cleared since silent right old) settled = NothingLapses n.params
 ChoosesAfter n events (Aging aged silent) settled =
     NothingLapses n.params × ((aged ≤ settled) ⊎ ((silent ≤ settled) ⊎ UpIsUsed n events))
