@@ -207,7 +207,7 @@ module _ (d : DocumentState) (playable : IsPlayable d) where
         → IsLossBoundAfter n all (b.at ∷ earlier) at s.choice s.roles
     lost s settles off rest loses =
         let (bound, past) = sound_before rest in
-        (late, between, settles.2.0, off, (rest.settling.sound, bound, past), loses)
+        inl (late, between, settles.2.0, off, (rest.settling.sound, bound, past), loses)
 
     no_later : (choice roles : ℕ) → BoundsLoss n made now choice roles → choice ≤ roles
     no_later choice roles (inl (none, which)) = omega (arith, none)
