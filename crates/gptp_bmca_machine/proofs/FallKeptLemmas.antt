@@ -19,7 +19,8 @@ use Rattle.gptp_bmca_machine.proofs.CutTreeLemmas.{beside}
 use Rattle.gptp_bmca_machine.proofs.FallLeaveLemmas.{TreeAnswers, answers_or_stands, leaves_old, tells_new}
 use Rattle.gptp_bmca_machine.proofs.FallLemmas.{DownStage, FollowsOld, HoldsInTree, HoldsLeft, IsAftermath, IsFalling, IsFreeAt, IsLed, IsLeft, IsNewTold, RootIs, RootIsNot, falls_by, follows_old, holds_by, holds_in_tree, old_in_time, root_by_held, says_whole, was_clear, whole_root}
 use Rattle.gptp_bmca_machine.proofs.FallStepLemmas.{SaysSo, free_held, free_kept, old_kept, old_or_free}
-use Rattle.gptp_bmca_machine.proofs.LinkEndsLemmas.{ShowEnds, ends_by, telling_kept, teller_on, tells_clear, weaker_clear}
+use Rattle.gptp_bmca_machine.proofs.ClearLemmas.{tells_clear, weaker_clear}
+use Rattle.gptp_bmca_machine.proofs.LinkEndsLemmas.{ShowEnds, ends_by, telling_kept, teller_on}
 use Rattle.gptp_bmca_machine.proofs.LinkStageLemmas.{settled}
 use Rattle.gptp_bmca_machine.proofs.LinkStepLemmas.{AtLink, lives_at}
 use Rattle.gptp_bmca_machine.proofs.PlaceLemmas.{same_there}

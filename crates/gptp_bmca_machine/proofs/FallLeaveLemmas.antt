@@ -12,37 +12,16 @@ use Rattle.gptp_bmca_machine.specs.LinkStage.{FinalAnnounceStays, FrameSaysAnnou
 use Rattle.gptp_bmca_machine.specs.Network.{Network}
 use Rattle.gptp_bmca_machine.specs.Reacts.{IsMasterAt, IsOwn, KeepsHeld, PortStep, StationReacts}
 use Rattle.gptp_bmca_machine.specs.RestLaws.{LinkStays}
-use Rattle.gptp_bmca_machine.specs.Station.{Aged, Disabled, Held, MachineState, Mine, Port, Received, Reception, Station}
-use Rattle.gptp_bmca_machine.specs.Touch.{Disable, Enable, Grow, Hear, HeldInTouch, IsUsable, Other, Replaces, StationTouch, Tick}
+use Rattle.gptp_bmca_machine.specs.Station.{Aged, Disabled, Held, MachineState, Mine, Port, Received, Station}
+use Rattle.gptp_bmca_machine.specs.Touch.{Hear, IsUsable, Replaces, StationTouch}
 use Rattle.gptp_bmca_machine.proofs.FallLemmas.{HoldsInTree, IsAftermath, IsNewTold, falls_by, says_usable, says_whole}
 use Rattle.gptp_bmca_machine.proofs.HearingLemmas.{mid_mine}
 use Rattle.gptp_bmca_machine.proofs.LinkEndsLemmas.{long_at, on_time, teller_on}
 use Rattle.gptp_bmca_machine.proofs.LinkStepLemmas.{AtLink, lives_at}
-use Rattle.gptp_bmca_machine.proofs.PlaceLemmas.{received_injective, same_mine, same_there}
+use Rattle.gptp_bmca_machine.proofs.PlaceLemmas.{same_mine, same_there}
+use Rattle.gptp_bmca_machine.proofs.ReactsLemmas.{mid_heard}
 use Rattle.gptp_bmca_machine.proofs.StillLemmas.{port_there, still}
 use Rattle.gptp_bmca_machine.proofs.ToldLemmas.{AllSay, HoldsTold, old_begins}
-
--- what a port received after a touch it had received before, or it just heard it, could use it, and it replaced what
--- the port held
-mid_heard : (c n now : ℕ) (touch : StationTouch) (held mid : Held) (r : Reception) → HeldInTouch c n touch now held mid
-    → mid ≡ Received r
-    → (held ≡ Received r)
-    ⊎ ((a : Announce) × (touch ≡ Hear n a) × IsUsable c a × Replaces c n a held × (r.said ≡ a))
-mid_heard c n now (Hear m a) held mid r (inl (same, on, inl takes)) e =
-    let one = received_injective r (record { said = a; at = now; span = takes.span }) (sym e ∙ takes.is) in
-    inr (a, (λ i. Hear (sym same i) a), takes.qualified, takes.replaces, ap (λ (z : Reception). z.said) one)
-mid_heard c n now (Hear m a) held mid r (inl (same, on, inr refuses)) e = inl (sym refuses.is ∙ e)
-mid_heard c n now (Hear m a) held mid r (inr (other, is)) e = inl (sym is ∙ e)
-mid_heard c n now (Tick m) held mid r is e = inl (sym is ∙ e)
-mid_heard c n now (Grow m) held mid r (inl (same, is)) e = absurd (let x : Aged ≡ Received r = sym is ∙ e in cc)
-mid_heard c n now (Grow m) held mid r (inr (other, is)) e = inl (sym is ∙ e)
-mid_heard c n now (Enable m) held mid r (inl (same, off, is)) e =
-    absurd (let x : Aged ≡ Received r = sym is ∙ e in cc)
-mid_heard c n now (Enable m) held mid r (inr (other, is)) e = inl (sym is ∙ e)
-mid_heard c n now (Disable m) held mid r (inl (same, is)) e =
-    absurd (let x : Disabled ≡ Received r = sym is ∙ e in cc)
-mid_heard c n now (Disable m) held mid r (inr (other, is)) e = inl (sym is ∙ e)
-mid_heard c n now Other held mid r is e = inl (sym is ∙ e)
 
 -- A port that was master with another root, and hears nothing lower, tells at once.
 module _ (says : Spelling) (c n now : ℕ) (touch : StationTouch) (root steps : ℕ) (pv pv' : Port) (sends : List Send)

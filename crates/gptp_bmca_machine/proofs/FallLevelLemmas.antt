@@ -17,7 +17,8 @@ use Rattle.gptp_bmca_machine.specs.Station.{MachineState, Mine, Port, Received, 
 use Rattle.gptp_bmca_machine.proofs.CutTreeLemmas.{beside}
 use Rattle.gptp_bmca_machine.proofs.FallKeptLemmas.{hearer_root, led_next, led_root, left_root}
 use Rattle.gptp_bmca_machine.proofs.FallLemmas.{DownStage, IsAftermath, IsFalling, RootIs, RootIsNot, falls_by, follows_old, free_clear, holds_in_tree}
-use Rattle.gptp_bmca_machine.proofs.LinkEndsLemmas.{ShowEnds, telling, telling_kept, tells_clear, weaker_clear}
+use Rattle.gptp_bmca_machine.proofs.ClearLemmas.{tells_clear, weaker_clear}
+use Rattle.gptp_bmca_machine.proofs.LinkEndsLemmas.{ShowEnds, telling, telling_kept}
 use Rattle.gptp_bmca_machine.proofs.LinkStepLemmas.{lives_at}
 use Rattle.gptp_bmca_machine.proofs.PlaceLemmas.{same_there}
 use Rattle.gptp_bmca_machine.specs.Vectors.{master}

@@ -16,7 +16,8 @@ use Rattle.gptp_bmca_machine.specs.Station.{Disabled, Held, MachineState, Mine, 
 use Rattle.gptp_bmca_machine.specs.Touch.{Grow, Hear, HeldInTouch, Replaces, StationTouch}
 use Rattle.gptp_bmca_machine.proofs.FallLemmas.{HoldsLeft, IsAftermath, IsFree, IsFreeAt, IsNewTold}
 use Rattle.gptp_bmca_machine.proofs.HearingLemmas.{final_kept, final_taken, mid_on, mid_stays}
-use Rattle.gptp_bmca_machine.proofs.LinkEndsLemmas.{hearer_on, hears_by, link_back, long_at, on_time, weaker_clear}
+use Rattle.gptp_bmca_machine.proofs.ClearLemmas.{weaker_clear}
+use Rattle.gptp_bmca_machine.proofs.LinkEndsLemmas.{hearer_on, hears_by, link_back, long_at, on_time}
 use Rattle.gptp_bmca_machine.proofs.LinkStepLemmas.{AtLink, StandsAtEnd, link_steps, lives_at}
 use Rattle.gptp_bmca_machine.proofs.PlaceLemmas.{same_there}
 use Rattle.gptp_bmca_machine.proofs.ReactsLemmas.{JustHeard, mid_from}

@@ -12,6 +12,7 @@ pub mod AnswerLemmas
 pub mod LinkLemmas
 pub mod NearestLemmas
 pub mod RestLemmas
+pub mod ClearLemmas
 pub mod EndsLemmas
 pub mod LevelLemmas
 pub mod SettledLemmas

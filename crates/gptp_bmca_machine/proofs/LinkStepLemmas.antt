@@ -12,7 +12,8 @@ use Rattle.gptp_bmca_machine.specs.LinkStage.{FrameSaysAnnounce}
 use Rattle.gptp_bmca_machine.specs.Network.{Network}
 use Rattle.gptp_bmca_machine.specs.Reacts.{PortStep}
 use Rattle.gptp_bmca_machine.specs.Station.{Disabled, Held, MachineState, Port, Received, Reception, Station}
-use Rattle.gptp_bmca_machine.specs.Touch.{Disable, Enable, Grow, Hear, Other, StationTouch, Tick}
+use Rattle.gptp_bmca_machine.specs.Touch.{Grow, Hear, StationTouch}
+use Rattle.gptp_bmca_machine.proofs.LinkLemmas.{is_hear}
 use Rattle.gptp_bmca_machine.proofs.PlaceLemmas.{same_there}
 
 -- where a live system stands
@@ -26,16 +27,6 @@ lives_at n w calm v known s at =
       subst (λ (z : Station). z.live ≡ true) same has.live,
       ap (λ (z : Station). z.clock) (sym same) ∙ ap (λ (z : System). z.clock) has.is ∙ clock,
     )
-
--- whether an input is an Announce that is heard
-is_hear : (touch : StationTouch) → ((m : ℕ) × (a : Announce) × (touch ≡ Hear m a))
-    ⊎ ((m : ℕ) (a : Announce) → touch ≡ Hear m a → ⊥)
-is_hear (Hear m a) = inl (m, a, refl)
-is_hear (Tick m) = inr (λ k a is. absurd cc)
-is_hear (Grow m) = inr (λ k a is. absurd cc)
-is_hear (Enable m) = inr (λ k a is. absurd cc)
-is_hear (Disable m) = inr (λ k a is. absurd cc)
-is_hear Other = inr (λ k a is. absurd cc)
 
 module _ (says : Spelling) (n : Network) (v p u q : ℕ) where
   -- so it is of what the port of u holds, and of what is on its way there from the port of v

@@ -154,15 +154,12 @@ module _ (d : DocumentState) (playable : IsPlayable d) (made : List Timed) (even
   came : Acts (Changing (LinkDown x.clock x.port)) then draws done w'
   came = subst (λ act. Acts act then draws done w') x.act acts
 
-  link_wired : LinkSpec → LinkSpec
-  link_wired = link_after made
-
   pub fallen_to : IsFallenTo d more start event.at w'
   fallen_to =
       let over = rest.over in
       let end = port_id x.clock x.port in
       let channel = came.1.channel in
-      let (v, there, same) = alike link_wired channel_wire n.links then.net.channels (sym keeps.stands.links)
+      let (v, there, same) = alike (link_after made) channel_wire n.links then.net.channels (sym keeps.stands.links)
       came.1.place channel came.1.is.here in
       let is_end = subst (IsEnd end) (sym same) came.1.is.joined in
       let used = subst (IsUsed n.systems made) same (x.used came.1.place v there is_end) in

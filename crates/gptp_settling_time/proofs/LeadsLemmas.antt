@@ -678,26 +678,26 @@ module _ {F : Type 0} (answers : Bounds → ℕ → F → Option ℕ → F → T
     -- a tree is cut off
     falls_back : (start stood silent now : ℕ) → HasRestedSo p start event.at then → IsNamedFrom p stood w
         → FallsNow n made event start stood silent now → IsFallenTo d more silent now w'
-    falls_back start stood silent now rest named (later, quiet, falls, by, here) =
+    falls_back start stood silent now rest named (later, since, falls, by, here) =
         subst (λ t. IsFallenTo d more silent t w') (sym here)
         (subst (λ t. IsFallenTo d more t event.at w') (sym by)
         (fallen_to d playable made event then k.draws done w' k.acts refl time_now keeps_then after start rest stood
-        named quiet falls))
+        named since falls))
 
     leads_to_fallen : (past : Past) (silent now : ℕ) → EventLeads n made past event (Fallen silent now)
         → NamesAfter d made past w → IsAfter d made past w → IsFallenTo d more silent now w'
-    leads_to_fallen AnyPast silent now (stood, settled, (later, quiet, falls, same)) named so =
+    leads_to_fallen AnyPast silent now (stood, settled, (later, since, falls, by, here)) named so =
         let passed = settled.passed in
         falls_back (last_change made + capability_span p) stood silent now
-        (rested_any (record { calm = settled.calm; passed = omega (arith, passed, quiet) }))
-        (named stood falls.calm falls.lowers.few (inl (falls.off, passed)) later) (later, quiet, falls, same)
+        (rested_any (record { calm = settled.calm; passed = omega (arith, passed, since) }))
+        (named stood falls.calm falls.lowers.few (inl (falls.off, passed)) later) (later, since, falls, by, here)
     leads_to_fallen Starting silent now none named so = absurd none
-    leads_to_fallen (Gained start) silent now (stood, settled, (later, quiet, falls, same)) named so =
-        falls_back start stood silent now (rested_gained start (omega (arith, settled, quiet)) so.news)
-        (named stood falls.calm falls.lowers.few (inl (falls.off, settled)) later) (later, quiet, falls, same)
-    leads_to_fallen (Heard start) silent now (stood, settled, (later, quiet, falls, same)) named so =
-        falls_back start stood silent now (rested_heard start (omega (arith, settled, quiet)) so.since)
-        (named stood falls.calm falls.lowers.few (falls.off, settled) later) (later, quiet, falls, same)
+    leads_to_fallen (Gained start) silent now (stood, settled, (later, since, falls, by, here)) named so =
+        falls_back start stood silent now (rested_gained start (omega (arith, settled, since)) so.news)
+        (named stood falls.calm falls.lowers.few (inl (falls.off, settled)) later) (later, since, falls, by, here)
+    leads_to_fallen (Heard start) silent now (stood, settled, (later, since, falls, by, here)) named so =
+        falls_back start stood silent now (rested_heard start (omega (arith, settled, since)) so.since)
+        (named stood falls.calm falls.lowers.few (falls.off, settled) later) (later, since, falls, by, here)
     leads_to_fallen (Left start) silent now none named so = absurd none
     leads_to_fallen (Turned start was) silent now none named so = absurd none
     leads_to_fallen (Fallen start was) silent now none named so = absurd none
