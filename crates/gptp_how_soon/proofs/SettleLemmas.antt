@@ -67,7 +67,7 @@ pub settled_so : (n : NetworkState) (w : Walk) (at : ℕ) (first followed from_r
     → far ≡ (asks_who_is_far from_rest w.paths_before paths told && far_seen w)
     → moved ≡ (asks_who_is_moved from_rest w.paths_before paths told && moves_seen w)
     → cut ≡ (asks_who_is_moved from_rest w.paths_before paths told && cuts_seen w)
-    → alone ≡ (asks_who_is_moved from_rest w.paths_before paths told && turns_seen w)
+    → alone ≡ (asks_who_is_moved from_rest w.paths_before paths told && turns_seen n w at)
     → from_rest ≡ is_from_rest w.longest at w.paths_before paths told w.before
     → way ≡ way_span paths
     → heard ≡ heard_by n followed told new
@@ -86,9 +86,9 @@ pub settled_so : (n : NetworkState) (w : Walk) (at : ℕ) (first followed from_r
 settled_so n w at first followed from_rest calm sets moved cut alone far paths told standings used new soon heard way
     row time all_used e0 e1 ef e2 ec ea e3 e4 e5 e6 e7 e8 e9 e10 e11 e12 e13 e14 e15 eu =
     let row_is : row
-    ≡ row_of from_rest first w.paths_before paths told (moves_seen w) (cuts_seen w) (turns_seen w) (far_seen w)
+    ≡ row_of from_rest first w.paths_before paths told (moves_seen w) (cuts_seen w) (turns_seen n w at) (far_seen w)
     all_used =
     e1 ∙ (λ i. row_of from_rest first w.paths_before paths told (e2 i) (ec i) (ea i) (ef i) all_used)
-    ∙ same_row from_rest first w.paths_before paths told (moves_seen w) (cuts_seen w) (turns_seen w) (far_seen w)
+    ∙ same_row from_rest first w.paths_before paths told (moves_seen w) (cuts_seen w) (turns_seen n w at) (far_seen w)
     all_used in
     rw (e0, row_is, eu, e3, e4, e5, e6, e7, e8, e9, e10, e11, e12, e13, e14, e15) refl

@@ -23,6 +23,15 @@ rested_by b at (Some s) = nat_lt (b.at + s.rest) at
 abbrev pub rested : SettlingTime → ℕ → Bool
 rested b at = rested_by b at b.settling
 
+-- and so much more has passed
+abbrev pub rested_for_by : ℕ → SettlingTime → ℕ → Option Settling → Bool
+rested_for_by span b at None = false
+rested_for_by span b at (Some s) = nat_lt (b.at + (s.rest + span)) at
+
+abbrev pub has_rested_for : ℕ → Option SettlingTime → ℕ → Bool
+has_rested_for span None at = false
+has_rested_for span (Some b) at = rested_for_by span b at b.settling
+
 -- Events are followed where what each does is, and no system both fails and recovers.
 abbrev pub are_events_followed : List Told → Bool
 are_events_followed told = not (list_any is_other told) && not (fails_and_recovers told)

@@ -2,12 +2,13 @@
 --
 -- What stands *before* a time stands after the events up to the time before, at 0 before all events; what stands *at*
 -- it after its own too.
-use Rattle.std.specs.Prelude.{ℕ, ◌+◌, ◌≤◌, ◌<◌, ⊤, ◌==◌, not, Bool, List, [], ◌∷◌, ◌++◌, filter, Option, Some, None}
+use Rattle.std.specs.Prelude.{ℕ, ◌+◌, ◌≤◌, ◌<◌, ⊤, ◌==◌, ◌&&◌, ◌||◌, not, Bool, List, [], ◌∷◌, ◌++◌, filter, Option, Some, None}
 use Rattle.std.specs.List.{AllByRecursion, find}
 use Rattle.std.specs.Option.{is_some}
 use Rattle.gptp_setup.specs.Intervals.{IsMoment}
+use Rattle.gptp_setup.specs.SettlingParams.{largest_interval}
 use Rattle.gptp_scenario.specs.Calm.{last_change}
-use Rattle.gptp_scenario.specs.Network.{NetworkState}
+use Rattle.gptp_scenario.specs.Network.{NetworkState, pace_of}
 use Rattle.gptp_scenario.specs.SyncWait.{sync_paths}
 use Rattle.gptp_scenario.specs.declared.change.Act.{Act}
 use Rattle.gptp_scenario.specs.declared.change.Timed.{Timed}
@@ -25,7 +26,8 @@ use Rattle.gptp_how_soon.specs.Chosen.{moves_counted}
 use Rattle.gptp_how_soon.specs.Far.{are_far_after, cut_far_ends_after, up_is_used}
 use Rattle.gptp_how_soon.specs.Kinds.{sets_bounds, sets_link, takes_one, told_by}
 use Rattle.gptp_how_soon.specs.Links.{longest_delay, new_links}
-use Rattle.gptp_how_soon.specs.Rest.{heard_at_once, is_from_rest, row_of}
+use Rattle.gptp_how_soon.specs.Rest.{has_rested_for, heard_at_once, is_from_rest, row_of}
+use Rattle.gptp_how_soon.specs.Tree.{cuts_tree_after}
 use Rattle.gptp_how_soon.specs.Turned.{turns_one_after}
 use Rattle.gptp_how_soon.specs.declared.bounds.SettlingTime.{SettlingTime}
 use Rattle.gptp_how_soon.specs.declared.bounds.Row.{Row}
@@ -48,7 +50,7 @@ pub record View : Type 0 where
   pub moved : Bool
   -- whether each link that is lost cuts off a far end
   pub cut : Bool
-  -- whether they move one system alone that turns
+  -- whether they move one system alone that turns, or cut off a tree an announce interval after all came to rest
   pub turned : Bool
   -- whether the systems that they name were far ends
   pub far : Bool
@@ -114,7 +116,8 @@ view_at n made now before at = record {
   told = told_of n made now;
   moved = moves_counted (takes_one (told_of n made now)) n made (made ++ now);
   cut = cut_far_ends_after n made (made ++ now);
-  turned = turns_one_after n made (made ++ now);
+  turned = turns_one_after n made (made ++ now)
+      || (has_rested_for (largest_interval (pace_of n)) before at && cuts_tree_after n made (made ++ now));
   far = are_far_after n made (told_of n made now);
   used = up_is_used (standings_after n (made ++ now));
   paths = sync_paths n (made ++ now);

@@ -2,7 +2,7 @@
 
 ghost use Rattle.std.specs.Prelude.{◌≡◌, ◌≤◌, ◌+◌, ◌*◌, nat_lt};
 ghost use Rattle.gptp_how_soon.specs.Bounds.{way_span};
-ghost use Rattle.gptp_how_soon.specs.Rest.{are_events_followed, are_losses_followed, are_recoveries_followed, are_turns_followed, asks_who_is_far, asks_who_is_moved, heard_at_once, is_failing_followed, failed_row, is_from_rest, is_lowering_followed, is_wider_followed, keeps_paths, rested, row_of, settles_wider_by};
+ghost use Rattle.gptp_how_soon.specs.Rest.{are_events_followed, are_losses_followed, are_recoveries_followed, are_turns_followed, asks_who_is_far, asks_who_is_moved, heard_at_once, is_failing_followed, failed_row, has_rested_for, is_from_rest, is_lowering_followed, is_wider_followed, keeps_paths, rested, row_of, settles_wider_by};
 
 use crate::bounds::{Row, SettlingTime, way_span};
 use crate::kinds::{
@@ -25,6 +25,22 @@ fn rested(before: &SettlingTime, at: u64) -> bool
 {
     match before.settling {
         Some(settling) => is_later(before.at, settling.rest, at),
+        None => false,
+    }
+}
+
+/// Whether it had come to rest so much before it, in ns.
+pub(crate) fn has_rested_for(span: u64, before: Option<SettlingTime>, at: u64) -> bool
+    ensures { result ≡ has_rested_for span before at }
+{
+    match before {
+        Some(before) => match before.settling {
+            Some(settling) => {
+                let rest = u128::from(settling.rest) + u128::from(span);
+                u128::from(before.at) + rest < u128::from(at)
+            }
+            None => false,
+        },
         None => false,
     }
 }

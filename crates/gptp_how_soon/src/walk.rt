@@ -6,12 +6,15 @@ ghost use Rattle.gptp_topology.specs.Tables.{AreMarked, marked_paths};
 ghost use Rattle.gptp_how_soon.specs.Times.{settling_time};
 ghost use Rattle.gptp_how_soon.specs.Walk.{IsFirstWalk, WalkGoesOn, WalkPasses, cuts_seen, far_seen, moves_seen, turns_seen, view_seen};
 
-use crate::bounds::{SettlingTime, heard, ready, times_by, way_span};
+use crate::bounds::{SettlingTime, announce_interval, heard, ready, times_by, way_span};
 use crate::chosen::{Chosen, Ends, any_counted, choose, copy_systems, ends_in_use, ends_of};
 use crate::far::{all_cut_far_ends, are_far, up_is_used};
 use crate::kinds::{Told, sets_bounds, sets_link, takes_one, tell};
 use crate::links::{delay_set, longest_among, lost_among, mark_used, new_links};
-use crate::rest::{asks_who_is_far, asks_who_is_moved, heard_at_once, is_from_rest, row_of};
+use crate::rest::{
+    asks_who_is_far, asks_who_is_moved, has_rested_for, heard_at_once, is_from_rest, row_of,
+};
+use crate::tree::cuts_tree;
 use crate::turned::turns_one;
 use gptp_scenario::{Act, Network, SyncPaths};
 use gptp_topology::{System, Tables, cables_of};
@@ -46,7 +49,7 @@ struct Moves {
     moved: bool,
     /// Whether each link that is lost cuts off a far end.
     cut: bool,
-    /// Whether they move one alone, and that turns.
+    /// Whether they move one alone, and that turns, or cut off a tree.
     turned: bool,
 }
 
@@ -111,10 +114,10 @@ impl Walk {
 
     /// Whom the events of this time move. A system that is cut off doesn't count where one link or one system is taken
     /// away.
-    fn moves(&self, alloc: Global) -> Result<Moves, AllocError>
+    fn moves(&self, alloc: Global, network: &Network, at: u64) -> Result<Moves, AllocError>
         ensures moved { IfOk result (λ moves. moves.moved ≡ moves_seen self.now) }
         ensures cut { IfOk result (λ moves. moves.cut ≡ cuts_seen self.now) }
-        ensures turned { IfOk result (λ moves. moves.turned ≡ turns_seen self.now) }
+        ensures turned { IfOk result (λ moves. moves.turned ≡ turns_seen network.now self.now at) }
     {
         let mut systems = Vec::new(alloc);
         copy_systems(&mut systems, &self.tables.nodes)?;
@@ -127,21 +130,31 @@ impl Walk {
         let before = choose(alloc, &self.systems_before, &links_before)?;
         let now = choose(alloc, &systems, &links)?;
         let joined = takes_one(&self.told);
+        let alone = turns_one(alloc, &systems, &lost, &links_before, &links, &before, &now)?;
+        // a tree is cut off an announce interval after all came to rest
+        let tree = has_rested_for(announce_interval(network), self.before, at)
+            && cuts_tree(&systems, &lost, &links, &before, &now);
         Ok(Moves {
             moved: any_counted(joined, &systems, &links, &before, &now),
             cut: all_cut_far_ends(&systems, &before, &links_before, &links, &lost),
-            turned: turns_one(alloc, &systems, &lost, &links_before, &links, &before, &now)?,
+            turned: alone || tree,
         })
     }
 
     /// Whom the events of this time move, where that is asked.
-    fn moves_if(&self, alloc: Global, asked: bool) -> Result<Moves, AllocError>
+    fn moves_if(
+        &self,
+        alloc: Global,
+        network: &Network,
+        at: u64,
+        asked: bool,
+    ) -> Result<Moves, AllocError>
         ensures moved { IfOk result (λ moves. moves.moved ≡ (asked && moves_seen self.now)) }
         ensures cut { IfOk result (λ moves. moves.cut ≡ (asked && cuts_seen self.now)) }
-        ensures turned { IfOk result (λ moves. moves.turned ≡ (asked && turns_seen self.now)) }
+        ensures turned { IfOk result (λ moves. moves.turned ≡ (asked && turns_seen network.now self.now at)) }
     {
         if asked {
-            self.moves(alloc)
+            self.moves(alloc, network, at)
         } else {
             Ok(Moves {
                 moved: false,
@@ -195,7 +208,7 @@ impl Walk {
         let paths_before = self.paths_before;
         let from_rest = is_from_rest(self.longest, at, paths_before, paths, told, self.before);
         let asked = asks_who_is_moved(from_rest, paths_before, paths, told);
-        let moves = self.moves_if(alloc, asked)?;
+        let moves = self.moves_if(alloc, network, at, asked)?;
         let asked_far = asks_who_is_far(from_rest, paths_before, paths, told);
         let far = self.far_if(alloc, asked_far)?;
         let all_used = up_is_used(standings);

@@ -1,6 +1,6 @@
 -- What is told of each time of a document is so: its choice and roles are choice bounds or loss bounds. The network has
 -- come to rest by a rest bound.
-use Rattle.std.proofs.Common.{◌≡◌, ◌<◌, ◌≤◌, ◌⊎◌, inl, inr, ◌+◌, ◌*◌, max, ℕ, Bool, true, false, cond, List, [], ◌∷◌, ◌++◌, Some, None, refl, sym, ap, subst, ◌∙◌, arith}
+use Rattle.std.proofs.Common.{◌≡◌, ◌<◌, ◌≤◌, ◌⊎◌, inl, inr, ◌+◌, ◌*◌, max, pred, ℕ, Bool, true, false, cond, List, [], ◌∷◌, ◌++◌, Some, None, refl, sym, ap, subst, ◌∙◌, arith}
 use Rattle.std.specs.Prelude.{◌==◌, min, nat_le}
 use Rattle.std.proofs.lemmas.Bool.{eqb-false, eqb-true}
 use Rattle.std.proofs.lemmas.Bool.Decides.{nat_tests}
@@ -27,7 +27,7 @@ use Rattle.gptp_settling_time.proofs.MomentLemmas.{parted}
 use Rattle.gptp_settling_time.proofs.WellFormedLemmas.{after_well}
 use Rattle.gptp_how_soon_laws.specs.Choice.{SettlingsAreChoiceBounds}
 use Rattle.gptp_how_soon_laws.proofs.RowBoundLemmas.{AreSooner, IsSoundSooner, IsTelling, bounds_choice, choice_or_none, past_row, sound_or_sooner, tells}
-use Rattle.gptp_how_soon_laws.proofs.RowLemmas.{HasComeToRest, failed, gained, heard, lost_end, lost_power, lowered, turned, unchanged}
+use Rattle.gptp_how_soon_laws.proofs.RowLemmas.{CutsLate, HasComeToRest, failed, gained, heard, lost_end, lost_power, lowered, turned, unchanged}
 use Rattle.gptp_how_soon_laws.proofs.StartRowLemmas.{first_past, first_roles, first_sound, never_unchanged, started}
 use Rattle.gptp_how_soon_laws.proofs.UnmovedLemmas.{AreWell}
 use Rattle.gptp_how_soon_laws.proofs.TimesLemmas.{AreTimes, later_times, times_after, times_parts}
@@ -202,13 +202,6 @@ module _ (d : DocumentState) (playable : IsPlayable d) where
           ⊎ ((roles : ℕ) × IsLossBoundAfter n all (b.at ∷ earlier) at s.choice roles)
       sooner : s.choice ≤ s.roles
 
-    lost : (s : Settling) → IsChoiceBoundAfter n all (b.at ∷ earlier) at settled_by → NothingLapses n.params
-        → HasComeToRest b at → BoundsLoss n made now s.choice s.roles
-        → IsLossBoundAfter n all (b.at ∷ earlier) at s.choice s.roles
-    lost s settles off rest loses =
-        let (bound, past) = sound_before rest in
-        inl (late, between, settles.2.0, off, (rest.settling.sound, bound, past), loses)
-
     no_later : (choice roles : ℕ) → BoundsLoss n made now choice roles → choice ≤ roles
     no_later choice roles (inl (none, which)) = omega (arith, none)
     no_later choice roles (inr (inl (turns, is, same))) = omega (arith, same)
@@ -218,6 +211,40 @@ module _ (d : DocumentState) (playable : IsPlayable d) where
       where
         lesser : (a b : ℕ) → choice ≡ min a b → roles ≡ b → choice ≤ roles
         lesser a b is same = omega (arith, is, same)
+
+    abbrev IsLost : Settling → Type 0
+    IsLost s = IsLossBoundAfter n all (b.at ∷ earlier) at s.choice s.roles × (s.choice ≤ s.roles)
+
+    lost : (s : Settling) → IsChoiceBoundAfter n all (b.at ∷ earlier) at settled_by → NothingLapses n.params
+        → HasComeToRest b at → BoundsLoss n made now s.choice s.roles → IsLost s
+    lost s settles off rest loses =
+        let (bound, past) = sound_before rest in (
+          inl (late, between, settles.2.0, off, (rest.settling.sound, bound, past), loses),
+          no_later s.choice s.roles loses,
+        )
+
+    lost_tree : (s : Settling) → IsChoiceBoundAfter n all (b.at ∷ earlier) at settled_by → NothingLapses n.params
+        → (rest : HasComeToRest b at) → CutsLate n playable.network all b at late rest
+        → s.choice ≡ 2 * (pred v.paths.systems * v.paths.delay) → s.roles ≡ s.choice → IsLost s
+    lost_tree s settles off rest tree choice roles =
+        let bound = (sound_before rest).0 in
+        let then = so rest.settling rest.is in
+        let less = then.rest in
+        let passed = tree.late in (
+          inr (
+            late,
+            between,
+            settles.2.0,
+            off,
+            (rest.settling.sound, bound, omega (arith, less, passed)),
+            tree.lowers,
+            choice
+                ∙ ap (λ es. 2 * (pred (sync_paths n es).systems * (sync_paths n es).delay))
+                (sym (parted all b.at at playable.events.in_order late between)),
+            roles,
+          ),
+          omega (arith, roles),
+        )
 
     sooner_so : (s : Settling) → IsTelling n v s → IsChoiceBoundAfter n all (b.at ∷ earlier) at settled_by → IsSooner s
     sooner_so s it settles = elim (choice_or_none n v.paths (row_at v) (gained_at n v)) [
@@ -230,54 +257,53 @@ module _ (d : DocumentState) (playable : IsPlayable d) where
             sooner = omega (arith, choice, roles);
           }
       | inr (off, which) ↦
-          let (rest, loses) = by which in
-          let bound = lost s settles off rest loses in
+          let (bound, sooner) = by off which in
           record {
             bounds = inr (s.choice, bound);
             choice = inr (s.roles, bound);
-            sooner = no_later s.choice s.roles loses;
+            sooner = sooner;
           }
     ]
       where
-        by : AreSooner n v.paths (row_at v) (choice_by n v.paths (row_at v) (gained_at n v))
+        by : NothingLapses n.params → AreSooner n v.paths (row_at v) (choice_by n v.paths (row_at v) (gained_at n v))
             (roles_by n v.paths (row_at v) (gained_at n v))
-            → HasComeToRest b at × BoundsLoss n made now s.choice s.roles
-        by (inl (none, inl (inl row, roles))) =
+            → IsLost s
+        by off (inl (none, inl (inl row, roles))) =
             let (rest, lowers, flight) = lowered n playable.network all b at late well row in
-            (rest, inl (it.choice ∙ none, inl (lowers, it.roles ∙ roles)))
-        by (inl (none, inl (inr (inl row), roles))) =
-            let x = lost_end n playable.network all b at late well row in (
-              x.rested,
-              inl (
-                it.choice ∙ none,
-                elim x.lowers [
-                  | inl lowers ↦ inl (lowers, it.roles ∙ roles)
-                  | inr (fails, used) ↦ inr (fails, inl (used, it.roles ∙ roles))
-                ],
-              ),
-            )
-        by (inl (none, inl (inr (inr row), roles))) =
+            lost s settles off rest (inl (it.choice ∙ none, inl (lowers, it.roles ∙ roles)))
+        by off (inl (none, inl (inr (inl row), roles))) =
+            let x = lost_end n playable.network all b at late well row in
+            lost s settles off x.rested (inl (
+              it.choice ∙ none,
+              elim x.lowers [
+                | inl lowers ↦ inl (lowers, it.roles ∙ roles)
+                | inr (fails, used) ↦ inr (fails, inl (used, it.roles ∙ roles))
+              ],
+            ))
+        by off (inl (none, inl (inr (inr row), roles))) =
             let (rest, fails, used) = lost_power n playable.network all b at late well row in
-            (rest, inr (inr (fails, inl (used, it.choice ∙ none, it.roles ∙ roles))))
-        by (inl (none, inr (row, is))) =
+            lost s settles off rest (inr (inr (fails, inl (used, it.choice ∙ none, it.roles ∙ roles))))
+        by off (inl (none, inr (row, is))) =
             let (rest, fails) = failed n playable.network all b at late well row in
-            (rest, inl (it.choice ∙ none, inr (fails, inr (it.roles ∙ is))))
-        by (inr (inl (row, is, same))) =
-            let (rest, turns) = turned n playable.network all b at late well row in
-            (rest, inr (inl (turns, it.choice ∙ is, it.roles ∙ same ∙ sym it.choice)))
-        by (inr (inr (row, is, same))) =
+            lost s settles off rest (inl (it.choice ∙ none, inr (fails, inr (it.roles ∙ is))))
+        by off (inr (inl (row, is, same))) =
+            let (rest, which) = turned n playable.network all b at late well row in
+            elim which [
+              | inl turns ↦
+                  lost s settles off rest (inr (inl (turns, it.choice ∙ is, it.roles ∙ same ∙ sym it.choice)))
+              | inr tree ↦ lost_tree s settles off rest tree (it.choice ∙ is) (it.roles ∙ same ∙ sym it.choice)
+            ]
+        by off (inr (inr (row, is, same))) =
             let (rest, fails, delay) = heard n playable.network all b at late well row in
             let aging : aging_span (pace_of n) v.paths ≡ aging_span (pace_of n) (sync_paths n made) =
-            ap (λ d. longest_span (pace_of n) + d) delay in (
-              rest,
-              inr (inr (
-                fails,
-                inr (
-                  it.choice ∙ is ∙ ap (λ a. min a (silence_span (pace_of n))) aging,
-                  it.roles ∙ same,
-                ),
-              )),
-            )
+            ap (λ d. longest_span (pace_of n) + d) delay in
+            lost s settles off rest (inr (inr (
+              fails,
+              inr (
+                it.choice ∙ is ∙ ap (λ a. min a (silence_span (pace_of n))) aging,
+                it.roles ∙ same,
+              ),
+            )))
 
     later_so : TellsSo (b.at ∷ earlier) (time_at d (Some b) at)
     later_so s is =

@@ -23,8 +23,10 @@ use Rattle.gptp_how_soon.specs.Bounds.{is_hard_to_hear, gone_by}
 use Rattle.gptp_how_soon.specs.Chosen.{moves_counted, moves_joined, moves_some}
 use Rattle.gptp_how_soon.specs.Kinds.{are_heard, fails_and_recovers, fails_first, is_better, is_failing, is_gain, is_idle, is_loss, is_lowering, is_other, is_recovery, leaves_links, lowers_one, lowers_unused, makes_nothing, recovers, takes_one, begins_wider, first_wider_by, is_wider}
 use Rattle.gptp_how_soon.specs.Links.{delay_set, longest_among, longest_delay, longest_set}
-use Rattle.gptp_how_soon.specs.Rest.{are_events_followed, are_losses_followed, are_recoveries_followed, are_turns_followed, heard_at_once, is_failing_followed, is_from_rest, is_lowering_followed, keeps_paths, rested, rested_by, is_wider_followed, settles_wider_by}
+use Rattle.gptp_how_soon.specs.Rest.{are_events_followed, are_losses_followed, are_recoveries_followed, are_turns_followed, has_rested_for, heard_at_once, is_failing_followed, is_from_rest, is_lowering_followed, keeps_paths, rested, rested_by, rested_for_by, is_wider_followed, settles_wider_by}
 use Rattle.gptp_how_soon.specs.Times.{View, events_at, gained_at, ready_at, row_at, view_at}
+use Rattle.gptp_how_soon.specs.Tree.{cuts_tree_after}
+use Rattle.gptp_how_soon.specs.Turned.{turns_one_after}
 use Rattle.gptp_how_soon.specs.declared.bounds.Row.TheVariants.{FailedEnd, FailedHeard, Gained, LostEnd, LostPower, Lowered, OneTurned, Unchanged}
 use Rattle.gptp_how_soon.specs.declared.bounds.Settling.{Settling}
 use Rattle.gptp_how_soon.specs.declared.bounds.SettlingTime.{SettlingTime}
@@ -34,9 +36,10 @@ use Rattle.gptp_how_soon.specs.declared.kinds.Told.{Told}
 use Rattle.gptp_how_soon.specs.declared.kinds.What.{What}
 use Rattle.gptp_how_soon.specs.declared.kinds.What.TheVariants as whats
 use Rattle.gptp_settling_time.specs.Gains.{HasDelaysWithin}
-use Rattle.gptp_settling_time.specs.HowSoon.{AreWiderEvents, BoundsGains, CutsOneEnd, EachEvent, FailsEndFirst, FailsHeardFirst, IsStillEvent, LowersOneLink, TurnsOneLink, way_span}
+use Rattle.gptp_settling_time.specs.HowSoon.{AreWiderEvents, BoundsGains, CutsOneEnd, EachEvent, FailsEndFirst, FailsHeardFirst, IsStillEvent, LowersOneLink, OneEvent, TurnsOneLink, way_span}
 use Rattle.gptp_settling_time.specs.InTurn.{FlightIsGone}
 use Rattle.gptp_settling_time.specs.Losses.{UpIsUsed}
+use Rattle.gptp_settling_time.specs.TreeLosses.{LowersTree}
 use Rattle.gptp_settling_time.proofs.CutLemmas.{IsBy, all_by}
 use Rattle.gptp_settling_time.proofs.LeadOnLemmas.{all_still}
 use Rattle.gptp_settling_time.proofs.MomentLemmas.{all_at}
@@ -45,6 +48,7 @@ use Rattle.gptp_how_soon_laws.proofs.KindLemmas.{told}
 use Rattle.gptp_how_soon_laws.proofs.FailedLemmas.{fails_end_first, fails_heard_first, used_up}
 use Rattle.gptp_how_soon_laws.proofs.CutOffLemmas.{cuts_one_end}
 use Rattle.gptp_how_soon_laws.proofs.LoweredLemmas.{lowers_one_link, used_on}
+use Rattle.gptp_how_soon_laws.proofs.TreeLemmas.{lowers_tree}
 use Rattle.gptp_how_soon_laws.proofs.TurnedLemmas.{turns_one_link}
 use Rattle.gptp_how_soon_laws.proofs.UnmovedLemmas.{AreWell, all_still_unmoved}
 use Rattle.gptp_how_soon_laws.proofs.RowReasonLemmas.{failed_from, gained_from, heard_from, lost_from, lowered_from, powered_from, turned_from, unchanged_from}
@@ -127,6 +131,14 @@ rested_so : (b : SettlingTime) (at : ℕ) (o : Option Settling) → b.settling �
     → HasComeToRest b at
 rested_so b at None is rested = absurd cc
 rested_so b at (Some s) is rested = record { settling = s; is = is; passed = grind (arith, nat_tests) }
+
+rested_for_so : (span : ℕ) (b : SettlingTime) (at : ℕ) (s : Settling) → b.settling ≡ Some s
+    → has_rested_for span (Some b) at ≡ true → b.at + (s.rest + span) < at
+rested_for_so span b at s is test =
+    below (b.at + (s.rest + span)) at ((λ k. rested_for_by span b at (sym is k)) ∙ test)
+  where
+    below : (x y : ℕ) → nat_lt x y ≡ true → x < y
+    below x y less = grind (arith, nat_tests)
 
 at_most : (a b : ℕ) → nat_le a b ≡ true → a ≤ b
 at_most a b is = grind (arith, nat_tests)
@@ -530,8 +542,14 @@ module _ (n : NetworkState) (network : IsNetwork n) (events : List Timed) (b : S
             }
       ]
 
-  -- or one system turns
-  pub turned : AreWell n (made ++ now) → row_at v ≡ OneTurned → HasComeToRest b at × TurnsOneLink n made now
+  -- a tree is cut off, an announce interval after all came to rest
+  pub record CutsLate (rest : HasComeToRest b at) : Type 0 where
+    pub lowers : OneEvent (LowersTree n) made now
+    pub late : b.at + (rest.settling.rest + largest_interval (pace_of n)) < at
+
+  -- or one system turns, or that
+  pub turned : AreWell n (made ++ now) → row_at v ≡ OneTurned
+      → (rest : HasComeToRest b at) × (TurnsOneLink n made now ⊎ CutsLate rest)
   turned well row =
       let (from, turns) =
       turned_from (is_from_rest v.longest at v.paths_before v.paths v.told (Some b))
@@ -540,10 +558,23 @@ module _ (n : NetworkState) (network : IsNetwork n) (events : List Timed) (b : S
       (is_lowering_followed v.paths_before v.paths v.told && v.turned)
       (is_failing_followed v.paths_before v.paths v.told && not v.moved) v.far v.used (list_any is_loss v.told)
       row in
-      let (followed, one) = and_parts (is_lowering_followed v.paths_before v.paths v.told) v.turned turns in
+      let (followed, which) = and_parts (is_lowering_followed v.paths_before v.paths v.told) v.turned turns in
       let (keeps, lowers) = and_parts (keeps_paths v.paths_before v.paths) (lowers_one v.told) followed in
       let (delay, paths, few) = keeps_so keeps in
-      ((from_rest from).rested, turns_one_link n network made now well one delay paths few lowers)
+      let rest = (from_rest from).rested in
+      let late_test : Bool = has_rested_for (largest_interval (pace_of n)) (Some b) at in
+      let tree_test : Bool = cuts_tree_after n made (made ++ now) in (
+        rest,
+        elim (or_cases (turns_one_after n made (made ++ now)) (late_test && tree_test) which) [
+          | inl one ↦ inl (turns_one_link n network made now well one delay paths few lowers)
+          | inr both ↦
+              let (late, tree) = and_parts late_test tree_test both in
+              inr (record {
+                lowers = lowers_tree n network made now well tree delay paths few lowers;
+                late = rested_for_so (largest_interval (pace_of n)) b at rest.settling rest.is late;
+              })
+        ],
+      )
 
   -- or a far end hangs
   pub failed : AreWell n (made ++ now) → row_at v ≡ FailedEnd → HasComeToRest b at × FailsEndFirst n made now
