@@ -227,12 +227,12 @@ module _ (says : Spelling) (g : Snapshot) (n : Network) (top : ℕ) (best next :
               goes_on root' = (
                 root',
                 (λ pv pu l stand.
-                settled says (still n (base + depth v) best v p u q) w'.time pv.announce pu.held l.frames
-                (tells_old v p u q in_v joins deeper w' m' holds' root' stand.v pv stand.teller stand.teller_port).1
-                (λ f among. m'.kept.calm.left (n.lane (port_of v (suc p))) l f stand.lane among) (omega arith)
-                m'.kept.late
-                (link' (omega arith) pv pu l stand
-                (is_ready v p u q in_v joins deeper w' m' holds' root' stand.v pv stand.teller stand.teller_port))),
+                    settled says (still n (base + depth v) best v p u q) w'.time pv.announce pu.held l.frames
+                    (tells_old v p u q in_v joins deeper w' m' holds' root' stand.v pv stand.teller stand.teller_port).1
+                    (λ f among. m'.kept.calm.left (n.lane (port_of v (suc p))) l f stand.lane among) (omega arith)
+                    m'.kept.late
+                    (link' (omega arith) pv pu l stand
+                    (is_ready v p u q in_v joins deeper w' m' holds' root' stand.v pv stand.teller stand.teller_port))),
               )
                 where
                   link' : LinkSettles says (still n (base + depth v) best v p u q) w'

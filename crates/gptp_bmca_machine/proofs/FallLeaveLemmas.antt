@@ -61,11 +61,11 @@ pub tells_new : (says : Spelling) (g : Snapshot) (n : Network) (top : ℕ) (best
     → IsNewTold n.graph (port_of x (suc p)) u a
 tells_new says g n top best next base depth t start w m x in_x s at holds not p u q joins deeper number a own
     (i, pv, place, there, mine) is = record {
-  source = own.source ∙ (λ j. port_of (clock j) (is j));
-  whole = says_whole says g n top best next base depth t start w m x in_x s at holds not number a own;
-  usable = says_usable says g n top best next base depth t start w m x in_x s at holds not number a own p u q joins
-      deeper pv (subst (λ j. slice_get s.ports j ≡ Some pv) same there) s.root s.steps mine;
-}
+      source = own.source ∙ (λ j. port_of (clock j) (is j));
+      whole = says_whole says g n top best next base depth t start w m x in_x s at holds not number a own;
+      usable = says_usable says g n top best next base depth t start w m x in_x s at holds not number a own p u q joins
+          deeper pv (subst (λ j. slice_get s.ports j ≡ Some pv) same there) s.root s.steps mine;
+    }
   where
     clock : s.clock ≡ x
     clock = (lives_at n w m.kept.calm x in_x.reached.1.begins s at).1
@@ -249,9 +249,11 @@ module _ (says : Spelling) (n : Network) (next : System) (x : ℕ) (w w' : Machi
           let (l, at_mid, step) = call.lanes (n.lane p) l' at in
           let has = calm'.lanes p q joins in
           let same = same_there w'.lanes (n.lane p) has.lane l' has.there at in
-          let to : l.to ≡ q = sym step.to ∙ ap (λ (y : Lane). y.to) (sym same) ∙ has.to in
-          (l, lanes_stood (n.lane p) l at_mid (λ e. apart (ap (λ (y : PortIdentity). y.clock) (sym to) ∙ e ∙ was)),
-          step);
+          let to : l.to ≡ q = sym step.to ∙ ap (λ (y : Lane). y.to) (sym same) ∙ has.to in (
+            l,
+            lanes_stood (n.lane p) l at_mid (λ e. apart (ap (λ (y : PortIdentity). y.clock) (sym to) ∙ e ∙ was)),
+            step,
+          );
       heard = heard_here;
     }
 

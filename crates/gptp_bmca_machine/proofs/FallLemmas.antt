@@ -305,9 +305,11 @@ module _ (says : Spelling) (g : Snapshot) (n : Network) (top : ℕ) (best next :
               elim (In-parts u port.r.said.path (s.clock ∷ []) (subst (In u) (own.path ∙ port.trace) names)) [
                 | inl among ↦
                     let h = holds_in s port.place port.r at port.holds in
-                    names_none g n top best next base depth t x u (suc p, suc q, joins) in_x deeper h.v port.r.said
-                    (suc port.place, suc h.p,
-                    Joins-sym n.graph (port_of h.v (suc h.p)) (port_of x (suc port.place)) h.joins) (not_from port)
+                    names_none g n top best next base depth t x u (suc p, suc q, joins) in_x deeper h.v port.r.said (
+                      suc port.place,
+                      suc h.p,
+                      Joins-sym n.graph (port_of h.v (suc h.p)) (port_of x (suc port.place)) h.joins,
+                    ) (not_from port)
                     (free_holds not port.place port.r port.holds) (no_loop port.place port.r port.holds) among
                 | inr (inl same) ↦ apart (sym is_x.1 ∙ sym same)
                 | inr (inr none) ↦ none

@@ -75,7 +75,11 @@ fn leads_one_on(chosen: &[Chosen], place: usize, ends: &Ends) -> bool
 fn has_one_nearer(chosen: &[Chosen], links: &[Ends], place: usize) -> bool
     ensures { result ≡ has_one_nearer chosen.now links.now place }
 {
-    links.iter().filter(|ends| leads_nearer(chosen, place, ends)).count() <= 1
+    links
+        .iter()
+        .filter(|ends| leads_nearer(chosen, place, ends))
+        .count()
+        <= 1
 }
 
 /// Whether each of these links leads one step on, if it leads from the system at a place.

@@ -434,6 +434,7 @@ module _ (n : NetworkState) (network : IsNetwork n) (made events : List Timed) w
     depth v = depth_at (place_of (systems_after n []) v)
 
     unfolding depth
+
     depth_there : (i v : ℕ) → IsAt n i v → depth v ≡ depth_at i
     depth_there i v at = ap depth_at (place_is n network made g stands well [] i v at)
 
@@ -593,84 +594,71 @@ module _ (n : NetworkState) (network : IsNetwork n) (made events : List Timed) w
           | inr more ↦ inl (omega (arith, v_is, u_is, more))
         ]
 
+    -- ---- two links of a system that lead less deep
+
+    -- one of them
+    record Leads (i v port : ℕ) (c : PortIdentity) : Type 0 where
+      wire : LinkSpec
+      among : In wire used_links
+      nearer : leads_nearer before i (ends_of n wire) ≡ true
+      link : (link_of (wire.a, wire.b) ≡ record { a = port_of v port; b = c })
+          ⊎ (link_of (wire.a, wire.b) ≡ record { a = c; b = port_of v port })
+
+    leads : (i v port : ℕ) (c : PortIdentity) (s : Is i v) → IsBest h v next → Joins h (port_of v port) c
+        → depth v ≡ suc (depth c.clock) → Leads i v port c
+    leads i v port c s in_v joins less =
+        let known_c = Joins-clock h c (port_of v port) well' (Joins-sym h (port_of v port) c joins) in
+        let (j, r) = is_of c.clock known_c in
+        let in_c = IsBest-neighbour h v c.clock next well' (port, c.port, joins) in_v in
+        let x = joined_by i j (port_of v port) c s.at r.at joins in
+        let v_is = depth_is i v s in_v in
+        let c_is = depth_is j c.clock r in_c in
+        let fewer =
+        fewer_back before j i r.was s.was r.was_there s.was_there (omega (arith, v_is, c_is, less)) in
+        record {
+          wire = x.wire;
+          among = x.among;
+          nearer = nearer_on i j (port_of v port) c x fewer;
+          link = elim x.by [ inl (ends, is) ↦ inl is | inr (ends, is) ↦ inr is ];
+        }
+
+    most_one : (i : ℕ) → has_one_nearer before links i ≡ true → count_by (leads_nearer before i) links ≤ 1
+    most_one i is = least (count_by (leads_nearer before i) links) is
+      where
+        least : (k : ℕ) → nat_le k 1 ≡ true → k ≤ 1
+        least k test = grind (arith, nat_tests)
+
+    -- none leads from a system to itself
+    no_loop : (v : ℕ) (c : PortIdentity) → depth v ≡ suc (depth c.clock) → c.clock ≡ v → ⊥
+    no_loop v c less same = let k : depth c.clock ≡ depth v = ap depth same in absurd (omega (arith, less, k))
+
+    one_port : (v p q : ℕ) (a b : PortIdentity) {k l : Link} → depth v ≡ suc (depth a.clock)
+        → depth v ≡ suc (depth b.clock)
+        → (k ≡ record { a = port_of v p; b = a }) ⊎ (k ≡ record { a = a; b = port_of v p })
+        → (l ≡ record { a = port_of v q; b = b }) ⊎ (l ≡ record { a = b; b = port_of v q })
+        → k ≡ l → p ≡ q
+    one_port v p q a b near near' (inl e) (inl f) same = ap (λ (m : Link). m.a.port) (sym e ∙ same ∙ f)
+    one_port v p q a b near near' (inl e) (inr f) same =
+        absurd (no_loop v b near' (sym (ap (λ (m : Link). m.a.clock) (sym e ∙ same ∙ f))))
+    one_port v p q a b near near' (inr e) (inl f) same =
+        absurd (no_loop v a near (ap (λ (m : Link). m.a.clock) (sym e ∙ same ∙ f)))
+    one_port v p q a b near near' (inr e) (inr f) same = ap (λ (m : Link). m.b.port) (sym e ∙ same ∙ f)
+
     single_so : (v p q : ℕ) (a b : PortIdentity) → Joins h (port_of v p) a → Joins h (port_of v q) b
         → depth v ≡ suc (depth a.clock) → depth v ≡ suc (depth b.clock) → p ≡ q
     single_so v p q a b first second near near' =
-        by_moved (is_moved_there i) refl
+        let (i, s) = is_of v (Joins-clock h (port_of v p) a well' first) in by i s (is_moved_there i) refl
       where
-        known : In v (clocks h)
-        known = Joins-clock h (port_of v p) a well' first
-
-        here : (i : ℕ) × Is i v
-        here = is_of v known
-
-        i : ℕ
-        i = here.0
-
-        s : Is i v
-        s = here.1
-
-        module _ (in_v : IsBest h v next) where
-          -- a link that leads less deep
-          record Leads (port : ℕ) (c : PortIdentity) : Type 0 where
-            wire : LinkSpec
-            among : In wire used_links
-            nearer : leads_nearer before i (ends_of n wire) ≡ true
-            link : (link_of (wire.a, wire.b) ≡ record { a = port_of v port; b = c })
-                ⊎ (link_of (wire.a, wire.b) ≡ record { a = c; b = port_of v port })
-
-          leads : (port : ℕ) (c : PortIdentity) → Joins h (port_of v port) c → depth v ≡ suc (depth c.clock)
-              → Leads port c
-          leads port c joins less =
-              let known_c = Joins-clock h c (port_of v port) well' (Joins-sym h (port_of v port) c joins) in
-              let (j, r) = is_of c.clock known_c in
-              let in_c = IsBest-neighbour h v c.clock next well' (port, c.port, joins) in_v in
-              let x = joined_by i j (port_of v port) c s.at r.at joins in
-              let v_is = depth_is i v s in_v in
-              let c_is = depth_is j c.clock r in_c in
-              let fewer =
-              fewer_back before j i r.was s.was r.was_there s.was_there (omega (arith, v_is, c_is, less)) in
-              record {
-                wire = x.wire;
-                among = x.among;
-                nearer = nearer_on i j (port_of v port) c x fewer;
-                link = elim x.by [ inl (ends, is) ↦ inl is | inr (ends, is) ↦ inr is ];
-              }
-
-          same_port : p ≡ q
-          same_port =
-              let x = leads p a first near in
-              let y = leads q b second near' in
-              let most = most_one (in_below i v s in_v).single in
-              let one : x.wire ≡ y.wire =
-              one_same (leads_nearer before i) (ends_of n) used_links x.wire y.wire most x.among y.among x.nearer
-              y.nearer in
-              by x.link y.link (ap (λ (w : LinkSpec). link_of (w.a, w.b)) one)
-            where
-              most_one : has_one_nearer before links i ≡ true → count_by (leads_nearer before i) links ≤ 1
-              most_one is = least (count_by (leads_nearer before i) links) is
-                where
-                  least : (k : ℕ) → nat_le k 1 ≡ true → k ≤ 1
-                  least k test = grind (arith, nat_tests)
-
-              -- no link leads from a system to itself
-              no_loop : (c : PortIdentity) → depth v ≡ suc (depth c.clock) → c.clock ≡ v → ⊥
-              no_loop c less same =
-                  let k : depth c.clock ≡ depth v = ap depth same in absurd (omega (arith, less, k))
-
-              by : {k l : Link}
-                  → (k ≡ record { a = port_of v p; b = a }) ⊎ (k ≡ record { a = a; b = port_of v p })
-                  → (l ≡ record { a = port_of v q; b = b }) ⊎ (l ≡ record { a = b; b = port_of v q })
-                  → k ≡ l → p ≡ q
-              by (inl e) (inl f) same = ap (λ (m : Link). m.a.port) (sym e ∙ same ∙ f)
-              by (inl e) (inr f) same =
-                  absurd (no_loop b near' (sym (ap (λ (m : Link). m.a.clock) (sym e ∙ same ∙ f))))
-              by (inr e) (inl f) same = absurd (no_loop a near (ap (λ (m : Link). m.a.clock) (sym e ∙ same ∙ f)))
-              by (inr e) (inr f) same = ap (λ (m : Link). m.b.port) (sym e ∙ same ∙ f)
-
-        by_moved : (moved : Bool) → is_moved_there i ≡ moved → p ≡ q
-        by_moved true moved = same_port (in_so i v s moved)
-        by_moved false none =
+        by : (i : ℕ) (s : Is i v) (moved : Bool) → is_moved_there i ≡ moved → p ≡ q
+        by i s true moved =
+            let in_v = in_so i v s moved in
+            let x = leads i v p a s in_v first near in
+            let y = leads i v q b s in_v second near' in
+            let one : x.wire ≡ y.wire =
+            one_same (leads_nearer before i) (ends_of n) used_links x.wire y.wire
+            (most_one i (in_below i v s in_v).single) x.among y.among x.nearer y.nearer in
+            one_port v p q a b near near' x.link y.link (ap (λ (w : LinkSpec). link_of (w.a, w.b)) one)
+        by i s false none =
             let zero : depth v ≡ 0 =
             depth_there i v s.at ∙ ap (λ b. if b then steps_of (slice_get before i) - base else 0) none in
             absurd (omega (arith, zero, near))

@@ -370,4 +370,3 @@ module _ (says : Spelling) (n0 n : Network) (x : ℕ) (well : IsWellFormed n.gra
 
   pub levels' : (f : ℕ) → StillSettles says g n f w'
   levels' f = levels_under (suc f) f (omega arith)
-

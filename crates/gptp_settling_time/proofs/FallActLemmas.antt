@@ -249,9 +249,9 @@ module _ (p : SettlingParams) (silent owner port : ℕ) (w : WorldState) (draws 
     other_stays known_other = (
       so.others other known_other so.outside,
       (λ y e joined there farther.
-      so.others y (Adjacent-clock (snapshot_of w') other y well' joined)
-      (λ in_y. so.outside (IsBest-neighbour (snapshot_of w') y other next well'
-      (Adjacent-sym (snapshot_of w') other y joined) in_y))),
+          so.others y (Adjacent-clock (snapshot_of w') other y well' joined)
+          (λ in_y. so.outside (IsBest-neighbour (snapshot_of w') y other next well'
+          (Adjacent-sym (snapshot_of w') other y joined) in_y))),
     )
 
     stays_by : (way : Direction) → (sender way channel).clock ≡ other

@@ -194,11 +194,14 @@ module _ (p : SettlingParams) (g : Snapshot) (silent start : ℕ) (w w' : WorldS
     settled_on : Settling w → Settling w'
     settled_on (inr (over, invariant)) =
         let over' : fallen_by is.n start < w'.time = omega (arith, over, on) in
-        inr (over', invariant_kept says_announce timed_n net_n (view w) (view w') calm_n calm_n'
-        (λ i s d due at live near follows late lapse. back.after.kept.lapses i due s at lapse)
-        (no_early_ports says_announce timed_n (view w) (view w') claims_n) step
-        (λ now. received_then says_announce g is.n is.top is.best is.next is.base is.depth is.tree start
-        (fallen_by is.n start) (view w') back' reached over') invariant)
+        inr (
+          over',
+          invariant_kept says_announce timed_n net_n (view w) (view w') calm_n calm_n'
+              (λ i s d due at live near follows late lapse. back.after.kept.lapses i due s at lapse)
+              (no_early_ports says_announce timed_n (view w) (view w') claims_n) step
+              (λ now. received_then says_announce g is.n is.top is.best is.next is.base is.depth is.tree start
+              (fallen_by is.n start) (view w') back' reached over') invariant,
+        )
     settled_on (inl (early, settles)) = by (dec_le w'.time (fallen_by is.n start))
       where
         settles' : TreeSettles says_announce g is.n is.top is.best is.next is.base is.depth is.tree start
@@ -212,10 +215,13 @@ module _ (p : SettlingParams) (g : Snapshot) (silent start : ℕ) (w w' : WorldS
         by (yes early') = inl (early', settles')
         by (no not) =
             let over : fallen_by is.n start < w'.time = omega (arith, not) in
-            inr (over, fallen_back says_announce g is.n is.top is.best is.next is.base is.depth is.tree start
-            (fallen_by is.n start) (view w') back' reached over (settles_by is.n start) (settles_later is.n start)
-            settles' (suc (fallen_by is.n start)) in_time
-            (λ f. let by = in_time f in omega (arith, by)))
+            inr (
+              over,
+              fallen_back says_announce g is.n is.top is.best is.next is.base is.depth is.tree start
+                  (fallen_by is.n start) (view w') back' reached over (settles_by is.n start) (settles_later is.n start)
+                  settles' (suc (fallen_by is.n start)) in_time
+                  (λ f. let by = in_time f in omega (arith, by)),
+            )
 
   fallen_step : IsFallenAlways p g silent start w'
   fallen_step = record {

@@ -176,4 +176,3 @@ module _ (p : SettlingParams) (w : WorldState) (is : IsWorld p w) (place : ℕ) 
                 (k.is_b.here ∙ ap (λ s. Some s) (sym one)) named),
             named ∙ is_b,
           ))
-

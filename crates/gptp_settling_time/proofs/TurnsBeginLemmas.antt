@@ -70,7 +70,6 @@ module _ (p : SettlingParams) (w : WorldState) (is : IsWorld p w) (place : ℕ) 
   wired : SameWiring seen.n n
   wired = wires p w is place channel here draws w' is' k seen near n delay refl
 
-
   -- ---- the end that isn't moved
 
   -- the system is nearer to none

@@ -456,7 +456,7 @@ module _ (says : Spelling) (n0 n : Network) (x d e : ℕ) (best : System) (t : T
     old' turned s pu l at there at_l =
         by_port s pu l at there at_l tells
         (port_stood says n0 n x t.well t.left (moved_x says n0 n x d e best t) net0 w calm0 invariant0 late0 sound0 same w' lost other a
-      kept' y q
+        kept' y q
         s pu neighbour.apart neighbour.known at there (on s pu l at there at_l))
         (a.lanes (n.lane from) l at_l)
 
