@@ -319,7 +319,8 @@ module _ (says : Spelling) (n0 n : Network) (top : ℕ) (best next : System) (ba
             by (pv', there') = answered (z.reacts.ports p pv' there')
               where
                 on' : pv'.held ≢ Disabled
-                on' = teller_on g n t.well t.left n.most 0 best top p u q joins (omega arith) w' m'.kept m'.fits.stations
+                on' = teller_on g n t.well t.left n.most 0 best top p u q joins (omega arith) w' m'.kept
+                    m'.fits.stations
                     z.s' pv' z.there there'
 
                 answered : ((old : Port) × (slice_get z.s.ports p ≡ Some old)

@@ -191,7 +191,8 @@ module _ (says : Spelling) (g : Snapshot) (n : Network) (top : ℕ) (best next :
           call.reacts.clock ∙ ap (λ (x : PortIdentity). x.clock) (sym from) in
           let at = subst (λ i. slice_get w'.stations i ≡ Some call.s')
           (m'.kept.calm.placed call.place call.s' call.there ∙ ap n.place clock) call.there in
-          tells_new says g n top best next base depth t start w' m' v in_v call.s' at holds' (not call.s' at) p u q joins
+          tells_new says g n top best next base depth t start w' m' v in_v call.s' at holds' (not call.s' at) p u q
+          joins
           deeper z.port a own master (ap (λ (x : PortIdentity). x.port) (sym from))
 
       -- a free link stays so
@@ -243,7 +244,8 @@ module _ (says : Spelling) (g : Snapshot) (n : Network) (top : ℕ) (best next :
                       (show_old v p u q in_v joins deeper w' m' holds' root') step
                       (λ since pv pu l stand ready. inr (inr (stays pv pu l stand)))
 
-              leaves_now : s'.root ≢ best.identity → (slice_get w.stations (n.place v) ≡ Some s') ⊎ TreeAnswers says n next v w w'
+              leaves_now : s'.root ≢ best.identity → (slice_get w.stations (n.place v) ≡ Some s') ⊎ TreeAnswers says
+                  n next v w w'
                   → AtLink says n v p u q (HoldsTold says (still n (base + depth v) best v p u q)
                   (IsNewTold n.graph (port_of v (suc p)) u) (falls_by n start (suc (depth v)))) w'
               leaves_now not' (inl stood) = absurd (not' (root s' stood))

@@ -265,8 +265,12 @@ module _ (says : Spelling) (g : Snapshot) (n : Network) (top : ℕ) (best next :
                 (own.path ∙ itself.trace))
             by (inr port) =
                 let h = holds_in s port.place port.r at port.holds in
-                whole_on n.graph x h.v port.r.said a (free_holds not port.place port.r port.holds) (in_left x in_x)
-                (suc port.place, suc h.p, Joins-sym n.graph (port_of h.v (suc h.p)) (port_of x (suc port.place)) h.joins)
+                whole_on n.graph x h.v port.r.said a (free_holds not port.place port.r port.holds) (in_left x in_x) (
+                  suc port.place,
+                  suc h.p,
+                  Joins-sym n.graph (port_of h.v (suc h.p)) (port_of x (suc port.place))
+                      h.joins,
+                )
                 (no_loop port.place port.r port.holds) (own.root ∙ port.root) (own.steps ∙ port.steps)
                 (own.path ∙ subst (λ c. s.trace ≡ port.r.said.path ++ c ∷ []) is_x.1 port.trace)
 
@@ -434,7 +438,8 @@ module _ (says : Spelling) (g : Snapshot) (n : Network) (top : ℕ) (best next :
       -- who has the root of before has it for a way at most
       pub old_in_time : (d x : ℕ) → depth x ≡ d → IsBest n.graph x next → RootIs n w x best
           → w.time ≤ falls_by n start d
-      old_in_time zero x deep in_x root = none (station_of g n t.well t.left w m.kept m.fits.stations x (in_left x in_x))
+      old_in_time zero x deep in_x root = none (station_of g n t.well t.left w m.kept m.fits.stations x (in_left x
+          in_x))
         where
           none : ((s : Station) × (slice_get w.stations (n.place x) ≡ Some s) × (s.live ≡ true) × (s.clock ≡ x))
               → w.time ≤ falls_by n start 0
@@ -460,7 +465,8 @@ module _ (says : Spelling) (g : Snapshot) (n : Network) (top : ℕ) (best next :
               lane : (l : Lane) × (slice_get w.lanes (n.lane (port_of old.v (suc old.p))) ≡ Some l)
               lane = lane_there old.v old.p x old.i old.joins
 
-              by : DownStage says n best (base + depth old.v) (falls_by n start (suc (depth old.v))) old.v old.p x old.i w
+              by : DownStage says n best (base + depth old.v) (falls_by n start (suc (depth old.v))) old.v old.p x
+                  old.i w
                   → w.time ≤ falls_by n start (suc d)
               by (inl (root_v, stays)) =
                   let before : w.time ≤ falls_by n start d = sooner old.v up old.in_v root_v in

@@ -208,7 +208,8 @@ module _ (says : Spelling) (g : Snapshot) (n : Network) (top : ℕ) (best next :
 
         soon : (h : AnnounceFrame) → In h fs → h.due ≤ now + n.most
         soon h among =
-            let by = (on_time g n t.well t.left n.most 0 best v p u q joins (omega arith) w m.kept m.fits.stations l h at
+            let by = (on_time g n t.well t.left n.most 0 best v p u q joins (omega arith) w m.kept m.fits.stations l
+            h at
             (subst (In h) (sym frames) (inr among))).due (omega arith) in
             omega (arith, by, time)
 
@@ -259,7 +260,8 @@ module _ (says : Spelling) (g : Snapshot) (n : Network) (top : ℕ) (best next :
             (link_back g n t.well t.left n.most 0 best v p u q joins (omega arith)) in
             let has = m'.kept.calm.lanes (port_of v (suc p)) (port_of u (suc q)) joins in
             elim (is s pu has.lane at there has.there) [
-              | inl old ↦ inl (λ s2 pu2 l2 at2 there2 lane2. one s pu has.lane at there has.there Holds old s2 pu2 l2 at2
+              | inl old ↦ inl (λ s2 pu2 l2 at2 there2 lane2. one s pu has.lane at there has.there Holds old s2 pu2
+                  l2 at2
                   there2 lane2)
               | inr free ↦ inr (λ s2 pu2 l2 at2 there2 lane2. one s pu has.lane at there has.there
                   (IsFree says n.graph v u) free s2 pu2 l2 at2 there2 lane2)

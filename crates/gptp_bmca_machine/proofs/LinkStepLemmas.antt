@@ -150,7 +150,8 @@ module _ (says : Spelling) (n : Network) (v p u q : ℕ) where
         called act.touch w act.call (λ i s at. at) refl P is (λ other. keeps.stays)
         (λ here pu pu' l end end' at_l there answer.
         keeps.answers act.touch w.time act.call.s'.root act.call.s'.steps pu pu' act.call.sends l.frames end end' refl
-        (λ h among. calm.left (n.lane (port_of v (suc p))) l h at_l among) answer (λ a touched. act.deaf (suc q) a touched) (λ r grown holds. aged pu r there grown holds))
+        (λ h among. calm.left (n.lane (port_of v (suc p))) l h at_l among) answer (λ a touched. act.deaf (suc q) a
+        touched) (λ r grown holds. aged pu r there grown holds))
       where
         aged : (pu : Port) (r : Reception) → slice_get act.call.s.ports q ≡ Some pu → act.touch ≡ Grow (suc q)
             → pu.held ≡ Received r → r.at + r.span ≤ w.time

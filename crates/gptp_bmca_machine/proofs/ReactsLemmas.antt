@@ -43,7 +43,8 @@ mid_from c n now Other held mid r is e = inl (sym is ∙ e)
 
 -- what a port received after a touch it had received before, or it just heard it, could use it, and it replaced what
 -- the port held
-pub mid_heard : (c n now : ℕ) (touch : StationTouch) (held mid : Held) (r : Reception) → HeldInTouch c n touch now held mid
+pub mid_heard : (c n now : ℕ) (touch : StationTouch) (held mid : Held) (r : Reception) → HeldInTouch c n touch now
+    held mid
     → mid ≡ Received r
     → (held ≡ Received r)
     ⊎ ((a : Announce) × (touch ≡ Hear n a) × IsUsable c a × Replaces c n a held × (r.said ≡ a))

@@ -1,7 +1,7 @@
 -- Whether events cut off a tree of systems, by one link that is lost (profile).
 --
--- What each system of the tree had chosen says where it stands in it: from the one at the top, which lost the link, each
--- link leads one step farther or one step nearer.
+-- What each system of the tree had chosen says where it stands in it: from the one at the top, which lost the link,
+-- each link leads one step farther or one step nearer.
 use Rattle.std.specs.Prelude.{ℕ, ◌-◌, ◌==◌, ◌&&◌, ◌||◌, nat_le, nat_lt, not, Bool, false, if◌then◌else◌, List, [], ◌∷◌, length, Option, Some, None, slice_get}
 use Rattle.std.specs.List.{count_by, list_all, range_with_len}
 use Rattle.gptp_scenario.specs.Network.{NetworkState}

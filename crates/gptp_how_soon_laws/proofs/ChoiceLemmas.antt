@@ -230,7 +230,7 @@ module _ (d : DocumentState) (playable : IsPlayable d) where
         let bound = (sound_before rest).0 in
         let then = so rest.settling rest.is in
         let less = then.rest in
-        let passed = tree.late in (
+        let passed = tree.longer in (
           inr (
             late,
             between,

@@ -545,7 +545,7 @@ module _ (n : NetworkState) (network : IsNetwork n) (events : List Timed) (b : S
   -- a tree is cut off, an announce interval after all came to rest
   pub record CutsLate (rest : HasComeToRest b at) : Type 0 where
     pub lowers : OneEvent (LowersTree n) made now
-    pub late : b.at + (rest.settling.rest + largest_interval (pace_of n)) < at
+    pub longer : b.at + (rest.settling.rest + largest_interval (pace_of n)) < at
 
   -- or one system turns, or that
   pub turned : AreWell n (made ++ now) → row_at v ≡ OneTurned
@@ -571,7 +571,7 @@ module _ (n : NetworkState) (network : IsNetwork n) (events : List Timed) (b : S
               let (late, tree) = and_parts late_test tree_test both in
               inr (record {
                 lowers = lowers_tree n network made now well tree delay paths few lowers;
-                late = rested_for_so (largest_interval (pace_of n)) b at rest.settling rest.is late;
+                longer = rested_for_so (largest_interval (pace_of n)) b at rest.settling rest.is late;
               })
         ],
       )

@@ -351,16 +351,16 @@ module _ (n : NetworkState) (network : IsNetwork n) (made events : List Timed) w
           subst (λ v. IsAt n t.other v) b (subst (λ i. IsAt n i t.wire.a.clock) to (place_a t.wire t.known))
     ]
 
-    top_is : Is t.top t.top_clock
+    abbrev top_is : Is t.top t.top_clock
     top_is = is_at t.top t.top_clock at_top (known_after t.top_clock ends_at_top.1)
 
-    best : System
+    abbrev best : System
     best = top_is.chose.best
 
-    next : System
+    abbrev next : System
     next = top_is.chooses.best
 
-    base : ℕ
+    abbrev base : ℕ
     base = top_is.was.steps
 
     -- ---- who is of the tree
@@ -433,9 +433,8 @@ module _ (n : NetworkState) (network : IsNetwork n) (made events : List Timed) w
     depth : ℕ → ℕ
     depth v = depth_at (place_of (systems_after n []) v)
 
-    unfolding depth
-
     depth_there : (i v : ℕ) → IsAt n i v → depth v ≡ depth_at i
+    unfolding depth
     depth_there i v at = ap depth_at (place_is n network made g stands well [] i v at)
 
     depth_is : (i v : ℕ) (s : Is i v) → IsBest h v next → base + depth v ≡ s.was.steps
@@ -708,7 +707,7 @@ module _ (n : NetworkState) (network : IsNetwork n) (made events : List Timed) w
         let same : base ≡ top_is.was.steps = refl in
         omega (arith, is, same)
 
-    pub is_cut : IsCutTree g h t.top_clock t.other_clock best next base depth
+    is_cut : IsCutTree g h t.top_clock t.other_clock best next base depth
     is_cut = record {
       in_top = top_is.chooses.is_best;
       outside = outside;
@@ -722,6 +721,10 @@ module _ (n : NetworkState) (network : IsNetwork n) (made events : List Timed) w
       single = single_so;
     }
 
+    pub cut_so : (best : System) × (next : System) × (base : ℕ) × (depth : ℕ → ℕ)
+        × IsCutTree g h t.top_clock t.other_clock best next base depth
+    cut_so = (best, next, base, depth, is_cut)
+
 -- ---- the event
 
 module _ (n : NetworkState) (network : IsNetwork n) (made : List Timed) (event : Timed) where
@@ -734,13 +737,8 @@ module _ (n : NetworkState) (network : IsNetwork n) (made : List Timed) (event :
         let well_g = well made (event ∷ []) refl g stands in
         let well_h = well later [] (append-nil later) h stands' in
         let back : (m : SystemSpec) → In m n.systems → (system_after made m).live ≡ (system_after later m).live =
-        λ m member. lives_still n network made event d m member in (
-          _,
-          _,
-          _,
-          _,
-          is_cut n network made later t g h stands stands' well_g well_h back,
-        )
+        λ m member. lives_still n network made event d m member in
+        cut_so n network made later t g h stands stands' well_g well_h back
 
     ends_so : (place : ℕ) (v : LinkSpec) → slice_get n.links place ≡ Some v
         → IsEnd (port_id d.clock d.port) (link_after made v)

@@ -86,7 +86,8 @@ module _ (p : SettlingParams) (w : WorldState) (is : IsWorld p w) (place : ℕ) 
 
   module _ (lost other : ℕ) (a : EndAnswers says_announce n top lost other (view w) (view w'))
       (outside : (m : SeenStation) → slice_get (view w').stations other ≡ Some m → m.live ≡ true
-      → IsBest (snapshot_of w') m.clock next → ⊥) (pace : KeepPace p) (measured' : LinkIsMeasured w') (past : silent ≤ w.time)
+      → IsBest (snapshot_of w') m.clock next → ⊥) (pace : KeepPace p) (measured' : LinkIsMeasured w') (past : silent
+      ≤ w.time)
       (late_then : delay_in w' ≤ w'.time) (sound : IsSoundWorld w)
       (named : FlightNames says_announce (snapshot_of w) (view w)) (ready' : AreReadyBy p silent w')
       (quiet_by : AreSilentBy p silent w) where
@@ -286,20 +287,21 @@ module _ (p : SettlingParams) (silent owner port : ℕ) (w : WorldState) (draws 
         → clock station.system ≡ other
         → EndAnswers says_announce (left_network p silent w') top lost place (view w) (view w') → (m : SeenStation)
         → slice_get (view w').stations place ≡ Some m → m.live ≡ true → IsBest (snapshot_of w') m.clock next → ⊥
-    not_tree lost place station stands is_other a m at lives in_m = elim (ℕ_discrete place ((left_network p silent w').place top)) [
-      | yes same ↦
-          let one = machine_there (view w).stations place (station_view station) a.s
-          (station_there w.stations place station stands)
-          (subst (λ i. slice_get (view w).stations i ≡ Some a.s) (sym same) a.here) in
-          so.outside (subst (λ c. IsBest (snapshot_of w') c next)
-          (sym a.named ∙ ap (λ (z : SeenStation). z.clock) (sym one) ∙ is_other) so.in_top)
-      | no apart ↦
-          let (old, stood, less) = a.others place m at lives apart in
-          let one = machine_there (view w).stations place old (station_view station) stood
-          (station_there w.stations place station stands) in
-          so.outside (subst (λ c. IsBest (snapshot_of w') c next)
-          (less.clock ∙ ap (λ (z : SeenStation). z.clock) one ∙ is_other) in_m)
-    ]
+    not_tree lost place station stands is_other a m at lives in_m = elim (ℕ_discrete place ((left_network p silent
+        w').place top)) [
+          | yes same ↦
+              let one = machine_there (view w).stations place (station_view station) a.s
+              (station_there w.stations place station stands)
+              (subst (λ i. slice_get (view w).stations i ≡ Some a.s) (sym same) a.here) in
+              so.outside (subst (λ c. IsBest (snapshot_of w') c next)
+              (sym a.named ∙ ap (λ (z : SeenStation). z.clock) (sym one) ∙ is_other) so.in_top)
+          | no apart ↦
+              let (old, stood, less) = a.others place m at lives apart in
+              let one = machine_there (view w).stations place old (station_view station) stood
+              (station_there w.stations place station stands) in
+              so.outside (subst (λ c. IsBest (snapshot_of w') c next)
+              (less.clock ∙ ap (λ (z : SeenStation). z.clock) one ∙ is_other) in_m)
+        ]
 
     by_a : channel.a.clock ≡ top → channel.b.clock ≡ other → (i : ℕ) → channel.a.port ≡ i
         → HasPortNumber told.station_a.system i → IsFallenAlways p (snapshot_of w) silent w.time w'

@@ -713,5 +713,6 @@ module _ {F : Type 0} (answers : Bounds → ℕ → F → Option ℕ → F → T
     leads_to past (Left next) leads named so = leads_to_left past next leads so
     leads_to past (Turned silent now) leads named so = leads_to_turned past silent now leads so
     leads_to past (Fallen silent now) leads named so = leads_to_fallen past silent now leads named so
-    leads_to past (Cleared since silent right old) leads named so = leads_to_cleared past since silent right old leads so
+    leads_to past (Cleared since silent right old) leads named so = leads_to_cleared past since silent right old
+        leads so
     leads_to past (Aging aged silent) leads named so = leads_to_aging past aged silent leads so

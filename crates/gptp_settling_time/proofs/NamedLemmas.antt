@@ -1,4 +1,5 @@
--- Once the choice of a world stands what it sends names the best; an announce interval later all that is in flight does.
+-- Once the choice of a world stands what it sends names the best; an announce interval later all that is in flight
+-- does.
 use Rattle.std.proofs.Common.{◌≡◌, ◌<◌, ◌≤◌, ◌+◌, ℕ, true, List, Some, slice_get, sym, ap, subst, ◌∙◌, inl, inr, arith}
 use Rattle.gptp_lists.specs.Members.{In}
 use Rattle.gptp_lists.proofs.SystemSpecLemmas.{In-parts}

@@ -44,17 +44,20 @@ module _ (says : Spelling) (n0 n : Network) (x d e : ℕ) (best : System) (t : T
   fits0 = everything_fits says n0 w net0.graph calm0.facts sound0
 
   fits_then : EverythingFits says g n w'
-  fits_then = fits' says n0 n x t.well t.left (moved_x says n0 n x d e best t) net0 w calm0 invariant0 late0 sound0 same w' lost other a kept'
+  fits_then = fits' says n0 n x t.well t.left (moved_x says n0 n x d e best t) net0 w calm0 invariant0 late0 sound0
+      same w' lost other a kept'
 
   levels_then : (f : ℕ) → StillSettles says g n f w'
-  levels_then = levels' says n0 n x t.well t.left (moved_x says n0 n x d e best t) net0 w calm0 invariant0 late0 sound0 same w' lost other a kept'
+  levels_then = levels' says n0 n x t.well t.left (moved_x says n0 n x d e best t) net0 w calm0 invariant0 late0
+      sound0 same w' lost other a kept'
 
   -- ---- what names the system
 
   held_names : (i : ℕ) (m : Station) → slice_get w'.stations i ≡ Some m → m.live ≡ true
       → HoldsOnly (NamesLate g x e best) m
   held_names i m at live place r holds =
-      let o = held_before says n0 n x t.well t.left (moved_x says n0 n x d e best t) net0 w calm0 invariant0 late0 sound0 same w' lost other a kept' i m place r at live holds in
+      let o = held_before says n0 n x t.well t.left (moved_x says n0 n x d e best t) net0 w calm0 invariant0 late0
+      sound0 same w' lost other a kept' i m place r at live holds in
       held_late says n0 n x d e best t net0 w calm0 invariant0 late0 near0 o.i o.old place r o.at o.live o.holds
       (sound0.stations o.i o.old o.at o.live place r o.holds)
 
@@ -64,20 +67,22 @@ module _ (says : Spelling) (n0 n : Network) (x d e : ℕ) (best : System) (t : T
       lanes : (j : ℕ) (l' : Lane) (f : AnnounceFrame) (c : Announce) → slice_get w'.lanes j ≡ Some l'
           → In f l'.frames → says f.octets c → In l'.to.clock (clocks n.graph)
           → ComesLate g x e best l'.from l'.to c
-      lanes j l' f c at among said known = elim (flew says n0 n x t.well t.left (moved_x says n0 n x d e best t) net0 w calm0 invariant0 late0 sound0 same w' lost other a kept' j l' f c at among said) [
-        | inl o ↦
-            let fit = fits0.lanes j o.l f c o.at o.among said
-            (live_before g n t.well t.left o.l.to.clock
-            (subst (λ (k : PortIdentity). In k.clock (clocks n.graph)) o.to known)) in
-            let late = flight_late says n0 n x d e best t net0 w calm0 invariant0 late0 near0 o.l f c j o.at o.among
-            said fit.joins (sound0.lanes j o.l o.at f c o.among said) in
-            subst (λ k. ComesLate g x e best k l'.to c) (sym o.from)
-            (subst (λ k. ComesLate g x e best o.l.from k c) (sym o.to) late)
-        | inr sent ↦
-            let (port, own, master, from) = sent.own in
-            inl (own_names says g n x d e best t w' kept' fits_then levels_then dark' (n.place x) a.s' port c a.there live'
-            (held_names (n.place x) a.s' a.there live') own master)
-      ]
+      lanes j l' f c at among said known = elim (flew says n0 n x t.well t.left (moved_x says n0 n x d e best t)
+          net0 w calm0 invariant0 late0 sound0 same w' lost other a kept' j l' f c at among said) [
+            | inl o ↦
+                let fit = fits0.lanes j o.l f c o.at o.among said
+                (live_before g n t.well t.left o.l.to.clock
+                (subst (λ (k : PortIdentity). In k.clock (clocks n.graph)) o.to known)) in
+                let late = flight_late says n0 n x d e best t net0 w calm0 invariant0 late0 near0 o.l f c j o.at o.among
+                said fit.joins (sound0.lanes j o.l o.at f c o.among said) in
+                subst (λ k. ComesLate g x e best k l'.to c) (sym o.from)
+                (subst (λ k. ComesLate g x e best o.l.from k c) (sym o.to) late)
+            | inr sent ↦
+                let (port, own, master, from) = sent.own in
+                inl (own_names says g n x d e best t w' kept' fits_then levels_then dark' (n.place x) a.s' port c
+                a.there live'
+                (held_names (n.place x) a.s' a.there live') own master)
+          ]
 
   pub moving' : IsMoving says g n x e best w'
   moving' = record { kept = kept'; fits = fits_then; levels = levels_then; dark = dark'; names = names' }

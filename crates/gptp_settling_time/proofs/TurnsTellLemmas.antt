@@ -90,15 +90,18 @@ module _ (says : Spelling) (n0 n : Network) (x d e : ℕ) (best : System) (t : T
 
   fits_then : (i : ℕ) (m : Station) (place : ℕ) (r : Reception) → slice_get w'.stations i ≡ Some m → m.live ≡ true
       → HoldsAt m place r → CameFits g m.clock (suc place) r
-  fits_then = received' says n0 n x t.well t.left (moved_x says n0 n x d e best t) net0 w calm0 invariant0 late0 sound0 same w' lost other a
+  fits_then = received' says n0 n x t.well t.left (moved_x says n0 n x d e best t) net0 w calm0 invariant0 late0
+      sound0 same w' lost other a
       kept'
 
   moving_now : IsMoving says g n x e best w'
-  moving_now = moving' says n0 n x d e best t net0 w calm0 invariant0 late0 near0 sound0 same w' lost other a kept' dark'
+  moving_now = moving' says n0 n x d e best t net0 w calm0 invariant0 late0 near0 sound0 same w' lost other a kept'
+      dark'
 
   placed : (c : ℕ) (s : Station) → slice_get w.stations (n.place c) ≡ Some s
       → slice_get w.stations (n0.place c) ≡ Some s
-  placed = at_place says n0 n x t.well t.left (moved_x says n0 n x d e best t) net0 w calm0 invariant0 late0 sound0 same w' lost other a
+  placed = at_place says n0 n x t.well t.left (moved_x says n0 n x d e best t) net0 w calm0 invariant0 late0 sound0
+      same w' lost other a
       kept'
 
   -- ---- what the system tells now
@@ -106,7 +109,8 @@ module _ (says : Spelling) (n0 n : Network) (x d e : ℕ) (best : System) (t : T
   known : In x (clocks n.graph)
   known =
       subst (λ c. In c (clocks n.graph)) named'
-      (known_x says n0 n x t.well t.left (moved_x says n0 n x d e best t) net0 w calm0 invariant0 late0 sound0 same w' lost other a
+      (known_x says n0 n x t.well t.left (moved_x says n0 n x d e best t) net0 w calm0 invariant0 late0 sound0 same
+      w' lost other a
       kept')
 
   close : e < 255
@@ -118,7 +122,8 @@ module _ (says : Spelling) (n0 n : Network) (x d e : ℕ) (best : System) (t : T
   -- what it holds came from who was nearer
   came : (place : ℕ) (r : Reception) → HoldsAt a.s' place r → HeldDown g x place r d
   came place r holds =
-      let o = held_before says n0 n x t.well t.left (moved_x says n0 n x d e best t) net0 w calm0 invariant0 late0 sound0 same w' lost other a
+      let o = held_before says n0 n x t.well t.left (moved_x says n0 n x d e best t) net0 w calm0 invariant0 late0
+      sound0 same w' lost other a
       kept'
       (n.place x) a.s' place r a.there live' holds in
       let clock = o.clock ∙ named' in
@@ -455,7 +460,8 @@ module _ (says : Spelling) (n0 n : Network) (x d e : ℕ) (best : System) (t : T
     pub old' : (turned : ℕ) → OldAt says g n x d e best t p y q joins heard (w.time + n.most) turned w'
     old' turned s pu l at there at_l =
         by_port s pu l at there at_l tells
-        (port_stood says n0 n x t.well t.left (moved_x says n0 n x d e best t) net0 w calm0 invariant0 late0 sound0 same w' lost other a
+        (port_stood says n0 n x t.well t.left (moved_x says n0 n x d e best t) net0 w calm0 invariant0 late0 sound0
+        same w' lost other a
         kept' y q
         s pu neighbour.apart neighbour.known at there (on s pu l at there at_l))
         (a.lanes (n.lane from) l at_l)

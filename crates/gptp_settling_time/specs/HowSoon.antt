@@ -269,9 +269,9 @@ LosesNext n events Then last time Asks =
     × ((then : ℕ) × Then then × (last + then < time))
     × Asks (events_by last events) (events_at time events)
 
--- By the one event of a time a tree is cut off, in a calm network where nothing lapses for want of Sync. The event comes
--- an announce interval after the time before has come to rest, by one of its bounds. The tree drops the best of before
--- within a way, and settles within another.
+-- By the one event of a time a tree is cut off, in a calm network where nothing lapses for want of Sync. The event
+-- comes an announce interval after the time before has come to rest, by one of its bounds. The tree drops the best of
+-- before within a way, and settles within another.
 abbrev pub BoundsTree : NetworkState → List Timed → (ℕ → Type 0) → ℕ → ℕ → ℕ → ℕ → Type 0
 BoundsTree n events Then last time choice roles =
     (last < time)

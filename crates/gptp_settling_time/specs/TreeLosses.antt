@@ -17,9 +17,9 @@ use Rattle.gptp_model.specs.World.{port_id}
 use Rattle.gptp_settling_time.specs.Losses.{IsUnmoved}
 
 -- From the first snapshot to the second a tree of systems is cut off, those whose best is `next` then, and all others
--- are unmoved. Before, its systems had another best, with the lower identity. Each was as far from it as its depth says,
--- from `base` on. The one at the top lost its link to the other; each link that the others had they have still. A link
--- leads one deeper or less deep by one, and each system has one link at most to such as are less deep.
+-- are unmoved. Before, its systems had another best, with the lower identity. Each was as far from it as its depth
+-- says, from `base` on. The one at the top lost its link to the other; each link that the others had they have still. A
+-- link leads one deeper or less deep by one, and each system has one link at most to such as are less deep.
 pub record IsCutTree (g g' : Snapshot) (top other : ℕ) (best next : System) (base : ℕ) (depth : ℕ → ℕ) : Type 0 where
   pub in_top : IsBest g' top next
   pub outside : IsBest g' other next → ⊥
