@@ -97,9 +97,9 @@ failed_row far used =
 -- come from any past. The first time has no loss: nothing was there to be lost. Events that make nothing of what stands
 -- leave it as it was. So does a link that gets wider, and so do losses that are followed, where no system is moved.
 -- Where one link or one system is taken away such as are cut off don't count as moved. There it matters whether the
--- link that goes down cuts off a far end (`cut`), and whether the one system that it moves turns (`turned`). Of a
--- system that fails it matters whether it was a far end, so that no other heard it (`far`), and whether each link that
--- is up then is in use (`used`).
+-- link that goes down cuts off a far end (`cut`), and whether the one system that it moves turns, or a tree falls off
+-- (`turned`). Of a system that fails it matters whether it was a far end, so that no other heard it (`far`), and
+-- whether each link that is up then is in use (`used`).
 abbrev pub row_of : Bool → Bool → SyncPaths → SyncPaths → List Told → Bool → Bool → Bool → Bool → Bool → Row
 row_of from_rest first paths_before paths told moved cut turned far used =
     if not from_rest then AnyPast

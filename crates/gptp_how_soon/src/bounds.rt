@@ -61,6 +61,7 @@ pub enum Row {
     /// A system fails that others heard, and none is moved but such as are cut off. A link is up that isn't in use.
     FailedHeard,
     /// By its one event a link goes down that moves one system alone. That keeps its root, and turns to others for it.
+    /// Or it cuts off a tree, whose systems have a worse root then.
     OneTurned,
     /// None of its events is a loss.
     Gained,

@@ -218,8 +218,8 @@ fn failed_row(far: bool, used: bool) -> Row
 }
 
 /// What is known of a time, by whether it is from rest, whether it is the first, and what its events do: whether they
-/// move a system, whether each link that is lost cuts off a far end, whether a system that they move alone turns,
-/// whether the one that fails was a far end, and whether each link that is up then is in use.
+/// move a system, whether each link that is lost cuts off a far end, whether a system that they move alone turns or a
+/// tree falls off, whether the one that fails was a far end, and whether each link that is up then is in use.
 pub(crate) fn row_of(
     from_rest: bool,
     first: bool,
