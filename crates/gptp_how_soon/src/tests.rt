@@ -448,7 +448,7 @@ fn a_tree_that_a_link_cuts_off_settles_within_two_ways(rt: HostRuntime) -> Resul
                 ("b", "3", "d", "1"),
                 ("c", "2", "d", "2"),
             ] as &[(&str, &str, &str, &str)],
-            12_000_002_050,
+            15_000_000_820,
         ),
     ] {
         let times = cut(rt.alloc(), clocks, links)?;
@@ -464,7 +464,7 @@ fn a_tree_that_a_link_cuts_off_settles_within_two_ways(rt: HostRuntime) -> Resul
 #[test]
 fn a_tree_falls_off_an_announce_interval_after_rest(rt: HostRuntime) -> Result<(), Fail> {
     // The line rests 1000003460 ns after its start.
-    for (at, choice) in [(2_000_003_460, 12_000_002_050), (2_000_003_461, 1_640)] {
+    for (at, choice) in [(2_000_003_460, 15_000_000_820), (2_000_003_461, 1_640)] {
         let mut event = String::new(rt.alloc());
         writeln!(
             event,
