@@ -124,3 +124,6 @@ pub mod AgingDownLemmas
 pub mod AgingToLemmas
 pub mod FailedHeardLemmas
 pub mod EmptiedLemmas
+pub mod MovedFlightLemmas
+pub mod RightBeginLemmas
+pub mod ToldAnewLemmas

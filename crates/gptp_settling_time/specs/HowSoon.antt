@@ -40,7 +40,7 @@ use Rattle.gptp_model.specs.World.{port_id}
 use Rattle.gptp_network.specs.Document.{DocumentState}
 use Rattle.gptp_network.specs.Snapshot.{events_by}
 use Rattle.gptp_settling_time.specs.Gains.{ChangesNothing, EndHasFailed, LeavesCapable, TakesNothing}
-use Rattle.gptp_settling_time.specs.InTurn.{AddsHeard, BettersClock, FlightIsGone, MakesNothing, NoneUsed, TellsNothing, UsedVaryLittle, WidensLink, echo_span}
+use Rattle.gptp_settling_time.specs.InTurn.{AddsHeard, BettersClock, FlightIsGone, MakesNothing, NoneUsed, TellsNothing, UsedVaryLittle, WidensLink, echo_span, turned_echo_span}
 use Rattle.gptp_settling_time.specs.Losses.{CutsFarEnd, FailsFarEnd, FailsHeard, LeavesChoice, LowersLink, LowersUnused, TurnsLink, UpIsUsed, aging_span, silence_span}
 
 -- ---- times
@@ -266,15 +266,19 @@ LosesNext n events Then last time Asks =
 
 -- After the loss of a far end a network has come to rest so much later: what was in flight is gone. Where a link is up
 -- then that isn't in use, roles stand, and the greatest delay has passed for each system of a path but one. After
--- another such link goes down right traces are told before.
+-- another such link goes down right traces are told before. Where one system is moved it settles first. That takes two
+-- ways, by which what was in flight is gone where each link that is up is in use.
 abbrev pub RestsAfterLoss : NetworkState → List Timed → List Timed → ℕ → Type 0
 RestsAfterLoss n made now rest =
     (CutsOneEnd n made now × FlightIsGone n made rest)
     ⊎ ((FailsEndFirst n made now
     × ((UpIsUsed n (made ++ now) × FlightIsGone n made rest)
     ⊎ (rest ≡ capability_span (pace_of n) + way_span (sync_paths n (made ++ now)))))
-    ⊎ (LowersOneLink n made now
-    × ((gone : ℕ) × FlightIsGone n (made ++ now) gone × (rest ≡ echo_span n (made ++ now) + gone))))
+    ⊎ ((LowersOneLink n made now
+    × ((gone : ℕ) × FlightIsGone n (made ++ now) gone × (rest ≡ echo_span n (made ++ now) + gone)))
+    ⊎ (TurnsOneLink n made now
+    × ((UpIsUsed n (made ++ now) × (rest ≡ turned_echo_span n (made ++ now)))
+    ⊎ (rest ≡ turned_echo_span n (made ++ now) + largest_interval (pace_of n))))))
 
 -- By so much later than a time the network has come to rest, by the times before it, the latest first: it has settled,
 -- and nothing that is held, or in flight, names what is gone. The first time of all is 0.
