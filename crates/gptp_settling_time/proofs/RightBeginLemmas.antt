@@ -9,7 +9,7 @@ use Rattle.gptp_bmca_machine.specs.Network.{IsSettlingNetwork, Network}
 use Rattle.gptp_bmca_machine.specs.SoundLaws.{AllAreNear}
 use Rattle.gptp_bmca_machine.specs.Station.{MachineState}
 use Rattle.gptp_bmca_machine.proofs.EndsLemmas.{is_station}
-use Rattle.gptp_settling_time.proofs.RightLemmas.{IsSettledState, LevelTellsRight, link_facts}
+use Rattle.gptp_settling_time.proofs.TellsRightLemmas.{IsSettledState, LevelTellsRight, link_facts}
 
 pub right_enters : (says : Spelling) (n : Network) → IsSettlingNetwork n → AllAreNear n.graph → (base time : ℕ)
     (w w' : MachineState) → Calm n w → w.time < base → w' ≡ record w { time = time } → IsSettledState says n w'

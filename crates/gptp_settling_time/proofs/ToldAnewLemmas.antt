@@ -46,8 +46,9 @@ use Rattle.gptp_settling_time.proofs.LeftClaimedLemmas.{HaveAskedBy, IsLeftAlway
 use Rattle.gptp_settling_time.proofs.MovedAlwaysLemmas.{IsMovedAlways, calm_now, moved_acts, moved_later, moved_seen, nothing_held, turned_by}
 use Rattle.gptp_settling_time.proofs.MovedFlightLemmas.{FlightsFit, fits_then, flights_begin, flights_kept}
 use Rattle.gptp_settling_time.proofs.RightBeginLemmas.{right_enters}
-use Rattle.gptp_settling_time.proofs.RightLemmas.{IsSettledState, LevelTellsRight, all_right}
+use Rattle.gptp_settling_time.proofs.RightLemmas.{all_right}
 use Rattle.gptp_settling_time.proofs.SettledSeenLemmas.{IsSettledSeen, stage_settled}
+use Rattle.gptp_settling_time.proofs.TellsRightLemmas.{IsSettledState, LevelTellsRight}
 use Rattle.gptp_settling_time.proofs.TurnLemmas.{starts_far}
 use Rattle.gptp_settling_time.proofs.UnlinkedLemmas.{IsLeftSeen}
 
