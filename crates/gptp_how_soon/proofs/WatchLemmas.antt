@@ -1,9 +1,9 @@
 -- A time is watched for longer than its choice.
-use Rattle.std.proofs.Common.{◌≡◌, ◌<◌, ◌≤◌, ◌+◌, ◌*◌, ℕ, zero, suc, pred, Bool, true, false, cond, List, [], ◌∷◌, Option, Some, sym, subst, inl, inr, arith}
+use Rattle.std.proofs.Common.{◌≡◌, ◌<◌, ◌≤◌, ◌+◌, ◌*◌, ℕ, Bool, true, false, cond, List, [], ◌∷◌, Option, Some, sym, subst, inl, inr, arith}
 use Rattle.std.specs.Prelude.{◌==◌, not}
 use Rattle.std.proofs.lemmas.Nat.{mul-le}
 use Rattle.std.proofs.lemmas.Option.{same_Some}
-use Rattle.std.proofs.Math.Nat.{le-max_left, le-max_right}
+use Rattle.std.proofs.Math.Nat.{le-max_left}
 use Rattle.gptp_setup.specs.Intervals.{interval_of}
 use Rattle.gptp_setup.specs.SettlingParams.{largest_interval, longest_span}
 use Rattle.gptp_lists.specs.Members.{In}
@@ -13,7 +13,7 @@ use Rattle.gptp_scenario.proofs.LogLemmas.{keeps_pace}
 use Rattle.gptp_scenario.specs.SettlingAtOnce.{settling_span_at_once}
 use Rattle.gptp_scenario.specs.SettlingTime.{capability_span, settling_span_with}
 use Rattle.gptp_scenario.specs.declared.sync_wait.SyncPaths.{SyncPaths}
-use Rattle.gptp_how_soon.specs.Bounds.{choice_by, choice_of_row, roles_by, settled, settling_by, silence_span, sound_by, sound_of_row, watch, way_span}
+use Rattle.gptp_how_soon.specs.Bounds.{choice_by, choice_of_row, roles_by, settled, settling_by, silence_span, sound_by, sound_of_row, watch}
 use Rattle.gptp_how_soon.specs.Kinds.{sets_link}
 use Rattle.gptp_how_soon.specs.Times.{View, events_at, events_before, gained_at, row_at, settling_times, settling_times_from, time_at, view_at}
 use Rattle.gptp_how_soon.specs.declared.bounds.Row.{Row}
@@ -21,22 +21,7 @@ use Rattle.gptp_how_soon.specs.declared.bounds.Row.TheVariants.{AnyPast, FailedE
 use Rattle.gptp_how_soon.specs.declared.bounds.Settling.{Settling}
 use Rattle.gptp_how_soon.specs.declared.bounds.SettlingTime.{SettlingTime}
 
--- two ways are no longer than what stands from any past takes to settle
-two_ways : (n : NetworkState) (paths : SyncPaths) → 2 * way_span paths ≤ settling_span_at_once (pace_of n) paths
-two_ways n paths =
-    let turns : ℕ = paths.systems * (longest_span (pace_of n) + paths.delay) in
-    let fewer : pred paths.systems ≤ paths.systems = less paths.systems in
-    let way : pred paths.systems * paths.delay ≤ turns =
-    mul-le (pred paths.systems) paths.delay paths.systems (longest_span (pace_of n) + paths.delay) fewer
-    (omega arith) in
-    let more = le-max_right (capability_span (pace_of n)) (2 * largest_interval (pace_of n) + turns) in
-    omega (arith, way, more)
-  where
-    less : (k : ℕ) → pred k ≤ k
-    less zero = omega arith
-    less (suc k) = omega arith
-
--- nor is the time by which the ports beside a failed system aren't capable any more
+-- the ports beside a failed system aren't capable any more before what stands from any past has settled
 silence_sooner : (n : NetworkState) → IsNetwork n → (paths : SyncPaths)
     → silence_span n.params ≤ settling_span_at_once (pace_of n) paths
 silence_sooner n network paths =
@@ -66,7 +51,7 @@ sound_later n network paths used row gained = by (n.params.sync_timeout == 0) ro
     by true LostPower = omega arith
     by true FailedEnd = omega arith
     by true FailedHeard = let sooner = silence_sooner n network paths in omega (arith, sooner)
-    by true OneTurned = two_ways n paths
+    by true OneTurned = omega arith
     by true Gained = omega arith
 
 watched_longer : (n : NetworkState) → IsNetwork n → (at last_set : ℕ) (paths : SyncPaths)

@@ -190,9 +190,15 @@ module _ (d : DocumentState) (playable : IsPlayable d) where
         by (inr (inl (row, is))) =
             let (rest, fails) = failed n playable.network all b at late well row in
             (rest, inr (inl (fails, inr (it.sound ∙ is))))
-        by (inr (inr (row, is))) =
+        by (inr (inr (inl (row, is)))) =
             let (rest, lowers, flight) = lowered n playable.network all b at late well row in
-            (rest, inr (inr (lowers, (gone_by n v.paths v.used_before, flight, it.sound ∙ is))))
+            (rest, inr (inr (inl (lowers, (gone_by n v.paths v.used_before, flight, it.sound ∙ is)))))
+        by (inr (inr (inr (row, is)))) =
+            let (rest, turns, unused) = turned n playable.network all b at late well row in
+            (rest, inr (inr (inr (turns, elim unused [
+              | inl (used, none) ↦ let same = it.sound in inl (used, omega (arith, same, is, none))
+              | inr later ↦ let same = it.sound in inr (omega (arith, same, is, later))
+            ]))))
 
     -- the choice and the roles stand by then, or sooner after a loss
     record IsSooner (s : Settling) : Type 0 where
@@ -263,7 +269,7 @@ module _ (d : DocumentState) (playable : IsPlayable d) where
             let (rest, fails) = failed n playable.network all b at late well row in
             (rest, inl (it.choice ∙ none, inr (fails, inr (it.roles ∙ is))))
         by (inr (inl (row, is, same))) =
-            let (rest, turns) = turned n playable.network all b at late well row in
+            let (rest, turns, unused) = turned n playable.network all b at late well row in
             (rest, inr (inl (turns, it.choice ∙ is, it.roles ∙ same ∙ sym it.choice)))
         by (inr (inr (row, is, same))) =
             let (rest, fails, delay) = heard n playable.network all b at late well row in

@@ -196,7 +196,7 @@ module _ (p : SettlingParams) (g : Snapshot) (silent start : ℕ) (w w' : WorldS
 
     module _ (gone : ℕ) (goes' : GoesBy p gone w') (late' : start + way_in w' < w'.time) where
       left' : IsLeftAlways p (snapshot_of w') silent w'
-      left' = moved_left p g silent start w' moved' late' flights_then
+      left' = moved_left p g silent start w' moved' late' (λ links none. flights_then)
 
       goes : GoesBy p gone w
       goes = elim goes' [

@@ -73,42 +73,46 @@ module _ (d : DocumentState) (events : List Timed) (silent time : ℕ) where
       moved_settles (pace_of d.network) so.before silent time w so.since.moved
       (quiet_stands d.network events w playable.network so.keeps.stands so.keeps.claim.world.sound calm).links off late
 
-  -- once traces are told anew claims are made of all links always
-  pub turned_to_claimed : (w : WorldState) (start : ℕ) → IsTurnedTo d events silent time w → IsPlayable d
-      → HasToldAnew d.network events silent time start w.time → IsClaimedTo d events start w
-  turned_to_claimed w start so playable rest = record {
-    keeps = so.keeps;
-    since = elim rest.told [
-      | inl (used, told) ↦ claimed (delay_in w) (inl (up_in_use d events w so.keeps used, refl)) (by_delay told)
-      | inr told ↦ claimed (largest_interval p) (inr refl) (by_interval told)
-    ];
-  }
-    where
-      abbrev p : SettlingParams
-      p = pace_of d.network
+  -- ---- once traces are told anew
 
-      paths : sync_paths d.network events ≡ sync_paths_of w
-      paths = paths_stand d.network events w playable.network so.keeps.stands so.keeps.claim.world.sound
+  module _ (w : WorldState) (start : ℕ) (so : IsTurnedTo d events silent time w) (playable : IsPlayable d)
+      (rest : HasToldAnew d.network events silent time start w.time) where
+    abbrev pace : SettlingParams
+    pace = pace_of d.network
 
-      claimed : (gone : ℕ) → GoesBy p gone w → told_anew p time w + gone < w.time → IsClaimedAlways p start w
-      claimed gone goes over =
-          turned_claimed p so.before silent time w so.since
-          (quiet_stands d.network events w playable.network so.keeps.stands so.keeps.claim.world.sound
-          rest.calm).links rest.off gone goes over start rest.later
-          (silent_by_later p silent start w rest.unlinked so.since.silent_by)
+    paths : sync_paths d.network events ≡ sync_paths_of w
+    paths = paths_stand d.network events w playable.network so.keeps.stands so.keeps.claim.world.sound
 
-      abbrev twice : SyncPaths → ℕ
-      twice x = time + (2 * (pred x.systems * x.delay) + pred x.systems * (largest_interval p + x.delay))
+    -- two ways, and then an announce interval and a delay for each system of a path but one
+    abbrev echo : SyncPaths → ℕ
+    echo x = 2 * (pred x.systems * x.delay) + pred x.systems * (largest_interval pace + x.delay)
 
-      by_delay : time + turned_echo_span d.network events < w.time → told_anew p time w + delay_in w < w.time
-      by_delay told =
-          let late : twice (sync_paths_of w) < w.time = subst (λ x. twice x < w.time) paths (omega (arith, told)) in
-          let two = two_delays p so.before silent time w so.since.moved in
-          omega (arith, late, two)
+    claimed : (gone : ℕ) → GoesBy pace gone w → told_anew pace time w + gone < w.time → IsClaimedAlways pace start w
+    claimed gone goes over =
+        turned_claimed pace so.before silent time w so.since
+        (quiet_stands d.network events w playable.network so.keeps.stands so.keeps.claim.world.sound
+        rest.calm).links rest.off gone goes over start rest.later
+        (silent_by_later pace silent start w rest.unlinked so.since.silent_by)
 
-      by_interval : time + turned_echo_span d.network events + largest_interval p < w.time
-          → told_anew p time w + largest_interval p < w.time
-      by_interval told =
-          let late : twice (sync_paths_of w) + largest_interval p < w.time =
-          subst (λ x. twice x + largest_interval p < w.time) paths (omega (arith, told)) in
-          omega (arith, late)
+    by_delay : time + turned_echo_span d.network events < w.time → told_anew pace time w + delay_in w < w.time
+    by_delay told =
+        let late : time + echo (sync_paths_of w) < w.time = subst (λ x. time + echo x < w.time) paths told in
+        let two = two_delays pace so.before silent time w so.since.moved in
+        omega (arith, late, two)
+
+    by_interval : time + turned_echo_span d.network events + largest_interval pace < w.time
+        → told_anew pace time w + largest_interval pace < w.time
+    by_interval told =
+        let late : time + echo (sync_paths_of w) + largest_interval pace < w.time =
+        subst (λ x. time + echo x + largest_interval pace < w.time) paths told in
+        omega (arith, late)
+
+    -- claims are made of all links always
+    pub turned_to_claimed : IsClaimedTo d events start w
+    turned_to_claimed = record {
+      keeps = so.keeps;
+      since = elim rest.told [
+        | inl (used, told) ↦ claimed (delay_in w) (inl (up_in_use d events w so.keeps used, refl)) (by_delay told)
+        | inr told ↦ claimed (largest_interval pace) (inr refl) (by_interval told)
+      ];
+    }
