@@ -48,7 +48,7 @@ use Rattle.gptp_settling_time.proofs.TurnsBeginLemmas.{act_turned}
 use Rattle.gptp_settling_time.proofs.WorldMovesLemmas.{cut_off_so, far_end_so, near_so, stays_joined, turns_so}
 use Rattle.gptp_bmca_machine.specs.SoundLaws.{AllAreNear}
 use Rattle.gptp_invariants.specs.ChoiceView.{view}
-use Rattle.gptp_settling_time.specs.Losses.{FailsFarEnd, IsCutOff, IsFarEnd, LowersLink, UpIsUsed, silence_span}
+use Rattle.gptp_settling_time.specs.Losses.{FailsFarEnd, IsCutOff, IsFarEnd, LowersLink, silence_span}
 use Rattle.gptp_settling_time.proofs.ClearedLemmas.{GoesBy, IsCleared}
 use Rattle.gptp_settling_time.proofs.ClearedToLemmas.{IsClearedTo}
 use Rattle.gptp_settling_time.proofs.ClearsLemmas.{all_but_cut, clears, cut_joins_none, ready_asked, rights}
@@ -281,7 +281,8 @@ module _ (d : DocumentState) (playable : IsPlayable d) (made : List Timed) (even
         subst (λ t. AreDueBy t then) (omega (arith, is, at_time)) (due_by_interval p then world_then)
 
     goes_by : (gone : ℕ) → FlightIsGone n more gone → GoesBy p gone w'
-    goes_by gone (inl (used, is)) = inl (up_in_use d more w' after used, is ∙ ap (λ (u : SyncPaths). u.delay) paths_after)
+    goes_by gone (inl (used, is)) =
+        inl (up_in_use d more w' after used, is ∙ ap (λ (u : SyncPaths). u.delay) paths_after)
     goes_by gone (inr is) = inr is
 
     -- links begin to tell right traces

@@ -1,6 +1,6 @@
 -- What a system tells once each neighbour has turned away from the one that is moved fits what is left. What was told
 -- before is gone a delay later: from then on all that is held and in flight fits it.
-use Rattle.std.proofs.Common.{◌≡◌, ◌⊎◌, ◌<◌, ◌≤◌, ◌+◌, ℕ, suc, true, List, Some, slice_get, sym, subst, ◌∙◌, inl, inr, arith}
+use Rattle.std.proofs.Common.{◌≡◌, ◌⊎◌, ◌<◌, ◌≤◌, ◌+◌, ℕ, true, List, Some, slice_get, sym, subst, ◌∙◌, inl, inr, arith}
 use native.Mathlib.Decide.{dec_le}
 use Rattle.gptp_lists.specs.Members.{In}
 use Rattle.gptp_lists.proofs.SystemSpecLemmas.{In-parts}
@@ -80,8 +80,8 @@ module _ (says : Spelling) (g : Snapshot) (n : Network) (x d e : ℕ) (best : Sy
           | no late ↦
               inr (flight_fits says n.graph n itself w' m'.kept.calm call.place call.s' call.there live'
               (λ place r holds.
-              received_then says g n x d e best t last before w' m' (omega (arith, late)) each' call.place call.s' place r
-              call.there live' holds) p a own l' from joins)
+              received_then says g n x d e best t last before w' m' (omega (arith, late)) each' call.place call.s' place
+              r call.there live' holds) p a own l' from joins)
         ]
           where
             sender : In l'.from.clock (clocks n.graph)

@@ -1,7 +1,7 @@
 -- As a moment comes from which on right traces are claimed to be told, and by which a network has settled, each link is
 -- at its stage: each system tells within an announce interval.
 use Rattle.std.proofs.Common.{◌≡◌, ◌<◌, ◌≤◌, ℕ, suc, Some, slice_get, subst, inl, arith}
-use Rattle.gptp_graph.specs.Snapshot.{IsLinked, PortIdentity, System, port_of}
+use Rattle.gptp_graph.specs.Snapshot.{IsLinked, PortIdentity, port_of}
 use Rattle.gptp_graph.proofs.LinkLemmas.{Joins-clock}
 use Rattle.gptp_bmca_machine.specs.Calm.{Calm, IsCalmPort}
 use Rattle.gptp_bmca_machine.specs.Frame.{Spelling}

@@ -1,6 +1,6 @@
 -- A world since one system was moved: once its network has settled traces are told anew, by distance. All that is held
 -- becomes sound then, and what was in flight before is gone. So claims are made of it as of one since news.
-use Rattle.std.proofs.Common.{◌≡◌, ◌⊎◌, ◌<◌, ◌≤◌, ◌+◌, ◌*◌, ℕ, zero, suc, pred, List, Some, slice_get, refl, sym, ap, subst, ◌∙◌, inl, inr, arith}
+use Rattle.std.proofs.Common.{◌≡◌, ◌<◌, ◌≤◌, ◌+◌, ◌*◌, ℕ, zero, suc, pred, List, Some, slice_get, refl, sym, ap, subst, ◌∙◌, inl, inr, arith}
 use native.Mathlib.Decide.{dec_le, dec_lt}
 use Rattle.gptp_lists.specs.Members.{In}
 use Rattle.gptp_graph.specs.Distance.{IsDistance}
@@ -17,9 +17,8 @@ use Rattle.gptp_model.specs.Acts.{Acts, at as at_time}
 use Rattle.gptp_model.specs.Pending.{NothingBefore}
 use Rattle.gptp_model.specs.World.{WorldState}
 use Rattle.gptp_model.specs.declared.done.Done.{Done}
-use Rattle.gptp_bmca_machine.specs.Acts.{MachineSteps, MomentComes, StationActs}
+use Rattle.gptp_bmca_machine.specs.Acts.{MachineSteps, MomentComes}
 use Rattle.gptp_bmca_machine.specs.Calm.{Calm}
-use Rattle.gptp_bmca_machine.specs.Frame.{Announce, AnnounceFrame, Lane}
 use Rattle.gptp_bmca_machine.specs.LossLaws.{EverythingFits}
 use Rattle.gptp_bmca_machine.specs.Network.{Network}
 use Rattle.gptp_bmca_machine.specs.RestLaws.{SameWiring}
