@@ -37,7 +37,7 @@ module _ (says : Spelling) (k : Wiring) where
   tail_behind b (f ∷ fs) news tail = inr (tail_behind b fs news tail)
 
   -- a final tail is over once its time has come: nothing in flight is due before now
-  tail_over : (b now : ℕ) (fs : List AnnounceFrame) → FinalTail says k b fs → b ≤ now
+  pub tail_over : (b now : ℕ) (fs : List AnnounceFrame) → FinalTail says k b fs → b ≤ now
       → ((f : AnnounceFrame) → In f fs → now ≤ f.due) → ⊥
   tail_over b now [] tail late left = tail
   tail_over b now (f ∷ fs) (inl (due, said, all)) late left =

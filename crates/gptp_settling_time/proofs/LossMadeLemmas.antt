@@ -92,20 +92,17 @@ module _ (d : DocumentState) (playable : IsPlayable d) (made : List Timed) (even
     paths_after : sync_paths n more ≡ sync_paths_of w'
     paths_after = paths_stand n more w' playable.network after.stands after.claim.world.sound
 
-    same_delay : (sync_paths n more).delay ≡ (sync_paths n made).delay → delay_in w' ≡ delay_in then
-    same_delay same =
-        sym (ap (λ (y : SyncPaths). y.delay) paths_after) ∙ same ∙ ap (λ (y : SyncPaths). y.delay) paths_then
-
     -- the way that is left is no longer
-    way_over : (sync_paths n more).delay ≡ (sync_paths n made).delay
+    way_over : (sync_paths n more).delay ≤ (sync_paths n made).delay
         → (sync_paths n more).systems ≤ (sync_paths n made).systems
         → pred (path_bound (snapshot_of w')) * delay_in w' ≤ w'.time
-    way_over same fewer =
-        let shorter : path_bound (snapshot_of w') ≤ path_bound (snapshot_of then) =
-        subst (λ (x : SyncPaths). path_bound (snapshot_of w') ≤ x.systems) paths_then
-        (subst (λ (x : SyncPaths). x.systems ≤ (sync_paths n made).systems) paths_after fewer) in
-        let less = less_way (path_bound (snapshot_of then)) (path_bound (snapshot_of w')) (delay_in then) (delay_in w')
-        shorter (same_delay same) in
+    way_over least fewer =
+        let less = subst (λ (x : SyncPaths). pred x.systems * x.delay
+        ≤ pred (path_bound (snapshot_of then)) * delay_in then) paths_after
+        (subst (λ (x : SyncPaths). pred (sync_paths n more).systems * (sync_paths n more).delay
+        ≤ pred x.systems * x.delay) paths_then
+        (less_way (sync_paths n made).systems (sync_paths n more).systems (sync_paths n made).delay
+        (sync_paths n more).delay fewer least)) in
         let over = rest.over in
         omega (arith, over, less, time)
 
@@ -138,8 +135,8 @@ module _ (d : DocumentState) (playable : IsPlayable d) (made : List Timed) (even
       lowered_since =
           act_left p start x.clock x.port then draws done w' keeps.claim.pace world_then after.claim.world
           keeps.claim.measured after.claim.measured came was_up lowered_seen lowered_near lowered_quiet past rest.ready
-          rest.silent (stays_joined d playable made event then w' keeps after x.moves) (same_delay x.delay)
-          (way_over x.delay x.paths) rest.sound
+          rest.silent (stays_joined d playable made event then w' keeps after x.moves) (way_over x.delay x.paths)
+          rest.sound
 
       lowered_asked : HaveAskedBy start w'
       lowered_asked =
@@ -221,8 +218,8 @@ module _ (d : DocumentState) (playable : IsPlayable d) (made : List Timed) (even
           (seen_then fails.calm fails.off) (near_so d playable made then keeps y.few)
           (far_end_so d playable made then keeps y.clock y.far)
           (stays_joined d playable made event then w' keeps after y.moves) rest.sound start next keeps.claim.pace
-          keeps.claim.measured after.claim.measured (omega (arith, over, at_time)) (same_delay y.delay)
-          (way_over y.delay y.paths) rest.ready failed_quiet rest.silent (omega (arith, at_time, long))
+          keeps.claim.measured after.claim.measured (omega (arith, over, at_time)) (way_over y.delay y.paths)
+          rest.ready failed_quiet rest.silent (omega (arith, at_time, long))
 
       failed_asked : HaveAskedBy start w'
       failed_asked =
@@ -336,7 +333,7 @@ module _ (d : DocumentState) (playable : IsPlayable d) (made : List Timed) (even
               (seen_then now.calm now.off) (near_so d playable made then keeps x.few)
               (stays_joined d playable made event then w' keeps after x.moves) rest.sound start aged silent
               keeps.claim.pace keeps.claim.measured after.claim.measured (omega (arith, over, at_time))
-              (same_delay x.delay) (way_over x.delay x.paths) rest.ready
+              (omega (arith, over, at_time)) (way_over x.delay x.paths) rest.ready
               (quiet_stands n made then playable.network keeps.stands world_then.sound now.calm).links rest.silent
               (let unanswered = now.unanswered in omega (arith, at_time, unanswered))
               (omega (arith, gone, delay, at_time));
@@ -374,7 +371,7 @@ module _ (d : DocumentState) (playable : IsPlayable d) (made : List Timed) (even
               (near_so d playable made then keeps x.few)
               (live_ends channel used) x.moved was far best turns
               (near_so d playable more w' after (omega (arith, few, fewer)))
-              (end_of channel x.moved moved) (same_delay x.delay) (way_over x.delay x.paths) rest.sound)
+              (end_of channel x.moved moved) (way_over x.delay x.paths) rest.sound)
               (time ∙ sym at_time) (last ∙ time ∙ sym at_time)
               (lowered_silent p start x.clock x.port then draws done w' keeps.claim.pace world_then
               after.claim.world keeps.claim.measured after.claim.measured came up rest.silent)

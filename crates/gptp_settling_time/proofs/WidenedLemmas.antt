@@ -480,16 +480,12 @@ module _ (p : SettlingParams) (start next by place : ℕ) (w : WorldState) (is :
           (on_links says_announce (snapshot_of widened) (view widened) sound')
 
       wired : SameWiring seen.n (start_network p m next widened)
-      wired =
-          let most = seen.most in
-          let more = delay_set_more (live_stations w.stations) w.net.channels place channel b here wider.most in
-          record {
-            place = seen.same.place;
-            lane = λ q. lane_set w.net.channels place channel new q here refl refl ∙ seen.same.lane q;
-            log = seen.same.log;
-            interval = seen.same.interval;
-            most = omega (arith, most, more);
-          }
+      wired = record {
+        place = seen.same.place;
+        lane = λ q. lane_set w.net.channels place channel new q here refl refl ∙ seen.same.lane q;
+        log = seen.same.log;
+        interval = seen.same.interval;
+      }
 
       -- so it is in every network with the wiring and the delays of this world
       last_stages : (n : Network) → n.graph ≡ snapshot_of widened → SameWiring seen.n n
@@ -519,7 +515,6 @@ module _ (p : SettlingParams) (start next by place : ℕ) (w : WorldState) (is :
               lane = same.lane;
               log = same.log;
               interval = same.interval;
-              most = same.most;
             });
         in_turn = λ m bounded calm short. absurd (none_short p (paths_with m widened) off short);
       }
