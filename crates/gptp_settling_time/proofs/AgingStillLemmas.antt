@@ -1,7 +1,7 @@
 -- What is known of each state while what is held of a failed system ages: it ages, all that is held and in flight fits
 -- the snapshot of before, and each unmoved system keeps its root and steps and tells them. Once nothing is received at
 -- ports without a link each link is at its stage.
-use Rattle.std.proofs.Common.{◌≡◌, ◌≢◌, ◌⊎◌, ◌≤◌, ◌<◌, ◌+◌, ℕ, ℤ, suc, true, false, List, [], ◌∷◌, Some, slice_get, sym, ap, subst, ◌∙◌, inl, inr, arith}
+use Rattle.std.proofs.Common.{◌≡◌, ◌⊎◌, ◌≤◌, ◌<◌, ◌+◌, ℕ, ℤ, suc, true, false, List, [], Some, slice_get, sym, ap, subst, ◌∙◌, inl, inr, arith}
 use Rattle.gptp_lists.specs.Members.{In}
 use Rattle.gptp_graph.specs.Snapshot.{IsWellFormed, Joins, PortIdentity, Snapshot, System, clocks, port_of}
 use Rattle.gptp_graph.proofs.LinkLemmas.{Joins-clock, Joins-sym}
@@ -10,7 +10,7 @@ use Rattle.gptp_bmca_machine.specs.Calm.{Calm}
 use Rattle.gptp_bmca_machine.specs.Frame.{Announce, AnnounceFrame, Lane, Spelling}
 use Rattle.gptp_bmca_machine.specs.Levels.{Invariant, LeadsFarther, LevelSettles}
 use Rattle.gptp_bmca_machine.specs.Link.{Ends, Stand}
-use Rattle.gptp_bmca_machine.specs.LinkStage.{FinalAnnounceStays, FinalTail, IsFinal, LinkStage}
+use Rattle.gptp_bmca_machine.specs.LinkStage.{FinalAnnounceStays, IsFinal, LinkStage}
 use Rattle.gptp_bmca_machine.specs.LossLaws.{EverythingFits, IsAfterLoss, IsWhatIsLeft, Unmoved}
 use Rattle.gptp_bmca_machine.specs.Network.{IsSettlingNetwork, Network, settled_from, wiring}
 use Rattle.gptp_bmca_machine.specs.RestLaws.{SameWiring}
