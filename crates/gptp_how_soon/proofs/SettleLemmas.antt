@@ -9,13 +9,13 @@ use Rattle.gptp_topology.specs.declared.course.Cable.{Cable}
 use Rattle.gptp_topology.specs.declared.course.Standing.{Standing}
 use Rattle.gptp_how_soon.specs.Far.{up_is_used}
 use Rattle.gptp_how_soon.specs.Bounds.{heard_by, ready, times_by, way_span}
-use Rattle.gptp_how_soon.specs.Kinds.{begins_wider, is_loss, makes_nothing, sets_link}
+use Rattle.gptp_how_soon.specs.Kinds.{begins_wider, brings_nothing, is_loss, makes_nothing, sets_link}
 use Rattle.gptp_how_soon.specs.Links.{new_among}
 use Rattle.gptp_how_soon.specs.Rest.{are_losses_followed, asks_who_is_far, asks_who_is_moved, failed_row, heard_at_once, is_failing_followed, is_from_rest, is_lowering_followed, row_of}
 use Rattle.gptp_how_soon.specs.Times.{settling_time}
 use Rattle.gptp_how_soon.specs.Walk.{cuts_seen, far_seen, moves_seen, turns_seen, view_seen}
 use Rattle.gptp_how_soon.specs.declared.bounds.Row.{Row}
-use Rattle.gptp_how_soon.specs.declared.bounds.Row.TheVariants.{AnyPast, Gained, LostEnd, Lowered, OneTurned, Unchanged}
+use Rattle.gptp_how_soon.specs.declared.bounds.Row.TheVariants.{AnyLosses, AnyPast, Gained, LostEnd, Lowered, OneTurned, Unchanged}
 use Rattle.gptp_how_soon.specs.declared.bounds.SettlingTime.{SettlingTime}
 use Rattle.gptp_how_soon.specs.declared.kinds.Told.{Told}
 use Rattle.gptp_how_soon.specs.declared.walk.Walk.{Walk}
@@ -44,13 +44,15 @@ same_row from_rest first before paths told moved cut alone far used =
         else if lowering && ((rest && (followed || lowering || failing)) && alone) then OneTurned
         else if failing && not ((rest && (followed || lowering || failing)) && moved)
         then failed_row ((rest && failing) && far) used
-        else if list_any is_loss told then AnyPast else Gained)
+        else if list_any is_loss told then if list_all brings_nothing told then AnyLosses else AnyPast
+        else Gained)
         ≡ (if not rest then AnyPast else if first then Gained else if idle then Unchanged
         else if followed && not moved then Unchanged
         else if lowering && not moved then if cut then LostEnd else Lowered
         else if lowering && alone then OneTurned
         else if failing && not moved then failed_row far used
-        else if list_any is_loss told then AnyPast else Gained)
+        else if list_any is_loss told then if list_all brings_nothing told then AnyLosses else AnyPast
+        else Gained)
     by false idle followed lowering failing = refl
     by true idle true lowering true = refl
     by true idle true lowering false = refl
@@ -62,7 +64,8 @@ same_row from_rest first before paths told moved cut alone far used =
 pub settled_so : (n : NetworkState) (w : Walk) (at : ℕ) (first followed from_rest calm sets moved cut alone far : Bool)
     (paths : SyncPaths) (told : List Told) (standings : List Standing) (used : List Bool) (new : List Cable)
     (soon heard way : ℕ) (row : Row) (time : SettlingTime) (all_used : Bool)
-    → time ≡ times_by n at w.last_set paths calm sets w.all_used_before row (soon + heard + way)
+    → time
+    ≡ times_by n at w.last_set w.paths_before paths calm sets w.all_used_before all_used row (soon + heard + way)
     → row ≡ row_of from_rest first w.paths_before paths told moved cut alone far all_used
     → far ≡ (asks_who_is_far from_rest w.paths_before paths told && far_seen w)
     → moved ≡ (asks_who_is_moved from_rest w.paths_before paths told && moves_seen w)

@@ -6,9 +6,9 @@ use Rattle.std.specs.Prelude.{ℕ, ◌+◌, ◌*◌, ◌==◌, ◌&&◌, ◌||�
 use Rattle.std.specs.List.{list_all, list_any}
 use Rattle.gptp_scenario.specs.declared.sync_wait.SyncPaths.{SyncPaths}
 use Rattle.gptp_how_soon.specs.Bounds.{way_span}
-use Rattle.gptp_how_soon.specs.Kinds.{are_heard, begins_wider, fails_and_recovers, fails_first, first_wider_by, is_better, is_gain, is_loss, is_other, is_recovery, is_wider, leaves_links, lowers_one, lowers_unused, makes_nothing, tells_nothing}
+use Rattle.gptp_how_soon.specs.Kinds.{are_heard, begins_wider, brings_nothing, fails_and_recovers, fails_first, first_wider_by, is_better, is_gain, is_loss, is_other, is_recovery, is_wider, leaves_links, lowers_one, lowers_unused, makes_nothing, tells_nothing}
 use Rattle.gptp_how_soon.specs.declared.bounds.Row.{Row}
-use Rattle.gptp_how_soon.specs.declared.bounds.Row.TheVariants.{AnyPast, FailedEnd, FailedHeard, Gained, LostEnd, LostPower, Lowered, OneTurned, Unchanged}
+use Rattle.gptp_how_soon.specs.declared.bounds.Row.TheVariants.{AnyLosses, AnyPast, FailedEnd, FailedHeard, Gained, LostEnd, LostPower, Lowered, OneTurned, Unchanged}
 use Rattle.gptp_how_soon.specs.declared.bounds.Settling.{Settling}
 use Rattle.gptp_how_soon.specs.declared.bounds.SettlingTime.{SettlingTime}
 use Rattle.gptp_how_soon.specs.declared.kinds.Told.{Told}
@@ -84,11 +84,12 @@ abbrev pub failed_row : Bool → Bool → Row
 failed_row far used =
     if far then if used then LostEnd else FailedEnd else if used then LostPower else FailedHeard
 
--- Not from rest, or after a loss, the network may come from any past. Events that make nothing of what stands leave it
--- as it was. So does a link that gets wider, and so do losses that are followed, where no system is moved; one that is
--- cut off doesn't count where one link or one system is taken away. It counts whether the link that goes down cuts off
--- a far end, whether a system that is moved alone turns, whether a link is up then that isn't in use, and whether a
--- system that fails was a far end, so that no other heard it. At the start nothing was, and so nothing is lost.
+-- Not from rest, or where it both gains and loses, the network may come from any past. Events that make nothing of what
+-- stands leave it as it was. So does a link that gets wider, and so do losses that are followed, where no system is
+-- moved; one that is cut off doesn't count where one link or one system is taken away. It counts whether the link that
+-- goes down cuts off a far end, whether a system that is moved alone turns, whether a link is up then that isn't in
+-- use, and whether a system that fails was a far end, so that no other heard it. Other losses have a bound where no
+-- event of the time brings anything. At the start nothing was, and so nothing is lost.
 abbrev pub row_of : Bool → Bool → SyncPaths → SyncPaths → List Told → Bool → Bool → Bool → Bool → Bool → Row
 row_of from_rest first paths_before paths told moved cut turned far used =
     if not from_rest then AnyPast
@@ -98,7 +99,8 @@ row_of from_rest first paths_before paths told moved cut turned far used =
     else if is_lowering_followed paths_before paths told && not moved then if cut then LostEnd else Lowered
     else if is_lowering_followed paths_before paths told && turned then OneTurned
     else if is_failing_followed paths_before paths told && not moved then failed_row far used
-    else if list_any is_loss told then AnyPast else Gained
+    else if list_any is_loss told then if list_all brings_nothing told then AnyLosses else AnyPast
+    else Gained
 
 -- it counts whether a system is moved
 abbrev pub asks_who_is_moved : Bool → SyncPaths → SyncPaths → List Told → Bool

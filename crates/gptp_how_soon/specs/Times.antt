@@ -77,7 +77,8 @@ row_at v =
 
 abbrev pub settling_time : NetworkState → View → SettlingTime
 settling_time n v =
-    times_by n v.at v.last_set v.paths v.calm (sets_link v.told) v.used_before (row_at v) (gained_at n v)
+    times_by n v.at v.last_set v.paths_before v.paths v.calm (sets_link v.told) v.used_before v.used (row_at v)
+    (gained_at n v)
 
 -- ---- what is seen
 

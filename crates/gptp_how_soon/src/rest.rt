@@ -6,9 +6,9 @@ ghost use Rattle.gptp_how_soon.specs.Rest.{are_events_followed, are_losses_follo
 
 use crate::bounds::{Row, SettlingTime, way_span};
 use crate::kinds::{
-    Told, all_leave_links, all_make_nothing, all_tell_nothing, any_better, any_gain, any_loss,
-    any_lowers_unused, any_other, any_recovery, any_wider, are_heard, begins_wider,
-    fails_and_recovers, fails_first, first_wider_by, lowers_one,
+    Told, all_bring_nothing, all_leave_links, all_make_nothing, all_tell_nothing, any_better,
+    any_gain, any_loss, any_lowers_unused, any_other, any_recovery, any_wider, are_heard,
+    begins_wider, fails_and_recovers, fails_first, first_wider_by, lowers_one,
 };
 use gptp_scenario::SyncPaths;
 
@@ -233,7 +233,11 @@ pub(crate) fn row_of(
     } else if is_failing_followed(paths_before, paths, told) && !moved {
         failed_row(far, used)
     } else if any_loss(told) {
-        Row::AnyPast
+        if all_bring_nothing(told) {
+            Row::AnyLosses
+        } else {
+            Row::AnyPast
+        }
     } else {
         Row::Gained
     }

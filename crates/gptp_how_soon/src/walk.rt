@@ -178,6 +178,7 @@ impl Walk {
         requires paths { paths ≡ marked_paths self.now.tables.marks.items self.now.tables.nodes.items }
         requires few { paths.systems ≤ 512 }
         requires short { paths.delay ≤ 16000000000 }
+        requires short_before { self.now.paths_before.delay ≤ 16000000000 }
         requires early { at ≤ LATEST_EVENT }
         requires set { self.now.last_set ≤ at }
         ensures is { IfOk result (λ time. time ≡ settling_time network.now (view_seen network.now self.now at)) }
@@ -203,10 +204,12 @@ impl Walk {
             network,
             at,
             self.last_set,
+            paths_before,
             paths,
             self.tables.is_calm(network, paths),
             sets_link(told),
             self.all_used_before,
+            all_used,
             row_of(
                 from_rest,
                 first,
