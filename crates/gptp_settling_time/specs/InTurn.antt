@@ -20,7 +20,8 @@
 -- flight is gone, and ports without a link aren't capable, it has come to rest as if all had been heard. Where a system
 -- fails that others hear, what they hold of it ages; the choice stands once that is gone. Where a link goes down that
 -- so moves one system alone, it has *turned*, and the network settles 1 ns and the greatest delay for each system of a
--- path but one later.
+-- path but one later. Where at one time anything else is taken away the network has *lost*: whatever is moved, once all
+-- that is held is told by live systems over links in use, it settles as one that has gained.
 use Rattle.std.specs.Prelude.{◌≡◌, ◌<◌, ◌≤◌, ◌⊎◌, ◌+◌, ◌*◌, ℕ, ⊤, pred, suc, List, [], ◌∷◌, ◌++◌, Option, Some, slice_get}
 use Rattle.gptp_lists.specs.Members.{In}
 use Rattle.gptp_vector.specs.declared.port.PortId.{PortId}
@@ -46,13 +47,14 @@ use Rattle.gptp_settling_time.specs.ChoiceAlone.{ChoiceStandsAs}
 use Rattle.gptp_settling_time.specs.Documents.{IsSettledAs}
 use Rattle.gptp_settling_time.specs.Exactly.{SettlesBy}
 use Rattle.gptp_settling_time.specs.Gains.{AreCapableAnyway, AreCapableNext, AreCapableStill, ChangesNothing, EndHasFailed, HasRested, IsDownAfter, IsNoWorse, JoinsLive, LeavesCapable, TakesNothing, UsesNoLink, exchanged_from}
-use Rattle.gptp_settling_time.specs.Losses.{CutsFarEnd, FailsFarEnd, FailsHeard, LeavesChoice, LowersLink, LowersUnused, TurnsLink, UpIsUsed, aging_span, silence_span}
+use Rattle.gptp_settling_time.specs.Losses.{AreSilentAfter, CutsFarEnd, FailsFarEnd, FailsHeard, LeavesChoice, LosesAny, LowersLink, LowersUnused, TurnsLink, UpIsUsed, aging_span, loss_span, silence_span}
 
 -- what a network came from, and from when on its ports are capable; of one that is left, from when on ports without a
 -- link aren't; of one in which a system has turned, from when on they aren't, and when it did; of one that is cleared,
 -- from when on its ports are capable, from when on those without a link aren't, from when on what is held is right, and
 -- by when what was in flight is gone; of one in which what is held of a failed
--- system ages, from when on it is gone, and from when on ports without a link aren't capable
+-- system ages, from when on it is gone, and from when on ports without a link aren't capable; of one that has lost, when
+-- it did, how much later what was in flight is gone, and from when on ports without a link aren't capable
 pub data Past : Type 0 where
   AnyPast : Past
   Starting : Past
@@ -62,6 +64,7 @@ pub data Past : Type 0 where
   Turned : ℕ → ℕ → Past
   Cleared : ℕ → ℕ → ℕ → ℕ → Past
   Aging : ℕ → ℕ → Past
+  Lost : ℕ → ℕ → ℕ → Past
 
 -- ---- events at time 0
 
@@ -287,6 +290,7 @@ LeadsToGain n before (Left silent) event next = ⊥
 LeadsToGain n before (Turned silent time) event next = ⊥
 LeadsToGain n before (Cleared since silent right old) event next = ⊥
 LeadsToGain n before (Aging aged silent) event next = ⊥
+LeadsToGain n before (Lost since most silent) event next = ⊥
 
 abbrev pub LeadsToHeard : NetworkState → List Timed → Past → Timed → ℕ → Type 0
 LeadsToHeard n before AnyPast event next =
@@ -310,6 +314,7 @@ LeadsToHeard n before (Left silent) event next = ⊥
 LeadsToHeard n before (Turned silent time) event next = ⊥
 LeadsToHeard n before (Cleared since silent right old) event next = ⊥
 LeadsToHeard n before (Aging aged silent) event next = ⊥
+LeadsToHeard n before (Lost since most silent) event next = ⊥
 
 -- a network that had settled is left so
 abbrev pub LeadsToLeft : NetworkState → List Timed → Past → Timed → ℕ → Type 0
@@ -325,6 +330,7 @@ LeadsToLeft n before (Left silent) event next = LowersUnusedCalm n before event 
 LeadsToLeft n before (Turned silent time) event next = ⊥
 LeadsToLeft n before (Cleared since silent right old) event next = ⊥
 LeadsToLeft n before (Aging aged silent) event next = ⊥
+LeadsToLeft n before (Lost since most silent) event next = ⊥
 
 -- in a network that had settled a system turns by it now
 abbrev pub TurnsNow : NetworkState → List Timed → Timed → ℕ → ℕ → ℕ → Type 0
@@ -343,6 +349,7 @@ LeadsToTurned n before (Left start) event silent time = ⊥
 LeadsToTurned n before (Turned start now) event silent time = ⊥
 LeadsToTurned n before (Cleared since start right old) event silent time = ⊥
 LeadsToTurned n before (Aging aged start) event silent time = ⊥
+LeadsToTurned n before (Lost since most start) event silent time = ⊥
 
 -- a network that had settled is cleared, and one that is so stays so
 abbrev pub LeadsToCleared : NetworkState → List Timed → Past → Timed → ℕ → ℕ → ℕ → ℕ → Type 0
@@ -360,6 +367,7 @@ LeadsToCleared n before (Cleared start dark clean last) event since silent right
     LowersUnusedCalm n before event × (clean ≤ event.at)
     × ((since ≡ start) × (silent ≡ dark) × (right ≡ clean) × (old ≡ last))
 LeadsToCleared n before (Aging aged start) event since silent right old = ⊥
+LeadsToCleared n before (Lost start most dark) event since silent right old = ⊥
 
 -- In a network that had settled a system fails that others hear, so that what they hold of it ages.
 pub record FailsNow (n : NetworkState) (before : List Timed) (event : Timed) (aged silent : ℕ) : Type 0 where
@@ -383,6 +391,37 @@ LeadsToAging n before (Turned start now) event aged silent = ⊥
 LeadsToAging n before (Cleared since start right old) event aged silent = ⊥
 LeadsToAging n before (Aging gone start) event aged silent =
     LowersUnusedCalm n before event × (aged ≡ gone) × (silent ≡ start)
+LeadsToAging n before (Lost since most start) event aged silent = ⊥
+
+-- In a network that had settled something is taken away now. What is in flight comes within a greatest delay.
+pub record LosesNow (n : NetworkState) (before : List Timed) (event : Timed) (since most silent : ℕ) : Type 0 where
+  pub loses : LosesAny n before event.act
+  pub calm : IsCalm n before
+  pub off : NothingLapses n.params
+  pub now : since ≡ event.at
+  pub delay : (sync_paths n before).delay ≤ most
+  pub unanswered : AreSilentAfter (pace_of n) event.at silent event.act
+
+-- At that time more may be taken away, and events come that make nothing of what then stands.
+pub record LosesMore (n : NetworkState) (before : List Timed) (event : Timed) (since silent : ℕ) : Type 0 where
+  pub more : (LosesAny n before event.act × AreSilentAfter (pace_of n) event.at silent event.act)
+      ⊎ MakesNothing n before event since
+  pub now : event.at ≡ since
+
+abbrev pub LeadsToLost : NetworkState → List Timed → Past → Timed → ℕ → ℕ → ℕ → Type 0
+LeadsToLost n before AnyPast event since most silent =
+    HasSettledAnyhow n before event.at × LosesNow n before event since most silent
+LeadsToLost n before Starting event since most silent = ⊥
+LeadsToLost n before (Gained start) event since most silent =
+    HasSettledSince n before start event.at × LosesNow n before event since most silent
+LeadsToLost n before (Heard start) event since most silent =
+    HasSettledHeard n before start event.at × LosesNow n before event since most silent
+LeadsToLost n before (Left start) event since most silent = ⊥
+LeadsToLost n before (Turned start now) event since most silent = ⊥
+LeadsToLost n before (Cleared begun start right old) event since most silent = ⊥
+LeadsToLost n before (Aging aged start) event since most silent = ⊥
+LeadsToLost n before (Lost begun delay start) event since most silent =
+    LosesMore n before event since silent × (since ≡ begun) × (most ≡ delay) × (silent ≡ start)
 
 -- a gain, and what is heard, stays so from the start that it had
 abbrev pub StaysFrom : Past → ℕ → Type 0
@@ -394,6 +433,7 @@ StaysFrom (Left silent) next = ⊥
 StaysFrom (Turned silent time) next = ⊥
 StaysFrom (Cleared since silent right old) next = ⊥
 StaysFrom (Aging aged silent) next = ⊥
+StaysFrom (Lost since most silent) next = ⊥
 
 -- nothing is told as the network starts, and this is the last event then
 abbrev pub StartsFrom : NetworkState → List Timed → Past → Timed → ℕ → Type 0
@@ -405,6 +445,7 @@ StartsFrom n before (Left silent) event next = ⊥
 StartsFrom n before (Turned silent time) event next = ⊥
 StartsFrom n before (Cleared since silent right old) event next = ⊥
 StartsFrom n before (Aging aged silent) event next = ⊥
+StartsFrom n before (Lost since most silent) event next = ⊥
 
 -- nothing is told as the network starts, nor after this event
 abbrev pub StartsStill : Past → Timed → Type 0
@@ -416,6 +457,7 @@ StartsStill (Left silent) event = ⊥
 StartsStill (Turned silent time) event = ⊥
 StartsStill (Cleared since silent right old) event = ⊥
 StartsStill (Aging aged silent) event = ⊥
+StartsStill (Lost since most silent) event = ⊥
 
 abbrev pub EventLeads : NetworkState → List Timed → Past → Timed → Past → Type 0
 EventLeads n before past event AnyPast = ⊤
@@ -429,6 +471,7 @@ EventLeads n before past event (Turned silent time) = LeadsToTurned n before pas
 EventLeads n before past event (Cleared since silent right old) = LeadsToCleared n before past event since silent right
     old
 EventLeads n before past event (Aging aged silent) = LeadsToAging n before past event aged silent
+EventLeads n before past event (Lost since most silent) = LeadsToLost n before past event since most silent
 
 -- ---- rest
 
@@ -472,6 +515,7 @@ BeginsBy n (Left silent) = ⊥
 BeginsBy n (Turned silent time) = ⊥
 BeginsBy n (Cleared since silent right old) = ⊥
 BeginsBy n (Aging aged silent) = ⊥
+BeginsBy n (Lost since most silent) = ⊥
 
 -- By this time a calm network has settled after these events. From any past the span has to pass, the sharper one where
 -- nothing lapses. Else ports become capable; then an announce interval passes where something may not be heard; and
@@ -495,6 +539,10 @@ SettlesAfter n events (Turned silent time) settled =
 SettlesAfter n events (Cleared since silent right old) settled = NothingLapses n.params ×
     ((silent ≤ settled) ⊎ UpIsUsed n events)
 SettlesAfter n events (Aging aged silent) settled = NothingLapses n.params × ((silent ≤ settled) ⊎ UpIsUsed n events)
+SettlesAfter n events (Lost since most silent) settled =
+    NothingLapses n.params
+    × (suc (since + loss_span (pace_of n) (sync_paths n events) most) ≤ settled)
+    × ((silent ≤ settled) ⊎ UpIsUsed n events)
 
 -- By this time the choice stands after these events: as soon as it has settled, and at once in a network that is left.
 -- Where something ages it does once that is gone.
@@ -508,6 +556,8 @@ ChoosesAfter n events (Turned silent time) settled = SettlesAfter n events (Turn
 ChoosesAfter n events (Cleared since silent right old) settled = NothingLapses n.params
 ChoosesAfter n events (Aging aged silent) settled =
     NothingLapses n.params × ((aged ≤ settled) ⊎ ((silent ≤ settled) ⊎ UpIsUsed n events))
+ChoosesAfter n events (Lost since most silent) settled =
+    NothingLapses n.params × (suc (since + loss_span (pace_of n) (sync_paths n events) most) ≤ settled)
 
 -- A document comes by a time to what so comes after its events up to another, one after another.
 pub record ComesByEvents (So : NetworkState → List Timed → Past → ℕ → Type 0) (d : DocumentState)
