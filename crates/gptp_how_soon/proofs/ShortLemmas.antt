@@ -34,6 +34,7 @@ use Rattle.gptp_topology.specs.Times.{times_from, times_of}
 use Rattle.gptp_topology.specs.declared.course.Cable.{Cable}
 use Rattle.gptp_how_soon.specs.Bounds.{asked_again, echo_span, exact_span, gone_by, is_again, loss_span, needed_watch, ready, roles_after_losses, roles_by, roles_of_row, set_span, settling_by, silence_span, sound_by, sound_of_row, two_exchanges, watch, way_span}
 use Rattle.gptp_how_soon.specs.Kinds.{sets_bounds, sets_link}
+use Rattle.gptp_how_soon.specs.Rest.{leaves_silent}
 use Rattle.gptp_how_soon.specs.Times.{IsWatchedShortly, View, events_at, events_before, gained_at, heard_at, last_set, row_at, settling_time, settling_times, settling_times_from, time_at, view_at}
 use Rattle.gptp_how_soon.specs.declared.bounds.Row.{Row}
 use Rattle.gptp_how_soon.specs.declared.bounds.Row.TheVariants.{AnyLosses, AnyPast, FailedEnd, FailedHeard, Gained, LostEnd, LostPower, Lowered, OneTurned, Unchanged}
@@ -112,19 +113,19 @@ module _ (n : NetworkState) (network : IsNetwork n) (paths : SyncPaths) (few : p
       (omega (arith, turn, short, soon)) in
       omega (arith, l, w, turns)
 
-  roles_most : (before : SyncPaths) (used : Bool) (row : Row) (gained : ℕ) → before.delay ≤ 16000000000
+  roles_most : (before : SyncPaths) (silent : Bool) (row : Row) (gained : ℕ) → before.delay ≤ 16000000000
       → gained ≤ 195000000000000
-      → roles_by n before paths used row gained ≤ 195000000000000
-  roles_most before used row gained soon early =
+      → roles_by n before paths silent row gained ≤ 195000000000000
+  roles_most before silent row gained soon early =
       either_most (not (n.params.sync_timeout == 0)) _ _ 195000000000000 span (by row)
     where
-      lost : roles_after_losses n before paths used ≤ 195000000000000
+      lost : roles_after_losses n before paths silent ≤ 195000000000000
       lost =
           let l = losses before soon in let most = silence_most in
-          either_most used (loss_span n before paths) (max (loss_span n before paths) (silence_span n.params))
-          195000000000000 (omega (arith, l)) (omega (arith, l, most))
+          either_most silent (max (loss_span n before paths) (silence_span n.params)) (loss_span n before paths)
+          195000000000000 (omega (arith, l, most)) (omega (arith, l))
 
-      by : (r : Row) → roles_of_row n before paths used r gained ≤ 195000000000000
+      by : (r : Row) → roles_of_row n before paths silent r gained ≤ 195000000000000
       by AnyPast = at_once
       by Unchanged = omega arith
       by Lowered = omega arith
@@ -176,18 +177,18 @@ module _ (n : NetworkState) (network : IsNetwork n) (paths : SyncPaths) (few : p
       omega (arith, tree, window)
 
   module _ (before : SyncPaths) (short_before : before.delay ≤ 16000000000) (at set : ℕ) (soon : set ≤ at)
-      (sets used_before used : Bool) (row : Row) (gained : ℕ) (early : gained ≤ 195000000000000) where
+      (sets used_before silent : Bool) (row : Row) (gained : ℕ) (early : gained ≤ 195000000000000) where
     needed_most : (calm : Bool)
-        → needed_watch n at paths (settling_by n at set before paths calm sets used_before used row gained)
+        → needed_watch n at paths (settling_by n at set before paths calm sets used_before silent row gained)
         ≤ 197000000000000
     needed_most false = let s = span in let e = exact_most in omega (arith, s, e)
     needed_most true =
-        let r = roles_most before used row gained short_before early in
+        let r = roles_most before silent row gained short_before early in
         let h = sound_most used_before row gained early in
         let s = set_most sets in let l = largest in let e = exact_most in omega (arith, soon, r, h, s, l, e, short)
 
     watch_most : (calm : Bool)
-        → watch n at paths (settling_by n at set before paths calm sets used_before used row gained)
+        → watch n at paths (settling_by n at set before paths calm sets used_before silent row gained)
         ≤ 200000000000000
     watch_most calm = let needed = needed_most calm in let i = sync in omega (arith, needed, i)
 
@@ -306,7 +307,7 @@ module _ (d : DocumentState) (network : IsNetwork d.network) (events : AreEvents
       (λ t member. (there_then before at t is (from_filter (λ (e : Timed). sets_bounds e.act) t all member).0).1) in
       let most : (settling_time n v).watch ≤ 200000000000000 =
       watch_most n network paths few short v.paths_before (short_before before at is) at (last_set all) set
-      (sets_link v.told) v.used_before v.used (row_at v) (gained_at n v) (omega (arith, r, h, w)) v.calm in
+      (sets_link v.told) v.used_before (leaves_silent v.used v.told) (row_at v) (gained_at n v) (omega (arith, r, h, w)) v.calm in
       record { span = most; until = omega (arith, most, early) }
 
   all_shortly : (before : Option SettlingTime) (last : ℕ) (ats : List ℕ) → IsBefore last before → InTurn last ats

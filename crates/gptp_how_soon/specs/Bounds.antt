@@ -94,30 +94,30 @@ choice_by n before paths row gained =
     if not (n.params.sync_timeout == 0) then settling_span_with (pace_of n) paths paths.systems
     else choice_of_row n before paths row gained
 
--- After losses without a row of their own roles stand with the choice where each link that is up is in use; else no
--- sooner than ports beside a failed system aren't capable any more.
+-- After losses without a row of their own roles stand with the choice; but no sooner than the ports beside a system that
+-- fails aren't capable any more, where a link may be left silent.
 abbrev pub roles_after_losses : NetworkState → SyncPaths → SyncPaths → Bool → ℕ
-roles_after_losses n before paths used =
-    if used then loss_span n before paths else max (loss_span n before paths) (silence_span n.params)
+roles_after_losses n before paths silent =
+    if silent then max (loss_span n before paths) (silence_span n.params) else loss_span n before paths
 
 -- Roles stand as soon as the choice does. But where a system fails they do once the ports beside it aren't capable any
 -- more.
 abbrev pub roles_of_row : NetworkState → SyncPaths → SyncPaths → Bool → Row → ℕ → ℕ
-roles_of_row n before paths used AnyPast gained = choice_of_row n before paths AnyPast gained
-roles_of_row n before paths used Unchanged gained = 0
-roles_of_row n before paths used Lowered gained = 0
-roles_of_row n before paths used LostEnd gained = 0
-roles_of_row n before paths used FailedEnd gained = silence_span n.params
-roles_of_row n before paths used LostPower gained = 0
-roles_of_row n before paths used FailedHeard gained = silence_span n.params
-roles_of_row n before paths used OneTurned gained = choice_of_row n before paths OneTurned gained
-roles_of_row n before paths used AnyLosses gained = roles_after_losses n before paths used
-roles_of_row n before paths used Gained gained = gained
+roles_of_row n before paths silent AnyPast gained = choice_of_row n before paths AnyPast gained
+roles_of_row n before paths silent Unchanged gained = 0
+roles_of_row n before paths silent Lowered gained = 0
+roles_of_row n before paths silent LostEnd gained = 0
+roles_of_row n before paths silent FailedEnd gained = silence_span n.params
+roles_of_row n before paths silent LostPower gained = 0
+roles_of_row n before paths silent FailedHeard gained = silence_span n.params
+roles_of_row n before paths silent OneTurned gained = choice_of_row n before paths OneTurned gained
+roles_of_row n before paths silent AnyLosses gained = roles_after_losses n before paths silent
+roles_of_row n before paths silent Gained gained = gained
 
 abbrev pub roles_by : NetworkState → SyncPaths → SyncPaths → Bool → Row → ℕ → ℕ
-roles_by n before paths used row gained =
+roles_by n before paths silent row gained =
     if not (n.params.sync_timeout == 0) then settling_span_with (pace_of n) paths paths.systems
-    else roles_of_row n before paths used row gained
+    else roles_of_row n before paths silent row gained
 
 -- What was in flight is gone so much later than a time: by a delay where each link that was up is in use; else by an
 -- announce interval.
@@ -193,16 +193,16 @@ watch n at paths settling = needed_watch n at paths settling + 8 * interval_of n
 -- what is told of a time
 abbrev pub settling_by : NetworkState → ℕ → ℕ → SyncPaths → SyncPaths → Bool → Bool → Bool → Bool → Row → ℕ
     → Option Settling
-settling_by n at last_set before paths calm sets used_before used row gained =
+settling_by n at last_set before paths calm sets used_before silent row gained =
     if calm
     then Some (settled n at last_set paths sets (choice_by n before paths row gained)
-    (roles_by n before paths used row gained) (sound_by n paths used_before row gained))
+    (roles_by n before paths silent row gained) (sound_by n paths used_before row gained))
     else None
 
 abbrev pub times_by : NetworkState → ℕ → ℕ → SyncPaths → SyncPaths → Bool → Bool → Bool → Bool → Row → ℕ
     → SettlingTime
-times_by n at last_set before paths calm sets used_before used row gained = record {
+times_by n at last_set before paths calm sets used_before silent row gained = record {
   at = at;
-  settling = settling_by n at last_set before paths calm sets used_before used row gained;
-  watch = watch n at paths (settling_by n at last_set before paths calm sets used_before used row gained);
+  settling = settling_by n at last_set before paths calm sets used_before silent row gained;
+  watch = watch n at paths (settling_by n at last_set before paths calm sets used_before silent row gained);
 }

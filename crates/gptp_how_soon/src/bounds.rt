@@ -240,19 +240,19 @@ fn choice_by(network: &Network, before: SyncPaths, paths: SyncPaths, row: Row, g
     }
 }
 
-/// How long roles take after losses without a row of their own, in ns, where each link that is up is in use or isn't.
-fn roles_after_losses(network: &Network, before: SyncPaths, paths: SyncPaths, used: bool) -> u64
+/// How long roles take after losses without a row of their own, in ns, where a link may be left silent or none is.
+fn roles_after_losses(network: &Network, before: SyncPaths, paths: SyncPaths, silent: bool) -> u64
     requires few { paths.systems ≤ 512 }
     requires short { paths.delay ≤ 16000000000 }
     requires short_before { before.delay ≤ 16000000000 }
-    ensures is { result ≡ roles_after_losses network.now before paths used }
+    ensures is { result ≡ roles_after_losses network.now before paths silent }
     ensures bound { result ≤ 110000000000000 }
 {
     let choice = loss_span(network, before, paths);
-    if used {
-        choice
-    } else {
+    if silent {
         choice.max(silence_span(network))
+    } else {
+        choice
     }
 }
 
@@ -261,7 +261,7 @@ fn roles_by(
     network: &Network,
     before: SyncPaths,
     paths: SyncPaths,
-    used: bool,
+    silent: bool,
     row: Row,
     gained: u64,
 ) -> u64
@@ -269,7 +269,7 @@ fn roles_by(
     requires short { paths.delay ≤ 16000000000 }
     requires short_before { before.delay ≤ 16000000000 }
     requires gained { gained ≤ 195000000000000 }
-    ensures is { result ≡ roles_by network.now before paths used row gained }
+    ensures is { result ≡ roles_by network.now before paths silent row gained }
     ensures bound { result ≤ 195000000000000 }
 {
     if network.params().sync_timeout != 0 {
@@ -280,7 +280,7 @@ fn roles_by(
         Row::Unchanged | Row::Lowered | Row::LostEnd | Row::LostPower => 0,
         Row::FailedEnd | Row::FailedHeard => silence_span(network),
         Row::OneTurned => 2 * way_span(paths),
-        Row::AnyLosses => roles_after_losses(network, before, paths, used),
+        Row::AnyLosses => roles_after_losses(network, before, paths, silent),
         Row::Gained => gained,
     }
 }
@@ -414,7 +414,7 @@ pub(crate) fn times_by(
     calm: bool,
     sets: bool,
     used_before: bool,
-    used: bool,
+    silent: bool,
     row: Row,
     gained: u64,
 ) -> SettlingTime
@@ -424,12 +424,12 @@ pub(crate) fn times_by(
     requires early { at ≤ LATEST_EVENT }
     requires set { last_set ≤ at }
     requires gained { gained ≤ 195000000000000 }
-    ensures is { result ≡ times_by network.now at last_set before paths calm sets used_before used row gained }
+    ensures is { result ≡ times_by network.now at last_set before paths calm sets used_before silent row gained }
     ensures bound { result.watch ≤ 200000000000000 }
 {
     let settling = if calm {
         let choice = choice_by(network, before, paths, row, gained);
-        let roles = roles_by(network, before, paths, used, row, gained);
+        let roles = roles_by(network, before, paths, silent, row, gained);
         let sound = sound_by(network, paths, used_before, row, gained);
         Some(settled(network, at, last_set, paths, sets, choice, roles, sound))
     } else {

@@ -11,7 +11,9 @@ use crate::chosen::{Chosen, Ends, any_counted, choose, copy_systems, ends_in_use
 use crate::far::{all_cut_far_ends, are_far, up_is_used};
 use crate::kinds::{Told, sets_bounds, sets_link, takes_one, tell};
 use crate::links::{delay_set, longest_among, lost_among, mark_used, new_links};
-use crate::rest::{asks_who_is_far, asks_who_is_moved, heard_at_once, is_from_rest, row_of};
+use crate::rest::{
+    asks_who_is_far, asks_who_is_moved, heard_at_once, is_from_rest, leaves_silent, row_of,
+};
 use crate::turned::turns_one;
 use gptp_scenario::{Act, Network, SyncPaths};
 use gptp_topology::{System, Tables, cables_of};
@@ -209,7 +211,7 @@ impl Walk {
             self.tables.is_calm(network, paths),
             sets_link(told),
             self.all_used_before,
-            all_used,
+            leaves_silent(all_used, told),
             row_of(
                 from_rest,
                 first,
