@@ -37,7 +37,7 @@ use Rattle.gptp_how_soon.specs.Kinds.{sets_bounds, sets_link}
 use Rattle.gptp_how_soon.specs.Rest.{leaves_silent}
 use Rattle.gptp_how_soon.specs.Times.{IsWatchedShortly, View, events_at, events_before, gained_at, heard_at, last_set, row_at, settling_time, settling_times, settling_times_from, time_at, view_at}
 use Rattle.gptp_how_soon.specs.declared.bounds.Row.{Row}
-use Rattle.gptp_how_soon.specs.declared.bounds.Row.TheVariants.{AnyLosses, AnyPast, FailedEnd, FailedHeard, Gained, LostEnd, LostPower, Lowered, OneTurned, Unchanged}
+use Rattle.gptp_how_soon.specs.declared.bounds.Row.TheVariants.{AnyLosses, AnyPast, CutOff, FailedEnd, FailedHeard, Gained, LostEnd, LostPower, Lowered, OneTurned, Unchanged}
 use Rattle.gptp_how_soon.specs.declared.bounds.SettlingTime.{SettlingTime}
 use Rattle.gptp_how_soon.specs.declared.kinds.Told.{Told}
 
@@ -129,6 +129,7 @@ module _ (n : NetworkState) (network : IsNetwork n) (paths : SyncPaths) (few : p
       by AnyPast = at_once
       by Unchanged = omega arith
       by Lowered = omega arith
+      by CutOff = let w = way in omega (arith, w)
       by LostEnd = omega arith
       by LostPower = omega arith
       by FailedEnd = let most = silence_most in omega (arith, most)
@@ -155,6 +156,7 @@ module _ (n : NetworkState) (network : IsNetwork n) (paths : SyncPaths) (few : p
       by AnyPast = at_once
       by Unchanged = omega arith
       by Lowered = let e = echo in let g = gone in omega (arith, e, g)
+      by CutOff = let w = way in let g = gone in omega (arith, w, g)
       by LostEnd = let g = gone in omega (arith, g)
       by FailedEnd = let w = way in let c = capable_most in omega (arith, w, c)
       by LostPower = at_once

@@ -49,8 +49,10 @@ pub enum Row {
     Unchanged,
     /// By its one event a link goes down. No system is moved but such as are cut off, none of which was a far end.
     Lowered,
-    /// A far end is lost. By the one event a link goes down that cuts it off; or by the first a system fails that was
-    /// the far end of its links, and each link that is up then is in use, as where it loses its power.
+    /// By its one event a link goes down that cuts off its far end. No other system is moved.
+    CutOff,
+    /// A system fails that was the far end of its links. Each link that is up then is in use, as where it loses its
+    /// power.
     LostEnd,
     /// A system fails that was the far end of its links. A link is up then that isn't in use.
     FailedEnd,
@@ -234,7 +236,7 @@ fn choice_by(network: &Network, before: SyncPaths, paths: SyncPaths, row: Row, g
         Row::AnyPast => settling_span_at_once(network, paths),
         Row::Unchanged | Row::Lowered | Row::LostEnd | Row::FailedEnd | Row::LostPower => 0,
         Row::FailedHeard => aging_span(network, paths).min(silence_span(network)),
-        Row::OneTurned => 2 * way_span(paths),
+        Row::CutOff | Row::OneTurned => 2 * way_span(paths),
         Row::AnyLosses => loss_span(network, before, paths),
         Row::Gained => gained,
     }
@@ -279,7 +281,7 @@ fn roles_by(
         Row::AnyPast => settling_span_at_once(network, paths),
         Row::Unchanged | Row::Lowered | Row::LostEnd | Row::LostPower => 0,
         Row::FailedEnd | Row::FailedHeard => silence_span(network),
-        Row::OneTurned => 2 * way_span(paths),
+        Row::CutOff | Row::OneTurned => 2 * way_span(paths),
         Row::AnyLosses => roles_after_losses(network, before, paths, silent),
         Row::Gained => gained,
     }
@@ -327,6 +329,7 @@ fn sound_by(network: &Network, paths: SyncPaths, used_before: bool, row: Row, ga
         }
         Row::Unchanged => 0,
         Row::Lowered => echo_span(network, paths) + gone_by(network, paths, used_before),
+        Row::CutOff => (2 * way_span(paths)).max(gone_by(network, paths, used_before)),
         Row::LostEnd => gone_by(network, paths, used_before),
         Row::FailedEnd => capability_span(network) + way_span(paths),
         Row::Gained => gained,
