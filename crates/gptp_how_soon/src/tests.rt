@@ -249,13 +249,13 @@ fn a_link_that_goes_down_and_moves_no_system_costs_nothing(rt: HostRuntime) -> R
 }
 
 #[test]
-fn a_system_that_a_link_cuts_off_costs_nothing(rt: HostRuntime) -> Result<(), Fail> {
+fn a_far_end_that_a_link_cuts_off_costs_two_ways(rt: HostRuntime) -> Result<(), Fail> {
     // The second link is the last one of b.
     let times = ring(
         rt.alloc(),
         "[[event]]\nat = 30000000000\nkind = \"link_down\"\nclock = \"000000000000000b\"\nport = 2\n[[event]]\nat = 100000000000\nkind = \"link_down\"\nclock = \"000000000000000b\"\nport = 1\n",
     )?;
-    assert_eq!(rt; soon(&times, 100_000_000_000), Some((0, 100_000_005_400)));
+    assert_eq!(rt; soon(&times, 100_000_000_000), Some((1_640, 100_000_007_040)));
     Ok(())
 }
 
@@ -615,7 +615,7 @@ fn events_come_from_rest_soon_after_a_far_end_is_lost(rt: HostRuntime) -> Result
         (
             "a link cuts off b",
             "[[event]]\nat = 100000000000\nkind = \"link_down\"\nclock = \"000000000000000b\"\nport = 1\n[[event]]\nat = 101000000000\nkind = \"link_up\"\nclock = \"000000000000000b\"\nport = 1\n",
-            820,
+            2_050,
             101_000_000_000,
             1_000_003_050,
         ),

@@ -26,7 +26,7 @@ use Rattle.gptp_how_soon.specs.Links.{delay_set, longest_among, longest_delay, l
 use Rattle.gptp_how_soon.specs.Rest.{are_events_followed, are_losses_followed, are_recoveries_followed, are_turns_followed, heard_at_once, is_failing_followed, is_from_rest, is_lowering_followed, keeps_paths, leaves_silent, rested, rested_by, is_wider_followed, settles_wider_by}
 use Rattle.gptp_how_soon.specs.Times.{View, events_at, gained_at, ready_at, row_at, view_at}
 use Rattle.gptp_how_soon.specs.declared.bounds.Row.{Row}
-use Rattle.gptp_how_soon.specs.declared.bounds.Row.TheVariants.{AnyLosses, FailedEnd, FailedHeard, Gained, LostEnd, LostPower, Lowered, OneTurned, Unchanged}
+use Rattle.gptp_how_soon.specs.declared.bounds.Row.TheVariants.{AnyLosses, CutOff, FailedEnd, FailedHeard, Gained, LostEnd, LostPower, Lowered, OneTurned, Unchanged}
 use Rattle.gptp_how_soon.specs.declared.bounds.Settling.{Settling}
 use Rattle.gptp_how_soon.specs.declared.bounds.SettlingTime.{SettlingTime}
 use Rattle.gptp_how_soon.specs.declared.kinds.Kind.{Kind}
@@ -493,33 +493,37 @@ module _ (n : NetworkState) (network : IsNetwork n) (events : List Timed) (b : S
       let (from, fails, used) = why LostPower row in
       ((from_rest from).rested, failing_heard well fails, used_up n network (made ++ now) used)
 
-  -- or a far end is lost: a link cuts it off, or it loses its power
+  -- or it cuts off its far end
+  pub record CutsEnd : Type 0 where
+    pub rested : HasComeToRest b at
+    pub cuts : CutsOneEnd n made now
+    pub lowers : LowersOneLink n made now
+    pub flight : FlightIsGone n made (gone_by n v.paths v.used_before)
+
+  pub cut_off : AreWell n (made ++ now) → row_at v ≡ CutOff → CutsEnd
+  cut_off well row =
+      let (from, lowers, cut) = why CutOff row in record {
+        rested = (from_rest from).rested;
+        cuts = cuts_so well lowers cut;
+        lowers = lowers_so well lowers;
+        flight = flight_so (lowering_keeps lowers);
+      }
+
+  -- or a far end loses its power
   pub record LosesEnd : Type 0 where
     pub rested : HasComeToRest b at
-    pub which : CutsOneEnd n made now ⊎ (FailsEndFirst n made now × UpIsUsed n (made ++ now))
-    pub lowers : LowersOneLink n made now ⊎ (FailsEndFirst n made now × UpIsUsed n (made ++ now))
+    pub fails : FailsEndFirst n made now
+    pub used : UpIsUsed n (made ++ now)
     pub flight : FlightIsGone n made (gone_by n v.paths v.used_before)
 
   pub lost_end : AreWell n (made ++ now) → row_at v ≡ LostEnd → LosesEnd
   lost_end well row =
-      let (from, which) = why LostEnd row in
-      let rest = (from_rest from).rested in
-      elim which [
-        | inl (lowers, cut) ↦ record {
-          rested = rest;
-          which = inl (cuts_so well lowers cut);
-          lowers = inl (lowers_so well lowers);
-          flight = flight_so (lowering_keeps lowers);
-        }
-        | inr (fails, far, used) ↦
-            let both : FailsEndFirst n made now × UpIsUsed n (made ++ now) =
-            (failing_end well fails far, used_up n network (made ++ now) used) in record {
-              rested = rest;
-              which = inr both;
-              lowers = inr both;
-              flight = flight_so (is_failing_so fails).delay;
-            }
-      ]
+      let (from, fails, far, used) = why LostEnd row in record {
+        rested = (from_rest from).rested;
+        fails = failing_end well fails far;
+        used = used_up n network (made ++ now) used;
+        flight = flight_so (is_failing_so fails).delay;
+      }
 
   -- or one system turns
   pub turned : AreWell n (made ++ now) → row_at v ≡ OneTurned → HasComeToRest b at × TurnsOneLink n made now

@@ -273,9 +273,12 @@ RolesAfterLoss n made now choice roles =
 
 -- ---- what a loss asks for
 
--- After a link goes down by which no system is moved but such as are cut off, choice and roles stand at once.
+-- After a link goes down by which no system is moved but such as are cut off, choice and roles stand at once; where it
+-- cuts off its far end, as soon as where it moves one system.
 abbrev pub BoundsLowered : NetworkState → List Timed → List Timed → ℕ → ℕ → Type 0
-BoundsLowered n made now choice roles = LowersOneLink n made now × (choice ≡ 0) × (roles ≡ 0)
+BoundsLowered n made now choice roles =
+    LowersOneLink n made now × (roles ≡ choice)
+    × ((choice ≡ 0) ⊎ (CutsOneEnd n made now × (choice ≡ 2 * way_span (sync_paths n (made ++ now)))))
 
 -- After a far end fails the choice stands at once. So do roles where each link that is up then is in use, as where it
 -- loses its power; else once too many requests of the ports beside it are lost.
@@ -325,7 +328,8 @@ LosesNext n events Then last time Asks =
 -- another such link goes down right traces are told before.
 abbrev pub RestsAfterLoss : NetworkState → List Timed → List Timed → ℕ → Type 0
 RestsAfterLoss n made now rest =
-    (CutsOneEnd n made now × FlightIsGone n made rest)
+    (CutsOneEnd n made now
+    × ((gone : ℕ) × FlightIsGone n made gone × (rest ≡ max (2 * way_span (sync_paths n (made ++ now))) gone)))
     ⊎ ((FailsEndFirst n made now
     × ((UpIsUsed n (made ++ now) × FlightIsGone n made rest)
     ⊎ (rest ≡ capability_span (pace_of n) + way_span (sync_paths n (made ++ now)))))
