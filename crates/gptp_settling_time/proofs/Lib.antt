@@ -124,3 +124,5 @@ pub mod AgingDownLemmas
 pub mod AgingToLemmas
 pub mod FailedHeardLemmas
 pub mod EmptiedLemmas
+pub mod LiveTracesLemmas
+pub mod LostClaimedLemmas
