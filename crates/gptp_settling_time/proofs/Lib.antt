@@ -134,3 +134,5 @@ pub mod DeadLanesLemmas
 pub mod LosesLinkLemmas
 pub mod LosesNothingLemmas
 pub mod LosesPriorityLemmas
+pub mod LostToLemmas
+pub mod LostMadeLemmas

@@ -60,8 +60,8 @@ module _ (p : SettlingParams) (owner value : ℕ) (w : WorldState) (draws : List
 
   clocks_set : HaveOwnClocks set
   clocks_set =
-      stays_clocks w set (with_setup_stays value k.place k.station w k.is.here is.sound.wired.setups)
-      is.sound.wired.clocks
+      stays_clocks w (with_station k.place (with_setup value k.station) w)
+      (with_setup_stays value k.place k.station w k.is.here is.sound.wired.setups) is.sound.wired.clocks
 
   -- ---- ports beside failed systems
 
