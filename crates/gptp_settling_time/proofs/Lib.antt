@@ -136,3 +136,6 @@ pub mod LosesNothingLemmas
 pub mod LosesPriorityLemmas
 pub mod LostToLemmas
 pub mod LostMadeLemmas
+pub mod MovedFlightLemmas
+pub mod RightBeginLemmas
+pub mod ToldAnewLemmas
