@@ -116,6 +116,8 @@ pub mod LeadOnLemmas
 pub mod LossLeadLemmas
 pub mod RightStageLemmas
 pub mod DueLemmas
+pub mod TellsRightLemmas
+pub mod RightKeptLemmas
 pub mod RightLemmas
 pub mod AgingLemmas
 pub mod AgingStillLemmas
@@ -124,3 +126,5 @@ pub mod AgingDownLemmas
 pub mod AgingToLemmas
 pub mod FailedHeardLemmas
 pub mod EmptiedLemmas
+pub mod LiveTracesLemmas
+pub mod LostClaimedLemmas
