@@ -15,7 +15,7 @@ use Rattle.gptp_how_soon.specs.Rest.{are_losses_followed, asks_who_is_far, asks_
 use Rattle.gptp_how_soon.specs.Times.{settling_time}
 use Rattle.gptp_how_soon.specs.Walk.{cuts_seen, far_seen, moves_seen, turns_seen, view_seen}
 use Rattle.gptp_how_soon.specs.declared.bounds.Row.{Row}
-use Rattle.gptp_how_soon.specs.declared.bounds.Row.TheVariants.{AnyLosses, AnyPast, Gained, LostEnd, Lowered, OneTurned, Unchanged}
+use Rattle.gptp_how_soon.specs.declared.bounds.Row.TheVariants.{AnyLosses, AnyPast, CutOff, Gained, Lowered, OneTurned, Unchanged}
 use Rattle.gptp_how_soon.specs.declared.bounds.SettlingTime.{SettlingTime}
 use Rattle.gptp_how_soon.specs.declared.kinds.Told.{Told}
 use Rattle.gptp_how_soon.specs.declared.walk.Walk.{Walk}
@@ -40,7 +40,7 @@ same_row from_rest first before paths told moved cut alone far used =
         → (if not rest then AnyPast else if first then Gained else if idle then Unchanged
         else if followed && not ((rest && (followed || lowering || failing)) && moved) then Unchanged
         else if lowering && not ((rest && (followed || lowering || failing)) && moved)
-        then if (rest && (followed || lowering || failing)) && cut then LostEnd else Lowered
+        then if (rest && (followed || lowering || failing)) && cut then CutOff else Lowered
         else if lowering && ((rest && (followed || lowering || failing)) && alone) then OneTurned
         else if failing && not ((rest && (followed || lowering || failing)) && moved)
         then failed_row ((rest && failing) && far) used
@@ -48,7 +48,7 @@ same_row from_rest first before paths told moved cut alone far used =
         else Gained)
         ≡ (if not rest then AnyPast else if first then Gained else if idle then Unchanged
         else if followed && not moved then Unchanged
-        else if lowering && not moved then if cut then LostEnd else Lowered
+        else if lowering && not moved then if cut then CutOff else Lowered
         else if lowering && alone then OneTurned
         else if failing && not moved then failed_row far used
         else if list_any is_loss told then if list_all brings_nothing told then AnyLosses else AnyPast

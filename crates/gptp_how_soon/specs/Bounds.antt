@@ -12,7 +12,7 @@ use Rattle.gptp_topology.specs.declared.course.Cable.{Cable}
 use Rattle.gptp_how_soon.specs.Kinds.{recovers}
 use Rattle.gptp_how_soon.specs.Links.{varies}
 use Rattle.gptp_how_soon.specs.declared.bounds.Row.{Row}
-use Rattle.gptp_how_soon.specs.declared.bounds.Row.TheVariants.{AnyLosses, AnyPast, FailedEnd, FailedHeard, Gained, LostEnd, LostPower, Lowered, OneTurned, Unchanged}
+use Rattle.gptp_how_soon.specs.declared.bounds.Row.TheVariants.{AnyLosses, AnyPast, CutOff, FailedEnd, FailedHeard, Gained, LostEnd, LostPower, Lowered, OneTurned, Unchanged}
 use Rattle.gptp_how_soon.specs.declared.bounds.Settling.{Settling}
 use Rattle.gptp_how_soon.specs.declared.bounds.SettlingTime.{SettlingTime}
 use Rattle.gptp_how_soon.specs.declared.kinds.Told.{Told}
@@ -81,6 +81,7 @@ abbrev pub choice_of_row : NetworkState → SyncPaths → SyncPaths → Row → 
 choice_of_row n before paths AnyPast gained = settling_span_at_once (pace_of n) paths
 choice_of_row n before paths Unchanged gained = 0
 choice_of_row n before paths Lowered gained = 0
+choice_of_row n before paths CutOff gained = 2 * way_span paths
 choice_of_row n before paths LostEnd gained = 0
 choice_of_row n before paths FailedEnd gained = 0
 choice_of_row n before paths LostPower gained = 0
@@ -106,6 +107,7 @@ abbrev pub roles_of_row : NetworkState → SyncPaths → SyncPaths → Bool → 
 roles_of_row n before paths silent AnyPast gained = choice_of_row n before paths AnyPast gained
 roles_of_row n before paths silent Unchanged gained = 0
 roles_of_row n before paths silent Lowered gained = 0
+roles_of_row n before paths silent CutOff gained = 2 * way_span paths
 roles_of_row n before paths silent LostEnd gained = 0
 roles_of_row n before paths silent FailedEnd gained = silence_span n.params
 roles_of_row n before paths silent LostPower gained = 0
@@ -129,20 +131,26 @@ gone_by n paths used_before = if used_before then paths.delay else largest_inter
 abbrev pub echo_span : NetworkState → SyncPaths → ℕ
 echo_span n paths = pred paths.systems * (largest_interval (pace_of n) + paths.delay)
 
+-- Where a link was up that isn't in use what was in flight on it may be gone an announce interval later than elsewhere.
+abbrev pub unused_by : NetworkState → Bool → ℕ
+unused_by n used_before = if used_before then 0 else largest_interval (pace_of n)
+
 -- By when all that is held and in flight is sound: as soon as the choice stands, but after a loss it may name what is
 -- gone. After a far end is cut off, or loses its power, only what was in flight does. Where a far end fails, and ports
 -- beside it may still be capable, roles have to stand first, and then a way to pass. After a link goes down by which no
--- system is moved traces have to be told anew first. After other losses all is sound as soon as the choice stands from
--- any past.
+-- system is moved traces have to be told anew first, and so they do where one system turns, once the choice stands.
+-- After other losses all is sound as soon as the choice stands from any past.
 abbrev pub sound_of_row : NetworkState → SyncPaths → Bool → Row → ℕ → ℕ
 sound_of_row n paths used_before AnyPast gained = settling_span_at_once (pace_of n) paths
 sound_of_row n paths used_before Unchanged gained = 0
 sound_of_row n paths used_before Lowered gained = echo_span n paths + gone_by n paths used_before
+sound_of_row n paths used_before CutOff gained = max (2 * way_span paths) (gone_by n paths used_before)
 sound_of_row n paths used_before LostEnd gained = gone_by n paths used_before
 sound_of_row n paths used_before FailedEnd gained = capability_span (pace_of n) + way_span paths
 sound_of_row n paths used_before LostPower gained = settling_span_at_once (pace_of n) paths
 sound_of_row n paths used_before FailedHeard gained = settling_span_at_once (pace_of n) paths
-sound_of_row n paths used_before OneTurned gained = settling_span_at_once (pace_of n) paths
+sound_of_row n paths used_before OneTurned gained =
+    2 * way_span paths + echo_span n paths + unused_by n used_before
 sound_of_row n paths used_before AnyLosses gained = settling_span_at_once (pace_of n) paths
 sound_of_row n paths used_before Gained gained = gained
 

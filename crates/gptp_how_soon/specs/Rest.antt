@@ -8,7 +8,7 @@ use Rattle.gptp_scenario.specs.declared.sync_wait.SyncPaths.{SyncPaths}
 use Rattle.gptp_how_soon.specs.Bounds.{way_span}
 use Rattle.gptp_how_soon.specs.Kinds.{are_heard, begins_wider, brings_nothing, fails_and_recovers, fails_first, first_wider_by, is_better, is_gain, is_failing, is_loss, is_other, is_recovery, is_wider, leaves_links, lowers_one, lowers_unused, makes_nothing, tells_nothing}
 use Rattle.gptp_how_soon.specs.declared.bounds.Row.{Row}
-use Rattle.gptp_how_soon.specs.declared.bounds.Row.TheVariants.{AnyLosses, AnyPast, FailedEnd, FailedHeard, Gained, LostEnd, LostPower, Lowered, OneTurned, Unchanged}
+use Rattle.gptp_how_soon.specs.declared.bounds.Row.TheVariants.{AnyLosses, AnyPast, CutOff, FailedEnd, FailedHeard, Gained, LostEnd, LostPower, Lowered, OneTurned, Unchanged}
 use Rattle.gptp_how_soon.specs.declared.bounds.Settling.{Settling}
 use Rattle.gptp_how_soon.specs.declared.bounds.SettlingTime.{SettlingTime}
 use Rattle.gptp_how_soon.specs.declared.kinds.Told.{Told}
@@ -101,7 +101,7 @@ row_of from_rest first paths_before paths told moved cut turned far used =
     else if first then Gained
     else if list_all makes_nothing told || begins_wider told then Unchanged
     else if are_losses_followed paths_before told && not moved then Unchanged
-    else if is_lowering_followed paths_before paths told && not moved then if cut then LostEnd else Lowered
+    else if is_lowering_followed paths_before paths told && not moved then if cut then CutOff else Lowered
     else if is_lowering_followed paths_before paths told && turned then OneTurned
     else if is_failing_followed paths_before paths told && not moved then failed_row far used
     else if list_any is_loss told then if list_all brings_nothing told then AnyLosses else AnyPast

@@ -6,7 +6,7 @@ ghost use Rattle.gptp_network.specs.declared.keys.TheConstants.{LATEST_EVENT};
 ghost use Rattle.gptp_scenario.specs.Network.{pace_of};
 ghost use Rattle.gptp_scenario.specs.SettlingAtOnce.{settling_span_at_once};
 ghost use Rattle.gptp_scenario.specs.SettlingTime.{capability_span};
-ghost use Rattle.gptp_how_soon.specs.Bounds.{aging_span, asked_again, choice_by, echo_span, exact_from, exact_span, gone_by, heard_by, is_again, is_hard_to_hear, loss_span, ready, roles_after_losses, roles_by, set_span, settled, silence_span, sound_by, times_by, two_exchanges, watch, way_span};
+ghost use Rattle.gptp_how_soon.specs.Bounds.{aging_span, asked_again, choice_by, echo_span, exact_from, exact_span, gone_by, heard_by, is_again, is_hard_to_hear, loss_span, ready, roles_after_losses, roles_by, set_span, settled, silence_span, sound_by, times_by, two_exchanges, unused_by, watch, way_span};
 
 use crate::kinds::{Told, recovers};
 use crate::links::varies;
@@ -49,8 +49,10 @@ pub enum Row {
     Unchanged,
     /// By its one event a link goes down. No system is moved but such as are cut off, none of which was a far end.
     Lowered,
-    /// A far end is lost. By the one event a link goes down that cuts it off; or by the first a system fails that was
-    /// the far end of its links, and each link that is up then is in use, as where it loses its power.
+    /// By its one event a link goes down that cuts off its far end. No other system is moved.
+    CutOff,
+    /// A system fails that was the far end of its links. Each link that is up then is in use, as where it loses its
+    /// power.
     LostEnd,
     /// A system fails that was the far end of its links. A link is up then that isn't in use.
     FailedEnd,
@@ -234,7 +236,7 @@ fn choice_by(network: &Network, before: SyncPaths, paths: SyncPaths, row: Row, g
         Row::AnyPast => settling_span_at_once(network, paths),
         Row::Unchanged | Row::Lowered | Row::LostEnd | Row::FailedEnd | Row::LostPower => 0,
         Row::FailedHeard => aging_span(network, paths).min(silence_span(network)),
-        Row::OneTurned => 2 * way_span(paths),
+        Row::CutOff | Row::OneTurned => 2 * way_span(paths),
         Row::AnyLosses => loss_span(network, before, paths),
         Row::Gained => gained,
     }
@@ -279,7 +281,7 @@ fn roles_by(
         Row::AnyPast => settling_span_at_once(network, paths),
         Row::Unchanged | Row::Lowered | Row::LostEnd | Row::LostPower => 0,
         Row::FailedEnd | Row::FailedHeard => silence_span(network),
-        Row::OneTurned => 2 * way_span(paths),
+        Row::CutOff | Row::OneTurned => 2 * way_span(paths),
         Row::AnyLosses => roles_after_losses(network, before, paths, silent),
         Row::Gained => gained,
     }
@@ -310,6 +312,19 @@ fn gone_by(network: &Network, paths: SyncPaths, used_before: bool) -> u64
     }
 }
 
+/// By how much later than elsewhere what was in flight on links that aren't in use is gone, in ns.
+fn unused_by(network: &Network, used_before: bool) -> u64
+    ensures is { result ≡ unused_by network.now used_before }
+    ensures bound { result ≤ 16000000000 }
+{
+    network.well_formed();
+    if !used_before {
+        interval_of(network.largest())
+    } else {
+        0
+    }
+}
+
 /// The bound of what is held and in flight, in ns.
 fn sound_by(network: &Network, paths: SyncPaths, used_before: bool, row: Row, gained: u64) -> u64
     requires few { paths.systems ≤ 512 }
@@ -322,13 +337,17 @@ fn sound_by(network: &Network, paths: SyncPaths, used_before: bool, row: Row, ga
         return network.settling_span_with(paths);
     }
     match row {
-        Row::AnyPast | Row::LostPower | Row::FailedHeard | Row::OneTurned | Row::AnyLosses => {
+        Row::AnyPast | Row::LostPower | Row::FailedHeard | Row::AnyLosses => {
             settling_span_at_once(network, paths)
         }
         Row::Unchanged => 0,
         Row::Lowered => echo_span(network, paths) + gone_by(network, paths, used_before),
+        Row::CutOff => (2 * way_span(paths)).max(gone_by(network, paths, used_before)),
         Row::LostEnd => gone_by(network, paths, used_before),
         Row::FailedEnd => capability_span(network) + way_span(paths),
+        Row::OneTurned => {
+            2 * way_span(paths) + echo_span(network, paths) + unused_by(network, used_before)
+        }
         Row::Gained => gained,
     }
 }

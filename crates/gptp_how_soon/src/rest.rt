@@ -234,7 +234,7 @@ pub(crate) fn row_of(
     } else if are_losses_followed(paths_before, told) && !moved {
         Row::Unchanged
     } else if is_lowering_followed(paths_before, paths, told) && !moved {
-        if cut { Row::LostEnd } else { Row::Lowered }
+        if cut { Row::CutOff } else { Row::Lowered }
     } else if is_lowering_followed(paths_before, paths, told) && turned {
         Row::OneTurned
     } else if is_failing_followed(paths_before, paths, told) && !moved {

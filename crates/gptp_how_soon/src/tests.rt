@@ -72,11 +72,11 @@ fn a_ring_settles_after_its_start_and_after_a_loss(rt: HostRuntime) -> Result<()
             settling: Some(Settling {
                 choice: 2_460,
                 roles: 2_460,
-                sound: 15_000_002_870,
-                rest: 15_000_003_280,
+                sound: 3_000_003_690,
+                rest: 3_000_004_100,
                 exact_from: 30_000_009_660,
             }),
-            watch: 16_000_003_281,
+            watch: 4_000_004_101,
         })
     );
     assert_eq!(rt; settling_at(&times, 1), None);
@@ -249,13 +249,35 @@ fn a_link_that_goes_down_and_moves_no_system_costs_nothing(rt: HostRuntime) -> R
 }
 
 #[test]
-fn a_system_that_a_link_cuts_off_costs_nothing(rt: HostRuntime) -> Result<(), Fail> {
+fn a_far_end_that_a_link_cuts_off_costs_two_ways(rt: HostRuntime) -> Result<(), Fail> {
     // The second link is the last one of b.
     let times = ring(
         rt.alloc(),
         "[[event]]\nat = 30000000000\nkind = \"link_down\"\nclock = \"000000000000000b\"\nport = 2\n[[event]]\nat = 100000000000\nkind = \"link_down\"\nclock = \"000000000000000b\"\nport = 1\n",
     )?;
-    assert_eq!(rt; soon(&times, 100_000_000_000), Some((0, 100_000_005_400)));
+    assert_eq!(rt; soon(&times, 100_000_000_000), Some((1_640, 100_000_007_040)));
+    Ok(())
+}
+
+#[test]
+fn events_come_from_rest_once_a_system_has_turned(rt: HostRuntime) -> Result<(), Fail> {
+    // The link comes up again as the network rests, or 1 ns later.
+    for (case, next, choice) in [
+        ("too soon", 33_000_004_100, 15_000_002_870),
+        ("from rest", 33_000_004_101, 1_000_003_050),
+    ] {
+        let mut text = String::new(rt.alloc());
+        writeln!(
+            text,
+            "[[event]]\nat = 30000000000\nkind = \"link_down\"\nclock = \"000000000000000a\"\nport = 1\n[[event]]\nat = {next}\nkind = \"link_up\"\nclock = \"000000000000000a\"\nport = 1"
+        )?;
+        let times = ring(rt.alloc(), text.as_str())?;
+        assert_eq!(rt;
+            soon(&times, next).map(|bound| bound.0),
+            Some(choice),
+            "{case}"
+        );
+    }
     Ok(())
 }
 
@@ -615,7 +637,7 @@ fn events_come_from_rest_soon_after_a_far_end_is_lost(rt: HostRuntime) -> Result
         (
             "a link cuts off b",
             "[[event]]\nat = 100000000000\nkind = \"link_down\"\nclock = \"000000000000000b\"\nport = 1\n[[event]]\nat = 101000000000\nkind = \"link_up\"\nclock = \"000000000000000b\"\nport = 1\n",
-            820,
+            2_050,
             101_000_000_000,
             1_000_003_050,
         ),

@@ -20,7 +20,7 @@ use Rattle.gptp_how_soon.specs.Bounds.{choice_by, choice_of_row, gone_by, loss_s
 use Rattle.gptp_how_soon.specs.Rest.{leaves_silent}
 use Rattle.gptp_how_soon.specs.Times.{View, events_at, gained_at, last_set, ready_at, row_at, settling_time, settling_times, settling_times_from, time_at, view_at}
 use Rattle.gptp_how_soon.specs.declared.bounds.Row.{Row}
-use Rattle.gptp_how_soon.specs.declared.bounds.Row.TheVariants.{AnyLosses, AnyPast, FailedEnd, FailedHeard, Gained, LostEnd, LostPower, Lowered, OneTurned, Unchanged}
+use Rattle.gptp_how_soon.specs.declared.bounds.Row.TheVariants.{AnyLosses, AnyPast, CutOff, FailedEnd, FailedHeard, Gained, LostEnd, LostPower, Lowered, OneTurned, Unchanged}
 use Rattle.gptp_how_soon.specs.declared.bounds.Settling.{Settling}
 use Rattle.gptp_how_soon.specs.declared.bounds.SettlingTime.{SettlingTime}
 use Rattle.gptp_settling_time.specs.HowSoon.{BoundsChoice, BoundsEvents, BoundsLoss, BoundsStart, IsChoiceBoundAfter, IsLossBoundAfter, IsRestBoundAfter, NoneBetween, RestsAfterLoss}
@@ -30,7 +30,7 @@ use Rattle.gptp_settling_time.proofs.MomentLemmas.{parted}
 use Rattle.gptp_settling_time.proofs.WellFormedLemmas.{after_well}
 use Rattle.gptp_how_soon_laws.specs.Choice.{SettlingsAreChoiceBounds}
 use Rattle.gptp_how_soon_laws.proofs.RowBoundLemmas.{HasOwnBounds, IsSoundSooner, IsTelling, bounds_choice, choice_or_own, past_row, sound_or_sooner, tells}
-use Rattle.gptp_how_soon_laws.proofs.RowLemmas.{HasComeToRest, any_losses, failed, gained, heard, lost_end, lost_power, lowered, turned, unchanged}
+use Rattle.gptp_how_soon_laws.proofs.RowLemmas.{HasComeToRest, any_losses, cut_off, failed, gained, heard, lost_end, lost_power, lowered, turned, unchanged}
 use Rattle.gptp_how_soon_laws.proofs.StartRowLemmas.{first_past, first_roles, first_sound, never_unchanged, started}
 use Rattle.gptp_how_soon_laws.proofs.UnmovedLemmas.{AreWell}
 use Rattle.gptp_how_soon_laws.proofs.TimesLemmas.{AreTimes, later_times, times_after, times_parts}
@@ -190,19 +190,23 @@ module _ (d : DocumentState) (playable : IsPlayable d) where
             → HasComeToRest b at × RestsAfterLoss n made now s.sound
         by (inl (row, is)) =
             let x = lost_end n playable.network all b at late well row in
-            let flight = subst (FlightIsGone n made) (sym (it.sound ∙ is)) x.flight in (
-              x.rested,
-              elim x.which [
-                | inl cuts ↦ inl (cuts, flight)
-                | inr (fails, used) ↦ inr (inl (fails, inl (used, flight)))
-              ],
-            )
+            let flight = subst (FlightIsGone n made) (sym (it.sound ∙ is)) x.flight in
+            (x.rested, inr (inl (x.fails, inl (x.used, flight))))
         by (inr (inl (row, is))) =
             let (rest, fails) = failed n playable.network all b at late well row in
             (rest, inr (inl (fails, inr (it.sound ∙ is))))
-        by (inr (inr (row, is))) =
+        by (inr (inr (inl (row, is)))) =
             let (rest, lowers, flight) = lowered n playable.network all b at late well row in
-            (rest, inr (inr (lowers, (gone_by n v.paths v.used_before, flight, it.sound ∙ is))))
+            (rest, inr (inr (inl (lowers, (gone_by n v.paths v.used_before, flight, it.sound ∙ is)))))
+        by (inr (inr (inr (inl (row, is))))) =
+            let x = cut_off n playable.network all b at late well row in
+            (x.rested, inl (x.cuts, (gone_by n v.paths v.used_before, x.flight, it.sound ∙ is)))
+        by (inr (inr (inr (inr (row, is))))) =
+            let (rest, turns, unused) = turned n playable.network all b at late well row in
+            (rest, inr (inr (inr (turns, elim unused [
+              | inl (used, none) ↦ let same = it.sound in inl (used, omega (arith, same, is, none))
+              | inr later ↦ let same = it.sound in inr (omega (arith, same, is, later))
+            ]))))
 
     -- the choice and the roles stand by then, or sooner after a loss
     record IsSooner (s : Settling) : Type 0 where
@@ -220,7 +224,7 @@ module _ (d : DocumentState) (playable : IsPlayable d) where
         (late, between, settles.2.0, off, (rest.settling.sound, bound, past), loses)
 
     no_later : (choice roles : ℕ) → BoundsLoss n made now choice roles → choice ≤ roles
-    no_later choice roles (inl (lowers, none, no_roles)) = omega (arith, none)
+    no_later choice roles (inl (lowers, same, which)) = omega (arith, same)
     no_later choice roles (inr (inl (fails, none, which))) = omega (arith, none)
     no_later choice roles (inr (inr (inl (turns, is, same)))) = omega (arith, same)
     no_later choice roles (inr (inr (inr (inl (fails, inl (used, none, no_roles)))))) = omega (arith, none)
@@ -243,15 +247,13 @@ module _ (d : DocumentState) (playable : IsPlayable d) where
     loses_by Gained row own = absurd own
     loses_by Lowered row own =
         let (rest, lowers, flight) = lowered n playable.network all b at late well row in
-        (rest, inl (lowers, refl, refl))
+        (rest, inl (lowers, refl, inl refl))
+    loses_by CutOff row own =
+        let x = cut_off n playable.network all b at late well row in
+        (x.rested, inl (x.lowers, refl, inr (x.cuts, refl)))
     loses_by LostEnd row own =
-        let x = lost_end n playable.network all b at late well row in (
-          x.rested,
-          elim x.lowers [
-            | inl lowers ↦ inl (lowers, refl, refl)
-            | inr (fails, used) ↦ inr (inl (fails, refl, inl (used, refl)))
-          ],
-        )
+        let x = lost_end n playable.network all b at late well row in
+        (x.rested, inr (inl (x.fails, refl, inl (x.used, refl))))
     loses_by FailedEnd row own =
         let (rest, fails) = failed n playable.network all b at late well row in
         (rest, inr (inl (fails, refl, inr refl)))
@@ -259,7 +261,7 @@ module _ (d : DocumentState) (playable : IsPlayable d) where
         let (rest, fails, used) = lost_power n playable.network all b at late well row in
         (rest, inr (inr (inr (inl (fails, inl (used, refl, refl))))))
     loses_by OneTurned row own =
-        let (rest, turns) = turned n playable.network all b at late well row in
+        let (rest, turns, unused) = turned n playable.network all b at late well row in
         (rest, inr (inr (inl (turns, refl, refl))))
     loses_by FailedHeard row own =
         let (rest, fails, delay) = heard n playable.network all b at late well row in

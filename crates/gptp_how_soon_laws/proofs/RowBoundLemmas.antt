@@ -13,12 +13,12 @@ use Rattle.gptp_scenario.specs.SyncWait.{sync_paths}
 use Rattle.gptp_scenario.specs.declared.change.Timed.{Timed}
 use Rattle.gptp_scenario.specs.declared.sync_wait.SyncPaths.{SyncPaths}
 use Rattle.gptp_topology.specs.After.{is_calm}
-use Rattle.gptp_how_soon.specs.Bounds.{choice_by, choice_of_row, echo_span, gone_by, roles_by, roles_of_row, settled, sound_by, sound_of_row}
+use Rattle.gptp_how_soon.specs.Bounds.{choice_by, choice_of_row, echo_span, gone_by, roles_by, roles_of_row, settled, sound_by, sound_of_row, unused_by}
 use Rattle.gptp_how_soon.specs.Kinds.{sets_link}
 use Rattle.gptp_how_soon.specs.Rest.{leaves_silent}
 use Rattle.gptp_how_soon.specs.Times.{View, gained_at, row_at, settling_time}
 use Rattle.gptp_how_soon.specs.declared.bounds.Row.{Row}
-use Rattle.gptp_how_soon.specs.declared.bounds.Row.TheVariants.{AnyLosses, AnyPast, FailedEnd, FailedHeard, Gained, LostEnd, LostPower, Lowered, OneTurned, Unchanged}
+use Rattle.gptp_how_soon.specs.declared.bounds.Row.TheVariants.{AnyLosses, AnyPast, CutOff, FailedEnd, FailedHeard, Gained, LostEnd, LostPower, Lowered, OneTurned, Unchanged}
 use Rattle.gptp_how_soon.specs.declared.bounds.Settling.{Settling}
 use Rattle.gptp_settling_time.specs.HowSoon.{BoundsChoice, way_span}
 use Rattle.gptp_topology.proofs.RestLemmas.{calm_from}
@@ -28,6 +28,7 @@ abbrev pub past_row : Row → Row
 past_row AnyPast = AnyPast
 past_row Unchanged = Unchanged
 past_row Lowered = AnyPast
+past_row CutOff = AnyPast
 past_row LostEnd = AnyPast
 past_row LostPower = AnyPast
 past_row FailedEnd = AnyPast
@@ -56,6 +57,7 @@ bounds_choice n Sharp before events row gained calm unchanged is_gained =
         → (past r ≡ settling_span_at_once (pace_of n) (sync_paths n events)) ⊎ Sharp (past r)
     by_row off AnyPast is = inl refl
     by_row off Lowered is = inl refl
+    by_row off CutOff is = inl refl
     by_row off LostEnd is = inl refl
     by_row off LostPower is = inl refl
     by_row off FailedEnd is = inl refl
@@ -106,6 +108,7 @@ choice_or_own n before paths silent row gained = by (n.params.sync_timeout == 0)
     by true is Unchanged = inl (refl, refl)
     by true is Gained = inl (refl, refl)
     by true is Lowered = inr (eqb-true n.params.sync_timeout 0 is, tt, refl, refl)
+    by true is CutOff = inr (eqb-true n.params.sync_timeout 0 is, tt, refl, refl)
     by true is LostEnd = inr (eqb-true n.params.sync_timeout 0 is, tt, refl, refl)
     by true is LostPower = inr (eqb-true n.params.sync_timeout 0 is, tt, refl, refl)
     by true is FailedEnd = inr (eqb-true n.params.sync_timeout 0 is, tt, refl, refl)
@@ -113,12 +116,15 @@ choice_or_own n before paths silent row gained = by (n.params.sync_timeout == 0)
     by true is OneTurned = inr (eqb-true n.params.sync_timeout 0 is, tt, refl, refl)
     by true is AnyLosses = inr (eqb-true n.params.sync_timeout 0 is, tt, refl, refl)
 
--- All is sound by that bound. Or nothing lapses, and it is sooner after a loss by which no system is moved.
+-- All is sound by that bound. Or nothing lapses, and it is sooner after a loss by which no system is moved, or one
+-- turns.
 abbrev pub IsSoundSooner : NetworkState → SyncPaths → Bool → Row → ℕ → Type 0
 IsSoundSooner n paths used_before row sound =
     ((row ≡ LostEnd) × (sound ≡ gone_by n paths used_before))
     ⊎ (((row ≡ FailedEnd) × (sound ≡ capability_span (pace_of n) + way_span paths))
-    ⊎ ((row ≡ Lowered) × (sound ≡ echo_span n paths + gone_by n paths used_before)))
+    ⊎ (((row ≡ Lowered) × (sound ≡ echo_span n paths + gone_by n paths used_before))
+    ⊎ (((row ≡ CutOff) × (sound ≡ max (2 * way_span paths) (gone_by n paths used_before)))
+    ⊎ ((row ≡ OneTurned) × (sound ≡ 2 * way_span paths + echo_span n paths + unused_by n used_before)))))
 
 pub sound_or_sooner : (n : NetworkState) (before paths : SyncPaths) (used_before : Bool) (row : Row) (gained : ℕ)
     → (sound_by n paths used_before row gained ≡ choice_by n before paths (past_row row) gained)
@@ -137,13 +143,14 @@ sound_or_sooner n before paths used_before row gained = by (n.params.sync_timeou
     by true is AnyPast = inl refl
     by true is Unchanged = inl refl
     by true is Gained = inl refl
-    by true is OneTurned = inl refl
     by true is FailedHeard = inl refl
     by true is LostPower = inl refl
     by true is AnyLosses = inl refl
     by true is LostEnd = inr (eqb-true n.params.sync_timeout 0 is, inl (refl, refl))
     by true is FailedEnd = inr (eqb-true n.params.sync_timeout 0 is, inr (inl (refl, refl)))
-    by true is Lowered = inr (eqb-true n.params.sync_timeout 0 is, inr (inr (refl, refl)))
+    by true is Lowered = inr (eqb-true n.params.sync_timeout 0 is, inr (inr (inl (refl, refl))))
+    by true is CutOff = inr (eqb-true n.params.sync_timeout 0 is, inr (inr (inr (inl (refl, refl)))))
+    by true is OneTurned = inr (eqb-true n.params.sync_timeout 0 is, inr (inr (inr (inr (refl, refl)))))
 
 -- what is told of a calm network
 pub record IsTelling (n : NetworkState) (v : View) (s : Settling) : Type 0 where

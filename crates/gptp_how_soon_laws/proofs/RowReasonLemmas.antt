@@ -3,7 +3,7 @@ use Rattle.std.proofs.Common.{◌≡◌, ◌⊎◌, inl, inr, Bool, true, false,
 use Rattle.std.specs.Prelude.{⊤, not, if◌then◌else◌}
 use Rattle.gptp_how_soon.specs.Rest.{failed_row}
 use Rattle.gptp_how_soon.specs.declared.bounds.Row.{Row}
-use Rattle.gptp_how_soon.specs.declared.bounds.Row.TheVariants.{AnyLosses, AnyPast, FailedEnd, FailedHeard, Gained, LostEnd, LostPower, Lowered, OneTurned, Unchanged}
+use Rattle.gptp_how_soon.specs.declared.bounds.Row.TheVariants.{AnyLosses, AnyPast, CutOff, FailedEnd, FailedHeard, Gained, LostEnd, LostPower, Lowered, OneTurned, Unchanged}
 
 -- It is from rest or isn't; its events change nothing; they are losses that leave what stands; a link goes down, and it
 -- cuts off a far end; one system turns; a system fails, it was a far end, and each link that is up is in use; an event is
@@ -11,7 +11,7 @@ use Rattle.gptp_how_soon.specs.declared.bounds.Row.TheVariants.{AnyLosses, AnyPa
 abbrev pub RowBy : Bool → Bool → Bool → Bool → Bool → Bool → Bool → Bool → Bool → Bool → Bool → Row
 RowBy rest idle left lowers cut turns fails far used loss only =
     if not rest then AnyPast else if idle then Unchanged else if left then Unchanged
-    else if lowers then if cut then LostEnd else Lowered
+    else if lowers then if cut then CutOff else Lowered
     else if turns then OneTurned else if fails then failed_row far used
     else if loss then if only then AnyLosses else AnyPast
     else Gained
@@ -22,8 +22,10 @@ ReasonOf rest idle left lowers cut turns fails far used loss only AnyPast = ⊤
 ReasonOf rest idle left lowers cut turns fails far used loss only Unchanged =
     (rest ≡ true) × ((idle ≡ true) ⊎ (left ≡ true))
 ReasonOf rest idle left lowers cut turns fails far used loss only Lowered = (rest ≡ true) × (lowers ≡ true)
+ReasonOf rest idle left lowers cut turns fails far used loss only CutOff =
+    (rest ≡ true) × (lowers ≡ true) × (cut ≡ true)
 ReasonOf rest idle left lowers cut turns fails far used loss only LostEnd =
-    (rest ≡ true) × (((lowers ≡ true) × (cut ≡ true)) ⊎ ((fails ≡ true) × (far ≡ true) × (used ≡ true)))
+    (rest ≡ true) × (fails ≡ true) × (far ≡ true) × (used ≡ true)
 ReasonOf rest idle left lowers cut turns fails far used loss only OneTurned = (rest ≡ true) × (turns ≡ true)
 ReasonOf rest idle left lowers cut turns fails far used loss only FailedEnd =
     (rest ≡ true) × (fails ≡ true) × (far ≡ true)
@@ -41,10 +43,10 @@ reason : (rest idle left lowers cut turns fails far used loss only : Bool)
 reason false idle left lowers cut turns fails far used loss only = tt
 reason true true left lowers cut turns fails far used loss only = (refl, inl refl)
 reason true false true lowers cut turns fails far used loss only = (refl, inr refl)
-reason true false false true true turns fails far used loss only = (refl, inl (refl, refl))
+reason true false false true true turns fails far used loss only = (refl, refl, refl)
 reason true false false true false turns fails far used loss only = (refl, refl)
 reason true false false false cut true fails far used loss only = (refl, refl)
-reason true false false false cut false true true true loss only = (refl, inr (refl, refl, refl))
+reason true false false false cut false true true true loss only = (refl, refl, refl, refl)
 reason true false false false cut false true true false loss only = (refl, refl, refl)
 reason true false false false cut false true false true loss only = (refl, refl, refl)
 reason true false false false cut false true false false loss only = (refl, refl)

@@ -316,16 +316,16 @@ module _ (d : DocumentState) (network : IsNetwork d.network) (order : AreInOrder
             → choice ≡ 2 * way_span (sync_paths n (earlier ++ event ∷ now)) → roles ≡ choice → IsLost
         turned (other ∷ rest) same none is_choice roles_same = absurd none
         turned [] same turns is_choice roles_same =
-            let (silent, leads) = turn_leads n earlier event seen then
+            let x = turn_leads n earlier event seen then
             (record { turns = turns; calm = calm_then; off = off }) in
             let paths : choice ≡ 2 * way_span (sync_paths n (events_by time d.events)) =
             is_choice ∙ ap (λ es. 2 * way_span (sync_paths n es)) (sym parts) in
-            let past : Past = Turned silent event.at in
+            let past : Past = Turned x.silent event.at in
             record {
               first = before.first;
               begins = before.begins;
               last = past;
-              lead = led past past leads
+              lead = led past past x.leads
                   (subst (λ es. LeadOn n (earlier ++ event ∷ []) past es past) (sym same) refl);
               calm = calm;
               settles = λ settled late. (off, omega (arith, here, paths, roles_same, late));

@@ -1,10 +1,12 @@
 -- A link is taken down, and its ends are told: what stands elsewhere stood before, and ports beside failed systems stay
 -- silent.
-use Rattle.std.proofs.Common.{◌≡◌, ◌≢◌, ◌+◌, ℕ, Bool, true, false, List, map, Some, slice_get, slice_set, refl, sym, ap, subst, ◌∙◌, inl, inr}
+use Rattle.std.proofs.Common.{◌≡◌, ◌≢◌, ◌+◌, ℕ, Bool, true, false, List, [], map, Some, slice_get, slice_set, refl, sym, ap, subst, ◌∙◌, inl, inr}
 use Rattle.std.specs.Prelude.{max}
 use Rattle.std.proofs.lemmas.Option.{same_Some}
+use Rattle.gptp_lists.specs.Members.{In}
 use Rattle.gptp_lists.proofs.MappedLemmas.{alike, same_there}
 use Rattle.gptp_lists.proofs.PlaceLemmas.{get-set_other, get-set_same, map-set_same}
+use Rattle.gptp_graph.specs.Snapshot.{clocks}
 use Rattle.gptp_vector.specs.declared.port.PortId.{PortId}
 use Rattle.gptp_links.specs.declared.link.Direction.{Direction}
 use Rattle.gptp_links.specs.declared.link.Direction.TheVariants.{FromA, FromB}
@@ -12,7 +14,7 @@ use Rattle.gptp_links.specs.Fate.{Draw}
 use Rattle.gptp_setup.specs.Intervals.{interval_of}
 use Rattle.gptp_setup.specs.SettlingParams.{SettlingParams, largest_interval}
 use Rattle.gptp_system.specs.declared.answer.Answer.{Answer}
-use Rattle.gptp_system.specs.Input.{PortDown}
+use Rattle.gptp_system.specs.Input.{Input, PortDown}
 use Rattle.gptp_system.specs.Measures.{measure_at}
 use Rattle.gptp_system.specs.State.{clock}
 use Rattle.gptp_model.specs.Act.{Calls, in_state}
@@ -33,6 +35,7 @@ use Rattle.gptp_invariants.specs.DelayLinkView.{LinkPlace, asker_view, other_dir
 use Rattle.gptp_invariants.specs.DelayMeasured.{LinkStandsAt, StationIsLiveAt}
 use Rattle.gptp_invariants.specs.FailedUnanswered.{IsFailedAmong, IsNeverAnswered, IsOldBy, IsSilent, IsUnansweredAt, StandsUnanswered, silent_setting, silent_view}
 use Rattle.gptp_invariants.specs.WorldNews.{AreSilentBy, IsSilentBy}
+use Rattle.gptp_invariants.specs.WorldStanding.{snapshot_of}
 use Rattle.gptp_invariants.proofs.ChoiceCalmKeptLemmas.{KeepsNetwork, calls_keep, keeps_on, net_keeps}
 use Rattle.gptp_invariants.proofs.FailedNeverAnsweredLemmas.{never_called}
 use Rattle.gptp_invariants.proofs.FailedUnansweredCallLemmas.{CallStep, call_seen, view_stays}
@@ -64,6 +67,13 @@ pub told_keeps : (channel : Channel) (w : WorldState) (draws : List Draw) (w' : 
 told_keeps channel w draws w' k =
     keeps_on w k.between w' (if_live_keeps k.place_a channel.a.port w k.first k.between k.at_a)
     (if_live_keeps k.place_b channel.b.port k.between k.second w' k.at_b)
+
+-- who lived lives on
+pub told_lives : (channel : Channel) (w : WorldState) (draws : List Draw) (w' : WorldState)
+    → TellsEnds PortDown channel w draws w' → (v : ℕ) → In v (clocks (snapshot_of w)) → In v (clocks (snapshot_of w'))
+told_lives channel w draws w' k v =
+    subst (λ systems. In v (clocks (record { systems = systems; links = [] })))
+    (sym (told_keeps channel w draws w' k).systems)
 
 -- all systems live and are named as they were
 pub if_live_stand : (place port : ℕ) (w : WorldState) (draws : List Draw) (w' : WorldState)
@@ -116,8 +126,20 @@ module _ (gone : ℕ) (at : LinkPlace) (place : ℕ) (port : PortId) (w : WorldS
     }
 
 -- so it is where its last request that is answered is known
-abbrev IsLastBy : ℕ → ℕ → LinkPlace → WorldState → Type 0
+abbrev pub IsLastBy : ℕ → ℕ → LinkPlace → WorldState → Type 0
 IsLastBy gone sent at w = (last : IsLastAnswered sent at w) × IsOldBy gone at w last.link
+
+-- by any call that leaves what is measured there
+pub last_stays : (gone sent : ℕ) (at : LinkPlace) (place : ℕ) (input : Input) (w w' : WorldState)
+    (last : IsLastAnswered sent at w) (x : CallStep place input gone at w w' last.link)
+    → measure_at x.after.asking.state ≡ measure_at last.link.asking.state → IsLastBy gone sent at w'
+last_stays gone sent at place input w w' last x part =
+    let same = view_stays x
+    (ap (asker_view (interval_of last.link.asking.station.setup.params.pdelay)) part) in (
+      last_then sent at w w' last x.after x.settled x.fewer
+          (subst (IsSince (silent_setting at w last.link) sent) (sym same) last.since),
+      x.old,
+    )
 
 called_last : (gone sent : ℕ) (at : LinkPlace) (place : ℕ) (port : PortId) (w : WorldState) (draws : List Draw)
     (w' : WorldState)
@@ -125,12 +147,9 @@ called_last : (gone sent : ℕ) (at : LinkPlace) (place : ℕ) (port : PortId) (
     → HaveOwnClocks w → (is : IsLastBy gone sent at w) → sender at.direction is.0.link.channel ≢ port
     → (answer : Answer) → Calls place (PortDown port.port) w draws answer w' → IsLastBy gone sent at w'
 called_last gone sent at place port w draws w' named clocks (last, old) apart answer k =
-    let x = step gone at place port w draws w' named clocks last.link old apart answer k in
-    let same = same_view gone at place port w draws w' named clocks last.link old apart answer k in (
-      last_then sent at w w' last x.after x.settled x.fewer
-          (subst (IsSince (silent_setting at w last.link) sent) (sym same) last.since),
-      x.old,
-    )
+    last_stays gone sent at place (PortDown port.port) w w' last
+    (step gone at place port w draws w' named clocks last.link old apart answer k)
+    (same_part gone at place port w draws w' named clocks last.link old apart answer k)
 
 -- ---- the link goes down
 
