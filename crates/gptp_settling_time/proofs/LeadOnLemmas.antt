@@ -14,7 +14,7 @@ use Rattle.gptp_scenario.specs.declared.change.Change.TheVariants.{LinkDown, Lin
 use Rattle.gptp_scenario.specs.declared.change.Timed.{Timed}
 use Rattle.gptp_scenario.specs.declared.sync_wait.SyncPaths.{SyncPaths}
 use Rattle.gptp_settling_time.specs.HowSoon.{AfterIdleEvents, AreGainEvents, AreHeardEvents, AreWiderEvents, EachEvent, IsGainEvent, IsGainToo, IsHeardEvent, IsHeardToo, IsIdleEvent, IsStillEvent, TurnsUnused, way_span}
-use Rattle.gptp_settling_time.specs.InTurn.{Aging, AnyPast, Cleared, EventLeads, Gained, HasSettledAnyhow, HasSettledHeard, HasSettledSince, Heard, IsTakenAs, LeadOn, LeavesSettled, Left, MakesNothing, Past, RestsAs, SettlesAfter, Starting, Turned, TurnsInVain, WidensLink}
+use Rattle.gptp_settling_time.specs.InTurn.{Aging, AnyPast, Cleared, EventLeads, Gained, HasSettledAnyhow, HasSettledHeard, HasSettledSince, Heard, IsTakenAs, LeadOn, LeavesSettled, Left, Lost, MakesNothing, Past, RestsAs, SettlesAfter, Starting, Turned, TurnsInVain, WidensLink}
 use Rattle.gptp_settling_time.specs.Losses.{LeavesChoice}
 use Rattle.gptp_settling_time.proofs.MadeLemmas.{adds_later}
 use Rattle.gptp_settling_time.proofs.SamePathsLemmas.{idle_paths, priority_paths, turned_paths}
@@ -52,6 +52,7 @@ HasSettled n events (Left start) time = ⊥
 HasSettled n events (Turned silent now) time = ⊥
 HasSettled n events (Cleared begun silent right old) time = ⊥
 HasSettled n events (Aging aged silent) time = ⊥
+HasSettled n events (Lost since most silent) time = ⊥
 
 pub settled_later : (n : NetworkState) (events : List Timed) (past : Past) (time later : ℕ) → time ≤ later
     → HasSettled n events past time → HasSettled n events past later
@@ -64,6 +65,7 @@ settled_later n events (Left start) time later less is = absurd is
 settled_later n events (Turned silent now) time later less is = absurd is
 settled_later n events (Cleared begun silent right old) time later less is = absurd is
 settled_later n events (Aging aged silent) time later less is = absurd is
+settled_later n events (Lost since most silent) time later less is = absurd is
 
 -- or it has so as it may be taken
 abbrev pub HasRested : NetworkState → List Timed → Past → ℕ → Type 0
@@ -99,7 +101,9 @@ taken_later n events past seen time later less (inr rests) = inr (by past seen r
     by (Cleared begun silent right old) (Turned start now) none = absurd none
     by (Cleared begun silent right old) (Cleared start dark clean last) none = absurd none
     by (Cleared begun silent right old) (Aging gone start) none = absurd none
+    by (Cleared begun silent right old) (Lost since most start) none = absurd none
     by (Aging aged silent) seen none = absurd none
+    by (Lost since most silent) seen none = absurd none
 
 -- what is taken so is taken as nothing else
 taken_on : (n : NetworkState) (events : List Timed) (past seen other : Past) (time : ℕ)
@@ -124,7 +128,9 @@ taken_on n events past seen other time (inr rests) (inr again) = absurd (by past
     by (Cleared begun silent right old) (Turned start now) none again = none
     by (Cleared begun silent right old) (Cleared start dark clean last) none again = none
     by (Cleared begun silent right old) (Aging gone start) none again = none
+    by (Cleared begun silent right old) (Lost since most start) none again = none
     by (Aging aged silent) seen none again = none
+    by (Lost since most silent) seen none again = none
 
 settled_so : (n : NetworkState) (events : List Timed) (past : Past) (time : ℕ) → NothingLapses n.params
     → HasSettled n events past time → SettlesAfter n events past time
@@ -136,6 +142,7 @@ settled_so n events (Left start) time off is = absurd is
 settled_so n events (Turned silent now) time off is = absurd is
 settled_so n events (Cleared begun silent right old) time off is = absurd is
 settled_so n events (Aging aged silent) time off is = absurd is
+settled_so n events (Lost since most silent) time off is = absurd is
 
 -- what has come to rest has settled
 pub rested_so : (n : NetworkState) (events : List Timed) (past : Past) (time : ℕ) → NothingLapses n.params
@@ -161,7 +168,9 @@ rested_so n events past time off (seen, inr rests, is) = by past seen rests
     by (Cleared begun silent right old) (Turned start now) none = absurd none
     by (Cleared begun silent right old) (Cleared start dark clean last) none = absurd none
     by (Cleared begun silent right old) (Aging gone start) none = absurd none
+    by (Cleared begun silent right old) (Lost since most start) none = absurd none
     by (Aging aged silent) seen none = absurd none
+    by (Lost since most silent) seen none = absurd none
 
 -- ---- an event leads from a network that has settled
 
@@ -198,6 +207,7 @@ module _ (n : NetworkState) (made : List Timed) (event : Timed) where
   gain_leads (Turned silent now) next settled less gain = absurd settled
   gain_leads (Cleared begun silent right old) next settled less gain = absurd settled
   gain_leads (Aging aged silent) next settled less gain = absurd settled
+  gain_leads (Lost since most silent) next settled less gain = absurd settled
 
   heard_leads : (past : Past) (next : ℕ) → HasSettled n made past event.at → IsHeardEvent n next made event
       → EventLeads n made past event (Heard next)
@@ -213,6 +223,7 @@ module _ (n : NetworkState) (made : List Timed) (event : Timed) where
   heard_leads (Turned silent now) next settled heard = absurd settled
   heard_leads (Cleared begun silent right old) next settled heard = absurd settled
   heard_leads (Aging aged silent) next settled heard = absurd settled
+  heard_leads (Lost since most silent) next settled heard = absurd settled
 
   -- what makes nothing of what stands leads from a network that has settled to one that has settled by then, as if its
   -- ports had been capable from a time on
@@ -235,6 +246,7 @@ module _ (n : NetworkState) (made : List Timed) (event : Timed) where
     way_over (Turned silent now) settled = absurd settled
     way_over (Cleared begun silent right old) settled = absurd settled
     way_over (Aging aged silent) settled = absurd settled
+    way_over (Lost begun most silent) settled = absurd settled
 
     same_paths : IsStillEvent n made event → sync_paths n more ≡ sync_paths n made
     same_paths (inl (inl nothing)) = idle_paths n network made event nothing
@@ -273,6 +285,7 @@ module _ (n : NetworkState) (made : List Timed) (event : Timed) where
       idle_leads (Turned silent now) settled = absurd settled
       idle_leads (Cleared begun silent right old) settled = absurd settled
       idle_leads (Aging aged silent) settled = absurd settled
+      idle_leads (Lost begun most silent) settled = absurd settled
 
       pub idle_settled : (past : Past) → HasSettled n made past event.at → HasSettled n more (Heard since) event.at
       idle_settled past settled =
@@ -442,6 +455,7 @@ module _ (n : NetworkState) (network : IsNetwork n) where
     widens_leads made event (Turned silent now) settled by here calm is late widens soon = absurd is
     widens_leads made event (Cleared begun silent right old) settled by here calm is late widens soon = absurd is
     widens_leads made event (Aging aged silent) settled by here calm is late widens soon = absurd is
+    widens_leads made event (Lost since most silent) settled by here calm is late widens soon = absurd is
 
     pub wider_led : (made now : List Timed) (past : Past) (settled : ℕ) → AllNow now → IsCalm n made
         → HasSettled n made past (suc settled) → settled < time → AreWiderEvents n settled time made now

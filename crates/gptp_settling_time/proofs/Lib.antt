@@ -136,3 +136,5 @@ pub mod LosesNothingLemmas
 pub mod LosesPriorityLemmas
 pub mod LostToLemmas
 pub mod LostMadeLemmas
+pub mod EndsToldLemmas
+pub mod LosesVainLemmas
