@@ -174,6 +174,25 @@ rested_so n events past time off (seen, inr rests, is) = by past seen rests
 
 -- ---- an event leads from a network that has settled
 
+-- a link that isn't used is turned in vain, where ports are capable from no later than then
+turns_in_vain : (n : NetworkState) (made : List Timed) (event : Timed) (start : ℕ) → start ≤ event.at → (act : Act)
+    → TurnsUnused n made act → TurnsInVain n made event start act
+turns_in_vain n made event start late (Changing (LinkUp number port)) failed = failed
+turns_in_vain n made event start late (Changing (LinkDown number port)) failed = (failed, late)
+turns_in_vain n made event start late (Changing (LinkSet number port min max loss)) none = absurd none
+turns_in_vain n made event start late (Changing (Fail number)) none = absurd none
+turns_in_vain n made event start late (Changing (Recover number)) none = absurd none
+turns_in_vain n made event start late (Changing (Priority1 number value)) none = absurd none
+turns_in_vain n made event start late (Changing (Inject number port octets)) none = absurd none
+turns_in_vain n made event start late (Deliver link direction) none = absurd none
+turns_in_vain n made event start late (Expire number timer) none = absurd none
+
+pub makes_nothing : (n : NetworkState) (made : List Timed) (event : Timed) (start : ℕ) → start ≤ event.at
+    → NothingLapses n.params → IsIdleEvent n made event → MakesNothing n made event start
+makes_nothing n made event start late off (inl nothing) = inl nothing
+makes_nothing n made event start late off (inr turns) =
+    inr (off, turns_in_vain n made event start late event.act turns)
+
 -- the span from any past is enough to rest, and to become capable
 span_parts : (last capable clean one way time : ℕ) → last + (max capable clean + one + way) ≤ time
     → (last + clean + one ≤ time) × (last + capable ≤ time)
@@ -234,7 +253,7 @@ module _ (n : NetworkState) (made : List Timed) (event : Timed) where
     abbrev way : ℕ
     way = way_span (sync_paths n made)
 
-    abbrev since : ℕ
+    abbrev pub since : ℕ
     since = event.at - way
 
     way_over : (past : Past) → HasSettled n made past event.at → way ≤ event.at
@@ -248,28 +267,13 @@ module _ (n : NetworkState) (made : List Timed) (event : Timed) where
     way_over (Aging aged silent) settled = absurd settled
     way_over (Lost begun most silent) settled = absurd settled
 
-    same_paths : IsStillEvent n made event → sync_paths n more ≡ sync_paths n made
+    pub same_paths : IsStillEvent n made event → sync_paths n more ≡ sync_paths n made
     same_paths (inl (inl nothing)) = idle_paths n network made event nothing
     same_paths (inl (inr turns)) = turned_paths n made event turns
     same_paths (inr leaves) = priority_paths n made event leaves.clock leaves.value leaves.act
 
-    turns_in_vain : (act : Act) → TurnsUnused n made act → TurnsInVain n made event since act
-    turns_in_vain (Changing (LinkUp number port)) failed = failed
-    turns_in_vain (Changing (LinkDown number port)) failed = (failed, omega arith)
-    turns_in_vain (Changing (LinkSet number port min max loss)) none = absurd none
-    turns_in_vain (Changing (Fail number)) none = absurd none
-    turns_in_vain (Changing (Recover number)) none = absurd none
-    turns_in_vain (Changing (Priority1 number value)) none = absurd none
-    turns_in_vain (Changing (Inject number port octets)) none = absurd none
-    turns_in_vain (Deliver link direction) none = absurd none
-    turns_in_vain (Expire number timer) none = absurd none
-
-    makes_nothing : IsIdleEvent n made event → MakesNothing n made event since
-    makes_nothing (inl nothing) = inl nothing
-    makes_nothing (inr turns) = inr (off, turns_in_vain event.act turns)
-
     leaves_still : IsStillEvent n made event → MakesNothing n made event since ⊎ LeavesChoice n made event
-    leaves_still (inl idle) = inl (makes_nothing idle)
+    leaves_still (inl idle) = inl (makes_nothing n made event since (omega arith) off idle)
     leaves_still (inr leaves) = inr leaves
 
     module _ (idle : IsStillEvent n made event) where
@@ -317,6 +321,12 @@ led_more n made now event past next settled leads is = record {
 }
 
 -- what leads on as it may be taken leads on
+pub lead_as : (n : NetworkState) (made : List Timed) (event : Timed) (now : List Timed) (past seen last : Past)
+    → IsTakenAs n made past event.at seen → LeadOn n made seen (event ∷ now) last
+    → LeadOn n made past (event ∷ now) last
+lead_as n made event now past seen last taken (other, on, next, leads, rest) =
+    (other, taken_on n made past seen other event.at taken on, next, leads, rest)
+
 pub led_as : (n : NetworkState) (made now : List Timed) (past seen : Past) (time settled : ℕ)
     → AllByRecursion (λ (t : Timed). t.at ≡ time) now → time ≤ settled → IsTakenAs n made past time seen
     → IsLed n made now seen settled → IsLed n made now past settled
@@ -331,20 +341,11 @@ led_as n made [] past seen time settled at late taken is = record {
     by : HasRested n made seen settled → HasRested n made past settled
     by (other, on, has) =
         (other, taken_on n made past seen other settled (taken_later n made past seen time settled late taken) on, has)
-led_as n made (event ∷ now) past seen time settled (here, at) late taken is = by is.lead
-  where
-    by : LeadOn n made seen (event ∷ now) is.last → IsLed n made (event ∷ now) past settled
-    by (other, on, next, leads, rest) = record {
-      last = is.last;
-      lead = (
-        other,
-        taken_on n made past seen other event.at (subst (λ t. IsTakenAs n made past t seen) (sym here) taken) on,
-        next,
-        leads,
-        rest,
-      );
-      settles = is.settles;
-    }
+led_as n made (event ∷ now) past seen time settled (here, at) late taken is = record {
+  last = is.last;
+  lead = lead_as n made event now past seen is.last (subst (λ t. IsTakenAs n made past t seen) (sym here) taken) is.lead;
+  settles = is.settles;
+}
 
 module _ (n : NetworkState) (network : IsNetwork n) where
   heard_lead : (next : ℕ) (made now : List Timed) → EachEvent (IsHeardToo n next) made now
@@ -455,7 +456,7 @@ module _ (n : NetworkState) (network : IsNetwork n) where
     widens_leads made event (Turned silent now) settled by here calm is late widens soon = absurd is
     widens_leads made event (Cleared begun silent right old) settled by here calm is late widens soon = absurd is
     widens_leads made event (Aging aged silent) settled by here calm is late widens soon = absurd is
-    widens_leads made event (Lost since most silent) settled by here calm is late widens soon = absurd is
+    widens_leads made event (Lost begun most silent) settled by here calm is late widens soon = absurd is
 
     pub wider_led : (made now : List Timed) (past : Past) (settled : ℕ) → AllNow now → IsCalm n made
         → HasSettled n made past (suc settled) → settled < time → AreWiderEvents n settled time made now

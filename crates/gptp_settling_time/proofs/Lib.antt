@@ -138,3 +138,5 @@ pub mod LostToLemmas
 pub mod LostMadeLemmas
 pub mod EndsToldLemmas
 pub mod LosesVainLemmas
+pub mod CalmStillLemmas
+pub mod LosesLeadLemmas
