@@ -141,7 +141,7 @@ module _ (clock : ℕ) (what : What) where
   abbrev Sets : (Told → Bool) → (ℕ → ℕ → ℕ → Option Standing → Bool)
   Sets test least greatest loss o = test (told clock what (kind_of_link_set least greatest loss o))
 
-  wider_or_other : (test : Told → Bool) → ((by : ℕ) → test (told clock what (Wider by)) ≡ false)
+  pub wider_or_other : (test : Told → Bool) → ((by : ℕ) → test (told clock what (Wider by)) ≡ false)
       → test (told clock what Other) ≡ false → (least greatest loss : ℕ) (o : Option Standing)
       → Sets test least greatest loss o ≡ false
   wider_or_other test wider other least greatest loss None = other
@@ -402,10 +402,10 @@ module _ (n : NetworkState) (network : IsNetwork n) (made : List Timed) where
   Gains (acts.Change (changes.Priority1 number value)) = IsNoWorse n made number value
   Gains act = ⊥
 
-  abbrev link_at : Act → Option Standing
+  abbrev pub link_at : Act → Option Standing
   link_at act = find (is_standing_named act) (standings_after n made)
 
-  abbrev system_at : ℕ → Option System
+  abbrev pub system_at : ℕ → Option System
   system_at number = find (has_clock number) (systems_after n made)
 
   abbrev failing : ℕ → Act

@@ -1,6 +1,6 @@
 -- What is told of a time after the first one, by its row, is so by its events.
 use Rattle.std.proofs.Common.{◌≡◌, ◌<◌, ◌≤◌, ◌⊎◌, inl, inr, ◌+◌, ◌*◌, ℕ, Bool, true, false, cond, List, [], ◌∷◌, ◌++◌, Option, Some, None, map, refl, sym, ap, subst, ◌∙◌, arith}
-use Rattle.std.specs.Prelude.{◌==◌, ◌&&◌, ◌||◌, not, nat_le, nat_lt, max}
+use Rattle.std.specs.Prelude.{◌==◌, ◌&&◌, ◌||◌, not, if◌then◌else◌, nat_le, nat_lt, max}
 use Rattle.std.specs.List.{AllByRecursion, list_all, list_any}
 use Rattle.std.proofs.lemmas.Bool.{and_parts, eqb-true, not-true, or_cases, or_from, or_parts}
 use Rattle.std.proofs.lemmas.Bool.Decides.{nat_tests}
@@ -19,13 +19,14 @@ use Rattle.gptp_scenario.specs.declared.change.Timed.{Timed}
 use Rattle.gptp_scenario.specs.declared.network.LinkSpec.{LinkSpec}
 use Rattle.gptp_network.specs.Snapshot.{events_by}
 use Rattle.gptp_topology.specs.Course.{cable_of}
-use Rattle.gptp_how_soon.specs.Bounds.{is_hard_to_hear, gone_by}
+use Rattle.gptp_how_soon.specs.Bounds.{is_hard_to_hear, gone_by, unused_by}
 use Rattle.gptp_how_soon.specs.Chosen.{moves_counted, moves_joined, moves_some}
-use Rattle.gptp_how_soon.specs.Kinds.{are_heard, fails_and_recovers, fails_first, is_better, is_failing, is_gain, is_idle, is_loss, is_lowering, is_other, is_recovery, leaves_links, lowers_one, lowers_unused, makes_nothing, recovers, takes_one, begins_wider, first_wider_by, is_wider}
+use Rattle.gptp_how_soon.specs.Kinds.{are_heard, brings_nothing, fails_and_recovers, fails_first, is_better, is_failing, is_gain, is_idle, is_loss, is_lowering, is_other, is_recovery, leaves_links, lowers_one, lowers_unused, makes_nothing, recovers, takes_one, begins_wider, first_wider_by, is_wider}
 use Rattle.gptp_how_soon.specs.Links.{delay_set, longest_among, longest_delay, longest_set}
-use Rattle.gptp_how_soon.specs.Rest.{are_events_followed, are_losses_followed, are_recoveries_followed, are_turns_followed, heard_at_once, is_failing_followed, is_from_rest, is_lowering_followed, keeps_paths, rested, rested_by, is_wider_followed, settles_wider_by}
+use Rattle.gptp_how_soon.specs.Rest.{are_events_followed, are_losses_followed, are_recoveries_followed, are_turns_followed, heard_at_once, is_failing_followed, is_from_rest, is_lowering_followed, keeps_paths, leaves_silent, rested, rested_by, is_wider_followed, settles_wider_by}
 use Rattle.gptp_how_soon.specs.Times.{View, events_at, gained_at, ready_at, row_at, view_at}
-use Rattle.gptp_how_soon.specs.declared.bounds.Row.TheVariants.{FailedEnd, FailedHeard, Gained, LostEnd, LostPower, Lowered, OneTurned, Unchanged}
+use Rattle.gptp_how_soon.specs.declared.bounds.Row.{Row}
+use Rattle.gptp_how_soon.specs.declared.bounds.Row.TheVariants.{AnyLosses, CutOff, FailedEnd, FailedHeard, Gained, LostEnd, LostPower, Lowered, OneTurned, Unchanged}
 use Rattle.gptp_how_soon.specs.declared.bounds.Settling.{Settling}
 use Rattle.gptp_how_soon.specs.declared.bounds.SettlingTime.{SettlingTime}
 use Rattle.gptp_how_soon.specs.declared.kinds.Kind.{Kind}
@@ -34,20 +35,21 @@ use Rattle.gptp_how_soon.specs.declared.kinds.Told.{Told}
 use Rattle.gptp_how_soon.specs.declared.kinds.What.{What}
 use Rattle.gptp_how_soon.specs.declared.kinds.What.TheVariants as whats
 use Rattle.gptp_settling_time.specs.Gains.{HasDelaysWithin}
-use Rattle.gptp_settling_time.specs.HowSoon.{AreWiderEvents, BoundsGains, CutsOneEnd, EachEvent, FailsEndFirst, FailsHeardFirst, IsStillEvent, LowersOneLink, TurnsOneLink, way_span}
+use Rattle.gptp_settling_time.specs.HowSoon.{AreWiderEvents, BoundsGains, CutsOneEnd, EachEvent, FailsEndFirst, FailsHeardFirst, IsStillEvent, LosesEvents, LowersOneLink, RolesAfterLoss, TurnsOneLink, way_span}
 use Rattle.gptp_settling_time.specs.InTurn.{FlightIsGone}
-use Rattle.gptp_settling_time.specs.Losses.{UpIsUsed}
+use Rattle.gptp_settling_time.specs.Losses.{UpIsUsed, silence_span}
 use Rattle.gptp_settling_time.proofs.CutLemmas.{IsBy, all_by}
 use Rattle.gptp_settling_time.proofs.LeadOnLemmas.{all_still}
 use Rattle.gptp_settling_time.proofs.MomentLemmas.{all_at}
+use Rattle.gptp_how_soon_laws.proofs.AnyLossLemmas.{all_losses, none_fails}
 use Rattle.gptp_how_soon_laws.proofs.GainedLemmas.{AreFollowed, AreTurnsFollowed, all_gained, all_heard, all_idle, all_wider}
 use Rattle.gptp_how_soon_laws.proofs.KindLemmas.{told}
 use Rattle.gptp_how_soon_laws.proofs.FailedLemmas.{fails_end_first, fails_heard_first, used_up}
 use Rattle.gptp_how_soon_laws.proofs.CutOffLemmas.{cuts_one_end}
-use Rattle.gptp_how_soon_laws.proofs.LoweredLemmas.{lowers_one_link, used_on}
+use Rattle.gptp_how_soon_laws.proofs.LoweredLemmas.{lowers_one_link, used_on, used_turned}
 use Rattle.gptp_how_soon_laws.proofs.TurnedLemmas.{turns_one_link}
 use Rattle.gptp_how_soon_laws.proofs.UnmovedLemmas.{AreWell, all_still_unmoved}
-use Rattle.gptp_how_soon_laws.proofs.RowReasonLemmas.{failed_from, gained_from, heard_from, lost_from, lowered_from, powered_from, turned_from, unchanged_from}
+use Rattle.gptp_how_soon_laws.proofs.RowReasonLemmas.{ReasonOf, reason_of}
 
 -- ---- who counts as moved
 
@@ -175,6 +177,10 @@ longest_within n events others = record {
   sets = set_within (longest_delay n (events ++ others)) events others (omega arith);
 }
 
+-- so much later what was in flight on links that aren't in use is gone: not at all where each that is up is
+abbrev pub IsUnusedBy : NetworkState → List Timed → ℕ → Type 0
+IsUnusedBy n events span = (UpIsUsed n events × (span ≡ 0)) ⊎ (span ≡ largest_interval (pace_of n))
+
 module _ (n : NetworkState) (network : IsNetwork n) (events : List Timed) (b : SettlingTime) (at : ℕ)
     (late : b.at < at) where
   abbrev made : List Timed
@@ -185,6 +191,25 @@ module _ (n : NetworkState) (network : IsNetwork n) (events : List Timed) (b : S
 
   abbrev v : View
   v = view_at n made now (Some b) at
+
+  -- what its tests said
+  abbrev Why : Row → Type 0
+  Why =
+      ReasonOf (is_from_rest v.longest at v.paths_before v.paths v.told (Some b))
+      (list_all makes_nothing v.told || begins_wider v.told) (are_losses_followed v.paths_before v.told && not v.moved)
+      (is_lowering_followed v.paths_before v.paths v.told && not v.moved) v.cut
+      (is_lowering_followed v.paths_before v.paths v.told && v.turned)
+      (is_failing_followed v.paths_before v.paths v.told && not v.moved) v.far v.used (list_any is_loss v.told)
+      (list_all brings_nothing v.told)
+
+  why : (row : Row) → row_at v ≡ row → Why row
+  why row is =
+      reason_of (is_from_rest v.longest at v.paths_before v.paths v.told (Some b))
+      (list_all makes_nothing v.told || begins_wider v.told) (are_losses_followed v.paths_before v.told && not v.moved)
+      (is_lowering_followed v.paths_before v.paths v.told && not v.moved) v.cut
+      (is_lowering_followed v.paths_before v.paths v.told && v.turned)
+      (is_failing_followed v.paths_before v.paths v.told && not v.moved) v.far v.used (list_any is_loss v.told)
+      (list_all brings_nothing v.told) row is
 
   -- it is from rest
   record IsFromRest : Type 0 where
@@ -279,13 +304,7 @@ module _ (n : NetworkState) (network : IsNetwork n) (events : List Timed) (b : S
       → (rest : HasComeToRest b at)
       × (EachEvent (IsStillEvent n) made now ⊎ AreWiderEvents n (b.at + rest.settling.sound) at made now)
   unchanged well row =
-      let (from, which) =
-      unchanged_from (is_from_rest v.longest at v.paths_before v.paths v.told (Some b))
-      (list_all makes_nothing v.told || begins_wider v.told) (are_losses_followed v.paths_before v.told && not v.moved)
-      (is_lowering_followed v.paths_before v.paths v.told && not v.moved) v.cut
-      (is_lowering_followed v.paths_before v.paths v.told && v.turned)
-      (is_failing_followed v.paths_before v.paths v.told && not v.moved) v.far v.used (list_any is_loss v.told)
-      row in
+      let (from, which) = why Unchanged row in
       let facts = from_rest from in (
         facts.rested,
         elim which [
@@ -320,13 +339,7 @@ module _ (n : NetworkState) (network : IsNetwork n) (events : List Timed) (b : S
   pub gained : row_at v ≡ Gained → NothingLapses n.params
       → HasComeToRest b at × BoundsGains n made now at (ready_at n v) (gained_at n v)
   gained row off =
-      let (from, none, which) =
-      gained_from (is_from_rest v.longest at v.paths_before v.paths v.told (Some b))
-      (list_all makes_nothing v.told || begins_wider v.told) (are_losses_followed v.paths_before v.told && not v.moved)
-      (is_lowering_followed v.paths_before v.paths v.told && not v.moved) v.cut
-      (is_lowering_followed v.paths_before v.paths v.told && v.turned)
-      (is_failing_followed v.paths_before v.paths v.told && not v.moved) v.far v.used (list_any is_loss v.told)
-      row in
+      let (from, none, which) = why Gained row in
       let facts = from_rest from in
       let (some, narrow) = or_parts (list_all makes_nothing v.told) (begins_wider v.told) which in (
         facts.rested,
@@ -473,13 +486,7 @@ module _ (n : NetworkState) (network : IsNetwork n) (events : List Timed) (b : S
   pub lowered : AreWell n (made ++ now) → row_at v ≡ Lowered
       → HasComeToRest b at × LowersOneLink n made now × FlightIsGone n (made ++ now) (gone_by n v.paths v.used_before)
   lowered well row =
-      let (from, lowers) =
-      lowered_from (is_from_rest v.longest at v.paths_before v.paths v.told (Some b))
-      (list_all makes_nothing v.told || begins_wider v.told) (are_losses_followed v.paths_before v.told && not v.moved)
-      (is_lowering_followed v.paths_before v.paths v.told && not v.moved) v.cut
-      (is_lowering_followed v.paths_before v.paths v.told && v.turned)
-      (is_failing_followed v.paths_before v.paths v.told && not v.moved) v.far v.used (list_any is_loss v.told)
-      row in
+      let (from, lowers) = why Lowered row in
       let one = lowers_so well lowers in
       ((from_rest from).rested, one, flight_on one)
 
@@ -487,74 +494,64 @@ module _ (n : NetworkState) (network : IsNetwork n) (events : List Timed) (b : S
   pub lost_power : AreWell n (made ++ now) → row_at v ≡ LostPower
       → HasComeToRest b at × FailsHeardFirst n made now × UpIsUsed n (made ++ now)
   lost_power well row =
-      let (from, fails, used) =
-      powered_from (is_from_rest v.longest at v.paths_before v.paths v.told (Some b))
-      (list_all makes_nothing v.told || begins_wider v.told) (are_losses_followed v.paths_before v.told && not v.moved)
-      (is_lowering_followed v.paths_before v.paths v.told && not v.moved) v.cut
-      (is_lowering_followed v.paths_before v.paths v.told && v.turned)
-      (is_failing_followed v.paths_before v.paths v.told && not v.moved) v.far v.used (list_any is_loss v.told)
-      row in
+      let (from, fails, used) = why LostPower row in
       ((from_rest from).rested, failing_heard well fails, used_up n network (made ++ now) used)
 
-  -- or a far end is lost: a link cuts it off, or it loses its power
+  -- or it cuts off its far end
+  pub record CutsEnd : Type 0 where
+    pub rested : HasComeToRest b at
+    pub cuts : CutsOneEnd n made now
+    pub lowers : LowersOneLink n made now
+    pub flight : FlightIsGone n made (gone_by n v.paths v.used_before)
+
+  pub cut_off : AreWell n (made ++ now) → row_at v ≡ CutOff → CutsEnd
+  cut_off well row =
+      let (from, lowers, cut) = why CutOff row in record {
+        rested = (from_rest from).rested;
+        cuts = cuts_so well lowers cut;
+        lowers = lowers_so well lowers;
+        flight = flight_so (lowering_keeps lowers);
+      }
+
+  -- or a far end loses its power
   pub record LosesEnd : Type 0 where
     pub rested : HasComeToRest b at
-    pub which : CutsOneEnd n made now ⊎ (FailsEndFirst n made now × UpIsUsed n (made ++ now))
-    pub lowers : LowersOneLink n made now ⊎ (FailsEndFirst n made now × UpIsUsed n (made ++ now))
+    pub fails : FailsEndFirst n made now
+    pub used : UpIsUsed n (made ++ now)
     pub flight : FlightIsGone n made (gone_by n v.paths v.used_before)
 
   pub lost_end : AreWell n (made ++ now) → row_at v ≡ LostEnd → LosesEnd
   lost_end well row =
-      let (from, which) =
-      lost_from (is_from_rest v.longest at v.paths_before v.paths v.told (Some b))
-      (list_all makes_nothing v.told || begins_wider v.told) (are_losses_followed v.paths_before v.told && not v.moved)
-      (is_lowering_followed v.paths_before v.paths v.told && not v.moved) v.cut
-      (is_lowering_followed v.paths_before v.paths v.told && v.turned)
-      (is_failing_followed v.paths_before v.paths v.told && not v.moved) v.far v.used (list_any is_loss v.told)
-      row in
-      let rest = (from_rest from).rested in
-      elim which [
-        | inl (lowers, cut) ↦ record {
-          rested = rest;
-          which = inl (cuts_so well lowers cut);
-          lowers = inl (lowers_so well lowers);
-          flight = flight_so (lowering_keeps lowers);
-        }
-        | inr (fails, far, used) ↦
-            let both : FailsEndFirst n made now × UpIsUsed n (made ++ now) =
-            (failing_end well fails far, used_up n network (made ++ now) used) in record {
-              rested = rest;
-              which = inr both;
-              lowers = inr both;
-              flight = flight_so (is_failing_so fails).delay;
-            }
-      ]
+      let (from, fails, far, used) = why LostEnd row in record {
+        rested = (from_rest from).rested;
+        fails = failing_end well fails far;
+        used = used_up n network (made ++ now) used;
+        flight = flight_so (is_failing_so fails).delay;
+      }
+
+  -- what was in flight on links that aren't in use is gone so much later than elsewhere
+  unused_so : TurnsOneLink n made now → IsUnusedBy n (made ++ now) (unused_by n v.used_before)
+  unused_so turns = by v.used_before refl
+    where
+      by : (used : Bool) → v.used_before ≡ used → IsUnusedBy n (made ++ now) (unused_by n used)
+      by true is = inl (used_turned n made now turns (used_up n network made is), refl)
+      by false is = inr refl
 
   -- or one system turns
-  pub turned : AreWell n (made ++ now) → row_at v ≡ OneTurned → HasComeToRest b at × TurnsOneLink n made now
+  pub turned : AreWell n (made ++ now) → row_at v ≡ OneTurned
+      → HasComeToRest b at × TurnsOneLink n made now × IsUnusedBy n (made ++ now) (unused_by n v.used_before)
   turned well row =
-      let (from, turns) =
-      turned_from (is_from_rest v.longest at v.paths_before v.paths v.told (Some b))
-      (list_all makes_nothing v.told || begins_wider v.told) (are_losses_followed v.paths_before v.told && not v.moved)
-      (is_lowering_followed v.paths_before v.paths v.told && not v.moved) v.cut
-      (is_lowering_followed v.paths_before v.paths v.told && v.turned)
-      (is_failing_followed v.paths_before v.paths v.told && not v.moved) v.far v.used (list_any is_loss v.told)
-      row in
+      let (from, turns) = why OneTurned row in
       let (followed, one) = and_parts (is_lowering_followed v.paths_before v.paths v.told) v.turned turns in
       let (keeps, lowers) = and_parts (keeps_paths v.paths_before v.paths) (lowers_one v.told) followed in
       let (delay, paths, few) = keeps_so keeps in
-      ((from_rest from).rested, turns_one_link n network made now well one delay paths few lowers)
+      let turns = turns_one_link n network made now well one delay paths few lowers in
+      ((from_rest from).rested, turns, unused_so turns)
 
   -- or a far end hangs
   pub failed : AreWell n (made ++ now) → row_at v ≡ FailedEnd → HasComeToRest b at × FailsEndFirst n made now
   failed well row =
-      let (from, fails, far) =
-      failed_from (is_from_rest v.longest at v.paths_before v.paths v.told (Some b))
-      (list_all makes_nothing v.told || begins_wider v.told) (are_losses_followed v.paths_before v.told && not v.moved)
-      (is_lowering_followed v.paths_before v.paths v.told && not v.moved) v.cut
-      (is_lowering_followed v.paths_before v.paths v.told && v.turned)
-      (is_failing_followed v.paths_before v.paths v.told && not v.moved) v.far v.used (list_any is_loss v.told)
-      row in
+      let (from, fails, far) = why FailedEnd row in
       ((from_rest from).rested, failing_end well fails far)
 
   -- or a system that others heard
@@ -562,11 +559,27 @@ module _ (n : NetworkState) (network : IsNetwork n) (events : List Timed) (b : S
       → HasComeToRest b at × FailsHeardFirst n made now
       × ((sync_paths n (made ++ now)).delay ≡ (sync_paths n made).delay)
   heard well row =
-      let (from, fails) =
-      heard_from (is_from_rest v.longest at v.paths_before v.paths v.told (Some b))
-      (list_all makes_nothing v.told || begins_wider v.told) (are_losses_followed v.paths_before v.told && not v.moved)
-      (is_lowering_followed v.paths_before v.paths v.told && not v.moved) v.cut
-      (is_lowering_followed v.paths_before v.paths v.told && v.turned)
-      (is_failing_followed v.paths_before v.paths v.told && not v.moved) v.far v.used (list_any is_loss v.told)
-      row in
+      let (from, fails) = why FailedHeard row in
       ((from_rest from).rested, failing_heard well fails, (is_failing_so fails).delay)
+
+  -- Or there is any loss, and nothing is brought. Then roles stand with the choice; or also once no port is left capable
+  -- beside a system that fails.
+  pub any_losses : row_at v ≡ AnyLosses
+      → HasComeToRest b at × LosesEvents n made now
+      × ((choice : ℕ) → RolesAfterLoss n made now choice
+      (if leaves_silent v.used v.told then max choice (silence_span (pace_of n)) else choice))
+  any_losses row =
+      let (from, loss, only) = why AnyLosses row in
+      (
+        (from_rest from).rested,
+        all_losses n network made now only loss,
+        by only v.used (list_any is_failing v.told) refl refl,
+      )
+    where
+      by : list_all brings_nothing v.told ≡ true → (used failing : Bool) → v.used ≡ used
+          → list_any is_failing v.told ≡ failing → (choice : ℕ)
+          → RolesAfterLoss n made now choice
+          (if not used && failing then max choice (silence_span (pace_of n)) else choice)
+      by only true failing used none choice = inl (inr (used_up n network (made ++ now) used), refl)
+      by only false false used none choice = inl (inl (none_fails n network made now only none), refl)
+      by only false true used none choice = inr refl

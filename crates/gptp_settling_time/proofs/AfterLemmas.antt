@@ -40,7 +40,7 @@ use Rattle.gptp_settling_time.proofs.ClearedToLemmas.{IsClearedTo, cleared_left,
 use Rattle.gptp_settling_time.proofs.KeptToLemmas.{IsNewsTo, KeepsTo, keeps_act, keeps_later, news_act_to, news_later_to}
 use Rattle.gptp_settling_time.proofs.LeftToLemmas.{IsLeftTo, left_to_act, left_to_chooses, left_to_later, left_to_settled}
 use Rattle.gptp_settling_time.proofs.LostToLemmas.{IsLostTo, lost_to_act, lost_to_chooses, lost_to_later, lost_to_settled}
-use Rattle.gptp_settling_time.proofs.TurnedToLemmas.{IsTurnedTo, turned_to_act, turned_to_later, turned_to_settled}
+use Rattle.gptp_settling_time.proofs.TurnedToLemmas.{IsTurnedTo, turned_to_act, turned_to_claimed, turned_to_later, turned_to_settled}
 use Rattle.gptp_settling_time.proofs.StartEventLemmas.{IsStartingTo, begun_soon_claimed, begun_soon_news, starting_act, starting_begins, starting_later}
 use Rattle.gptp_settling_time.proofs.TimedNewsLemmas.{CanSettle, has_settled}
 
@@ -114,7 +114,15 @@ module _ (d : DocumentState) (playable : IsPlayable d) (events : List Timed) (w 
   rests_as (Gained start) seen none so = absurd none
   rests_as (Heard start) seen none so = absurd none
   rests_as (Left silent) seen none so = absurd none
-  rests_as (Turned silent now) seen none so = absurd none
+  rests_as (Turned silent now) AnyPast none so = absurd none
+  rests_as (Turned silent now) Starting none so = absurd none
+  rests_as (Turned silent now) (Gained start) none so = absurd none
+  rests_as (Turned silent now) (Heard start) rest so = turned_to_claimed d events silent now w start so playable rest
+  rests_as (Turned silent now) (Left start) none so = absurd none
+  rests_as (Turned silent now) (Turned start was) none so = absurd none
+  rests_as (Turned silent now) (Cleared start dark clean last) none so = absurd none
+  rests_as (Turned silent now) (Aging gone start) none so = absurd none
+  rests_as (Turned silent now) (Lost begun most start) none so = absurd none
   rests_as (Cleared since silent right old) AnyPast none so = absurd none
   rests_as (Cleared since silent right old) Starting none so = absurd none
   rests_as (Cleared since silent right old) (Gained start) none so = absurd none

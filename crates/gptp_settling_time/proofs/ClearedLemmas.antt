@@ -72,7 +72,7 @@ pub record IsCleared (p : SettlingParams) (g : Snapshot) (since silent right old
 -- ---- it goes on
 
 -- time stands still while something happens
-same_time : (says : Spelling) (w w' : MachineState) → StationActs says w w' → w'.time ≡ w.time
+pub same_time : (says : Spelling) (w w' : MachineState) → StationActs says w w' → w'.time ≡ w.time
 same_time says w w' (inl act) = act.call.time ∙ act.pops.time
 same_time says w w' (inr (inl act)) = act.pops.time
 same_time says w w' (inr (inr act)) = act.call.time
@@ -199,7 +199,7 @@ module _ (p : SettlingParams) (g : Snapshot) (since silent right old : ℕ) (w w
       | inr (base, gone, becomes) ↦ right_then base gone becomes
     ]
 
-  cleared_step : IsCleared p g since silent right old w'
+  pub cleared_step : IsCleared p g since silent right old w'
   cleared_step = record { left = left'; asked = asked'; silent_by = silent_by'; sound = sound_then }
 
 pub cleared_later : (p : SettlingParams) (g : Snapshot) (since silent right old time : ℕ) (w : WorldState)

@@ -252,7 +252,7 @@ module _ (d : DocumentState) (network : IsNetwork d.network) (order : AreInOrder
         → IsFollowedTo d.network (events_by last d.events) last choice_then → last + choice_then < time
         → BoundsLoss d.network (events_by last d.events) now choice roles → IsLost
     lost_by last choice_then [] off is parts calm_then calm before soon loses = elim loses [
-      | inl (lowers, is_choice, is_roles) ↦ absurd lowers
+      | inl (lowers, is_roles, is_choice) ↦ absurd lowers
       | inr (inl (fails, is_choice, after)) ↦ absurd fails
       | inr (inr (inl (turns, is_choice, same))) ↦ absurd turns
       | inr (inr (inr (inl (fails, bounds)))) ↦ absurd fails
@@ -304,31 +304,30 @@ module _ (d : DocumentState) (network : IsNetwork d.network) (order : AreInOrder
           chooses = λ settled late. off;
         }
 
-        lowered : (rest : List Timed) → now ≡ rest → OneEvent (LowersLink n) earlier (event ∷ rest) → roles ≡ 0
-            → IsLost
-        lowered (other ∷ rest) same none is_none = absurd none
-        lowered [] same lowers is_none =
+        lowered : (rest : List Timed) → now ≡ rest → OneEvent (LowersLink n) earlier (event ∷ rest) → IsLost
+        lowered (other ∷ rest) same none = absurd none
+        lowered [] same lowers =
             let x = loss_leads n earlier event 0 seen then
             (inl (record { lowers = lowers; calm = calm_then; off = off }, refl)) in
             let over = x.over in
             left 0 x (subst (λ es. LeadOn n (earlier ++ event ∷ []) (Left x.silent) es (Left x.silent)) (sym same) refl)
-            (λ settled late. (off, inl (omega (arith, over, here, is_none, late))))
+            (λ settled late. (off, inl (omega (arith, over, here, late))))
 
         -- by the one event a system turns
         turned : (rest : List Timed) → now ≡ rest → OneEvent (TurnsLink n) earlier (event ∷ rest)
             → choice ≡ 2 * way_span (sync_paths n (earlier ++ event ∷ now)) → roles ≡ choice → IsLost
         turned (other ∷ rest) same none is_choice roles_same = absurd none
         turned [] same turns is_choice roles_same =
-            let (silent, leads) = turn_leads n earlier event seen then
+            let x = turn_leads n earlier event seen then
             (record { turns = turns; calm = calm_then; off = off }) in
             let paths : choice ≡ 2 * way_span (sync_paths n (events_by time d.events)) =
             is_choice ∙ ap (λ es. 2 * way_span (sync_paths n es)) (sym parts) in
-            let past : Past = Turned silent event.at in
+            let past : Past = Turned x.silent event.at in
             record {
               first = before.first;
               begins = before.begins;
               last = past;
-              lead = led past past leads
+              lead = led past past x.leads
                   (subst (λ es. LeadOn n (earlier ++ event ∷ []) past es past) (sym same) refl);
               calm = calm;
               settles = λ settled late. (off, omega (arith, here, paths, roles_same, late));
@@ -431,7 +430,7 @@ module _ (d : DocumentState) (network : IsNetwork d.network) (order : AreInOrder
                 (λ settled late. (omega (arith, late, is_roles, one), inl (omega (arith, late, is_roles, other))))
 
         by : BoundsLoss n earlier (event ∷ now) choice roles → IsLost
-        by (inl (lowers, is_choice, is_roles)) = lowered now refl lowers is_roles
+        by (inl (lowers, is_roles, is_choice)) = lowered now refl lowers
         by (inr (inl ((fails, others), is_choice, after))) =
             let span = silence_span (pace_of n) in
             let x = loss_leads n earlier event span seen then

@@ -82,7 +82,27 @@ taken_later n events past seen time later less (inr rests) = inr (by past seen r
     by (Gained start) seen none = absurd none
     by (Heard start) seen none = absurd none
     by (Left silent) seen none = absurd none
-    by (Turned silent now) seen none = absurd none
+    by (Turned silent now) AnyPast none = absurd none
+    by (Turned silent now) Starting none = absurd none
+    by (Turned silent now) (Gained start) none = absurd none
+    by (Turned silent now) (Heard start) is =
+        let over = is.over in
+        record {
+          calm = is.calm;
+          off = is.off;
+          told = elim is.told [
+            | inl (used, told) ↦ inl (used, omega (arith, told, less))
+            | inr told ↦ inr (omega (arith, told, less))
+          ];
+          later = is.later;
+          unlinked = is.unlinked;
+          over = omega (arith, over, less);
+        }
+    by (Turned silent now) (Left start) none = absurd none
+    by (Turned silent now) (Turned start was) none = absurd none
+    by (Turned silent now) (Cleared start dark clean last) none = absurd none
+    by (Turned silent now) (Aging gone start) none = absurd none
+    by (Turned silent now) (Lost begun most start) none = absurd none
     by (Cleared begun silent right old) AnyPast none = absurd none
     by (Cleared begun silent right old) Starting none = absurd none
     by (Cleared begun silent right old) (Gained start) none = absurd none
@@ -119,7 +139,15 @@ taken_on n events past seen other time (inr rests) (inr again) = absurd (by past
     by (Gained start) seen none again = none
     by (Heard start) seen none again = none
     by (Left silent) seen none again = none
-    by (Turned silent now) seen none again = none
+    by (Turned silent now) AnyPast none again = none
+    by (Turned silent now) Starting none again = none
+    by (Turned silent now) (Gained start) none again = none
+    by (Turned silent now) (Heard start) rests again = again
+    by (Turned silent now) (Left start) none again = none
+    by (Turned silent now) (Turned start was) none again = none
+    by (Turned silent now) (Cleared start dark clean last) none again = none
+    by (Turned silent now) (Aging gone start) none again = none
+    by (Turned silent now) (Lost begun most start) none again = none
     by (Cleared begun silent right old) AnyPast none again = none
     by (Cleared begun silent right old) Starting none again = none
     by (Cleared begun silent right old) (Gained start) none again = none
@@ -157,7 +185,18 @@ rested_so n events past time off (seen, inr rests, is) = by past seen rests
     by (Gained start) seen none = absurd none
     by (Heard start) seen none = absurd none
     by (Left silent) seen none = absurd none
-    by (Turned silent now) seen none = absurd none
+    by (Turned silent now) AnyPast none = absurd none
+    by (Turned silent now) Starting none = absurd none
+    by (Turned silent now) (Gained start) none = absurd none
+    by (Turned silent now) (Heard start) rest = (off, elim rest.told [
+      | inl (used, told) ↦ omega (arith, told)
+      | inr told ↦ omega (arith, told)
+    ])
+    by (Turned silent now) (Left start) none = absurd none
+    by (Turned silent now) (Turned start was) none = absurd none
+    by (Turned silent now) (Cleared start dark clean last) none = absurd none
+    by (Turned silent now) (Aging gone start) none = absurd none
+    by (Turned silent now) (Lost begun most start) none = absurd none
     by (Cleared begun silent right old) AnyPast none = absurd none
     by (Cleared begun silent right old) Starting none = absurd none
     by (Cleared begun silent right old) (Gained start) none = absurd none

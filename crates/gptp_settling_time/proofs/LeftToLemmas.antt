@@ -29,6 +29,7 @@ use Rattle.gptp_theorem.proofs.CalmLemmas.{quiet_stands}
 use Rattle.gptp_theorem.proofs.PlayedLemmas.{no_change}
 use Rattle.gptp_settling_time.specs.ChoiceAlone.{ChoiceStands}
 use Rattle.gptp_settling_time.specs.Losses.{UpIsUsed}
+use Rattle.gptp_settling_time.proofs.DueLemmas.{UpIsInUse}
 use Rattle.gptp_settling_time.proofs.GainLemmas.{used_so}
 use Rattle.gptp_settling_time.proofs.KeptToLemmas.{KeepsTo, keeps_act, keeps_later}
 use Rattle.gptp_settling_time.proofs.LeftClaimedLemmas.{IsLeftAlways, left_acts, left_chooses, left_later, left_now, left_settles}
@@ -52,7 +53,15 @@ pub record IsLeftTo (d : DocumentState) (events : List Timed) (silent : ℕ) (w 
   pub since : IsLeftAlways (pace_of d.network) before silent w
 
 module _ (d : DocumentState) (events : List Timed) where
-  -- no port is unanswered where each link that is up is in use
+  -- each link that is up is in use
+  pub up_in_use : (w : WorldState) → KeepsTo d events w → UpIsUsed d.network events → UpIsInUse w
+  up_in_use w keeps used link channel here up =
+      let (v, there, same) = alike (link_after events) channel_wire d.network.links w.net.channels
+      (sym keeps.stands.links) link channel here in
+      used_so d.network events w keeps.stands keeps.claim.world.sound channel
+      (subst (IsUsed d.network.systems events) same (used link v there (ap (λ (x : LinkSpec). x.up) same ∙ up)))
+
+  -- so no port is unanswered
   pub none_unanswered : (w : WorldState) → KeepsTo d events w → (start : ℕ) → UpIsUsed d.network events
       → AreSilentBy (pace_of d.network) start w
   none_unanswered w keeps start used at s =

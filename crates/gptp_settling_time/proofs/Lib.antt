@@ -140,3 +140,6 @@ pub mod EndsToldLemmas
 pub mod LosesVainLemmas
 pub mod CalmStillLemmas
 pub mod LosesLeadLemmas
+pub mod MovedFlightLemmas
+pub mod RightBeginLemmas
+pub mod ToldAnewLemmas

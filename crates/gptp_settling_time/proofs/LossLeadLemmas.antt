@@ -9,9 +9,9 @@ use Rattle.gptp_scenario.specs.SettlingTime.{capability_span}
 use Rattle.gptp_scenario.specs.SyncWait.{sync_paths}
 use Rattle.gptp_scenario.specs.declared.change.Timed.{Timed}
 use Rattle.gptp_scenario.specs.declared.sync_wait.SyncPaths.{SyncPaths}
-use Rattle.gptp_settling_time.specs.HowSoon.{CutsOneEnd, EachEvent, FailsEndFirst, LowersOneLink, RestsAfterLoss, TurnsUnused, way_span}
-use Rattle.gptp_settling_time.specs.InTurn.{Aging, AnyPast, ChoosesAfter, Cleared, CutsCalm, EventLeads, FailsCalm, FailsNow, FlightIsGone, Gained, Heard, LeadOn, Left, LosesNow, Lost, LowersCalm, Past, SettlesAfter, Starting, Turned, TurnsCalm, echo_span}
-use Rattle.gptp_settling_time.specs.Losses.{CutsFarEnd, FailsFarEnd, LowersLink, LowersUnused, UpIsUsed, silence_span}
+use Rattle.gptp_settling_time.specs.HowSoon.{CutsOneEnd, EachEvent, FailsEndFirst, LowersOneLink, RestsAfterLoss, TurnsOneLink, TurnsUnused, way_span}
+use Rattle.gptp_settling_time.specs.InTurn.{Aging, AnyPast, ChoosesAfter, Cleared, CutsCalm, EventLeads, FailsCalm, FailsNow, FlightIsGone, Gained, Heard, LeadOn, Left, LosesNow, Lost, LowersCalm, Past, SettlesAfter, Starting, Turned, TurnsCalm, echo_span, turned_echo_span}
+use Rattle.gptp_settling_time.specs.Losses.{CutsFarEnd, FailsFarEnd, LowersLink, LowersUnused, TurnsLink, UpIsUsed, silence_span}
 use Rattle.gptp_settling_time.proofs.CalmLessLemmas.{fails_calm, lowers_calm}
 use Rattle.gptp_settling_time.proofs.SamePathsLemmas.{turned_paths}
 use Rattle.gptp_settling_time.proofs.LeftToLemmas.{less_way}
@@ -66,13 +66,26 @@ module _ (n : NetworkState) (made : List Timed) (event : Timed) (roles : ℕ) wh
 
 -- after one by which a system turns it has turned
 module _ (n : NetworkState) (made : List Timed) (event : Timed) where
-  pub turn_leads : (past : Past) → HasSettled n made past event.at → TurnsCalm n made event
-      → (silent : ℕ) × EventLeads n made past event (Turned silent event.at)
+  pub record IsTurnedBy (past : Past) : Type 0 where
+    pub silent : ℕ
+    pub leads : EventLeads n made past event (Turned silent event.at)
+    pub early : silent ≤ event.at
+
+  pub turn_leads : (past : Past) → HasSettled n made past event.at → TurnsCalm n made event → IsTurnedBy past
   turn_leads AnyPast settled turns =
-      (last_change made + capability_span (pace_of n), (settled, (turns, refl, refl)))
+      let passed = settled.passed in
+      let over = le-max_left (capability_span (pace_of n)) (2 * largest_interval (pace_of n)
+      + (sync_paths n made).systems * (longest_span (pace_of n) + (sync_paths n made).delay)) in
+      record {
+        silent = last_change made + capability_span (pace_of n);
+        leads = (settled, (turns, refl, refl));
+        early = omega (arith, passed, over);
+      }
   turn_leads Starting settled turns = absurd settled
-  turn_leads (Gained start) settled turns = (start, (settled, (turns, refl, refl)))
-  turn_leads (Heard start) settled turns = (start, (settled, (turns, refl, refl)))
+  turn_leads (Gained start) settled turns =
+      record { silent = start; leads = (settled, (turns, refl, refl)); early = omega (arith, settled) }
+  turn_leads (Heard start) settled turns =
+      record { silent = start; leads = (settled, (turns, refl, refl)); early = omega (arith, settled) }
   turn_leads (Left silent) settled turns = absurd settled
   turn_leads (Turned silent now) settled turns = absurd settled
   turn_leads (Cleared begun silent right old) settled turns = absurd settled
@@ -339,18 +352,18 @@ module _ (n : NetworkState) (off : NothingLapses n.params) (time : ℕ) (made no
           (less_way (sync_paths n made).systems (sync_paths n (made ++ event ∷ [])).systems (sync_paths n made).delay
           (sync_paths n (made ++ event ∷ [])).delay fewer delay)
 
-    cut_led : CutsFarEnd n made event → others ≡ [] → FlightIsGone n made rest
-        → IsLed n made now past (suc (time + rest))
-    cut_led cuts alone flight =
-        let x = cut_leads n made event rest flight past settled_then
+    cut_led : CutsFarEnd n made event → others ≡ [] → (gone : ℕ) → FlightIsGone n made gone
+        → rest ≡ max (2 * way_span (sync_paths n (made ++ now))) gone → IsLed n made now past (suc (time + rest))
+    cut_led cuts alone gone flight is =
+        let x = cut_leads n made event gone flight past settled_then
         (record { cuts = cuts; calm = calm_then; off = off }) in
         let l = cuts.lowers in
         let less = way_then (subst (EachEvent (LowersUnused n) (made ++ event ∷ [])) (sym alone) tt) l.delay l.paths in
         let before = here in
         let early = x.early in
-        led x.since x.silent 0 (event.at + rest) x.since x.leads
-        (subst (λ es. LeadOn n (made ++ event ∷ []) (Cleared x.since x.silent 0 (event.at + rest)) es
-        (Cleared x.since x.silent 0 (event.at + rest))) (sym alone) refl) (omega (arith, before)) (omega arith)
+        led x.since x.silent 0 (event.at + gone) x.since x.leads
+        (subst (λ es. LeadOn n (made ++ event ∷ []) (Cleared x.since x.silent 0 (event.at + gone)) es
+        (Cleared x.since x.silent 0 (event.at + gone))) (sym alone) refl) (omega (arith, before, is)) (omega arith)
         (inl x.over) (omega (arith, early, before, less))
 
     -- another such link goes down
@@ -402,22 +415,65 @@ module _ (n : NetworkState) (off : NothingLapses n.params) (time : ℕ) (made no
         (fails_calm n made event off calm_then fails) lowers) (omega (arith, is, short, before))
         (omega (arith, early, before)) (inl (omega (arith, over, before))) (omega (arith, is))
 
+    -- one system turns, and it is taken as heard from now on
+    turned_led : TurnsLink n made event → others ≡ []
+        → (UpIsUsed n (made ++ now) × (rest ≡ turned_echo_span n (made ++ now)))
+        ⊎ (rest ≡ turned_echo_span n (made ++ now) + largest_interval (pace_of n))
+        → IsLed n made now past (suc (time + rest))
+    turned_led turns alone which =
+        let x = turn_leads n made event past settled_then (record { turns = turns; calm = calm_then; off = off }) in
+        let last : Past = Turned x.silent event.at in
+        let over : event.at + way_span (sync_paths n (made ++ now)) ≤ suc (time + rest) = by_way which in
+        record {
+          last = last;
+          lead = subst (λ es. LeadOn n made past es last) (sym (same ∙ ap (λ es. event ∷ es) alone))
+              (past, inl refl, last, x.leads, refl);
+          settles = (
+            Heard event.at,
+            inr (record {
+              calm = calm;
+              off = off;
+              told = elim which [
+                | inl (used, is) ↦ let before = here in inl (used, omega (arith, before, is))
+                | inr is ↦ let before = here in inr (omega (arith, before, is))
+              ];
+              later = omega arith;
+              unlinked = x.early;
+              over = over;
+            }),
+            over,
+          );
+        }
+      where
+        by_way : (UpIsUsed n (made ++ now) × (rest ≡ turned_echo_span n (made ++ now)))
+            ⊎ (rest ≡ turned_echo_span n (made ++ now) + largest_interval (pace_of n))
+            → event.at + way_span (sync_paths n (made ++ now)) ≤ suc (time + rest)
+        by_way (inl (used, is)) = let before = here in omega (arith, before, is)
+        by_way (inr is) = let before = here in omega (arith, before, is)
+
   lost_led : (es : List Timed) → now ≡ es
-      → (CutsOneEnd n made es × FlightIsGone n made rest)
+      → (CutsOneEnd n made es
+      × ((gone : ℕ) × FlightIsGone n made gone × (rest ≡ max (2 * way_span (sync_paths n (made ++ now))) gone)))
       ⊎ ((FailsEndFirst n made es
       × ((UpIsUsed n (made ++ now) × FlightIsGone n made rest)
       ⊎ (rest ≡ capability_span (pace_of n) + way_span (sync_paths n (made ++ now)))))
-      ⊎ (LowersOneLink n made es
-      × ((gone : ℕ) × FlightIsGone n (made ++ now) gone × (rest ≡ echo_span n (made ++ now) + gone))))
+      ⊎ ((LowersOneLink n made es
+      × ((gone : ℕ) × FlightIsGone n (made ++ now) gone × (rest ≡ echo_span n (made ++ now) + gone)))
+      ⊎ (TurnsOneLink n made es
+      × ((UpIsUsed n (made ++ now) × (rest ≡ turned_echo_span n (made ++ now)))
+      ⊎ (rest ≡ turned_echo_span n (made ++ now) + largest_interval (pace_of n))))))
       → IsLed n made now past (suc (time + rest))
   lost_led [] same (inl (none, flight)) = absurd none
   lost_led [] same (inr (inl (none, after))) = absurd none
-  lost_led [] same (inr (inr (none, after))) = absurd none
+  lost_led [] same (inr (inr (inl (none, after)))) = absurd none
+  lost_led [] same (inr (inr (inr (none, after)))) = absurd none
   lost_led (event ∷ other ∷ others) same (inl (none, flight)) = absurd none
-  lost_led (event ∷ other ∷ others) same (inr (inr (none, after))) = absurd none
-  lost_led (event ∷ []) same (inl (cuts, flight)) = cut_led event [] same cuts refl flight
-  lost_led (event ∷ []) same (inr (inr (lowers, (gone, flight, is)))) =
+  lost_led (event ∷ other ∷ others) same (inr (inr (inl (none, after)))) = absurd none
+  lost_led (event ∷ other ∷ others) same (inr (inr (inr (none, after)))) = absurd none
+  lost_led (event ∷ []) same (inl (cuts, (gone, flight, is))) = cut_led event [] same cuts refl gone flight is
+  lost_led (event ∷ []) same (inr (inr (inl (lowers, (gone, flight, is))))) =
       right_led event [] same lowers refl gone flight is
+  lost_led (event ∷ []) same (inr (inr (inr (turns, which)))) = turned_led event [] same turns refl which
   lost_led (event ∷ others) same (inr (inl ((fails, lowers), by))) = fail_led event others same fails lowers by
 
   pub cleared_led : RestsAfterLoss n made now rest → IsLed n made now past (suc (time + rest))

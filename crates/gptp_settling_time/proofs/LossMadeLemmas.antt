@@ -33,25 +33,26 @@ use Rattle.gptp_theorem.specs.Reached.{channel_wire}
 use Rattle.gptp_theorem.proofs.CalmLemmas.{quiet_stands}
 use Rattle.gptp_theorem.proofs.SyncPathLemmas.{paths_stand}
 use Rattle.gptp_settling_time.specs.InTurn.{ClearsBy, CutsCalm, FailsCalm, FailsNow, FlightIsGone, LeavesStanding, LowersCalm, TurnsCalm, TurnsNow, echo_span}
-use Rattle.gptp_settling_time.proofs.GainLemmas.{lives_so, up_so, used_so}
+use Rattle.gptp_settling_time.proofs.GainLemmas.{lives_so, up_so}
 use Rattle.gptp_settling_time.proofs.FailedAloneLemmas.{all_but, failed_left, less as failed_reduced, none_joined, ready_on as failed_ready}
 use Rattle.gptp_settling_time.proofs.AgingToLemmas.{IsAgingTo}
 use Rattle.gptp_settling_time.proofs.FailedHeardLemmas.{failed_aging}
 use Rattle.gptp_settling_time.proofs.KeptToLemmas.{KeepsTo}
-use Rattle.gptp_settling_time.proofs.LeftToLemmas.{IsLeftTo, less_way}
+use Rattle.gptp_settling_time.proofs.LeftToLemmas.{IsLeftTo, less_way, up_in_use}
 use Rattle.gptp_settling_time.proofs.LoweredLemmas.{act_left, ends, less as lowered_reduced, ready_on as lowered_ready, silent_on as lowered_silent, stay}
-use Rattle.gptp_settling_time.proofs.MovedAlwaysLemmas.{IsMovedAlways}
 use Rattle.gptp_settling_time.proofs.SettledSeenLemmas.{HasSettledSeen, IsSettledSeen}
+use Rattle.gptp_settling_time.proofs.TakenDownLemmas.{told_lives}
+use Rattle.gptp_settling_time.proofs.ToldAnewLemmas.{IsTurnedAlways, anew_begins}
 use Rattle.gptp_settling_time.proofs.TurnedToLemmas.{IsTurnedTo}
 use Rattle.gptp_settling_time.proofs.TurnsBeginLemmas.{act_turned}
 use Rattle.gptp_settling_time.proofs.WorldMovesLemmas.{cut_off_so, far_end_so, near_so, stays_joined, turns_so}
 use Rattle.gptp_bmca_machine.specs.SoundLaws.{AllAreNear}
 use Rattle.gptp_invariants.specs.ChoiceView.{view}
-use Rattle.gptp_settling_time.specs.Losses.{FailsFarEnd, IsCutOff, IsFarEnd, LowersLink, UpIsUsed, silence_span}
+use Rattle.gptp_settling_time.specs.Losses.{FailsFarEnd, IsCutOff, IsFarEnd, LowersLink, silence_span}
 use Rattle.gptp_settling_time.proofs.ClearedLemmas.{GoesBy, IsCleared}
 use Rattle.gptp_settling_time.proofs.ClearedToLemmas.{IsClearedTo}
 use Rattle.gptp_settling_time.proofs.ClearsLemmas.{all_but_cut, clears, cut_joins_none, ready_asked, rights}
-use Rattle.gptp_settling_time.proofs.DueLemmas.{AreDueBy, UpIsInUse, due_by_delay, due_by_interval}
+use Rattle.gptp_settling_time.proofs.DueLemmas.{AreDueBy, due_by_delay, due_by_interval}
 use Rattle.gptp_settling_time.proofs.LeftClaimedLemmas.{HaveAskedBy, IsLeftAlways}
 use Rattle.gptp_settling_time.proofs.ReducedLemmas.{IsReduced}
 use Rattle.std.proofs.Math.Nat.{add-mul, mul-le-mul_left}
@@ -76,14 +77,6 @@ module _ (d : DocumentState) (playable : IsPlayable d) (made : List Timed) (even
 
   abbrev more : List Timed
   more = made ++ event ∷ []
-
-  -- each link that is up is in use
-  in_use_so : (events : List Timed) (u : WorldState) → KeepsTo d events u → UpIsUsed n events → UpIsInUse u
-  in_use_so events u so used link channel here up =
-      let (v, there, same) = alike (link_after events) channel_wire n.links u.net.channels (sym so.stands.links) link
-      channel here in
-      used_so n events u so.stands so.claim.world.sound channel
-      (subst (IsUsed n.systems events) same (used link v there (ap (λ (x : LinkSpec). x.up) same ∙ up)))
 
   module _ (start : ℕ) (rest : HasRestedSo p start event.at then) where
     world_then : IsWorld p then
@@ -283,12 +276,13 @@ module _ (d : DocumentState) (playable : IsPlayable d) (made : List Timed) (even
     gone_by gone calm off (inl (used, is)) =
         let delay = ap (λ (u : SyncPaths). u.delay) paths_then in
         subst (λ t. AreDueBy t then) (omega (arith, is, delay, at_time))
-        (due_by_delay p then world_then (seen_then calm off) (in_use_so made then keeps used))
+        (due_by_delay p then world_then (seen_then calm off) (up_in_use d made then keeps used))
     gone_by gone calm off (inr is) =
         subst (λ t. AreDueBy t then) (omega (arith, is, at_time)) (due_by_interval p then world_then)
 
     goes_by : (gone : ℕ) → FlightIsGone n more gone → GoesBy p gone w'
-    goes_by gone (inl (used, is)) = inl (in_use_so more w' after used, is ∙ ap (λ (u : SyncPaths). u.delay) paths_after)
+    goes_by gone (inl (used, is)) =
+        inl (up_in_use d more w' after used, is ∙ ap (λ (u : SyncPaths). u.delay) paths_after)
     goes_by gone (inr is) = inr is
 
     -- links begin to tell right traces
@@ -366,20 +360,27 @@ module _ (d : DocumentState) (playable : IsPlayable d) (made : List Timed) (even
         let (was, far, best, turns) = turns_so d playable made event then w' keeps after x.moved x.turns in
         let few = x.few in
         let fewer = x.paths in
+        let up = up_so n made then keeps.stands end (λ place u u_there u_end. (x.used place u u_there u_end).up)
+        came.1.place channel came.1.is in
         record {
           keeps = after;
           before = snapshot_of then;
-          since = subst (λ t. IsMovedAlways p (snapshot_of then) start t w') at_time
+          since = subst (λ t. IsTurnedAlways p (snapshot_of then) start t w') at_time
+              (anew_begins p (snapshot_of then) start then.time w'
               (act_turned p start x.clock x.port then draws done w' keeps.claim.pace world_then
-              after.claim.world keeps.claim.measured after.claim.measured came
-              (up_so n made then keeps.stands end (λ place u u_there u_end. (x.used place u u_there u_end).up)
-              came.1.place channel came.1.is)
+              after.claim.world keeps.claim.measured after.claim.measured came up
               (quiet_stands n made then playable.network keeps.stands world_then.sound calm.calm).links
               (omega (arith, over, at_time)) rest.ready rest.silent (seen_then calm.calm calm.off)
               (near_so d playable made then keeps x.few)
               (live_ends channel used) x.moved was far best turns
               (near_so d playable more w' after (omega (arith, few, fewer)))
-              (end_of channel x.moved moved) (same_delay x.delay) (way_over x.delay x.paths) rest.sound);
+              (end_of channel x.moved moved) (same_delay x.delay) (way_over x.delay x.paths) rest.sound)
+              (time ∙ sym at_time) (last ∙ time ∙ sym at_time)
+              (lowered_silent p start x.clock x.port then draws done w' keeps.claim.pace world_then
+              after.claim.world keeps.claim.measured after.claim.measured came up rest.silent)
+              (told_lives channel _ draws w'
+              (ends p start x.clock x.port then draws done w' keeps.claim.pace world_then after.claim.world
+              keeps.claim.measured after.claim.measured came up)));
         }
       where
         link_wired : LinkSpec → LinkSpec

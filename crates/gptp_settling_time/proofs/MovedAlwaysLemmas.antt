@@ -49,6 +49,7 @@ use Rattle.gptp_settling_time.proofs.LinkStoodLemmas.{stood_in}
 use Rattle.gptp_settling_time.proofs.MovedLemmas.{EachTurns, each_turns, invariant_then, moving_kept}
 use Rattle.gptp_settling_time.proofs.NewsMeasuredLemmas.{ready_measures}
 use Rattle.gptp_settling_time.proofs.SeenSettledLemmas.{seen_settles}
+use Rattle.gptp_settling_time.proofs.SettledSeenLemmas.{IsSettledSeen, settled_in}
 use Rattle.gptp_settling_time.proofs.TurnLemmas.{TurnsOne, starts_far}
 
 -- ---- what is known of the world's machine
@@ -65,7 +66,7 @@ module _ (p : SettlingParams) (silent : ℕ) (w : WorldState) (standing : IsStan
       start_calm p silent w standing (asked_heard p silent w asked) quiet 0 in
       ((calm.stations i s there live).ports place q at).unlinked past none
 
-  nothing_held : UnlinkedHoldNothing n_of.graph (view w)
+  pub nothing_held : UnlinkedHoldNothing n_of.graph (view w)
   nothing_held i s place r there live none (q, at, holds) =
       let off = dark_now i s place q there live at none in
       absurd (let both : Received r ≡ Disabled = sym holds ∙ off in cc)
@@ -258,6 +259,10 @@ module _ (p : SettlingParams) (g : Snapshot) (silent start : ℕ) (w : WorldStat
 
   settled_by_now : settled_from timed ≤ w.time
   settled_by_now = omega (arith, late)
+
+  -- the machine sees it settled
+  pub moved_seen : IsSettledSeen p w
+  moved_seen = settled_in p w timed refl net calm invariant settled_by_now
 
   pub moved_settles : Settled w × IsBoundedWorld w
   moved_settles =

@@ -1,11 +1,14 @@
 -- Worlds of documents since a link went down by which one system was moved.
-use Rattle.std.proofs.Common.{◌≤◌, ◌+◌, ◌*◌, ℕ, pred, Option, List}
+use Rattle.std.proofs.Common.{◌≡◌, ◌<◌, ◌≤◌, ◌+◌, ◌*◌, ℕ, pred, Option, List, refl, subst, inl, inr, arith}
 use Rattle.gptp_graph.specs.PathBound.{path_bound}
 use Rattle.gptp_graph.specs.Snapshot.{Snapshot}
 use Rattle.gptp_links.specs.declared.bounds.Bounds.{Bounds}
 use Rattle.gptp_scenario.specs.Calm.{IsCalm, NothingLapses}
 use Rattle.gptp_scenario.specs.Network.{pace_of}
+use Rattle.gptp_scenario.specs.SyncWait.{sync_paths}
 use Rattle.gptp_scenario.specs.declared.change.Timed.{Timed}
+use Rattle.gptp_scenario.specs.declared.sync_wait.SyncPaths.{SyncPaths}
+use Rattle.gptp_setup.specs.SettlingParams.{SettlingParams, largest_interval}
 use Rattle.gptp_model.specs.Acts.{at}
 use Rattle.gptp_model.specs.Course.{WasDone}
 use Rattle.gptp_model.specs.Pending.{NothingBefore}
@@ -14,22 +17,30 @@ use Rattle.gptp_model.specs.World.{WorldState}
 use Rattle.gptp_world.specs.Transitions.{ActTrace}
 use Rattle.gptp_world.proofs.SettlingInvariantLemmas.{next_octet}
 use Rattle.gptp_network.specs.Document.{DocumentState}
-use Rattle.gptp_invariants.specs.ChoiceCalm.{delay_in}
+use Rattle.gptp_invariants.specs.ChoiceCalm.{delay_in, sync_paths_of}
 use Rattle.gptp_invariants.specs.ChoiceSettled.{Settled}
 use Rattle.gptp_invariants.specs.WorldBounded.{IsBoundedWorld}
 use Rattle.gptp_invariants.specs.WorldStanding.{snapshot_of}
+use Rattle.gptp_invariants.proofs.WorldNewsActLemmas.{silent_by_later}
 use Rattle.gptp_theorem.specs.PlayedLaws.{IsPlayable}
 use Rattle.gptp_theorem.proofs.CalmLemmas.{quiet_stands}
 use Rattle.gptp_theorem.proofs.PlayedLemmas.{no_change}
+use Rattle.gptp_theorem.proofs.SyncPathLemmas.{paths_stand}
+use Rattle.gptp_settling_time.specs.InTurn.{HasToldAnew, turned_echo_span}
+use Rattle.gptp_settling_time.proofs.AlwaysClaimedLemmas.{IsClaimedAlways}
+use Rattle.gptp_settling_time.proofs.ClaimedToLemmas.{IsClaimedTo}
+use Rattle.gptp_settling_time.proofs.ClearedLemmas.{GoesBy}
 use Rattle.gptp_settling_time.proofs.KeptToLemmas.{KeepsTo, keeps_act, keeps_later}
-use Rattle.gptp_settling_time.proofs.MovedAlwaysLemmas.{IsMovedAlways, moved_acts, moved_later, moved_settles}
+use Rattle.gptp_settling_time.proofs.LeftToLemmas.{up_in_use}
+use Rattle.gptp_settling_time.proofs.MovedAlwaysLemmas.{moved_settles}
+use Rattle.gptp_settling_time.proofs.ToldAnewLemmas.{IsTurnedAlways, told_anew, turned_acts, turned_claimed, turned_later, two_delays}
 
 -- A world of a document after these events, by the last of which a system turned at a time; ports without a link aren't
 -- capable from a time on.
 pub record IsTurnedTo (d : DocumentState) (events : List Timed) (silent time : ℕ) (w : WorldState) : Type 0 where
   pub keeps : KeepsTo d events w
   pub before : Snapshot
-  pub since : IsMovedAlways (pace_of d.network) before silent time w
+  pub since : IsTurnedAlways (pace_of d.network) before silent time w
 
 module _ (d : DocumentState) (events : List Timed) (silent time : ℕ) where
   pub turned_to_later : (w : WorldState) (now : ℕ) → w.time ≤ now → NothingBefore now w.net.pending
@@ -37,7 +48,7 @@ module _ (d : DocumentState) (events : List Timed) (silent time : ℕ) where
   turned_to_later w now later first so = record {
     keeps = keeps_later d events w now later first so.keeps;
     before = so.before;
-    since = moved_later (pace_of d.network) so.before silent time now w later first so.since;
+    since = turned_later (pace_of d.network) so.before silent time now w later first so.since;
   }
 
   pub turned_to_act : {F : Type 0} (answers : Bounds → ℕ → F → Option ℕ → F → Type 0) (t : ActTrace) (fate drawn : F)
@@ -46,11 +57,11 @@ module _ (d : DocumentState) (events : List Timed) (silent time : ℕ) where
   turned_to_act answers t fate drawn w next was so =
       let timed = t.told.timed in
       let p = pace_of d.network in
-      let then = moved_later p so.before silent time timed.at w was.ready.timely.now was.ready.timely.first so.since in
+      let then = turned_later p so.before silent time timed.at w was.ready.timely.now was.ready.timely.first so.since in
       record {
         keeps = keeps_act d events answers t fate drawn w next was so.keeps;
         before = so.before;
-        since = moved_acts p so.before silent time timed.act (at timed.at w) was.draws t.told.done t.after
+        since = turned_acts p so.before silent time timed.act (at timed.at w) was.draws t.told.done t.after
             (no_change next.item timed.act w next.act) (next_octet next.item timed.act w next.act) was.acts then;
       }
 
@@ -59,5 +70,49 @@ module _ (d : DocumentState) (events : List Timed) (silent time : ℕ) where
       → NothingLapses d.network.params → time + 1 + pred (path_bound (snapshot_of w)) * delay_in w ≤ w.time
       → Settled w × IsBoundedWorld w
   turned_to_settled w so playable calm off late =
-      moved_settles (pace_of d.network) so.before silent time w so.since
+      moved_settles (pace_of d.network) so.before silent time w so.since.moved
       (quiet_stands d.network events w playable.network so.keeps.stands so.keeps.claim.world.sound calm).links off late
+
+  -- ---- once traces are told anew
+
+  module _ (w : WorldState) (start : ℕ) (so : IsTurnedTo d events silent time w) (playable : IsPlayable d)
+      (rest : HasToldAnew d.network events silent time start w.time) where
+    abbrev pace : SettlingParams
+    pace = pace_of d.network
+
+    paths : sync_paths d.network events ≡ sync_paths_of w
+    paths = paths_stand d.network events w playable.network so.keeps.stands so.keeps.claim.world.sound
+
+    -- two ways, and then an announce interval and a delay for each system of a path but one
+    abbrev echo : SyncPaths → ℕ
+    echo x = 2 * (pred x.systems * x.delay) + pred x.systems * (largest_interval pace + x.delay)
+
+    claimed : (gone : ℕ) → GoesBy pace gone w → told_anew pace time w + gone < w.time → IsClaimedAlways pace start w
+    claimed gone goes over =
+        turned_claimed pace so.before silent time w so.since
+        (quiet_stands d.network events w playable.network so.keeps.stands so.keeps.claim.world.sound
+        rest.calm).links rest.off gone goes over start rest.later
+        (silent_by_later pace silent start w rest.unlinked so.since.silent_by)
+
+    by_delay : time + turned_echo_span d.network events < w.time → told_anew pace time w + delay_in w < w.time
+    by_delay told =
+        let late : time + echo (sync_paths_of w) < w.time = subst (λ x. time + echo x < w.time) paths told in
+        let two = two_delays pace so.before silent time w so.since.moved in
+        omega (arith, late, two)
+
+    by_interval : time + turned_echo_span d.network events + largest_interval pace < w.time
+        → told_anew pace time w + largest_interval pace < w.time
+    by_interval told =
+        let late : time + echo (sync_paths_of w) + largest_interval pace < w.time =
+        subst (λ x. time + echo x + largest_interval pace < w.time) paths told in
+        omega (arith, late)
+
+    -- claims are made of all links always
+    pub turned_to_claimed : IsClaimedTo d events start w
+    turned_to_claimed = record {
+      keeps = so.keeps;
+      since = elim rest.told [
+        | inl (used, told) ↦ claimed (delay_in w) (inl (up_in_use d events w so.keeps used, refl)) (by_delay told)
+        | inr told ↦ claimed (largest_interval pace) (inr refl) (by_interval told)
+      ];
+    }

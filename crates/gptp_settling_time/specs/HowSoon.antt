@@ -48,7 +48,7 @@ use Rattle.gptp_model.specs.World.{port_id}
 use Rattle.gptp_network.specs.Document.{DocumentState}
 use Rattle.gptp_network.specs.Snapshot.{events_by}
 use Rattle.gptp_settling_time.specs.Gains.{ChangesNothing, EndHasFailed, LeavesCapable, TakesNothing}
-use Rattle.gptp_settling_time.specs.InTurn.{AddsHeard, BettersClock, FlightIsGone, MakesNothing, NoneUsed, TellsNothing, UsedVaryLittle, WidensLink, echo_span}
+use Rattle.gptp_settling_time.specs.InTurn.{AddsHeard, BettersClock, FlightIsGone, MakesNothing, NoneUsed, TellsNothing, UsedVaryLittle, WidensLink, echo_span, turned_echo_span}
 use Rattle.gptp_settling_time.specs.Losses.{CutsFarEnd, FailsFarEnd, FailsHeard, LeavesChoice, LosesAny, LowersLink, LowersUnused, TurnsLink, UpIsUsed, aging_span, loss_span, silence_span}
 
 -- ---- times
@@ -280,9 +280,12 @@ RolesAfterLoss n made now choice roles =
 
 -- ---- what a loss asks for
 
--- After a link goes down by which no system is moved but such as are cut off, choice and roles stand at once.
+-- After a link goes down by which no system is moved but such as are cut off, choice and roles stand at once; where it
+-- cuts off its far end, as soon as where it moves one system.
 abbrev pub BoundsLowered : NetworkState → List Timed → List Timed → ℕ → ℕ → Type 0
-BoundsLowered n made now choice roles = LowersOneLink n made now × (choice ≡ 0) × (roles ≡ 0)
+BoundsLowered n made now choice roles =
+    LowersOneLink n made now × (roles ≡ choice)
+    × ((choice ≡ 0) ⊎ (CutsOneEnd n made now × (choice ≡ 2 * way_span (sync_paths n (made ++ now)))))
 
 -- After a far end fails the choice stands at once. So do roles where each link that is up then is in use, as where it
 -- loses its power; else once too many requests of the ports beside it are lost.
@@ -330,14 +333,20 @@ LosesNext n events Then last time Asks =
 -- How much later a network has come to rest after a loss. After the loss of a far end what was in flight has to be
 -- gone. Where it fails and a link is up then that isn't in use, roles have to stand, and the greatest delay to pass for
 -- each system of a path but one. After another link goes down that moves no system right traces have to be told first.
+-- Where it so moves one system the network settles before. It has within two ways, and where each link that is up is in
+-- use what was in flight is gone in that time too.
 abbrev pub RestsAfterLoss : NetworkState → List Timed → List Timed → ℕ → Type 0
 RestsAfterLoss n made now rest =
-    (CutsOneEnd n made now × FlightIsGone n made rest)
+    (CutsOneEnd n made now
+    × ((gone : ℕ) × FlightIsGone n made gone × (rest ≡ max (2 * way_span (sync_paths n (made ++ now))) gone)))
     ⊎ ((FailsEndFirst n made now
     × ((UpIsUsed n (made ++ now) × FlightIsGone n made rest)
     ⊎ (rest ≡ capability_span (pace_of n) + way_span (sync_paths n (made ++ now)))))
-    ⊎ (LowersOneLink n made now
-    × ((gone : ℕ) × FlightIsGone n (made ++ now) gone × (rest ≡ echo_span n (made ++ now) + gone))))
+    ⊎ ((LowersOneLink n made now
+    × ((gone : ℕ) × FlightIsGone n (made ++ now) gone × (rest ≡ echo_span n (made ++ now) + gone)))
+    ⊎ (TurnsOneLink n made now
+    × ((UpIsUsed n (made ++ now) × (rest ≡ turned_echo_span n (made ++ now)))
+    ⊎ (rest ≡ turned_echo_span n (made ++ now) + largest_interval (pace_of n))))))
 
 -- By so much later than a time the network has come to rest, by the times before it, the latest first: it has settled,
 -- and nothing that is held, or in flight, names what is gone. The first time of all is 0.

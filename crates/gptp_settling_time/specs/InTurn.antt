@@ -8,7 +8,8 @@
 -- - Left: something was taken away that moved no system but such as were cut off. The choice stands, but what is held
 --   may name links that are gone.
 -- - Turned: a link went down and so moved one system alone. The network settles 1 ns and the greatest delay for each
---   system of a path but one later.
+--   system of a path but one later. It has come to rest, as if all had been heard, once right traces have been told by
+--   distance since.
 -- - Cleared: a system was lost that was the far end of its links, so that nobody holds what names it. Or another link
 --   went down that moved none, and right traces have been told by distance since. When what was in flight is gone, and
 --   ports without a link aren't capable, the network has come to rest as if all had been heard.
@@ -501,8 +502,28 @@ pub record HasCleared (n : NetworkState) (events : List Timed) (since silent old
   pub unlinked : (silent ≤ start) ⊎ UpIsUsed n events
   pub over : HasSettledHeard n events start time
 
+-- So much later than a system turned traces are told anew: the network has settled within two ways, each the greatest
+-- delay for each system of a path but one, and then they are by distance.
+abbrev pub turned_echo_span : NetworkState → List Timed → ℕ
+turned_echo_span n events =
+    2 * (pred (sync_paths n events).systems * (sync_paths n events).delay) + echo_span n events
+
+-- A network in which a system turned at a time has come to rest by another, as one whose ports are capable from a start
+-- on. Traces are told anew. What was in flight is gone then, or an announce interval later where a link is up that
+-- isn't in use. Ports without a link aren't capable from the start on. And the greatest delay has passed for each
+-- system of a path but one.
+pub record HasToldAnew (n : NetworkState) (events : List Timed) (silent turned start time : ℕ) : Type 0 where
+  pub calm : IsCalm n events
+  pub off : NothingLapses n.params
+  pub told : (UpIsUsed n events × (turned + turned_echo_span n events < time))
+      ⊎ (turned + turned_echo_span n events + largest_interval (pace_of n) < time)
+  pub later : turned ≤ start
+  pub unlinked : silent ≤ start
+  pub over : HasSettledHeard n events start time
+
 -- then it is as if all had been heard from that start on
 abbrev pub RestsAs : NetworkState → List Timed → Past → ℕ → Past → Type 0
+RestsAs n events (Turned silent turned) time (Heard start) = HasToldAnew n events silent turned start time
 RestsAs n events (Cleared since silent right old) time (Heard start) = HasCleared n events since silent old start time
 RestsAs n events past time seen = ⊥
 

@@ -1,0 +1,365 @@
+-- A world since one system was moved: once its network has settled traces are told anew, by distance. All that is held
+-- becomes sound then, and what was in flight before is gone. So claims are made of it as of one since news.
+use Rattle.std.proofs.Common.{◌≡◌, ◌<◌, ◌≤◌, ◌+◌, ◌*◌, ℕ, zero, suc, pred, List, Some, slice_get, refl, sym, ap, subst, ◌∙◌, inl, inr, arith}
+use native.Mathlib.Decide.{dec_le, dec_lt}
+use Rattle.gptp_lists.specs.Members.{In}
+use Rattle.gptp_graph.specs.Distance.{IsDistance}
+use Rattle.gptp_graph.specs.PathBound.{path_bound}
+use Rattle.gptp_graph.specs.Snapshot.{Snapshot, clocks}
+use Rattle.gptp_graph.proofs.LinkLemmas.{Joins-clock}
+use Rattle.gptp_graph.proofs.PathBoundLemmas.{IsDistance-within}
+use Rattle.gptp_links.specs.Fate.{Draw}
+use Rattle.gptp_scenario.specs.Calm.{NothingLapses}
+use Rattle.gptp_scenario.specs.declared.change.Act.{Act}
+use Rattle.gptp_scenario.specs.declared.sync_wait.SyncPaths.{SyncPaths}
+use Rattle.gptp_setup.specs.SettlingParams.{SettlingParams, largest_interval}
+use Rattle.gptp_model.specs.Acts.{Acts, at as at_time}
+use Rattle.gptp_model.specs.Pending.{NothingBefore}
+use Rattle.gptp_model.specs.World.{WorldState}
+use Rattle.gptp_model.specs.declared.done.Done.{Done}
+use Rattle.gptp_bmca_machine.specs.Acts.{MachineSteps, MomentComes}
+use Rattle.gptp_bmca_machine.specs.Calm.{Calm}
+use Rattle.gptp_bmca_machine.specs.LossLaws.{EverythingFits}
+use Rattle.gptp_bmca_machine.specs.Network.{Network}
+use Rattle.gptp_bmca_machine.specs.RestLaws.{SameWiring}
+use Rattle.gptp_bmca_machine.specs.SoundLaws.{AllAreNear}
+use Rattle.gptp_bmca_machine.specs.Station.{MachineState}
+use Rattle.gptp_invariants.specs.ChoiceCalm.{HaveQuietLinks, delay_in}
+use Rattle.gptp_invariants.specs.ChoiceSeenLaws.{IsNoChange}
+use Rattle.gptp_invariants.specs.ChoiceSettlesAsMachine.{IsWorld}
+use Rattle.gptp_invariants.specs.ChoiceView.{says_announce, view}
+use Rattle.gptp_invariants.specs.WorldEncodableLaws.{SetsAnOctet}
+use Rattle.gptp_invariants.specs.WorldNews.{AreSilentBy}
+use Rattle.gptp_invariants.specs.WorldStanding.{snapshot_of}
+use Rattle.gptp_invariants.proofs.ChoiceCalmKeptLemmas.{KeepsNetwork, acts_keep, delay_kept, links_quiet, same_paths, same_snapshot}
+use Rattle.gptp_invariants.proofs.ChoiceCalmLemmas.{linked_interval}
+use Rattle.gptp_invariants.proofs.ChoiceSeenActLemmas.{acts_seen}
+use Rattle.gptp_invariants.proofs.ChoiceSettlesAsMachineLemmas.{kept_back, paths_bound}
+use Rattle.gptp_invariants.proofs.WorldNewsCourseLemmas.{later_keeps}
+use Rattle.gptp_invariants.proofs.WorldNewsLemmas.{acts_silent, silent_later}
+use Rattle.gptp_invariants.proofs.WorldStandsLemmas.{stands_well}
+use Rattle.gptp_settling_time.proofs.AlwaysClaimedLemmas.{IsClaimedAlways}
+use Rattle.gptp_settling_time.proofs.ClearedLemmas.{BecomesSound, GoesBy, IsCleared, cleared_claimed, cleared_step, same_time}
+use Rattle.gptp_settling_time.proofs.DueLemmas.{AreDueBy, due_by_interval, due_in_use, use_kept}
+use Rattle.gptp_settling_time.proofs.LeftClaimedLemmas.{HaveAskedBy, IsLeftAlways, asked_acts, asked_later, left_calm, left_net, left_network, same_left}
+use Rattle.gptp_settling_time.proofs.MovedAlwaysLemmas.{IsMovedAlways, calm_now, moved_acts, moved_later, moved_seen, nothing_held, turned_by}
+use Rattle.gptp_settling_time.proofs.MovedFlightLemmas.{FlightsFit, fits_then, flights_begin, flights_kept}
+use Rattle.gptp_settling_time.proofs.RightBeginLemmas.{right_enters}
+use Rattle.gptp_settling_time.proofs.RightLemmas.{all_right}
+use Rattle.gptp_settling_time.proofs.SettledSeenLemmas.{IsSettledSeen, stage_settled}
+use Rattle.gptp_settling_time.proofs.TellsRightLemmas.{IsSettledState, LevelTellsRight}
+use Rattle.gptp_settling_time.proofs.TurnLemmas.{starts_far}
+use Rattle.gptp_settling_time.proofs.UnlinkedLemmas.{IsLeftSeen}
+
+-- the greatest delay for each system of a path but one
+abbrev pub way_in : WorldState → ℕ
+way_in w = pred (path_bound (snapshot_of w)) * delay_in w
+
+-- Since a time the network has settled, and then traces were told anew: an announce interval and the greatest delay
+-- later for each system of a path but one.
+abbrev pub told_anew : SettlingParams → ℕ → WorldState → ℕ
+told_anew p start w = start + way_in w + pred (path_bound (snapshot_of w)) * (largest_interval p + delay_in w)
+
+-- What is claimed of a world since a link went down at a time by which one system is moved. What is in flight was told
+-- before the network has settled, or it fits. From then on all becomes sound but for what is old.
+pub record IsTurnedAlways (p : SettlingParams) (g : Snapshot) (silent start : ℕ) (w : WorldState) : Type 0 where
+  pub moved : IsMovedAlways p g silent start w
+  pub asked : HaveAskedBy start w
+  pub silent_by : AreSilentBy p silent w
+  pub flights : HaveQuietLinks p.params w → NothingLapses p.params
+      → FlightsFit says_announce (left_network p silent w) (start + way_in w) (view w)
+  pub sound : HaveQuietLinks p.params w → NothingLapses p.params → (gone : ℕ) → GoesBy p gone w
+      → start + way_in w < w.time
+      → BecomesSound p silent (suc (told_anew p start w)) (told_anew p start w + gone) w
+
+-- ---- once it has settled
+
+two_at_least : (r m e : ℕ) → 1 < e → e < r → 2 * m ≤ pred r * m
+two_at_least zero m e more less = absurd (omega (arith, less))
+two_at_least (suc zero) m e more less = absurd (omega (arith, more, less))
+two_at_least (suc (suc zero)) m e more less = absurd (omega (arith, more, less))
+two_at_least (suc (suc (suc r))) m e more less = omega arith
+
+module _ (p : SettlingParams) (g : Snapshot) (silent start : ℕ) (w : WorldState)
+    (is : IsMovedAlways p g silent start w) where
+  world : IsWorld p w
+  world = is.standing.world
+
+  -- the system that is moved is no neighbour of the best, so that the way takes two delays at least
+  pub two_delays : 2 * delay_in w ≤ way_in w
+  two_delays =
+      let t = is.turns in
+      let first = starts_far g is.n is.x is.d is.e is.best t in
+      let more = t.more in
+      let here = subst (λ (z : Network). IsDistance z.graph is.x is.e) (sym is.same) t.is in
+      let within = IsDistance-within (snapshot_of w) (path_bound (snapshot_of w)) is.x is.e (paths_bound p w world)
+      here in
+      two_at_least (path_bound (snapshot_of w)) (delay_in w) is.e (omega (arith, first, more)) within
+
+  most : is.n.most ≡ delay_in w
+  most = ap (λ (z : Network). z.most) (sym is.same)
+
+  module _ (late : start + way_in w < w.time) (flights : HaveQuietLinks p.params w → NothingLapses p.params
+      → FlightsFit says_announce (left_network p silent w) (start + way_in w) (view w)) where
+    module _ (quiet : HaveQuietLinks p.params w) (off : NothingLapses p.params) where
+      seen : IsSettledSeen p w
+      seen = moved_seen p g silent start w is quiet off (omega (arith, late))
+
+      fits : EverythingFits says_announce (snapshot_of w) (left_network p silent w) (view w)
+      fits =
+          let (m, each) = is.seen quiet off in
+          let two = two_delays in
+          let same = most in
+          subst (λ (z : Network). EverythingFits says_announce z.graph z (view w)) (sym is.same)
+          (fits_then says_announce g is.n is.x is.d is.e is.best is.turns (start + is.n.most) (turned_by is.n start)
+          (start + way_in w) (omega (arith, two, same)) (view w) m each late
+          (subst (λ z. FlightsFit says_announce z (start + way_in w) (view w)) is.same (flights quiet off)))
+
+      wired : SameWiring seen.n (left_network p silent w)
+      wired =
+          let delay = seen.most in
+          record {
+            place = seen.same.place;
+            lane = seen.same.lane;
+            log = seen.same.log;
+            interval = seen.same.interval;
+            most = omega (arith, delay);
+          }
+
+      left_so : IsLeftSeen says_announce (snapshot_of w) (left_network p silent w) (view w)
+      left_so = record {
+        unlinked = nothing_held p silent w is.standing is.asked quiet is.past;
+        fits = fits;
+        invariant = record {
+          sound = λ now. fits.stations;
+          levels = λ d best v pp u q near leads.
+              stage_settled p w seen (left_network p silent w) seen.graph wired d best v pp u q near leads;
+        };
+      }
+
+    -- all fits what is left of it, as after a loss that moved no system
+    pub moved_left : IsLeftAlways p (snapshot_of w) silent w
+    moved_left =
+        let well = stands_well w world.sound world.between world.encodable in
+        record {
+          standing = is.standing;
+          asked = is.asked;
+          well = well;
+          left = record {
+            systems = λ s member. member;
+            links = λ a b joins. joins;
+            unmoved = λ v known. inl (record { best = λ b of. of; far = λ d there. there });
+          };
+          near = subst (λ (z : Network). AllAreNear z.graph) (sym is.same) is.turns.near;
+          farther = λ a b joins known gone. absurd (gone (Joins-clock (snapshot_of w) a b well joins));
+          late = omega (arith, late);
+          seen = left_so;
+        }
+
+-- ---- it goes on
+
+module _ (p : SettlingParams) (g : Snapshot) (silent start : ℕ) (w w' : WorldState)
+    (is : IsTurnedAlways p g silent start w) (moved' : IsMovedAlways p g silent start w')
+    (asked' : HaveAskedBy start w') (silent_by' : AreSilentBy p silent w') (keeps : KeepsNetwork w w')
+    (step : MachineSteps says_announce (view w) (view w')) where
+  abbrev n' : Network
+  n' = left_network p silent w'
+
+  same_way : way_in w' ≡ way_in w
+  same_way = ap (λ (u : SyncPaths). pred u.systems * u.delay) (same_paths w w' keeps)
+
+  same_told : told_anew p start w' ≡ told_anew p start w
+  same_told =
+      ap (λ (u : SyncPaths). start + pred u.systems * u.delay + pred u.systems * (largest_interval p + u.delay))
+      (same_paths w w' keeps)
+
+  module _ (quiet' : HaveQuietLinks p.params w') (off : NothingLapses p.params) where
+    quiet : HaveQuietLinks p.params w
+    quiet = links_quiet w' w (kept_back w w' keeps) p.params quiet'
+
+    flights_then : FlightsFit says_announce n' (start + way_in w') (view w')
+    flights_then =
+        let (m', each') = moved'.seen quiet' off in
+        let two = two_delays p g silent start w' moved' in
+        let same = most p g silent start w' moved' in
+        let until : ℕ = start + way_in w' in
+        let was : FlightsFit says_announce (left_network p silent w) until (view w) =
+        subst (λ way. FlightsFit says_announce (left_network p silent w) (start + way) (view w)) (sym same_way)
+        (is.flights quiet off) in
+        subst (λ z. FlightsFit says_announce z until (view w')) (sym moved'.same)
+        (flights_kept says_announce g moved'.n moved'.x moved'.d moved'.e moved'.best moved'.turns
+        (start + moved'.n.most) (turned_by moved'.n start) until (omega (arith, two, same)) (view w) (view w') m' each'
+        step
+        (subst (λ z. FlightsFit says_announce z until (view w)) (sym (same_left p silent w w' keeps) ∙ moved'.same)
+        was))
+
+    module _ (gone : ℕ) (goes' : GoesBy p gone w') (late' : start + way_in w' < w'.time) where
+      left' : IsLeftAlways p (snapshot_of w') silent w'
+      left' = moved_left p g silent start w' moved' late' (λ links none. flights_then)
+
+      goes : GoesBy p gone w
+      goes = elim goes' [
+        | inl (used, delay) ↦ inl (use_kept w' w (kept_back w w' keeps) used, delay ∙ delay_kept w w' keeps)
+        | inr interval ↦ inr interval
+      ]
+
+      -- it had settled before
+      goes_on : start + way_in w < w.time
+          → BecomesSound p silent (suc (told_anew p start w')) (told_anew p start w' + gone) w'
+      goes_on late =
+          let cleared : IsCleared p (snapshot_of w) start silent (suc (told_anew p start w))
+          (told_anew p start w + gone) w =
+          record {
+            left = moved_left p g silent start w is.moved late is.flights;
+            asked = is.asked;
+            silent_by = is.silent_by;
+            sound = λ links none. is.sound links none gone goes late;
+          } in
+          let then = cleared_step p (snapshot_of w) start silent (suc (told_anew p start w))
+          (told_anew p start w + gone) w w' cleared
+          (subst (λ h. IsLeftAlways p h silent w') (same_snapshot w w' keeps) left') asked' silent_by' keeps step in
+          subst (λ told. BecomesSound p silent (suc told) (told + gone) w') (sym same_told) (then.sound quiet' off)
+
+      -- a moment comes by which it has settled
+      module _ (early : w.time ≤ start + way_in w) (wait : MomentComes (view w) (view w')) where
+        left_now : IsLeftSeen says_announce (snapshot_of w') n' (view w')
+        left_now = left'.seen quiet' off
+
+        x' : IsSettledState says_announce n' (view w')
+        x' = record {
+          calm = left_calm p silent w' left'.standing left'.asked quiet' left_now.unlinked;
+          invariant = left_now.invariant;
+          late = let past = left'.late in omega (arith, past);
+          none = left_now.unlinked;
+        }
+
+        calm_then : Calm (left_network p silent w) (view w)
+        calm_then = calm_now p silent w is.moved.standing is.moved.asked quiet is.moved.past
+
+        world_then : IsWorld p w
+        world_then = is.moved.standing.world
+
+        due : AreDueBy (w.time + gone) w
+        due = elim goes [
+          | inl (used, delay) ↦
+              subst (λ t. AreDueBy (w.time + t) w) (sym delay)
+              (due_in_use p w world_then (left_network p silent w) calm_then refl (omega arith) used)
+          | inr interval ↦
+              subst (λ t. AreDueBy (w.time + t) w) (sym interval) (due_by_interval p w world_then)
+        ]
+
+        due' : AreDueBy (told_anew p start w' + gone) w'
+        due' j l f a at among said =
+            let soon = due j l f a (subst (λ (y : MachineState). slice_get y.lanes j ≡ Some l) wait.is at) among said in
+            let same = same_told in
+            omega (arith, soon, early, same)
+
+        levels : (d : ℕ) → LevelTellsRight says_announce n' (suc (start + way_in w')) (view w') d
+        levels =
+            let same = same_way in
+            right_enters says_announce n' (left_net p silent w' moved'.standing.world) left'.near
+            (suc (start + way_in w')) wait.time (view w) (view w')
+            (subst (λ z. Calm z (view w)) (sym (same_left p silent w w' keeps)) calm_then)
+            (omega (arith, early, same)) wait.is x'
+            (λ port linked.
+            linked_interval p w' moved'.standing.world.sound moved'.standing.world.known port linked)
+
+        enters : BecomesSound p silent (suc (told_anew p start w')) (told_anew p start w' + gone) w'
+        enters = elim (dec_le (suc (told_anew p start w')) w'.time) [
+          | yes by_now ↦
+              inl (all_right says_announce n' (left_net p silent w' moved'.standing.world) left'.near
+              (suc (start + way_in w')) (view w') x' levels (omega (arith, by_now)) (told_anew p start w' + gone) due')
+          | no not ↦ inr (
+            suc (start + way_in w'),
+            gone,
+            record {
+              goes = goes';
+              levels = levels;
+              is = omega arith;
+              early = omega (arith, not);
+              by = omega arith;
+            },
+          )
+        ]
+
+      sound_then : BecomesSound p silent (suc (told_anew p start w')) (told_anew p start w' + gone) w'
+      sound_then = elim (dec_lt (start + way_in w) w.time) [
+        | yes late ↦ goes_on late
+        | no early ↦ by (omega (arith, early)) step
+      ]
+        where
+          by : w.time ≤ start + way_in w → MachineSteps says_announce (view w) (view w')
+              → BecomesSound p silent (suc (told_anew p start w')) (told_anew p start w' + gone) w'
+          by early (inl wait) = enters early wait
+          by early (inr act) =
+              let time = same_time says_announce (view w) (view w') act in
+              let same = same_way in
+              absurd (omega (arith, early, late', time, same))
+
+  turned_step : IsTurnedAlways p g silent start w'
+  turned_step = record {
+    moved = moved';
+    asked = asked';
+    silent_by = silent_by';
+    flights = flights_then;
+    sound = sound_then;
+  }
+
+pub turned_later : (p : SettlingParams) (g : Snapshot) (silent start time : ℕ) (w : WorldState) → w.time ≤ time
+    → NothingBefore time w.net.pending → IsTurnedAlways p g silent start w
+    → IsTurnedAlways p g silent start (at_time time w)
+turned_later p g silent start time w later first is =
+    turned_step p g silent start w (at_time time w) is (moved_later p g silent start time w later first is.moved)
+    (asked_later p start time w is.moved.standing.world later first is.asked)
+    (silent_later p silent time w is.silent_by) (later_keeps time w)
+    (inl (record { time = time; later = later; is = refl }))
+
+pub turned_acts : (p : SettlingParams) (g : Snapshot) (silent start : ℕ) (act : Act) (w : WorldState)
+    (draws : List Draw) (done : Done) (w' : WorldState) → IsNoChange act → SetsAnOctet act → Acts act w draws done w'
+    → IsTurnedAlways p g silent start w → IsTurnedAlways p g silent start w'
+turned_acts p g silent start act w draws done w' none octet acts is =
+    let world = is.moved.standing.world in
+    let moved' = moved_acts p g silent start act w draws done w' none octet acts is.moved in
+    turned_step p g silent start w w' is moved'
+    (asked_acts p start silent act w draws done w' none acts is.moved.standing moved'.standing.world is.asked)
+    (acts_silent p silent act w draws done w' none acts world is.moved.standing.measured is.silent_by)
+    (acts_keep act w draws done w' none acts)
+    (inr (acts_seen act w draws done w' none world.sound world.encodable acts))
+
+-- ---- it begins
+
+-- as a link goes down by which no system is lost
+pub anew_begins : (p : SettlingParams) (g : Snapshot) (silent start : ℕ) (w : WorldState)
+    → IsMovedAlways p g silent start w → w.time ≡ start → w.last_change ≡ start → AreSilentBy p silent w
+    → ((v : ℕ) → In v (clocks g) → In v (clocks (snapshot_of w))) → IsTurnedAlways p g silent start w
+anew_begins p g silent start w moved now last silent_by stays = record {
+  moved = moved;
+  asked = subst (λ t. HaveAskedBy t w) last moved.asked;
+  silent_by = silent_by;
+  flights = λ quiet off.
+      let (m, each) = moved.seen quiet off in
+      let two = two_delays p g silent start w moved in
+      let same = most p g silent start w moved in
+      subst (λ z. FlightsFit says_announce z (start + way_in w) (view w)) (sym moved.same)
+      (flights_begin says_announce g moved.n moved.x moved.d moved.e moved.best moved.turns (start + way_in w) (view w)
+      m (omega (arith, now, two, same))
+      (λ v known. subst (λ (z : Network). In v (clocks z.graph)) moved.same (stays v known)));
+  sound = λ quiet off gone goes late. absurd (omega (arith, late, now));
+}
+
+-- ---- rest
+
+-- once traces have been told anew, and what was in flight is gone
+pub turned_claimed : (p : SettlingParams) (g : Snapshot) (silent start : ℕ) (w : WorldState)
+    → IsTurnedAlways p g silent start w → HaveQuietLinks p.params w → NothingLapses p.params → (gone : ℕ)
+    → GoesBy p gone w → told_anew p start w + gone < w.time → (begin : ℕ) → start ≤ begin → AreSilentBy p begin w
+    → IsClaimedAlways p begin w
+turned_claimed p g silent start w is quiet off gone goes over begin later silent_by =
+    let late : start + way_in w < w.time = omega (arith, over) in
+    cleared_claimed p (snapshot_of w) start silent (suc (told_anew p start w)) (told_anew p start w + gone) w
+    (record {
+      left = moved_left p g silent start w is.moved late is.flights;
+      asked = is.asked;
+      silent_by = is.silent_by;
+      sound = λ links none. is.sound links none gone goes late;
+    }) quiet off over begin later silent_by
