@@ -19,7 +19,7 @@ use Rattle.gptp_bmca_machine.proofs.EndsLemmas.{is_station}
 use Rattle.gptp_bmca_machine.proofs.PlaceLemmas.{received_injective}
 use Rattle.gptp_settling_time.proofs.FitsLemmas.{IsLeftUnmoved, best_before, joined_stays}
 use Rattle.gptp_settling_time.proofs.RightStageLemmas.{AllRight, HoldsRight}
-use Rattle.gptp_settling_time.proofs.TellsRightLemmas.{IsRightOf, IsSettledState, LevelTellsRight, LinkFacts, RightTimes, echo_from, echo_times, link_facts, told_times}
+use Rattle.gptp_settling_time.proofs.TellsRightLemmas.{IsRightOf, IsSettledState, LevelTellsRight, LinkFacts, RightTimes, echo_from, echo_times, link_facts, told_begins, told_times}
 
 -- As a moment comes by which it has settled, and from which on right traces are claimed to be told, each system tells
 -- within an announce interval.
@@ -45,10 +45,9 @@ right_enters says n net near base time w w' calm early is x' short d best v p u 
 -- before a time nothing is claimed but of what the best tells
 pub right_begins : (says : Spelling) (n : Network) (base : ℕ) (w : MachineState) → w.time < base
     → LevelTellsRight says n (told_times n base) w 0 → (d : ℕ) → LevelTellsRight says n (told_times n base) w d
-unfolding told_times
 right_begins says n base w early first zero = first
 right_begins says n base w early first (suc d) =
-    λ best v p u q close leads late. absurd (omega (arith, early, late))
+    λ best v p u q close leads late. absurd (told_begins n base w.time d early late)
 
 -- What the best told as all was sound is right after a loss by which no system is moved: its trace names it alone.
 module _ (says : Spelling) (g : Snapshot) (n : Network) (well : IsWellFormed g) (net : IsSettlingNetwork n)

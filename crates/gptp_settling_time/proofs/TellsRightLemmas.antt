@@ -1,7 +1,7 @@
 -- In a network that has settled: what is known of a link that leads farther, and from when on what it tells is right.
 -- Who is told what is right holds it, and tells it, an announce interval and the greatest delay later.
 use Rattle.std.proofs.Math.Nat.{mul-le-mul_right}
-use Rattle.std.proofs.Common.{◌≡◌, ◌≢◌, ◌⊎◌, ◌<◌, ◌≤◌, ◌+◌, ◌*◌, ℕ, suc, true, Some, slice_get, refl, sym, ap, subst, ◌∙◌, inl, inr, arith}
+use Rattle.std.proofs.Common.{◌≡◌, ◌≢◌, ◌⊎◌, ◌<◌, ◌≤◌, ◌+◌, ◌*◌, ℕ, zero, pred, suc, true, Some, slice_get, refl, sym, ap, subst, ◌∙◌, inl, inr, arith}
 use Rattle.gptp_lists.specs.Members.{In}
 use Rattle.gptp_graph.specs.Best.{IsBest}
 use Rattle.gptp_graph.specs.Distance.{IsDistance}
@@ -115,6 +115,11 @@ told_times n base = record {
   fits = told_fits n base;
   waits = told_waits n base;
 }
+
+-- before a time nothing is claimed but of what the best tells
+pub told_begins : (n : Network) (base now d : ℕ) → now < base → (told_times n base).from (suc d) ≤ now → ⊥
+unfolding told_times
+told_begins n base now d early late = omega (arith, early, late)
 
 told_by : (n : Network) (base d : ℕ) → told_from n base d ≤ base + pred d * (n.interval + n.most)
 told_by n base zero = omega arith
