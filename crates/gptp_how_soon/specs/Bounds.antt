@@ -143,7 +143,7 @@ unused_by n used_before = if used_before then 0 else largest_interval (pace_of n
 abbrev pub sound_of_row : NetworkState → SyncPaths → Bool → Row → ℕ → ℕ
 sound_of_row n paths used_before AnyPast gained = settling_span_at_once (pace_of n) paths
 sound_of_row n paths used_before Unchanged gained = 0
-sound_of_row n paths used_before Lowered gained = echo_span n paths + gone_by n paths used_before
+sound_of_row n paths used_before Lowered gained = max (echo_span n paths) (gone_by n paths used_before)
 sound_of_row n paths used_before CutOff gained = max (2 * way_span paths) (gone_by n paths used_before)
 sound_of_row n paths used_before LostEnd gained = gone_by n paths used_before
 sound_of_row n paths used_before FailedEnd gained = capability_span (pace_of n) + way_span paths

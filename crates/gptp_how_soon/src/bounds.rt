@@ -341,7 +341,7 @@ fn sound_by(network: &Network, paths: SyncPaths, used_before: bool, row: Row, ga
             settling_span_at_once(network, paths)
         }
         Row::Unchanged => 0,
-        Row::Lowered => echo_span(network, paths) + gone_by(network, paths, used_before),
+        Row::Lowered => echo_span(network, paths).max(gone_by(network, paths, used_before)),
         Row::CutOff => (2 * way_span(paths)).max(gone_by(network, paths, used_before)),
         Row::LostEnd => gone_by(network, paths, used_before),
         Row::FailedEnd => capability_span(network) + way_span(paths),

@@ -225,11 +225,11 @@ fn a_link_that_goes_down_and_moves_no_system_costs_nothing(rt: HostRuntime) -> R
             settling: Some(Settling {
                 choice: 0,
                 roles: 0,
-                sound: 3_000_001_640,
-                rest: 3_000_002_050,
+                sound: 3_000_001_230,
+                rest: 3_000_001_640,
                 exact_from: 30_000_007_200,
             }),
-            watch: 4_000_002_051,
+            watch: 4_000_001_641,
         })
     );
     assert_eq!(rt;

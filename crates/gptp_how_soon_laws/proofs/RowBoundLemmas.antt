@@ -122,7 +122,7 @@ abbrev pub IsSoundSooner : NetworkState → SyncPaths → Bool → Row → ℕ �
 IsSoundSooner n paths used_before row sound =
     ((row ≡ LostEnd) × (sound ≡ gone_by n paths used_before))
     ⊎ (((row ≡ FailedEnd) × (sound ≡ capability_span (pace_of n) + way_span paths))
-    ⊎ (((row ≡ Lowered) × (sound ≡ echo_span n paths + gone_by n paths used_before))
+    ⊎ (((row ≡ Lowered) × (sound ≡ max (echo_span n paths) (gone_by n paths used_before)))
     ⊎ (((row ≡ CutOff) × (sound ≡ max (2 * way_span paths) (gone_by n paths used_before)))
     ⊎ ((row ≡ OneTurned) × (sound ≡ 2 * way_span paths + echo_span n paths + unused_by n used_before)))))
 

@@ -343,7 +343,7 @@ RestsAfterLoss n made now rest =
     × ((UpIsUsed n (made ++ now) × FlightIsGone n made rest)
     ⊎ (rest ≡ capability_span (pace_of n) + way_span (sync_paths n (made ++ now)))))
     ⊎ ((LowersOneLink n made now
-    × ((gone : ℕ) × FlightIsGone n (made ++ now) gone × (rest ≡ echo_span n (made ++ now) + gone)))
+    × ((gone : ℕ) × FlightIsGone n (made ++ now) gone × (rest ≡ max (echo_span n (made ++ now)) gone)))
     ⊎ (TurnsOneLink n made now
     × ((UpIsUsed n (made ++ now) × (rest ≡ turned_echo_span n (made ++ now)))
     ⊎ (rest ≡ turned_echo_span n (made ++ now) + largest_interval (pace_of n))))))
