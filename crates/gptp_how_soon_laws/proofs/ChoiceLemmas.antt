@@ -233,9 +233,9 @@ module _ (d : DocumentState) (playable : IsPlayable d) where
     no_later choice roles (inl (lowers, same, which)) = omega (arith, same)
     no_later choice roles (inr (inl (fails, none, which))) = omega (arith, none)
     no_later choice roles (inr (inr (inl (turns, is, same)))) = omega (arith, same)
-    no_later choice roles (inr (inr (inr (inl (fails, aged, quiet, aging, inl (same, roles_same)))))) =
+    no_later choice roles (inr (inr (inr (inl (fails, (aged, quiet, aging, inl (same, roles_same))))))) =
         let first = ages_first aged quiet aging in omega (arith, same, roles_same, first)
-    no_later choice roles (inr (inr (inr (inl (fails, aged, quiet, aging, inr (is, later)))))) =
+    no_later choice roles (inr (inr (inr (inl (fails, (aged, quiet, aging, inr (is, later))))))) =
         greater choice roles quiet later
     no_later choice roles (inr (inr (inr (inr (loses, is, inl (quiet, same)))))) = omega (arith, same)
     no_later choice roles (inr (inr (inr (inr (loses, is, inr later))))) =
@@ -271,10 +271,10 @@ module _ (d : DocumentState) (playable : IsPlayable d) where
         (rest, inr (inl (fails, refl, inr refl)))
     loses_by LostPower row own =
         let (rest, fails, used) = lost_power n playable.network all b at late well (inl row) in
-        (rest, inr (inr (inr (inl (fails, 0, 0, inl (used, refl, refl), inl (refl, refl))))))
+        (rest, inr (inr (inr (inl (fails, (0, 0, inl (used, refl, refl), inl (refl, refl)))))))
     loses_by PowerCutsOff row own =
         let (rest, fails, used) = lost_power n playable.network all b at late well (inr row) in
-        (rest, inr (inr (inr (inl (fails, 0, 0, inl (used, refl, refl), inr (refl, omega arith))))))
+        (rest, inr (inr (inr (inl (fails, (0, 0, inl (used, refl, refl), inr (refl, omega arith)))))))
     loses_by OneTurned row own =
         let (rest, turns, unused) = turned n playable.network all b at late well row in
         (rest, inr (inr (inl (turns, refl, refl))))
@@ -282,19 +282,13 @@ module _ (d : DocumentState) (playable : IsPlayable d) where
         let (rest, fails, delay) = heard n playable.network all b at late well (inl row) in
         (rest, inr (inr (inr (inl (
           fails,
-          held_span n v.paths,
-          silence_span (pace_of n),
-          inr (held_as delay, refl),
-          inl (refl, refl),
+          (held_span n v.paths, silence_span (pace_of n), inr (held_as delay, refl), inl (refl, refl)),
         )))))
     loses_by FailureCutsOff row own =
         let (rest, fails, delay) = heard n playable.network all b at late well (inr row) in
         (rest, inr (inr (inr (inl (
           fails,
-          held_span n v.paths,
-          silence_span (pace_of n),
-          inr (held_as delay, refl),
-          inr (refl, refl),
+          (held_span n v.paths, silence_span (pace_of n), inr (held_as delay, refl), inr (refl, refl)),
         )))))
     loses_by AnyLosses row own =
         let (rest, loses, roles) = any_losses n playable.network all b at late row in

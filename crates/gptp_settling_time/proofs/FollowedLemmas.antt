@@ -448,9 +448,9 @@ module _ (d : DocumentState) (network : IsNetwork d.network) (order : AreInOrder
               ],
             ))
         by (inr (inr (inl (turns, is_choice, same)))) = turned now refl turns is_choice same
-        by (inr (inr (inr (inl ((fails, others), held, quiet, bounds, inl (same, roles_same)))))) =
+        by (inr (inr (inr (inl ((fails, others), (held, quiet, bounds, inl (same, roles_same))))))) =
             heard held quiet (omega (arith, same)) (omega (arith, roles_same)) fails others bounds
-        by (inr (inr (inr (inl ((fails, others), held, quiet, bounds, inr (is_later, roles_later)))))) =
+        by (inr (inr (inr (inl ((fails, others), (held, quiet, bounds, inr (is_later, roles_later))))))) =
             let more = le-max_right choice quiet in
             heard held quiet (omega (arith, is_later)) (omega (arith, roles_later, more)) fails others bounds
         by (inr (inr (inr (inr any)))) = any_lost any
