@@ -279,7 +279,7 @@ module _ (d : DocumentState) (playable : IsPlayable d) where
         (rest, inr (inr (inr (inl (fails, (0, 0, inl (used, refl, refl), inl (refl, refl)))))))
     loses_by PowerCutsOff row own =
         let (rest, fails, used) = lost_power n playable.network all b at late well (inr row) in
-        (rest, inr (inr (inr (inl (fails, (0, 0, inl (used, refl, refl), inr (refl, omega arith)))))))
+        (rest, inr (inr (inr (inl (fails, (0, 0, inl (used, refl, refl), inr (omega arith, omega arith)))))))
     loses_by OneTurned row own =
         let (rest, turns, unused) = turned n playable.network all b at late well row in
         (rest, inr (inr (inl (turns, refl, refl))))
