@@ -26,7 +26,7 @@ use Rattle.gptp_how_soon.specs.Links.{delay_set, longest_among, longest_delay, l
 use Rattle.gptp_how_soon.specs.Rest.{are_events_followed, are_losses_followed, are_recoveries_followed, are_turns_followed, heard_at_once, is_failing_followed, is_from_rest, is_lowering_followed, keeps_paths, leaves_silent, rested, rested_by, is_wider_followed, settles_wider_by}
 use Rattle.gptp_how_soon.specs.Times.{View, events_at, gained_at, ready_at, row_at, view_at}
 use Rattle.gptp_how_soon.specs.declared.bounds.Row.{Row}
-use Rattle.gptp_how_soon.specs.declared.bounds.Row.TheVariants.{AnyLosses, CutOff, FailedEnd, FailedHeard, Gained, LostEnd, LostPower, Lowered, OneTurned, Unchanged}
+use Rattle.gptp_how_soon.specs.declared.bounds.Row.TheVariants.{AnyLosses, CutOff, FailedEnd, FailedHeard, FailureCutsOff, Gained, LostEnd, LostPower, Lowered, OneTurned, PowerCutsOff, Unchanged}
 use Rattle.gptp_how_soon.specs.declared.bounds.Settling.{Settling}
 use Rattle.gptp_how_soon.specs.declared.bounds.SettlingTime.{SettlingTime}
 use Rattle.gptp_how_soon.specs.declared.kinds.Kind.{Kind}
@@ -199,8 +199,8 @@ module _ (n : NetworkState) (network : IsNetwork n) (events : List Timed) (b : S
       (list_all makes_nothing v.told || begins_wider v.told) (are_losses_followed v.paths_before v.told && not v.moved)
       (is_lowering_followed v.paths_before v.paths v.told && not v.moved) v.cut
       (is_lowering_followed v.paths_before v.paths v.told && v.turned)
-      (is_failing_followed v.paths_before v.paths v.told && not v.moved) v.far v.used (list_any is_loss v.told)
-      (list_all brings_nothing v.told)
+      (is_failing_followed v.paths_before v.paths v.told && not v.moved) v.far v.moves_any v.used
+      (list_any is_loss v.told) (list_all brings_nothing v.told)
 
   why : (row : Row) → row_at v ≡ row → Why row
   why row is =
@@ -208,8 +208,8 @@ module _ (n : NetworkState) (network : IsNetwork n) (events : List Timed) (b : S
       (list_all makes_nothing v.told || begins_wider v.told) (are_losses_followed v.paths_before v.told && not v.moved)
       (is_lowering_followed v.paths_before v.paths v.told && not v.moved) v.cut
       (is_lowering_followed v.paths_before v.paths v.told && v.turned)
-      (is_failing_followed v.paths_before v.paths v.told && not v.moved) v.far v.used (list_any is_loss v.told)
-      (list_all brings_nothing v.told) row is
+      (is_failing_followed v.paths_before v.paths v.told && not v.moved) v.far v.moves_any v.used
+      (list_any is_loss v.told) (list_all brings_nothing v.told) row is
 
   -- it is from rest
   record IsFromRest : Type 0 where
@@ -491,11 +491,15 @@ module _ (n : NetworkState) (network : IsNetwork n) (events : List Timed) (b : S
       ((from_rest from).rested, one, flight_on one)
 
   -- or a system loses its power that others heard
-  pub lost_power : AreWell n (made ++ now) → row_at v ≡ LostPower
+  pub lost_power : AreWell n (made ++ now) → (row_at v ≡ LostPower) ⊎ (row_at v ≡ PowerCutsOff)
       → HasComeToRest b at × FailsHeardFirst n made now × UpIsUsed n (made ++ now)
-  lost_power well row =
-      let (from, fails, used) = why LostPower row in
+  lost_power well which =
+      let (from, fails, used) = by which in
       ((from_rest from).rested, failing_heard well fails, used_up n network (made ++ now) used)
+    where
+      by : (row_at v ≡ LostPower) ⊎ (row_at v ≡ PowerCutsOff) → Why LostPower
+      by (inl row) = why LostPower row
+      by (inr row) = why PowerCutsOff row
 
   -- or it cuts off its far end
   pub record CutsEnd : Type 0 where
@@ -555,12 +559,16 @@ module _ (n : NetworkState) (network : IsNetwork n) (events : List Timed) (b : S
       ((from_rest from).rested, failing_end well fails far)
 
   -- or a system that others heard
-  pub heard : AreWell n (made ++ now) → row_at v ≡ FailedHeard
+  pub heard : AreWell n (made ++ now) → (row_at v ≡ FailedHeard) ⊎ (row_at v ≡ FailureCutsOff)
       → HasComeToRest b at × FailsHeardFirst n made now
       × ((sync_paths n (made ++ now)).delay ≡ (sync_paths n made).delay)
-  heard well row =
-      let (from, fails) = why FailedHeard row in
+  heard well which =
+      let (from, fails) = by which in
       ((from_rest from).rested, failing_heard well fails, (is_failing_so fails).delay)
+    where
+      by : (row_at v ≡ FailedHeard) ⊎ (row_at v ≡ FailureCutsOff) → Why FailedHeard
+      by (inl row) = why FailedHeard row
+      by (inr row) = why FailureCutsOff row
 
   -- Or there is any loss, and nothing is brought. Then roles stand with the choice; or also once no port is left capable
   -- beside a system that fails.

@@ -298,9 +298,14 @@ abbrev pub BoundsTurned : NetworkState → List Timed → List Timed → ℕ →
 BoundsTurned n made now choice roles =
     TurnsOneLink n made now × (choice ≡ 2 * way_span (sync_paths n (made ++ now))) × (roles ≡ choice)
 
--- Where a system fails that others hear, and none is moved, the choice asks for what they hold of it to age.
+-- Where a system fails that others hear, and none is moved but such as are cut off, the choice asks for what they hold
+-- of it to age. It may ask for two ways more, as where one system is moved.
 abbrev pub BoundsHeard : NetworkState → List Timed → List Timed → ℕ → ℕ → Type 0
-BoundsHeard n made now choice roles = FailsHeardFirst n made now × BoundsAging n made now choice roles
+BoundsHeard n made now choice roles =
+    FailsHeardFirst n made now
+    × ((aged : ℕ) × (silent : ℕ) × BoundsAging n made now aged silent
+    × (((choice ≡ aged) × (roles ≡ silent))
+    ⊎ ((choice ≡ aged + 2 * way_span (sync_paths n (made ++ now))) × (roles ≡ max choice silent))))
 
 -- Whatever is taken away, and whatever is moved, the choice asks for all that is held to be told anew.
 abbrev pub BoundsAnyLoss : NetworkState → List Timed → List Timed → ℕ → ℕ → Type 0
