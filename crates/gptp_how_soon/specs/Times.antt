@@ -25,7 +25,7 @@ use Rattle.gptp_how_soon.specs.Chosen.{moves_counted}
 use Rattle.gptp_how_soon.specs.Far.{are_far_after, cut_far_ends_after, up_is_used}
 use Rattle.gptp_how_soon.specs.Kinds.{sets_bounds, sets_link, takes_one, told_by}
 use Rattle.gptp_how_soon.specs.Links.{longest_delay, new_links}
-use Rattle.gptp_how_soon.specs.Rest.{heard_at_once, is_from_rest, row_of}
+use Rattle.gptp_how_soon.specs.Rest.{heard_at_once, is_from_rest, leaves_silent, row_of}
 use Rattle.gptp_how_soon.specs.Turned.{turns_one_after}
 use Rattle.gptp_how_soon.specs.declared.bounds.SettlingTime.{SettlingTime}
 use Rattle.gptp_how_soon.specs.declared.bounds.Row.{Row}
@@ -80,7 +80,8 @@ row_at v =
 
 abbrev pub settling_time : NetworkState → View → SettlingTime
 settling_time n v =
-    times_by n v.at v.last_set v.paths v.calm (sets_link v.told) v.used_before (row_at v) (gained_at n v)
+    times_by n v.at v.last_set v.paths_before v.paths v.calm (sets_link v.told) v.used_before
+    (leaves_silent v.used v.told) (row_at v) (gained_at n v)
 
 -- ---- what is seen
 

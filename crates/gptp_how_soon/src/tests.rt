@@ -206,7 +206,7 @@ fn a_priority1_by_which_no_system_is_moved_costs_nothing(rt: HostRuntime) -> Res
     assert_eq!(rt; soon(&times, 30_000_000_000), Some((0, 30_000_007_200)));
     assert_eq!(rt;
         soon(&times, 60_000_000_000),
-        Some((15_000_002_870, 75_000_010_070))
+        Some((13_000_002_870, 73_000_010_070))
     );
     Ok(())
 }
@@ -249,13 +249,13 @@ fn a_link_that_goes_down_and_moves_no_system_costs_nothing(rt: HostRuntime) -> R
 }
 
 #[test]
-fn a_system_that_a_link_cuts_off_costs_nothing(rt: HostRuntime) -> Result<(), Fail> {
+fn a_far_end_that_a_link_cuts_off_costs_two_ways(rt: HostRuntime) -> Result<(), Fail> {
     // The second link is the last one of b.
     let times = ring(
         rt.alloc(),
         "[[event]]\nat = 30000000000\nkind = \"link_down\"\nclock = \"000000000000000b\"\nport = 2\n[[event]]\nat = 100000000000\nkind = \"link_down\"\nclock = \"000000000000000b\"\nport = 1\n",
     )?;
-    assert_eq!(rt; soon(&times, 100_000_000_000), Some((0, 100_000_005_400)));
+    assert_eq!(rt; soon(&times, 100_000_000_000), Some((1_640, 100_000_007_040)));
     Ok(())
 }
 
@@ -343,7 +343,7 @@ fn a_system_that_a_link_moves_alone_turns_within_two_ways(rt: HostRuntime) -> Re
                 ("b", "3", "d", "1"),
                 ("c", "3", "d", "2"),
             ] as &[(&str, &str, &str, &str)],
-            15_000_002_870,
+            13_000_002_870,
         ),
         (
             "with two links to the same neighbour",
@@ -355,7 +355,7 @@ fn a_system_that_a_link_moves_alone_turns_within_two_ways(rt: HostRuntime) -> Re
                 ("c", "3", "d", "1"),
                 ("d", "2", "a", "2"),
             ] as &[(&str, &str, &str, &str)],
-            15_000_002_870,
+            13_000_002_870,
         ),
         (
             "two steps farther, over a neighbour on which another hangs",
@@ -367,7 +367,7 @@ fn a_system_that_a_link_moves_alone_turns_within_two_ways(rt: HostRuntime) -> Re
                 ("d", "2", "a", "2"),
                 ("c", "3", "e", "1"),
             ] as &[(&str, &str, &str, &str)],
-            15_000_002_870,
+            13_000_002_870,
         ),
         (
             "together with another",
@@ -379,7 +379,7 @@ fn a_system_that_a_link_moves_alone_turns_within_two_ways(rt: HostRuntime) -> Re
                 ("d", "2", "e", "1"),
                 ("e", "2", "a", "2"),
             ] as &[(&str, &str, &str, &str)],
-            18_000_003_690,
+            16_000_003_690,
         ),
         (
             "a system is cut off",
@@ -476,7 +476,7 @@ fn a_system_that_a_failure_cuts_off_does_not_count(rt: HostRuntime) -> Result<()
                 ("d", "2", "e", "1"),
                 ("e", "2", "c", "2"),
             ] as &[(&str, &str, &str, &str)],
-            15_000_002_870,
+            13_000_002_870,
         ),
     ] {
         let times = joined(
@@ -490,6 +490,74 @@ fn a_system_that_a_failure_cuts_off_does_not_count(rt: HostRuntime) -> Result<()
             Some(choice),
             "{case}"
         );
+    }
+    Ok(())
+}
+
+/// The bounds of the choice and of the roles at a time.
+fn bounds(times: &[SettlingTime], at: u64) -> Option<(u64, u64)>
+    requires { AreRising times.now }
+{
+    let settling = settling_at(times, at)?.settling?;
+    Some((settling.choice, settling.roles))
+}
+
+#[test]
+fn other_losses_cost_a_turn_for_each_system_of_a_path(rt: HostRuntime) -> Result<(), Fail> {
+    // Three announce intervals and a delay for each, an interval, and a way. The link from a to b is wider first.
+    const EVENT: &str = "[[event]]\nat = 60000000000\nkind = ";
+    for (case, events, bound) in [
+        (
+            "the root hangs",
+            &["\"fail\"\nclock = \"000000000000000a\""] as &[&str],
+            (10_000_002_320, 11_000_000_000),
+        ),
+        (
+            "the root loses its power",
+            &[
+                "\"fail\"\nclock = \"000000000000000a\"",
+                "\"link_down\"\nclock = \"000000000000000a\"\nport = 1",
+                "\"link_down\"\nclock = \"000000000000000a\"\nport = 2",
+            ] as &[&str],
+            (10_000_002_320, 10_000_002_320),
+        ),
+        (
+            "the root gets worse",
+            &["\"priority1\"\nclock = \"000000000000000a\"\nvalue = 250"] as &[&str],
+            (13_000_003_500, 13_000_003_500),
+        ),
+        (
+            "the widest link goes down",
+            &["\"link_down\"\nclock = \"000000000000000a\"\nport = 1"] as &[&str],
+            (13_000_003_230, 13_000_003_230),
+        ),
+        (
+            "two links go down, and one that is down",
+            &[
+                "\"link_down\"\nclock = \"000000000000000a\"\nport = 1",
+                "\"link_down\"\nclock = \"000000000000000c\"\nport = 2",
+                "\"link_down\"\nclock = \"000000000000000a\"\nport = 1",
+            ] as &[&str],
+            (7_000_001_410, 7_000_001_410),
+        ),
+        (
+            "the root gets worse, and another better",
+            &[
+                "\"priority1\"\nclock = \"000000000000000a\"\nvalue = 250",
+                "\"priority1\"\nclock = \"000000000000000c\"\nvalue = 1",
+            ] as &[&str],
+            (15_000_003_500, 15_000_003_500),
+        ),
+    ] {
+        let mut text = String::new(rt.alloc());
+        text.push_str(
+            "[[event]]\nat = 30000000000\nkind = \"link_set\"\nclock = \"000000000000000a\"\nport = 1\nmin = 380\nmax = 500\nloss = 0\n",
+        )?;
+        for event in events {
+            writeln!(text, "{EVENT}{event}")?;
+        }
+        let times = ring(rt.alloc(), text.as_str())?;
+        assert_eq!(rt; bounds(&times, 60_000_000_000), Some(bound), "{case}");
     }
     Ok(())
 }
@@ -527,7 +595,7 @@ fn a_far_end_that_loses_its_power_costs_nothing(rt: HostRuntime) -> Result<(), F
     )?;
     assert_eq!(rt;
         soon(&before, 30_000_000_000),
-        Some((15_000_000_820, 45_000_006_220))
+        Some((10_000_002_050, 41_000_005_400))
     );
     Ok(())
 }
@@ -547,7 +615,7 @@ fn events_come_from_rest_soon_after_a_far_end_is_lost(rt: HostRuntime) -> Result
         (
             "a link cuts off b",
             "[[event]]\nat = 100000000000\nkind = \"link_down\"\nclock = \"000000000000000b\"\nport = 1\n[[event]]\nat = 101000000000\nkind = \"link_up\"\nclock = \"000000000000000b\"\nport = 1\n",
-            820,
+            2_050,
             101_000_000_000,
             1_000_003_050,
         ),

@@ -11,7 +11,9 @@ use crate::chosen::{Chosen, Ends, any_counted, choose, copy_systems, ends_in_use
 use crate::far::{all_cut_far_ends, are_far, up_is_used};
 use crate::kinds::{Told, sets_bounds, sets_link, takes_one, tell};
 use crate::links::{delay_set, longest_among, lost_among, mark_used, new_links};
-use crate::rest::{asks_who_is_far, asks_who_is_moved, heard_at_once, is_from_rest, row_of};
+use crate::rest::{
+    asks_who_is_far, asks_who_is_moved, heard_at_once, is_from_rest, leaves_silent, row_of,
+};
 use crate::turned::turns_one;
 use gptp_scenario::{Act, Network, SyncPaths};
 use gptp_topology::{System, Tables, cables_of};
@@ -178,6 +180,7 @@ impl Walk {
         requires paths { paths ≡ marked_paths self.now.tables.marks.items self.now.tables.nodes.items }
         requires few { paths.systems ≤ 512 }
         requires short { paths.delay ≤ 16000000000 }
+        requires short_before { self.now.paths_before.delay ≤ 16000000000 }
         requires early { at ≤ LATEST_EVENT }
         requires set { self.now.last_set ≤ at }
         ensures is { IfOk result (λ time. time ≡ settling_time network.now (view_seen network.now self.now at)) }
@@ -203,10 +206,12 @@ impl Walk {
             network,
             at,
             self.last_set,
+            paths_before,
             paths,
             self.tables.is_calm(network, paths),
             sets_link(told),
             self.all_used_before,
+            leaves_silent(all_used, told),
             row_of(
                 from_rest,
                 first,

@@ -13,7 +13,8 @@ mod RowBoundLemmas
 mod RowReasonLemmas
 mod StartRowLemmas
 mod RowLemmas
-pub mod ChoiceLemmas
+pub mod AnyLossLemmas
+mod ChoiceLemmas
 pub mod StepLemmas
 mod SettledLemmas
 pub mod EndLemmas

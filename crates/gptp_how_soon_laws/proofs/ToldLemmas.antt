@@ -53,10 +53,10 @@ module _ (n : NetworkState) (network : IsNetwork n) (made : List Timed) where
   Gains (acts.Change (changes.Priority1 number value)) = IsNoWorse n made number value
   Gains act = ⊥
 
-  abbrev link_at : Act → Option Standing
+  abbrev pub link_at : Act → Option Standing
   link_at act = find (is_standing_named act) (standings_after n made)
 
-  abbrev system_at : ℕ → Option System
+  abbrev pub system_at : ℕ → Option System
   system_at number = find (has_clock number) (systems_after n made)
 
   abbrev failing : ℕ → Act

@@ -126,3 +126,13 @@ pub mod AgingDownLemmas
 pub mod AgingToLemmas
 pub mod FailedHeardLemmas
 pub mod EmptiedLemmas
+pub mod LiveTracesLemmas
+pub mod LostClaimedLemmas
+pub mod LosingLemmas
+pub mod LosesSystemLemmas
+pub mod DeadLanesLemmas
+pub mod LosesLinkLemmas
+pub mod LosesNothingLemmas
+pub mod LosesPriorityLemmas
+pub mod LostToLemmas
+pub mod LostMadeLemmas

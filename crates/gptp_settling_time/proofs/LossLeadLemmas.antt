@@ -319,18 +319,18 @@ module _ (n : NetworkState) (off : NothingLapses n.params) (time : ℕ) (made no
           (less_way (sync_paths n made).systems (sync_paths n (made ++ event ∷ [])).systems (sync_paths n made).delay
           (sync_paths n (made ++ event ∷ [])).delay fewer delay)
 
-    cut_led : CutsFarEnd n made event → others ≡ [] → FlightIsGone n made rest
-        → IsLed n made now past (suc (time + rest))
-    cut_led cuts alone flight =
-        let x = cut_leads n made event rest flight past settled_then
+    cut_led : CutsFarEnd n made event → others ≡ [] → (gone : ℕ) → FlightIsGone n made gone
+        → rest ≡ max (2 * way_span (sync_paths n (made ++ now))) gone → IsLed n made now past (suc (time + rest))
+    cut_led cuts alone gone flight is =
+        let x = cut_leads n made event gone flight past settled_then
         (record { cuts = cuts; calm = calm_then; off = off }) in
         let l = cuts.lowers in
         let less = way_then (subst (EachEvent (LowersUnused n) (made ++ event ∷ [])) (sym alone) tt) l.delay l.paths in
         let before = here in
         let early = x.early in
-        led x.since x.silent 0 (event.at + rest) x.since x.leads
-        (subst (λ es. LeadOn n (made ++ event ∷ []) (Cleared x.since x.silent 0 (event.at + rest)) es
-        (Cleared x.since x.silent 0 (event.at + rest))) (sym alone) refl) (omega (arith, before)) (omega arith)
+        led x.since x.silent 0 (event.at + gone) x.since x.leads
+        (subst (λ es. LeadOn n (made ++ event ∷ []) (Cleared x.since x.silent 0 (event.at + gone)) es
+        (Cleared x.since x.silent 0 (event.at + gone))) (sym alone) refl) (omega (arith, before, is)) (omega arith)
         (inl x.over) (omega (arith, early, before, less))
 
     -- another such link goes down
@@ -383,7 +383,8 @@ module _ (n : NetworkState) (off : NothingLapses n.params) (time : ℕ) (made no
         (omega (arith, early, before)) (inl (omega (arith, over, before))) (omega (arith, is))
 
   lost_led : (es : List Timed) → now ≡ es
-      → (CutsOneEnd n made es × FlightIsGone n made rest)
+      → (CutsOneEnd n made es
+      × ((gone : ℕ) × FlightIsGone n made gone × (rest ≡ max (2 * way_span (sync_paths n (made ++ now))) gone)))
       ⊎ ((FailsEndFirst n made es
       × ((UpIsUsed n (made ++ now) × FlightIsGone n made rest)
       ⊎ (rest ≡ capability_span (pace_of n) + way_span (sync_paths n (made ++ now)))))
@@ -395,7 +396,7 @@ module _ (n : NetworkState) (off : NothingLapses n.params) (time : ℕ) (made no
   lost_led [] same (inr (inr (none, after))) = absurd none
   lost_led (event ∷ other ∷ others) same (inl (none, flight)) = absurd none
   lost_led (event ∷ other ∷ others) same (inr (inr (none, after))) = absurd none
-  lost_led (event ∷ []) same (inl (cuts, flight)) = cut_led event [] same cuts refl flight
+  lost_led (event ∷ []) same (inl (cuts, (gone, flight, is))) = cut_led event [] same cuts refl gone flight is
   lost_led (event ∷ []) same (inr (inr (lowers, (gone, flight, is)))) =
       right_led event [] same lowers refl gone flight is
   lost_led (event ∷ others) same (inr (inl ((fails, lowers), by))) = fail_led event others same fails lowers by

@@ -12,7 +12,7 @@ use Rattle.gptp_links.specs.Fate.{Draw}
 use Rattle.gptp_setup.specs.Intervals.{interval_of}
 use Rattle.gptp_setup.specs.SettlingParams.{SettlingParams, largest_interval}
 use Rattle.gptp_system.specs.declared.answer.Answer.{Answer}
-use Rattle.gptp_system.specs.Input.{PortDown}
+use Rattle.gptp_system.specs.Input.{Input, PortDown}
 use Rattle.gptp_system.specs.Measures.{measure_at}
 use Rattle.gptp_system.specs.State.{clock}
 use Rattle.gptp_model.specs.Act.{Calls, in_state}
@@ -116,8 +116,20 @@ module _ (gone : ℕ) (at : LinkPlace) (place : ℕ) (port : PortId) (w : WorldS
     }
 
 -- so it is where its last request that is answered is known
-abbrev IsLastBy : ℕ → ℕ → LinkPlace → WorldState → Type 0
+abbrev pub IsLastBy : ℕ → ℕ → LinkPlace → WorldState → Type 0
 IsLastBy gone sent at w = (last : IsLastAnswered sent at w) × IsOldBy gone at w last.link
+
+-- by any call that leaves what is measured there
+pub last_stays : (gone sent : ℕ) (at : LinkPlace) (place : ℕ) (input : Input) (w w' : WorldState)
+    (last : IsLastAnswered sent at w) (x : CallStep place input gone at w w' last.link)
+    → measure_at x.after.asking.state ≡ measure_at last.link.asking.state → IsLastBy gone sent at w'
+last_stays gone sent at place input w w' last x part =
+    let same = view_stays x
+    (ap (asker_view (interval_of last.link.asking.station.setup.params.pdelay)) part) in (
+      last_then sent at w w' last x.after x.settled x.fewer
+          (subst (IsSince (silent_setting at w last.link) sent) (sym same) last.since),
+      x.old,
+    )
 
 called_last : (gone sent : ℕ) (at : LinkPlace) (place : ℕ) (port : PortId) (w : WorldState) (draws : List Draw)
     (w' : WorldState)
@@ -125,12 +137,9 @@ called_last : (gone sent : ℕ) (at : LinkPlace) (place : ℕ) (port : PortId) (
     → HaveOwnClocks w → (is : IsLastBy gone sent at w) → sender at.direction is.0.link.channel ≢ port
     → (answer : Answer) → Calls place (PortDown port.port) w draws answer w' → IsLastBy gone sent at w'
 called_last gone sent at place port w draws w' named clocks (last, old) apart answer k =
-    let x = step gone at place port w draws w' named clocks last.link old apart answer k in
-    let same = same_view gone at place port w draws w' named clocks last.link old apart answer k in (
-      last_then sent at w w' last x.after x.settled x.fewer
-          (subst (IsSince (silent_setting at w last.link) sent) (sym same) last.since),
-      x.old,
-    )
+    last_stays gone sent at place (PortDown port.port) w w' last
+    (step gone at place port w draws w' named clocks last.link old apart answer k)
+    (same_part gone at place port w draws w' named clocks last.link old apart answer k)
 
 -- ---- the link goes down
 
