@@ -535,8 +535,8 @@ module _ (n : NetworkState) (network : IsNetwork n) (events : List Timed) (b : S
       let (from, fails) = why FailedHeard row in
       ((from_rest from).rested, failing_heard well fails, (fails_so fails).keeps.delay)
 
-  -- Or there is any loss, and nothing is brought. Then roles stand with the choice; or also once no port is left capable
-  -- beside a system that fails.
+  -- Or there are losses, and nothing is brought. Then roles stand with the choice; or no sooner than no port beside a
+  -- system that fails is left capable.
   pub any_losses : row_at v ≡ AnyLosses
       → HasComeToRest b at × LosesEvents n made now
       × ((choice : ℕ) → RolesAfterLoss n made now choice
