@@ -136,6 +136,10 @@ pub mod LosesNothingLemmas
 pub mod LosesPriorityLemmas
 pub mod LostToLemmas
 pub mod LostMadeLemmas
+pub mod EndsToldLemmas
+pub mod LosesVainLemmas
+pub mod CalmStillLemmas
+pub mod LosesLeadLemmas
 pub mod MovedFlightLemmas
 pub mod RightBeginLemmas
 pub mod ToldAnewLemmas

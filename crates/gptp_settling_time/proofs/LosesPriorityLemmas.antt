@@ -39,7 +39,7 @@ use Rattle.gptp_settling_time.proofs.LosingLemmas.{HadFlight, TakesAway, WasUsed
 use Rattle.gptp_settling_time.proofs.PriorityNewsLemmas.{prioritized_silent, stood, stood_unanswered}
 use Rattle.gptp_settling_time.proofs.ReactsLemmas.{Reacts, reacts}
 use Rattle.gptp_settling_time.proofs.StandsStillLemmas.{StandsStill, set_still, snapshot_still}
-use Rattle.gptp_settling_time.proofs.TakenDownLemmas.{last_stays}
+use Rattle.gptp_settling_time.proofs.EndsToldLemmas.{last_stays}
 
 module _ (p : SettlingParams) (owner value : ℕ) (w : WorldState) (draws : List Draw) (done : Done) (w' : WorldState)
     (is : IsWorld p w) (is' : IsWorld p w') (live : Lives owner w) (octet : value < 256)

@@ -1,5 +1,5 @@
 -- A loss leads a network that has settled to what is left, or in which a system turns, or that is cleared.
-use Rattle.std.proofs.Common.{List, [], ap, append-nil, append_assoc, arith, inl, inr, refl, subst, suc, sym, ℕ, ◌*◌, ◌++◌, ◌+◌, ◌∙◌, ◌∷◌, ◌≡◌, ◌≤◌, ◌⊎◌}
+use Rattle.std.proofs.Common.{List, [], ap, append-nil, append_assoc, arith, inl, inr, max, refl, subst, suc, sym, ℕ, ◌*◌, ◌++◌, ◌+◌, ◌∙◌, ◌∷◌, ◌≡◌, ◌≤◌, ◌⊎◌}
 use Rattle.std.specs.List.{AllByRecursion}
 use Rattle.std.proofs.Math.Nat.{le-max_left, mul-le-mul_right}
 use Rattle.gptp_setup.specs.SettlingParams.{SettlingParams, largest_interval, longest_span}
@@ -10,7 +10,7 @@ use Rattle.gptp_scenario.specs.SyncWait.{sync_paths}
 use Rattle.gptp_scenario.specs.declared.change.Timed.{Timed}
 use Rattle.gptp_scenario.specs.declared.sync_wait.SyncPaths.{SyncPaths}
 use Rattle.gptp_settling_time.specs.HowSoon.{CutsOneEnd, EachEvent, FailsEndFirst, LowersOneLink, RestsAfterLoss, TurnsOneLink, TurnsUnused, way_span}
-use Rattle.gptp_settling_time.specs.InTurn.{Aging, AnyPast, ChoosesAfter, Cleared, CutsCalm, EventLeads, FailsCalm, FailsNow, FlightIsGone, Gained, Heard, LeadOn, Left, LowersCalm, Past, SettlesAfter, Starting, Turned, TurnsCalm, echo_span, turned_echo_span}
+use Rattle.gptp_settling_time.specs.InTurn.{Aging, AnyPast, ChoosesAfter, Cleared, CutsCalm, EventLeads, FailsCalm, FailsNow, FlightIsGone, Gained, Heard, LeadOn, Left, LosesNow, Lost, LowersCalm, Past, SettlesAfter, Starting, Turned, TurnsCalm, echo_span, turned_echo_span}
 use Rattle.gptp_settling_time.specs.Losses.{CutsFarEnd, FailsFarEnd, LowersLink, LowersUnused, TurnsLink, UpIsUsed, silence_span}
 use Rattle.gptp_settling_time.proofs.CalmLessLemmas.{fails_calm, lowers_calm}
 use Rattle.gptp_settling_time.proofs.SamePathsLemmas.{turned_paths}
@@ -62,6 +62,7 @@ module _ (n : NetworkState) (made : List Timed) (event : Timed) (roles : ℕ) wh
   loss_leads (Turned silent now) settled loses = absurd settled
   loss_leads (Cleared begun silent right old) settled loses = absurd settled
   loss_leads (Aging aged silent) settled loses = absurd settled
+  loss_leads (Lost since most silent) settled loses = absurd settled
 
 -- after one by which a system turns it has turned
 module _ (n : NetworkState) (made : List Timed) (event : Timed) where
@@ -89,6 +90,7 @@ module _ (n : NetworkState) (made : List Timed) (event : Timed) where
   turn_leads (Turned silent now) settled turns = absurd settled
   turn_leads (Cleared begun silent right old) settled turns = absurd settled
   turn_leads (Aging aged silent) settled turns = absurd settled
+  turn_leads (Lost since most silent) settled turns = absurd settled
 
   -- after one of a system that others hear what they hold of it ages
   pub ages_leads : (past : Past) (aged silent : ℕ) → HasSettled n made past event.at → FailsNow n made event aged silent
@@ -101,6 +103,20 @@ module _ (n : NetworkState) (made : List Timed) (event : Timed) where
   ages_leads (Turned start was) aged silent settled now = absurd settled
   ages_leads (Cleared begun start right old) aged silent settled now = absurd settled
   ages_leads (Aging gone start) aged silent settled now = absurd settled
+  ages_leads (Lost since most start) aged silent settled now = absurd settled
+
+  -- after any other it has lost
+  pub loses_leads : (past : Past) (since most silent : ℕ) → HasSettled n made past event.at
+      → LosesNow n made event since most silent → EventLeads n made past event (Lost since most silent)
+  loses_leads AnyPast since most silent settled now = (settled, now)
+  loses_leads Starting since most silent settled now = absurd settled
+  loses_leads (Gained start) since most silent settled now = (settled, now)
+  loses_leads (Heard start) since most silent settled now = (settled, now)
+  loses_leads (Left start) since most silent settled now = absurd settled
+  loses_leads (Turned start was) since most silent settled now = absurd settled
+  loses_leads (Cleared begun start right old) since most silent settled now = absurd settled
+  loses_leads (Aging aged start) since most silent settled now = absurd settled
+  loses_leads (Lost begun delay start) since most silent settled now = absurd settled
 
 -- what settles has its choice
 pub settles_chooses : (n : NetworkState) (events : List Timed) (past : Past) (settled : ℕ)
@@ -113,6 +129,7 @@ settles_chooses n events (Left silent) settled (off, late) = off
 settles_chooses n events (Turned silent now) settled so = so
 settles_chooses n events (Cleared begun silent right old) settled (off, late) = off
 settles_chooses n events (Aging aged silent) settled (off, late) = (off, inr late)
+settles_chooses n events (Lost since most silent) settled (off, passed, late) = (off, passed)
 
 -- a network that is left stays so where links go down of which an end has failed
 pub dead_lead : (n : NetworkState) (made now : List Timed) (silent : ℕ) → NothingLapses n.params → IsCalm n made
@@ -203,6 +220,7 @@ module _ (n : NetworkState) (made : List Timed) (event : Timed) (gone : ℕ) (fl
   cut_leads (Turned silent now) settled cuts = absurd settled
   cut_leads (Cleared begun silent right last) settled cuts = absurd settled
   cut_leads (Aging aged silent) settled cuts = absurd settled
+  cut_leads (Lost since most silent) settled cuts = absurd settled
 
   -- or as it fails, once the ports beside it have been unanswered for long enough
   fail_leads : (past : Past) → HasSettled n made past event.at → FailsCalm n made event
@@ -237,6 +255,7 @@ module _ (n : NetworkState) (made : List Timed) (event : Timed) (gone : ℕ) (fl
   fail_leads (Turned silent now) settled fails = absurd settled
   fail_leads (Cleared begun silent right last) settled fails = absurd settled
   fail_leads (Aging aged silent) settled fails = absurd settled
+  fail_leads (Lost since most silent) settled fails = absurd settled
 
 -- after another such link goes down it is, once right traces are told
 module _ (n : NetworkState) (made : List Timed) (event : Timed) (gone : ℕ)
@@ -274,6 +293,7 @@ module _ (n : NetworkState) (made : List Timed) (event : Timed) (gone : ℕ)
   right_leads (Turned silent now) settled lowers = absurd settled
   right_leads (Cleared begun silent right last) settled lowers = absurd settled
   right_leads (Aging aged silent) settled lowers = absurd settled
+  right_leads (Lost since most silent) settled lowers = absurd settled
 
 -- an announce interval is over by when ports beside a system that failed aren't capable
 interval_span : (p : SettlingParams) → largest_interval p ≤ capability_span p

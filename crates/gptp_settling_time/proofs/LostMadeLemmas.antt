@@ -13,7 +13,7 @@ use Rattle.gptp_scenario.specs.declared.change.Change.TheVariants.{LinkDown, Lin
 use Rattle.gptp_scenario.specs.declared.change.Timed.{Timed}
 use Rattle.gptp_scenario.specs.declared.sync_wait.SyncPaths.{SyncPaths}
 use Rattle.gptp_model.specs.Acts.{Acts}
-use Rattle.gptp_model.specs.Changing.{GoesDownIf}
+use Rattle.gptp_model.specs.Changing.{ComesUpIf, GoesDownIf}
 use Rattle.gptp_model.specs.declared.done.Done.{Done}
 use Rattle.gptp_model.specs.World.{WorldState, port_id}
 use Rattle.gptp_network.specs.Document.{DocumentState}
@@ -25,14 +25,17 @@ use Rattle.gptp_invariants.specs.WorldStanding.{snapshot_of}
 use Rattle.gptp_theorem.specs.PlayedLaws.{IsMade, IsPlayable}
 use Rattle.gptp_theorem.proofs.CalmLemmas.{quiet_stands}
 use Rattle.gptp_theorem.proofs.SyncPathLemmas.{paths_stand}
+use Rattle.gptp_settling_time.specs.Gains.{ChangesNothing, EndHasFailed}
 use Rattle.gptp_settling_time.specs.InTurn.{LosesMore, LosesNow, MakesNothing, TurnsInVain}
 use Rattle.gptp_settling_time.specs.Losses.{AreSilentAfter, LosesAny}
-use Rattle.gptp_settling_time.proofs.GainLemmas.{lives_so, unused_so, up_so}
+use Rattle.gptp_settling_time.proofs.GainLemmas.{idle_so, lives_so, unused_so, up_so}
 use Rattle.gptp_settling_time.proofs.KeptToLemmas.{KeepsTo}
+use Rattle.gptp_settling_time.proofs.IdleLemmas.{idle_still}
 use Rattle.gptp_settling_time.proofs.LosesLinkLemmas.{lowers_takes}
 use Rattle.gptp_settling_time.proofs.LosesNothingLemmas.{still_takes}
 use Rattle.gptp_settling_time.proofs.LosesPriorityLemmas.{priority_takes}
 use Rattle.gptp_settling_time.proofs.LosesSystemLemmas.{fails_takes}
+use Rattle.gptp_settling_time.proofs.LosesVainLemmas.{raises_takes}
 use Rattle.gptp_settling_time.proofs.LosingLemmas.{IsLosing, TakesAway, losing_lost, lost_losing, sound_losing, takes_losing}
 use Rattle.gptp_settling_time.proofs.LossMadeLemmas.{HasRestedSo}
 use Rattle.gptp_settling_time.proofs.LostClaimedLemmas.{IsLostAlways, asked_are_ready}
@@ -68,6 +71,13 @@ module _ (d : DocumentState) (playable : IsPlayable d) (made : List Timed) (even
   -- the event is this change
   came_so : (change : Change) → is.change ≡ change → Acts (Changing change) then draws done w'
   came_so change same = subst (λ act. Acts act then draws done w') (is.act ∙ ap Changing same) acts
+
+  -- it changes nothing
+  pub made_still : ChangesNothing n made event.act → StandsStill then w'
+  made_still nothing =
+      idle_still then world_then.sound draws w' is.change
+      (idle_so n made then keeps.stands world_then.sound is.change (subst (ChangesNothing n made) is.act nothing))
+      (came_so is.change refl).1
 
   module _ (since most silent : ℕ) (losing : IsLosing p since most silent then) where
     ready : AreReadyBy p since then
@@ -115,6 +125,41 @@ module _ (d : DocumentState) (playable : IsPlayable d) (made : List Timed) (even
         by (Recover number) same none later = absurd none
         by (Inject number port octets) same none later = absurd none
 
+    -- a link comes up
+    raised : (number port : ℕ) → EndHasFailed n made (port_id number port)
+        → (k : Acts (Changing (LinkUp number port)) then draws done w') → (up : Bool) → k.1.channel.up ≡ up
+        → TakesAway p since silent then w'
+    raised number port failed k true up =
+        still_takes p then w'
+        (changed_still then w'
+        (subst (λ up. ComesUpIf up k.1.place k.1.channel (record then { last_change = then.time }) draws w') up
+        k.1.so).1) since silent world_then after.claim.world after.claim.measured ready losing.standing.off
+    raised number port failed k false down =
+        raises_takes p then world_then k.1.place k.1.channel k.1.is.here down
+        (unused_so n made then keeps.stands world_then.sound (port_id number port) failed k.1.place k.1.channel
+        (record { here = k.1.is.here; joined = k.1.is.joined })) draws w' after.claim.world
+        (subst (λ up. ComesUpIf up k.1.place k.1.channel (record then { last_change = then.time }) draws w') down
+        k.1.so) since silent after.claim.measured after.claim.silent ready losing.standing.off
+
+    -- it makes nothing of what stands
+    spares : MakesNothing n made event since → TakesAway p since silent then w'
+    spares (inl nothing) =
+        still_takes p then w' (made_still nothing) since silent world_then after.claim.world after.claim.measured ready
+        losing.standing.off
+    spares (inr (off, turns)) = by is.change refl (subst (TurnsInVain n made event since) is.act turns)
+      where
+        by : (change : Change) → is.change ≡ change → TurnsInVain n made event since (Changing change)
+            → TakesAway p since silent then w'
+        by (LinkDown number port) same (failed, late) =
+            let came = came_so (LinkDown number port) same in lowered number port came came.1.channel.up refl
+        by (LinkUp number port) same failed =
+            let came = came_so (LinkUp number port) same in raised number port failed came came.1.channel.up refl
+        by (LinkSet number port min max loss) same none = absurd none
+        by (Fail number) same none = absurd none
+        by (Recover number) same none = absurd none
+        by (Priority1 number value) same none = absurd none
+        by (Inject number port octets) same none = absurd none
+
     lost_then : TakesAway p since silent then w' → IsLostTo d (made ++ event ∷ []) since most silent w'
     lost_then away = record {
       keeps = after;
@@ -138,3 +183,14 @@ module _ (d : DocumentState) (playable : IsPlayable d) (made : List Timed) (even
       (omega (arith, at_time, here)) (omega (arith, over, here)) (omega (arith, later, here))
       (omega (arith, less, delay)) in
       lost_then since most silent losing (takes since most silent losing now.loses now.unanswered)
+
+  -- and more at that time
+  pub loses_more : (since most silent : ℕ) → IsLostAlways p since most silent then
+      → LosesMore n made event since silent → IsLostTo d (made ++ event ∷ []) since most silent w'
+  loses_more since most silent lost more =
+      let losing : IsLosing p since most silent then =
+      lost_losing p since most silent then lost (at_time ∙ more.now) in
+      lost_then since most silent losing (elim more.more [
+        | inl (loses, unanswered) ↦ takes since most silent losing loses unanswered
+        | inr nothing ↦ spares since most silent losing nothing
+      ])
