@@ -66,7 +66,7 @@ module _ (says : Spelling) (n : Network) (net : IsSettlingNetwork n) (near : All
         | inl (kept, is_kept) ↦ elim (mid_heard call.s.clock (suc q) mid.time touch pu.held step.mid r step.before
             (sym kept ∙ holds)) [
               | inl before ↦ inl before
-              | inr (hears, taken) ↦ inr (hears, place)
+              | inr (hears, usable, taken) ↦ inr (hears, place)
             ]
         | inr becomes ↦
             absurd (let z : Mine call.s'.root call.s'.steps ≡ Received r = sym becomes.mine ∙ holds in cc)
