@@ -284,17 +284,21 @@ module _ (d : DocumentState) (playable : IsPlayable d) where
         let (rest, turns, unused) = turned n playable.network all b at late well row in
         (rest, inr (inr (inl (turns, refl, refl))))
     loses_by FailedHeard row own =
-        let (rest, fails, delay) = heard n playable.network all b at late well (inl row) in
-        (rest, inr (inr (inr (inl (
-          fails,
-          (held_span n v.paths, silence_span (pace_of n), inr (held_as delay, refl), inl (refl, refl)),
-        )))))
+        let (rest, fails, delay) = heard n playable.network all b at late well (inl row) in (
+          rest,
+          inr (inr (inr (inl (
+            fails,
+            (held_span n v.paths, silence_span (pace_of n), inr (held_as delay, refl), inl (refl, refl)),
+          )))),
+        )
     loses_by FailureCutsOff row own =
-        let (rest, fails, delay) = heard n playable.network all b at late well (inr row) in
-        (rest, inr (inr (inr (inl (
-          fails,
-          (held_span n v.paths, silence_span (pace_of n), inr (held_as delay, refl), inr (refl, refl)),
-        )))))
+        let (rest, fails, delay) = heard n playable.network all b at late well (inr row) in (
+          rest,
+          inr (inr (inr (inl (
+            fails,
+            (held_span n v.paths, silence_span (pace_of n), inr (held_as delay, refl), inr (refl, refl)),
+          )))),
+        )
     loses_by AnyLosses row own =
         let (rest, loses, roles) = any_losses n playable.network all b at late row in
         (rest, inr (inr (inr (inr (loses, refl, roles (loss_span n v.paths_before v.paths))))))
