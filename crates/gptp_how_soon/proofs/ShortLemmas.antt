@@ -1,5 +1,5 @@
 -- Each time of a document is watched shortly.
-use Rattle.std.proofs.Common.{◌≡◌, ◌≤◌, ◌+◌, ◌-◌, ◌*◌, ◌++◌, ◌==◌, not, pred, ℕ, zero, suc, Bool, true, false, if◌then◌else◌, List, [], ◌∷◌, length, nat_le, filter, Option, Some, None, IfSome, refl, inl, inr, arith}
+use Rattle.std.proofs.Common.{◌≡◌, ◌≤◌, ◌+◌, ◌-◌, ◌*◌, ◌++◌, ◌==◌, max, not, pred, ℕ, zero, suc, Bool, true, false, if◌then◌else◌, List, [], ◌∷◌, length, nat_le, filter, Option, Some, None, IfSome, refl, inl, inr, arith}
 use Rattle.std.specs.Prelude.{⊤}
 use Rattle.std.specs.List.{AllByRecursion, list_any}
 use Rattle.std.proofs.lemmas.Bool.Decides.{nat_tests}
@@ -32,11 +32,12 @@ use Rattle.gptp_setup.specs.SettlingParams.{largest_interval, longest_span}
 use Rattle.gptp_setup.proofs.IntervalLemmas.{interval_most}
 use Rattle.gptp_topology.specs.Times.{times_from, times_of}
 use Rattle.gptp_topology.specs.declared.course.Cable.{Cable}
-use Rattle.gptp_how_soon.specs.Bounds.{asked_again, choice_by, choice_of_row, echo_span, exact_span, gone_by, is_again, needed_watch, ready, roles_by, roles_of_row, set_span, settling_by, silence_span, sound_by, sound_of_row, two_exchanges, watch, unused_by, way_span}
+use Rattle.gptp_how_soon.specs.Bounds.{asked_again, echo_span, exact_span, gone_by, is_again, loss_span, needed_watch, ready, roles_after_losses, roles_by, roles_of_row, set_span, settling_by, silence_span, sound_by, sound_of_row, two_exchanges, unused_by, watch, way_span}
 use Rattle.gptp_how_soon.specs.Kinds.{sets_bounds, sets_link}
+use Rattle.gptp_how_soon.specs.Rest.{leaves_silent}
 use Rattle.gptp_how_soon.specs.Times.{IsWatchedShortly, View, events_at, events_before, gained_at, heard_at, last_set, row_at, settling_time, settling_times, settling_times_from, time_at, view_at}
 use Rattle.gptp_how_soon.specs.declared.bounds.Row.{Row}
-use Rattle.gptp_how_soon.specs.declared.bounds.Row.TheVariants.{AnyPast, FailedEnd, FailedHeard, Gained, LostEnd, LostPower, Lowered, OneTurned, Unchanged}
+use Rattle.gptp_how_soon.specs.declared.bounds.Row.TheVariants.{AnyLosses, AnyPast, CutOff, FailedEnd, FailedHeard, FailureCutsOff, Gained, LostEnd, LostPower, Lowered, OneTurned, PowerCutsOff, Unchanged}
 use Rattle.gptp_how_soon.specs.declared.bounds.SettlingTime.{SettlingTime}
 use Rattle.gptp_how_soon.specs.declared.kinds.Told.{Told}
 
@@ -102,34 +103,41 @@ module _ (n : NetworkState) (network : IsNetwork n) (paths : SyncPaths) (few : p
   span : settling_span_with (pace_of n) paths paths.systems ≤ 195000000000000
   span = short_time (pace_of n) paths paths.systems network.params (largest_log n network) few short
 
-  roles_most : (row : Row) (gained : ℕ) → gained ≤ 195000000000000 → roles_by n paths row gained ≤ 195000000000000
-  roles_most row gained early =
+  losses : (before : SyncPaths) → before.delay ≤ 16000000000 → loss_span n before paths ≤ 110000000000000
+  losses before soon =
+      let l = largest in let w = way in
+      let turn : n.params.timeout * largest_interval (pace_of n) ≤ 160000000000 =
+      few_spans n.params.timeout (largest_interval (pace_of n)) network.params.ranges.params.timeout l in
+      let turns : paths.systems * (longest_span (pace_of n) + max before.delay paths.delay) ≤ 90112000000000 =
+      few_steps paths.systems (longest_span (pace_of n) + max before.delay paths.delay) few
+      (omega (arith, turn, short, soon)) in
+      omega (arith, l, w, turns)
+
+  roles_most : (before : SyncPaths) (silent : Bool) (row : Row) (gained : ℕ) → before.delay ≤ 16000000000
+      → gained ≤ 195000000000000
+      → roles_by n before paths silent row gained ≤ 195000000000000
+  roles_most before silent row gained soon early =
       either_most (not (n.params.sync_timeout == 0)) _ _ 195000000000000 span (by row)
     where
-      by : (r : Row) → roles_of_row n paths r gained ≤ 195000000000000
+      lost : roles_after_losses n before paths silent ≤ 195000000000000
+      lost =
+          let l = losses before soon in let most = silence_most in
+          either_most silent (max (loss_span n before paths) (silence_span n.params)) (loss_span n before paths)
+          195000000000000 (omega (arith, l, most)) (omega (arith, l))
+
+      by : (r : Row) → roles_of_row n before paths silent r gained ≤ 195000000000000
       by AnyPast = at_once
       by Unchanged = omega arith
       by Lowered = omega arith
+      by CutOff = let w = way in omega (arith, w)
       by LostEnd = omega arith
       by LostPower = omega arith
       by FailedEnd = let most = silence_most in omega (arith, most)
+      by PowerCutsOff = let w = way in omega (arith, w)
       by FailedHeard = let most = silence_most in omega (arith, most)
+      by FailureCutsOff = let w = way in let most = silence_most in omega (arith, w, most)
       by OneTurned = let w = way in omega (arith, w)
-      by Gained = early
-
-  choice_most : (row : Row) (gained : ℕ) → gained ≤ 195000000000000 → choice_by n paths row gained ≤ 195000000000000
-  choice_most row gained early =
-      either_most (not (n.params.sync_timeout == 0)) _ _ 195000000000000 span (by row)
-    where
-      by : (r : Row) → choice_of_row n paths r gained ≤ 195000000000000
-      by AnyPast = at_once
-      by Unchanged = omega arith
-      by Lowered = omega arith
-      by LostEnd = omega arith
-      by LostPower = omega arith
-      by FailedEnd = omega arith
-      by FailedHeard = let most = silence_most in omega (arith, most)
-      by OneTurned = let w = way in omega (arith, w)
+      by AnyLosses = lost
       by Gained = early
 
   sound_most : (used : Bool) (row : Row) (gained : ℕ) → gained ≤ 195000000000000
@@ -153,14 +161,18 @@ module _ (n : NetworkState) (network : IsNetwork n) (paths : SyncPaths) (few : p
       by AnyPast = at_once
       by Unchanged = omega arith
       by Lowered = let e = echo in let g = gone in omega (arith, e, g)
+      by CutOff = let w = way in let g = gone in omega (arith, w, g)
       by LostEnd = let g = gone in omega (arith, g)
       by FailedEnd = let w = way in let c = capable_most in omega (arith, w, c)
       by LostPower = at_once
+      by PowerCutsOff = at_once
       by FailedHeard = at_once
+      by FailureCutsOff = at_once
       by OneTurned =
           let w = way in let e = echo in
           let u = unused in
           omega (arith, w, e, u)
+      by AnyLosses = at_once
       by Gained = early
 
   set_most : (sets : Bool) → set_span n.params paths sets ≤ 65000000000
@@ -176,17 +188,21 @@ module _ (n : NetworkState) (network : IsNetwork n) (paths : SyncPaths) (few : p
       mul-le (n.params.window - 1) (interval_of n.params.pdelay) 15 16000000000 (omega (arith, v)) pdelay in
       omega (arith, tree, window)
 
-  needed_most : (at set : ℕ) (calm sets used : Bool) (row : Row) (gained : ℕ) → set ≤ at → gained ≤ 195000000000000
-      → needed_watch n at paths (settling_by n at set paths calm sets used row gained) ≤ 197000000000000
-  needed_most at set false sets used row gained soon early = let s = span in let e = exact_most in omega (arith, s, e)
-  needed_most at set true sets used row gained soon early =
-      let r = roles_most row gained early in let h = sound_most used row gained early in
-      let s = set_most sets in let l = largest in let e = exact_most in omega (arith, soon, r, h, s, l, e, short)
+  module _ (before : SyncPaths) (short_before : before.delay ≤ 16000000000) (at set : ℕ) (soon : set ≤ at)
+      (sets used_before silent : Bool) (row : Row) (gained : ℕ) (early : gained ≤ 195000000000000) where
+    needed_most : (calm : Bool)
+        → needed_watch n at paths (settling_by n at set before paths calm sets used_before silent row gained)
+        ≤ 197000000000000
+    needed_most false = let s = span in let e = exact_most in omega (arith, s, e)
+    needed_most true =
+        let r = roles_most before silent row gained short_before early in
+        let h = sound_most used_before row gained early in
+        let s = set_most sets in let l = largest in let e = exact_most in omega (arith, soon, r, h, s, l, e, short)
 
-  watch_most : (at set : ℕ) (calm sets used : Bool) (row : Row) (gained : ℕ) → set ≤ at → gained ≤ 195000000000000
-      → watch n at paths (settling_by n at set paths calm sets used row gained) ≤ 200000000000000
-  watch_most at set calm sets used row gained soon early =
-      let needed = needed_most at set calm sets used row gained soon early in let i = sync in omega (arith, needed, i)
+    watch_most : (calm : Bool)
+        → watch n at paths (settling_by n at set before paths calm sets used_before silent row gained)
+        ≤ 200000000000000
+    watch_most calm = let needed = needed_most calm in let i = sync in omega (arith, needed, i)
 
 -- ---- paths
 
@@ -269,6 +285,15 @@ module _ (d : DocumentState) (network : IsNetwork d.network) (events : AreEvents
             let same : t.at ≡ at = grind (arith, nat_tests) in (there, omega (arith, same)))
       ]
 
+  -- none of the links in use before a time takes longer than a link may
+  short_before : (before : Option SettlingTime) (at : ℕ) → IsBefore at before
+      → (sync_paths d.network (events_before before d.events)).delay ≤ 16000000000
+  short_before before at is =
+      short_delay d.network (events_before before d.events) network (λ place t there.
+      let (other, stands) = slice_get-In t d.events
+      (there_before before at t is (In-slice_get t (events_before before d.events) place there)).0 in
+      allowed other t stands)
+
   allowed_then : (before : Option SettlingTime) (at : ℕ) → IsBefore at before → AreAllowed (all_then before at)
   allowed_then before at is place t there =
       let (other, stands) = slice_get-In t d.events
@@ -293,8 +318,8 @@ module _ (d : DocumentState) (network : IsNetwork d.network) (events : AreEvents
       last_change_most at (filter (λ (t : Timed). sets_bounds t.act) all)
       (λ t member. (there_then before at t is (from_filter (λ (e : Timed). sets_bounds e.act) t all member).0).1) in
       let most : (settling_time n v).watch ≤ 200000000000000 =
-      watch_most n network paths few short at (last_set all) v.calm (sets_link v.told) v.used_before (row_at v)
-      (gained_at n v) set (omega (arith, r, h, w)) in
+      watch_most n network paths few short v.paths_before (short_before before at is) at (last_set all) set
+      (sets_link v.told) v.used_before (leaves_silent v.used v.told) (row_at v) (gained_at n v) (omega (arith, r, h, w)) v.calm in
       record { span = most; until = omega (arith, most, early) }
 
   all_shortly : (before : Option SettlingTime) (last : ℕ) (ats : List ℕ) → IsBefore last before → InTurn last ats

@@ -4,12 +4,16 @@ use Rattle.std.specs.List.{AllByRecursion}
 use Rattle.std.proofs.lemmas.Bool.{eq-eqb, eqb-true, eqb-false, ne_eqb}
 use Rattle.std.proofs.lemmas.List.{append-nil}
 use Rattle.gptp_network.specs.declared.keys.TheConstants.{LATEST_EVENT}
+use Rattle.gptp_scenario.specs.Allowed.{AreAllowed}
 use Rattle.gptp_scenario.specs.Network.{IsNetwork}
 use Rattle.gptp_scenario.specs.declared.change.Timed.{Timed}
+use Rattle.gptp_scenario.specs.declared.sync_wait.SyncPaths.{SyncPaths}
+use Rattle.gptp_scenario.proofs.InUseLemmas.{short_delay}
 use Rattle.gptp_network.specs.Document.{DocumentState}
 use Rattle.gptp_network.specs.Events.{AreEvents, AreInOrder, IsEvent}
 use Rattle.gptp_network.specs.Snapshot.{events_by}
 use Rattle.gptp_topology.specs.Times.{times_from}
+use Rattle.gptp_topology.proofs.PassedLemmas.{allowed_before}
 use Rattle.gptp_topology.proofs.CourseLemmas.{all_from_0, behind, not_before, order_behind, past_by, until_now}
 use Rattle.gptp_how_soon.specs.Kinds.{sets_bounds}
 use Rattle.gptp_how_soon.specs.Times.{AreRising, IsWatchedShortly, events_at, events_before, settling_time, settling_times, settling_times_from, time_at, view_at}
@@ -200,6 +204,15 @@ module _ (d : DocumentState) (network : IsNetwork d.network) where
     rising = tt;
     past = tt;
   }
+
+  -- none of the links in use at the time before takes longer than a link may
+  pub short_walked : (left : List Timed) (w : Walk) (at : ℕ) (times : List SettlingTime) → AreAllowed d.events
+      → Walked d left w at times → w.paths_before.delay ≤ 16000000000
+  short_walked left w at times allowed so =
+      let split : so.made ++ (so.now ++ left) ≡ d.events =
+      sym (append_assoc so.made so.now left) ∙ so.told.split in
+      subst (λ (ps : SyncPaths). ps.delay ≤ 16000000000) (sym so.stands.paths)
+      (short_delay d.network so.made network (allowed_before so.made (so.now ++ left) d.events split allowed))
 
   -- an event is passed, once what is before it is told
   pub walked_more : (t : Timed) (left : List Timed) (old told new : Walk) (at : ℕ) (times after : List SettlingTime)

@@ -12,7 +12,7 @@ use Rattle.gptp_topology.specs.declared.course.Cable.{Cable}
 use Rattle.gptp_how_soon.specs.Kinds.{recovers}
 use Rattle.gptp_how_soon.specs.Links.{varies}
 use Rattle.gptp_how_soon.specs.declared.bounds.Row.{Row}
-use Rattle.gptp_how_soon.specs.declared.bounds.Row.TheVariants.{AnyPast, FailedEnd, FailedHeard, Gained, LostEnd, LostPower, Lowered, OneTurned, Unchanged}
+use Rattle.gptp_how_soon.specs.declared.bounds.Row.TheVariants.{AnyLosses, AnyPast, CutOff, FailedEnd, FailedHeard, FailureCutsOff, Gained, LostEnd, LostPower, Lowered, OneTurned, PowerCutsOff, Unchanged}
 use Rattle.gptp_how_soon.specs.declared.bounds.Settling.{Settling}
 use Rattle.gptp_how_soon.specs.declared.bounds.SettlingTime.{SettlingTime}
 use Rattle.gptp_how_soon.specs.declared.kinds.Told.{Told}
@@ -38,9 +38,21 @@ silence_span p = (p.lost + 2) * interval_of p.pdelay
 abbrev pub aging_span : NetworkState → SyncPaths → ℕ
 aging_span n paths = longest_span (pace_of n) + paths.delay
 
+-- how long it counts: no longer than the ports beside that system stay capable
+abbrev pub held_span : NetworkState → SyncPaths → ℕ
+held_span n paths = min (aging_span n paths) (silence_span n.params)
+
 -- the greatest delay for each system of a path but one
 abbrev pub way_span : SyncPaths → ℕ
 way_span paths = pred paths.systems * paths.delay
+
+-- How long a network that had come to rest takes at most to settle after losses: for each system of a path a turn, in
+-- which what was told comes and is dropped. It comes within the greatest delay of a link that is in use, or was just
+-- before. Then an announce interval passes, and a way.
+abbrev pub loss_span : NetworkState → SyncPaths → SyncPaths → ℕ
+loss_span n before paths =
+    paths.systems * (longest_span (pace_of n) + max before.delay paths.delay) + largest_interval (pace_of n)
+    + way_span paths
 
 -- ---- after gains
 
@@ -65,43 +77,58 @@ heard_by n followed told new =
 
 -- ---- bounds at a time
 
--- The choice: where something may lapse for want of Sync it takes the span. Else it is as the row says, with so much
--- after gains. Where others heard a system that fails it stands once they don't hold that any more, or once the ports
--- beside it aren't capable, whichever is sooner. A system that turns tells what it chooses, and its neighbours answer:
--- a way there, and one back.
-abbrev pub choice_of_row : NetworkState → SyncPaths → Row → ℕ → ℕ
-choice_of_row n paths AnyPast gained = settling_span_at_once (pace_of n) paths
-choice_of_row n paths Unchanged gained = 0
-choice_of_row n paths Lowered gained = 0
-choice_of_row n paths LostEnd gained = 0
-choice_of_row n paths FailedEnd gained = 0
-choice_of_row n paths LostPower gained = 0
-choice_of_row n paths FailedHeard gained = min (aging_span n paths) (silence_span n.params)
-choice_of_row n paths OneTurned gained = 2 * way_span paths
-choice_of_row n paths Gained gained = gained
+-- The choice, by what Sync had to cross just before, and has to: where something may lapse for want of Sync it takes the
+-- span. Else it is as the row says, with so much after gains. Where others heard a system that fails it stands once they
+-- don't hold that any more, or once the ports beside it aren't capable, whichever is sooner. A system that turns tells
+-- what it chooses, and its neighbours answer: a way there, and one back.
+abbrev pub choice_of_row : NetworkState → SyncPaths → SyncPaths → Row → ℕ → ℕ
+choice_of_row n before paths AnyPast gained = settling_span_at_once (pace_of n) paths
+choice_of_row n before paths Unchanged gained = 0
+choice_of_row n before paths Lowered gained = 0
+choice_of_row n before paths CutOff gained = 2 * way_span paths
+choice_of_row n before paths LostEnd gained = 0
+choice_of_row n before paths FailedEnd gained = 0
+choice_of_row n before paths LostPower gained = 0
+choice_of_row n before paths PowerCutsOff gained = 2 * way_span paths
+choice_of_row n before paths FailedHeard gained = held_span n paths
+choice_of_row n before paths FailureCutsOff gained = held_span n paths + 2 * way_span paths
+choice_of_row n before paths OneTurned gained = 2 * way_span paths
+choice_of_row n before paths AnyLosses gained = loss_span n before paths
+choice_of_row n before paths Gained gained = gained
 
-abbrev pub choice_by : NetworkState → SyncPaths → Row → ℕ → ℕ
-choice_by n paths row gained =
+abbrev pub choice_by : NetworkState → SyncPaths → SyncPaths → Row → ℕ → ℕ
+choice_by n before paths row gained =
     if not (n.params.sync_timeout == 0) then settling_span_with (pace_of n) paths paths.systems
-    else choice_of_row n paths row gained
+    else choice_of_row n before paths row gained
+
+-- After losses without a row of their own roles stand with the choice; but no sooner than the ports beside a system that
+-- fails aren't capable any more, where a link may be left silent.
+abbrev pub roles_after_losses : NetworkState → SyncPaths → SyncPaths → Bool → ℕ
+roles_after_losses n before paths silent =
+    if silent then max (loss_span n before paths) (silence_span n.params) else loss_span n before paths
 
 -- Roles stand as soon as the choice does. But where a system fails they do once the ports beside it aren't capable any
 -- more.
-abbrev pub roles_of_row : NetworkState → SyncPaths → Row → ℕ → ℕ
-roles_of_row n paths AnyPast gained = choice_of_row n paths AnyPast gained
-roles_of_row n paths Unchanged gained = 0
-roles_of_row n paths Lowered gained = 0
-roles_of_row n paths LostEnd gained = 0
-roles_of_row n paths FailedEnd gained = silence_span n.params
-roles_of_row n paths LostPower gained = 0
-roles_of_row n paths FailedHeard gained = silence_span n.params
-roles_of_row n paths OneTurned gained = choice_of_row n paths OneTurned gained
-roles_of_row n paths Gained gained = gained
+abbrev pub roles_of_row : NetworkState → SyncPaths → SyncPaths → Bool → Row → ℕ → ℕ
+roles_of_row n before paths silent AnyPast gained = choice_of_row n before paths AnyPast gained
+roles_of_row n before paths silent Unchanged gained = 0
+roles_of_row n before paths silent Lowered gained = 0
+roles_of_row n before paths silent CutOff gained = 2 * way_span paths
+roles_of_row n before paths silent LostEnd gained = 0
+roles_of_row n before paths silent FailedEnd gained = silence_span n.params
+roles_of_row n before paths silent LostPower gained = 0
+roles_of_row n before paths silent PowerCutsOff gained = choice_of_row n before paths PowerCutsOff gained
+roles_of_row n before paths silent FailedHeard gained = silence_span n.params
+roles_of_row n before paths silent FailureCutsOff gained =
+    max (choice_of_row n before paths FailureCutsOff gained) (silence_span n.params)
+roles_of_row n before paths silent OneTurned gained = choice_of_row n before paths OneTurned gained
+roles_of_row n before paths silent AnyLosses gained = roles_after_losses n before paths silent
+roles_of_row n before paths silent Gained gained = gained
 
-abbrev pub roles_by : NetworkState → SyncPaths → Row → ℕ → ℕ
-roles_by n paths row gained =
+abbrev pub roles_by : NetworkState → SyncPaths → SyncPaths → Bool → Row → ℕ → ℕ
+roles_by n before paths silent row gained =
     if not (n.params.sync_timeout == 0) then settling_span_with (pace_of n) paths paths.systems
-    else roles_of_row n paths row gained
+    else roles_of_row n before paths silent row gained
 
 -- What was in flight is gone so much later than a time: by a delay where each link that was up is in use; else by an
 -- announce interval.
@@ -125,13 +152,17 @@ unused_by n used_before = if used_before then 0 else largest_interval (pace_of n
 abbrev pub sound_of_row : NetworkState → SyncPaths → Bool → Row → ℕ → ℕ
 sound_of_row n paths used_before AnyPast gained = settling_span_at_once (pace_of n) paths
 sound_of_row n paths used_before Unchanged gained = 0
-sound_of_row n paths used_before Lowered gained = echo_span n paths + gone_by n paths used_before
+sound_of_row n paths used_before Lowered gained = max (echo_span n paths) (gone_by n paths used_before)
+sound_of_row n paths used_before CutOff gained = max (2 * way_span paths) (gone_by n paths used_before)
 sound_of_row n paths used_before LostEnd gained = gone_by n paths used_before
 sound_of_row n paths used_before FailedEnd gained = capability_span (pace_of n) + way_span paths
 sound_of_row n paths used_before LostPower gained = settling_span_at_once (pace_of n) paths
+sound_of_row n paths used_before PowerCutsOff gained = settling_span_at_once (pace_of n) paths
 sound_of_row n paths used_before FailedHeard gained = settling_span_at_once (pace_of n) paths
+sound_of_row n paths used_before FailureCutsOff gained = settling_span_at_once (pace_of n) paths
 sound_of_row n paths used_before OneTurned gained =
     2 * way_span paths + echo_span n paths + unused_by n used_before
+sound_of_row n paths used_before AnyLosses gained = settling_span_at_once (pace_of n) paths
 sound_of_row n paths used_before Gained gained = gained
 
 abbrev pub sound_by : NetworkState → SyncPaths → Bool → Row → ℕ → ℕ
@@ -179,16 +210,18 @@ abbrev pub watch : NetworkState → ℕ → SyncPaths → Option Settling → �
 watch n at paths settling = needed_watch n at paths settling + 8 * interval_of n.params.sync
 
 -- what is told of a time
-abbrev pub settling_by : NetworkState → ℕ → ℕ → SyncPaths → Bool → Bool → Bool → Row → ℕ → Option Settling
-settling_by n at last_set paths calm sets used_before row gained =
+abbrev pub settling_by : NetworkState → ℕ → ℕ → SyncPaths → SyncPaths → Bool → Bool → Bool → Bool → Row → ℕ
+    → Option Settling
+settling_by n at last_set before paths calm sets used_before silent row gained =
     if calm
-    then Some (settled n at last_set paths sets (choice_by n paths row gained) (roles_by n paths row gained)
-    (sound_by n paths used_before row gained))
+    then Some (settled n at last_set paths sets (choice_by n before paths row gained)
+    (roles_by n before paths silent row gained) (sound_by n paths used_before row gained))
     else None
 
-abbrev pub times_by : NetworkState → ℕ → ℕ → SyncPaths → Bool → Bool → Bool → Row → ℕ → SettlingTime
-times_by n at last_set paths calm sets used_before row gained = record {
+abbrev pub times_by : NetworkState → ℕ → ℕ → SyncPaths → SyncPaths → Bool → Bool → Bool → Bool → Row → ℕ
+    → SettlingTime
+times_by n at last_set before paths calm sets used_before silent row gained = record {
   at = at;
-  settling = settling_by n at last_set paths calm sets used_before row gained;
-  watch = watch n at paths (settling_by n at last_set paths calm sets used_before row gained);
+  settling = settling_by n at last_set before paths calm sets used_before silent row gained;
+  watch = watch n at paths (settling_by n at last_set before paths calm sets used_before silent row gained);
 }

@@ -149,6 +149,10 @@ is_recovery_of clock e = (e.clock == clock) && is_recovery e
 abbrev pub makes_nothing : Told → Bool
 makes_nothing e = is_idle e || is_unused e
 
+-- it brings nothing: it makes nothing of what stands, or takes something away
+abbrev pub brings_nothing : Told → Bool
+brings_nothing e = makes_nothing e || is_loss e
+
 -- a link in use goes down
 abbrev pub is_lowering : Told → Bool
 is_lowering e = is_loss e && is_link_down e

@@ -6,7 +6,7 @@ ghost use Rattle.gptp_network.specs.declared.keys.TheConstants.{LATEST_EVENT};
 ghost use Rattle.gptp_scenario.specs.Network.{pace_of};
 ghost use Rattle.gptp_scenario.specs.SettlingAtOnce.{settling_span_at_once};
 ghost use Rattle.gptp_scenario.specs.SettlingTime.{capability_span};
-ghost use Rattle.gptp_how_soon.specs.Bounds.{aging_span, asked_again, choice_by, echo_span, exact_from, exact_span, gone_by, heard_by, is_again, is_hard_to_hear, ready, roles_by, set_span, settled, silence_span, sound_by, times_by, two_exchanges, unused_by, watch, way_span};
+ghost use Rattle.gptp_how_soon.specs.Bounds.{aging_span, asked_again, choice_by, echo_span, exact_from, exact_span, gone_by, heard_by, held_span, is_again, is_hard_to_hear, loss_span, ready, roles_after_losses, roles_by, set_span, settled, silence_span, sound_by, times_by, two_exchanges, unused_by, watch, way_span};
 
 use crate::kinds::{Told, recovers};
 use crate::links::varies;
@@ -49,18 +49,26 @@ pub enum Row {
     Unchanged,
     /// By its one event a link goes down. No system is moved but such as are cut off, none of which was a far end.
     Lowered,
-    /// A far end is lost. By the one event a link goes down that cuts it off; or by the first a system fails that was
-    /// the far end of its links, and each link that is up then is in use, as where it loses its power.
+    /// By its one event a link goes down that cuts off its far end. No other system is moved.
+    CutOff,
+    /// A system fails that was the far end of its links. Each link that is up then is in use, as where it loses its
+    /// power.
     LostEnd,
     /// A system fails that was the far end of its links. A link is up then that isn't in use.
     FailedEnd,
-    /// A system fails that others heard, and no system is moved but such as are cut off. Each link that is up then is
-    /// in use, as where it loses its power.
+    /// A system fails that others heard, and none is moved. Each link that is up then is in use, as where it loses its
+    /// power.
     LostPower,
-    /// A system fails that others heard, and none is moved but such as are cut off. A link is up that isn't in use.
+    /// So it is, but systems are moved, all of which are cut off.
+    PowerCutsOff,
+    /// A system fails that others heard, and none is moved. A link is up then that isn't in use.
     FailedHeard,
+    /// So it is, but systems are moved, all of which are cut off.
+    FailureCutsOff,
     /// By its one event a link goes down that moves one system alone. That keeps its root, and turns to others for it.
     OneTurned,
+    /// Some of its events are losses, the others make nothing of what stands, and no other row of a loss is so.
+    AnyLosses,
     /// None of its events is a loss.
     Gained,
 }
@@ -182,6 +190,15 @@ fn aging_span(network: &Network, paths: SyncPaths) -> u64
     u64::from(network.params().timeout) * interval_of(network.largest()) + paths.delay
 }
 
+/// By how much later than a system fails what others heard of it doesn't count any more, in ns.
+fn held_span(network: &Network, paths: SyncPaths) -> u64
+    requires { paths.delay ≤ 16000000000 }
+    ensures is { result ≡ held_span network.now paths }
+    ensures bound { result ≤ 176000000000 }
+{
+    aging_span(network, paths).min(silence_span(network))
+}
+
 /// How long the network takes at most to settle from any past where nothing lapses for want of Sync, in ns.
 #[tactic(auto, using(gptp_scenario::proofs::SpanLemmas::few_spans, gptp_scenario::proofs::SpanLemmas::few_steps))]
 fn settling_span_at_once(network: &Network, paths: SyncPaths) -> u64
@@ -200,12 +217,29 @@ fn settling_span_at_once(network: &Network, paths: SyncPaths) -> u64
     capable.max(clean) + interval + further * paths.delay
 }
 
-/// The bound of the choice, in ns, where that from rest after gains is so much.
-fn choice_by(network: &Network, paths: SyncPaths, row: Row, gained: u64) -> u64
+/// How long a network that had come to rest takes at most to settle after losses, in ns, where Sync had to cross that
+/// before them, and has to cross this.
+#[tactic(auto, using(gptp_scenario::proofs::SpanLemmas::few_spans, gptp_scenario::proofs::SpanLemmas::few_steps))]
+fn loss_span(network: &Network, before: SyncPaths, paths: SyncPaths) -> u64
     requires few { paths.systems ≤ 512 }
     requires short { paths.delay ≤ 16000000000 }
+    requires short_before { before.delay ≤ 16000000000 }
+    ensures is { result ≡ loss_span network.now before paths }
+    ensures bound { result ≤ 110000000000000 }
+{
+    network.well_formed();
+    let interval = interval_of(network.largest());
+    let turn = u64::from(network.params().timeout) * interval + before.delay.max(paths.delay);
+    paths.systems as u64 * turn + interval + way_span(paths)
+}
+
+/// The bound of the choice, in ns, where that from rest after gains is so much.
+fn choice_by(network: &Network, before: SyncPaths, paths: SyncPaths, row: Row, gained: u64) -> u64
+    requires few { paths.systems ≤ 512 }
+    requires short { paths.delay ≤ 16000000000 }
+    requires short_before { before.delay ≤ 16000000000 }
     requires gained { gained ≤ 195000000000000 }
-    ensures is { result ≡ choice_by network.now paths row gained }
+    ensures is { result ≡ choice_by network.now before paths row gained }
     ensures bound { result ≤ 195000000000000 }
 {
     if network.params().sync_timeout != 0 {
@@ -214,18 +248,44 @@ fn choice_by(network: &Network, paths: SyncPaths, row: Row, gained: u64) -> u64
     match row {
         Row::AnyPast => settling_span_at_once(network, paths),
         Row::Unchanged | Row::Lowered | Row::LostEnd | Row::FailedEnd | Row::LostPower => 0,
-        Row::FailedHeard => aging_span(network, paths).min(silence_span(network)),
-        Row::OneTurned => 2 * way_span(paths),
+        Row::FailedHeard => held_span(network, paths),
+        Row::FailureCutsOff => held_span(network, paths) + 2 * way_span(paths),
+        Row::CutOff | Row::PowerCutsOff | Row::OneTurned => 2 * way_span(paths),
+        Row::AnyLosses => loss_span(network, before, paths),
         Row::Gained => gained,
     }
 }
 
-/// The bound of the roles, in ns.
-fn roles_by(network: &Network, paths: SyncPaths, row: Row, gained: u64) -> u64
+/// How long roles take after losses without a row of their own, in ns, where a link may be left silent or none is.
+fn roles_after_losses(network: &Network, before: SyncPaths, paths: SyncPaths, silent: bool) -> u64
     requires few { paths.systems ≤ 512 }
     requires short { paths.delay ≤ 16000000000 }
+    requires short_before { before.delay ≤ 16000000000 }
+    ensures is { result ≡ roles_after_losses network.now before paths silent }
+    ensures bound { result ≤ 110000000000000 }
+{
+    let choice = loss_span(network, before, paths);
+    if silent {
+        choice.max(silence_span(network))
+    } else {
+        choice
+    }
+}
+
+/// The bound of the roles, in ns.
+fn roles_by(
+    network: &Network,
+    before: SyncPaths,
+    paths: SyncPaths,
+    silent: bool,
+    row: Row,
+    gained: u64,
+) -> u64
+    requires few { paths.systems ≤ 512 }
+    requires short { paths.delay ≤ 16000000000 }
+    requires short_before { before.delay ≤ 16000000000 }
     requires gained { gained ≤ 195000000000000 }
-    ensures is { result ≡ roles_by network.now paths row gained }
+    ensures is { result ≡ roles_by network.now before paths silent row gained }
     ensures bound { result ≤ 195000000000000 }
 {
     if network.params().sync_timeout != 0 {
@@ -235,7 +295,11 @@ fn roles_by(network: &Network, paths: SyncPaths, row: Row, gained: u64) -> u64
         Row::AnyPast => settling_span_at_once(network, paths),
         Row::Unchanged | Row::Lowered | Row::LostEnd | Row::LostPower => 0,
         Row::FailedEnd | Row::FailedHeard => silence_span(network),
-        Row::OneTurned => 2 * way_span(paths),
+        Row::FailureCutsOff => {
+            (held_span(network, paths) + 2 * way_span(paths)).max(silence_span(network))
+        }
+        Row::CutOff | Row::PowerCutsOff | Row::OneTurned => 2 * way_span(paths),
+        Row::AnyLosses => roles_after_losses(network, before, paths, silent),
         Row::Gained => gained,
     }
 }
@@ -290,9 +354,15 @@ fn sound_by(network: &Network, paths: SyncPaths, used_before: bool, row: Row, ga
         return network.settling_span_with(paths);
     }
     match row {
-        Row::AnyPast | Row::LostPower | Row::FailedHeard => settling_span_at_once(network, paths),
+        Row::AnyPast
+        | Row::LostPower
+        | Row::PowerCutsOff
+        | Row::FailedHeard
+        | Row::FailureCutsOff
+        | Row::AnyLosses => settling_span_at_once(network, paths),
         Row::Unchanged => 0,
-        Row::Lowered => echo_span(network, paths) + gone_by(network, paths, used_before),
+        Row::Lowered => echo_span(network, paths).max(gone_by(network, paths, used_before)),
+        Row::CutOff => (2 * way_span(paths)).max(gone_by(network, paths, used_before)),
         Row::LostEnd => gone_by(network, paths, used_before),
         Row::FailedEnd => capability_span(network) + way_span(paths),
         Row::OneTurned => {
@@ -378,24 +448,27 @@ pub(crate) fn times_by(
     network: &Network,
     at: u64,
     last_set: u64,
+    before: SyncPaths,
     paths: SyncPaths,
     calm: bool,
     sets: bool,
     used_before: bool,
+    silent: bool,
     row: Row,
     gained: u64,
 ) -> SettlingTime
     requires few { paths.systems ≤ 512 }
     requires short { paths.delay ≤ 16000000000 }
+    requires short_before { before.delay ≤ 16000000000 }
     requires early { at ≤ LATEST_EVENT }
     requires set { last_set ≤ at }
     requires gained { gained ≤ 195000000000000 }
-    ensures is { result ≡ times_by network.now at last_set paths calm sets used_before row gained }
+    ensures is { result ≡ times_by network.now at last_set before paths calm sets used_before silent row gained }
     ensures bound { result.watch ≤ 200000000000000 }
 {
     let settling = if calm {
-        let choice = choice_by(network, paths, row, gained);
-        let roles = roles_by(network, paths, row, gained);
+        let choice = choice_by(network, before, paths, row, gained);
+        let roles = roles_by(network, before, paths, silent, row, gained);
         let sound = sound_by(network, paths, used_before, row, gained);
         Some(settled(network, at, last_set, paths, sets, choice, roles, sound))
     } else {

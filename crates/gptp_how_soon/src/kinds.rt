@@ -2,7 +2,7 @@
 
 ghost use Rattle.std.specs.Prelude.{◌≡◌, ◌++◌, ◌∷◌, [], false, OnOk};
 ghost use Rattle.std.specs.List.{list_all, list_any};
-ghost use Rattle.gptp_how_soon.specs.Kinds.{are_heard, begins_wider, first_wider_by, is_wider, kind_of_link_set, wider_by, fails_and_recovers, fails_first, is_fail, is_failing, is_recover, is_better, is_failure_of_same, is_gain, is_link_down, is_lowering, is_unused, leaves_links, lowers_one, lowers_unused, makes_nothing, tells_nothing, is_heard_too, is_idle, is_loss, is_other, is_priority1, is_link_up, is_recovery, is_recovery_of, kind_of, kind_of_change, kind_of_failure, kind_of_link_down, kind_of_link_up, kind_of_priority1, kind_of_recovery, recovers, sets_bounds, sets_link, is_link_set, takes_one, told_by, what_of, what_of_change};
+ghost use Rattle.gptp_how_soon.specs.Kinds.{are_heard, begins_wider, brings_nothing, first_wider_by, is_wider, kind_of_link_set, wider_by, fails_and_recovers, fails_first, is_fail, is_failing, is_recover, is_better, is_failure_of_same, is_gain, is_link_down, is_lowering, is_unused, leaves_links, lowers_one, lowers_unused, makes_nothing, tells_nothing, is_heard_too, is_idle, is_loss, is_other, is_priority1, is_link_up, is_recovery, is_recovery_of, kind_of, kind_of_change, kind_of_failure, kind_of_link_down, kind_of_link_up, kind_of_priority1, kind_of_recovery, recovers, sets_bounds, sets_link, is_link_set, takes_one, told_by, what_of, what_of_change};
 
 use gptp_scenario::{Act, Change};
 use gptp_topology::{Standing, System, is_used, named};
@@ -328,6 +328,13 @@ fn makes_nothing(told: &Told) -> bool
     is_idle(told) || is_unused(told)
 }
 
+/// Whether it brings nothing: it makes nothing of what stands, or takes something away.
+fn brings_nothing(told: &Told) -> bool
+    ensures { result ≡ brings_nothing told.now }
+{
+    makes_nothing(told) || is_loss(told)
+}
+
 /// Whether a link in use goes down by it.
 fn is_lowering(told: &Told) -> bool
     ensures { result ≡ is_lowering told.now }
@@ -438,6 +445,13 @@ pub(crate) fn all_make_nothing(told: &[Told]) -> bool
     told.iter().all(|one| makes_nothing(one))
 }
 
+/// Whether each of these events brings nothing.
+pub(crate) fn all_bring_nothing(told: &[Told]) -> bool
+    ensures { result ≡ list_all brings_nothing told.now }
+{
+    told.iter().all(|one| brings_nothing(one))
+}
+
 /// Whether each of these events makes nothing of what stands, or a live system worse.
 pub(crate) fn all_leave_links(told: &[Told]) -> bool
     ensures { result ≡ list_all leaves_links told.now }
@@ -533,6 +547,13 @@ pub(crate) fn any_loss(told: &[Told]) -> bool
     ensures { result ≡ list_any is_loss told.now }
 {
     told.iter().any(|one| is_loss(one))
+}
+
+/// Whether a live system fails by one of these events.
+pub(crate) fn any_failing(told: &[Told]) -> bool
+    ensures { result ≡ list_any is_failing told.now }
+{
+    told.iter().any(|one| is_failing(one))
 }
 
 /// Whether what one of these events does isn't followed.

@@ -2,13 +2,13 @@
 
 ghost use Rattle.std.specs.Prelude.{◌≡◌, ◌≤◌, ◌+◌, ◌*◌, nat_lt};
 ghost use Rattle.gptp_how_soon.specs.Bounds.{way_span};
-ghost use Rattle.gptp_how_soon.specs.Rest.{are_events_followed, are_losses_followed, are_recoveries_followed, are_turns_followed, asks_who_is_far, asks_who_is_moved, heard_at_once, is_failing_followed, failed_row, is_from_rest, is_lowering_followed, is_wider_followed, keeps_paths, rested, row_of, settles_wider_by};
+ghost use Rattle.gptp_how_soon.specs.Rest.{are_events_followed, are_losses_followed, are_recoveries_followed, are_turns_followed, asks_who_is_far, asks_who_is_moved, heard_at_once, is_failing_followed, failed_row, is_from_rest, is_lowering_followed, is_wider_followed, keeps_paths, leaves_silent, rested, row_of, settles_wider_by};
 
 use crate::bounds::{Row, SettlingTime, way_span};
 use crate::kinds::{
-    Told, all_leave_links, all_make_nothing, all_tell_nothing, any_better, any_gain, any_loss,
-    any_lowers_unused, any_other, any_recovery, any_wider, are_heard, begins_wider,
-    fails_and_recovers, fails_first, first_wider_by, lowers_one,
+    Told, all_bring_nothing, all_leave_links, all_make_nothing, all_tell_nothing, any_better,
+    any_failing, any_gain, any_loss, any_lowers_unused, any_other, any_recovery, any_wider,
+    are_heard, begins_wider, fails_and_recovers, fails_first, first_wider_by, lowers_one,
 };
 use gptp_scenario::SyncPaths;
 
@@ -185,13 +185,26 @@ pub(crate) fn asks_who_is_far(
     from_rest && is_failing_followed(paths_before, paths, told)
 }
 
-/// What is known of a time at which a system fails and none is moved, by whether the one that fails was a far end, and
-/// whether each link that is up then is in use.
-fn failed_row(far: bool, used: bool) -> Row
-    ensures { result ≡ failed_row far used }
+/// Whether a link may be left silent by these events, where each link that is up then is in use or isn't.
+pub(crate) fn leaves_silent(used: bool, told: &[Told]) -> bool
+    ensures { result ≡ leaves_silent used told.now }
+{
+    !used && any_failing(told)
+}
+
+/// What is known of a time at which a system fails and none is moved but such as are cut off, by whether the one that
+/// fails was a far end, whether another is cut off, and whether each link that is up then is in use.
+fn failed_row(far: bool, any: bool, used: bool) -> Row
+    ensures { result ≡ failed_row far any used }
 {
     if far {
         if used { Row::LostEnd } else { Row::FailedEnd }
+    } else if any {
+        if used {
+            Row::PowerCutsOff
+        } else {
+            Row::FailureCutsOff
+        }
     } else {
         if used {
             Row::LostPower
@@ -202,8 +215,8 @@ fn failed_row(far: bool, used: bool) -> Row
 }
 
 /// What is known of a time, by whether it is from rest, whether it is the first, and what its events do: whether they
-/// move a system, whether each link that is lost cuts off a far end, whether a system that they move alone turns,
-/// whether the one that fails was a far end, and whether each link that is up then is in use.
+/// move a system, and any that is cut off too, whether each link that is lost cuts off a far end, whether a system that
+/// they move alone turns, whether the one that fails was a far end, and whether each link that is up then is in use.
 pub(crate) fn row_of(
     from_rest: bool,
     first: bool,
@@ -211,12 +224,13 @@ pub(crate) fn row_of(
     paths: SyncPaths,
     told: &[Told],
     moved: bool,
+    any: bool,
     cut: bool,
     turned: bool,
     far: bool,
     used: bool,
 ) -> Row
-    ensures { result ≡ row_of from_rest first paths_before paths told.now moved cut turned far used }
+    ensures { result ≡ row_of from_rest first paths_before paths told.now moved any cut turned far used }
 {
     if !from_rest {
         Row::AnyPast
@@ -227,13 +241,17 @@ pub(crate) fn row_of(
     } else if are_losses_followed(paths_before, told) && !moved {
         Row::Unchanged
     } else if is_lowering_followed(paths_before, paths, told) && !moved {
-        if cut { Row::LostEnd } else { Row::Lowered }
+        if cut { Row::CutOff } else { Row::Lowered }
     } else if is_lowering_followed(paths_before, paths, told) && turned {
         Row::OneTurned
     } else if is_failing_followed(paths_before, paths, told) && !moved {
-        failed_row(far, used)
+        failed_row(far, any, used)
     } else if any_loss(told) {
-        Row::AnyPast
+        if all_bring_nothing(told) {
+            Row::AnyLosses
+        } else {
+            Row::AnyPast
+        }
     } else {
         Row::Gained
     }

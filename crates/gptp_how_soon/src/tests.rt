@@ -206,7 +206,7 @@ fn a_priority1_by_which_no_system_is_moved_costs_nothing(rt: HostRuntime) -> Res
     assert_eq!(rt; soon(&times, 30_000_000_000), Some((0, 30_000_007_200)));
     assert_eq!(rt;
         soon(&times, 60_000_000_000),
-        Some((15_000_002_870, 75_000_010_070))
+        Some((13_000_002_870, 73_000_010_070))
     );
     Ok(())
 }
@@ -225,11 +225,11 @@ fn a_link_that_goes_down_and_moves_no_system_costs_nothing(rt: HostRuntime) -> R
             settling: Some(Settling {
                 choice: 0,
                 roles: 0,
-                sound: 3_000_001_640,
-                rest: 3_000_002_050,
+                sound: 3_000_001_230,
+                rest: 3_000_001_640,
                 exact_from: 30_000_007_200,
             }),
-            watch: 4_000_002_051,
+            watch: 4_000_001_641,
         })
     );
     assert_eq!(rt;
@@ -249,13 +249,16 @@ fn a_link_that_goes_down_and_moves_no_system_costs_nothing(rt: HostRuntime) -> R
 }
 
 #[test]
-fn a_system_that_a_link_cuts_off_costs_nothing(rt: HostRuntime) -> Result<(), Fail> {
+fn a_far_end_that_a_link_cuts_off_costs_two_ways(rt: HostRuntime) -> Result<(), Fail> {
     // The second link is the last one of b.
     let times = ring(
         rt.alloc(),
         "[[event]]\nat = 30000000000\nkind = \"link_down\"\nclock = \"000000000000000b\"\nport = 2\n[[event]]\nat = 100000000000\nkind = \"link_down\"\nclock = \"000000000000000b\"\nport = 1\n",
     )?;
-    assert_eq!(rt; soon(&times, 100_000_000_000), Some((0, 100_000_005_400)));
+    assert_eq!(rt;
+        soon(&times, 100_000_000_000),
+        Some((1_640, 100_000_007_040))
+    );
     Ok(())
 }
 
@@ -365,7 +368,7 @@ fn a_system_that_a_link_moves_alone_turns_within_two_ways(rt: HostRuntime) -> Re
                 ("b", "3", "d", "1"),
                 ("c", "3", "d", "2"),
             ] as &[(&str, &str, &str, &str)],
-            15_000_002_870,
+            13_000_002_870,
         ),
         (
             "with two links to the same neighbour",
@@ -377,7 +380,7 @@ fn a_system_that_a_link_moves_alone_turns_within_two_ways(rt: HostRuntime) -> Re
                 ("c", "3", "d", "1"),
                 ("d", "2", "a", "2"),
             ] as &[(&str, &str, &str, &str)],
-            15_000_002_870,
+            13_000_002_870,
         ),
         (
             "two steps farther, over a neighbour on which another hangs",
@@ -389,7 +392,7 @@ fn a_system_that_a_link_moves_alone_turns_within_two_ways(rt: HostRuntime) -> Re
                 ("d", "2", "a", "2"),
                 ("c", "3", "e", "1"),
             ] as &[(&str, &str, &str, &str)],
-            15_000_002_870,
+            13_000_002_870,
         ),
         (
             "together with another",
@@ -401,7 +404,7 @@ fn a_system_that_a_link_moves_alone_turns_within_two_ways(rt: HostRuntime) -> Re
                 ("d", "2", "e", "1"),
                 ("e", "2", "a", "2"),
             ] as &[(&str, &str, &str, &str)],
-            18_000_003_690,
+            16_000_003_690,
         ),
         (
             "a system is cut off",
@@ -476,10 +479,22 @@ fn a_system_that_others_hear_costs_the_choice_what_they_hold_it_for(
     Ok(())
 }
 
+/// The bounds of the choice and of the roles at a time.
+fn bounds(times: &[SettlingTime], at: u64) -> Option<(u64, u64)>
+    requires { AreRising times.now }
+{
+    let settling = settling_at(times, at)?.settling?;
+    Some((settling.choice, settling.roles))
+}
+
 #[test]
-fn a_system_that_a_failure_cuts_off_does_not_count(rt: HostRuntime) -> Result<(), Fail> {
+fn a_system_that_a_failure_cuts_off_costs_two_ways(rt: HostRuntime) -> Result<(), Fail> {
     // c hears the root over b alone, and d has it from a. Where b and c go on to d another is moved that isn't cut off.
-    for (case, links, choice) in [
+    const HANGS: &str =
+        "[[event]]\nat = 30000000000\nkind = \"fail\"\nclock = \"000000000000000b\"\n";
+    const DOWN: &str =
+        "[[event]]\nat = 30000000000\nkind = \"link_down\"\nclock = \"000000000000000b\"\nport = ";
+    for (case, links, hang, power) in [
         (
             "one is cut off",
             &[
@@ -487,7 +502,8 @@ fn a_system_that_a_failure_cuts_off_does_not_count(rt: HostRuntime) -> Result<()
                 ("b", "2", "c", "1"),
                 ("a", "2", "d", "1"),
             ] as &[(&str, &str, &str, &str)],
-            3_000_000_410,
+            (3_000_001_230, 11_000_000_000),
+            (820, 820),
         ),
         (
             "one goes over another",
@@ -498,20 +514,77 @@ fn a_system_that_a_failure_cuts_off_does_not_count(rt: HostRuntime) -> Result<()
                 ("d", "2", "e", "1"),
                 ("e", "2", "c", "2"),
             ] as &[(&str, &str, &str, &str)],
-            15_000_002_870,
+            (13_000_002_870, 13_000_002_870),
+            (13_000_002_870, 13_000_002_870),
         ),
     ] {
-        let times = joined(
-            rt.alloc(),
-            &["a", "b", "c", "d", "e"],
-            links,
-            "[[event]]\nat = 30000000000\nkind = \"fail\"\nclock = \"000000000000000b\"\n",
+        let clocks = &["a", "b", "c", "d", "e"];
+        let hangs = joined(rt.alloc(), clocks, links, HANGS)?;
+        assert_eq!(rt; bounds(&hangs, 30_000_000_000), Some(hang), "{case}");
+        let mut off = String::new(rt.alloc());
+        write!(off, "{HANGS}{DOWN}1\n{DOWN}2\n")?;
+        let loses = joined(rt.alloc(), clocks, links, off.as_str())?;
+        assert_eq!(rt; bounds(&loses, 30_000_000_000), Some(power), "{case}");
+    }
+    Ok(())
+}
+
+#[test]
+fn other_losses_cost_a_turn_for_each_system_of_a_path(rt: HostRuntime) -> Result<(), Fail> {
+    // Three announce intervals and a delay for each, an interval, and a way. The link from a to b is wider first.
+    const EVENT: &str = "[[event]]\nat = 60000000000\nkind = ";
+    for (case, events, bound) in [
+        (
+            "the root hangs",
+            &["\"fail\"\nclock = \"000000000000000a\""] as &[&str],
+            (10_000_002_320, 11_000_000_000),
+        ),
+        (
+            "the root loses its power",
+            &[
+                "\"fail\"\nclock = \"000000000000000a\"",
+                "\"link_down\"\nclock = \"000000000000000a\"\nport = 1",
+                "\"link_down\"\nclock = \"000000000000000a\"\nport = 2",
+            ] as &[&str],
+            (10_000_002_320, 10_000_002_320),
+        ),
+        (
+            "the root gets worse",
+            &["\"priority1\"\nclock = \"000000000000000a\"\nvalue = 250"] as &[&str],
+            (13_000_003_500, 13_000_003_500),
+        ),
+        (
+            "the widest link goes down",
+            &["\"link_down\"\nclock = \"000000000000000a\"\nport = 1"] as &[&str],
+            (13_000_003_230, 13_000_003_230),
+        ),
+        (
+            "two links go down, and one that is down",
+            &[
+                "\"link_down\"\nclock = \"000000000000000a\"\nport = 1",
+                "\"link_down\"\nclock = \"000000000000000c\"\nport = 2",
+                "\"link_down\"\nclock = \"000000000000000a\"\nport = 1",
+            ] as &[&str],
+            (7_000_001_410, 7_000_001_410),
+        ),
+        (
+            "the root gets worse, and another better",
+            &[
+                "\"priority1\"\nclock = \"000000000000000a\"\nvalue = 250",
+                "\"priority1\"\nclock = \"000000000000000c\"\nvalue = 1",
+            ] as &[&str],
+            (15_000_003_500, 15_000_003_500),
+        ),
+    ] {
+        let mut text = String::new(rt.alloc());
+        text.push_str(
+            "[[event]]\nat = 30000000000\nkind = \"link_set\"\nclock = \"000000000000000a\"\nport = 1\nmin = 380\nmax = 500\nloss = 0\n",
         )?;
-        assert_eq!(rt;
-            soon(&times, 30_000_000_000).map(|bound| bound.0),
-            Some(choice),
-            "{case}"
-        );
+        for event in events {
+            writeln!(text, "{EVENT}{event}")?;
+        }
+        let times = ring(rt.alloc(), text.as_str())?;
+        assert_eq!(rt; bounds(&times, 60_000_000_000), Some(bound), "{case}");
     }
     Ok(())
 }
@@ -549,7 +622,7 @@ fn a_far_end_that_loses_its_power_costs_nothing(rt: HostRuntime) -> Result<(), F
     )?;
     assert_eq!(rt;
         soon(&before, 30_000_000_000),
-        Some((15_000_000_820, 45_000_006_220))
+        Some((10_000_002_050, 41_000_005_400))
     );
     Ok(())
 }
@@ -569,7 +642,7 @@ fn events_come_from_rest_soon_after_a_far_end_is_lost(rt: HostRuntime) -> Result
         (
             "a link cuts off b",
             "[[event]]\nat = 100000000000\nkind = \"link_down\"\nclock = \"000000000000000b\"\nport = 1\n[[event]]\nat = 101000000000\nkind = \"link_up\"\nclock = \"000000000000000b\"\nport = 1\n",
-            820,
+            2_050,
             101_000_000_000,
             1_000_003_050,
         ),

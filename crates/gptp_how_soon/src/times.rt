@@ -24,6 +24,7 @@ fn tell(
 ) -> Result<(), AllocError>
     requires few { length walk.old.tables.nodes.items ≤ 512 }
     requires short { greatest_used walk.old.tables.marks.items ≤ 16000000000 }
+    requires short_before { walk.old.paths_before.delay ≤ 16000000000 }
     requires early { at ≤ LATEST_EVENT }
     requires set { walk.old.last_set ≤ at }
     ensures { OnOk result (WalkTells network.now at next walk.old walk.new times.old.items times.new.items) }

@@ -16,18 +16,21 @@ use Rattle.gptp_network.specs.Document.{DocumentState}
 use Rattle.gptp_network.specs.Snapshot.{events_by}
 use Rattle.gptp_network.proofs.SnapshotLemmas.{from_filter}
 use Rattle.gptp_theorem.specs.PlayedLaws.{IsPlayable}
-use Rattle.gptp_how_soon.specs.Bounds.{choice_by, gone_by, roles_by, sound_by}
+use Rattle.gptp_how_soon.specs.Bounds.{choice_by, choice_of_row, gone_by, held_span, loss_span, roles_of_row, sound_by}
+use Rattle.gptp_how_soon.specs.Rest.{leaves_silent}
 use Rattle.gptp_how_soon.specs.Times.{View, events_at, gained_at, last_set, ready_at, row_at, settling_time, settling_times, settling_times_from, time_at, view_at}
+use Rattle.gptp_how_soon.specs.declared.bounds.Row.{Row}
+use Rattle.gptp_how_soon.specs.declared.bounds.Row.TheVariants.{AnyLosses, AnyPast, CutOff, FailedEnd, FailedHeard, FailureCutsOff, Gained, LostEnd, LostPower, Lowered, OneTurned, PowerCutsOff, Unchanged}
 use Rattle.gptp_how_soon.specs.declared.bounds.Settling.{Settling}
 use Rattle.gptp_how_soon.specs.declared.bounds.SettlingTime.{SettlingTime}
-use Rattle.gptp_settling_time.specs.HowSoon.{BoundsChoice, BoundsEvents, BoundsLoss, BoundsStart, IsChoiceBoundAfter, IsLossBoundAfter, IsRestBoundAfter, NoneBetween, RestsAfterLoss}
+use Rattle.gptp_settling_time.specs.HowSoon.{BoundsAging, BoundsChoice, BoundsEvents, BoundsLoss, BoundsStart, IsChoiceBoundAfter, IsLossBoundAfter, IsRestBoundAfter, NoneBetween, RestsAfterLoss}
 use Rattle.gptp_settling_time.specs.InTurn.{FlightIsGone}
 use Rattle.gptp_settling_time.specs.Losses.{aging_span, silence_span}
 use Rattle.gptp_settling_time.proofs.MomentLemmas.{parted}
 use Rattle.gptp_settling_time.proofs.WellFormedLemmas.{after_well}
 use Rattle.gptp_how_soon_laws.specs.Choice.{SettlingsAreChoiceBounds}
-use Rattle.gptp_how_soon_laws.proofs.RowBoundLemmas.{AreSooner, IsSoundSooner, IsTelling, bounds_choice, choice_or_none, past_row, sound_or_sooner, tells}
-use Rattle.gptp_how_soon_laws.proofs.RowLemmas.{HasComeToRest, failed, gained, heard, lost_end, lost_power, lowered, turned, unchanged}
+use Rattle.gptp_how_soon_laws.proofs.RowBoundLemmas.{HasOwnBounds, IsSoundSooner, IsTelling, bounds_choice, choice_or_own, past_row, sound_or_sooner, tells}
+use Rattle.gptp_how_soon_laws.proofs.RowLemmas.{HasComeToRest, any_losses, cut_off, failed, gained, heard, lost_end, lost_power, lowered, turned, unchanged}
 use Rattle.gptp_how_soon_laws.proofs.StartRowLemmas.{first_past, first_roles, first_sound, never_unchanged, started}
 use Rattle.gptp_how_soon_laws.proofs.UnmovedLemmas.{AreWell}
 use Rattle.gptp_how_soon_laws.proofs.TimesLemmas.{AreTimes, later_times, times_after, times_parts}
@@ -50,6 +53,12 @@ begin_at (event ∷ events) = by (nat_le event.at 0) (event.at == 0) refl refl (
         let behind : 0 < event.at = grind (arith, nat_tests) in
         absurd (omega (arith, is, behind))
     by false false f g rest = rest
+
+lesser : (choice roles a b : ℕ) → choice ≡ min a b → roles ≡ b → choice ≤ roles
+lesser choice roles a b is same = omega (arith, is, same)
+
+greater : (choice roles a : ℕ) → roles ≡ max choice a → choice ≤ roles
+greater choice roles a same = omega (arith, same)
 
 module _ (d : DocumentState) (playable : IsPlayable d) where
   abbrev n : NetworkState
@@ -80,19 +89,20 @@ module _ (d : DocumentState) (playable : IsPlayable d) where
       let v : View = view_at n [] now None 0 in
       let it = tells n v s is in
       let bound =
-      bounds_choice n (λ choice. BoundsStart n now choice) now (row_at v) (gained_at n v) it.calm
+      bounds_choice n (λ choice. BoundsStart n now choice) v.paths_before now (row_at v) (gained_at n v) it.calm
       (λ row. absurd (never_unchanged n now row)) (λ row off. started n now row) in
-      let same : s.choice ≡ choice_by n v.paths (past_row (row_at v)) (gained_at n v) =
-      it.choice ∙ ap (λ row. choice_by n v.paths row (gained_at n v)) (first_past n now) in
+      let same : s.choice ≡ choice_by n v.paths_before v.paths (past_row (row_at v)) (gained_at n v) =
+      it.choice ∙ ap (λ row. choice_by n v.paths_before v.paths row (gained_at n v)) (first_past n now) in
       let chosen : IsChoiceBoundAfter n all [] 0 s.choice = (
         refl,
         subst (λ es. BoundsChoice n (BoundsStart n es s.choice) es s.choice) (sym (begin_at all))
             (subst (λ choice. BoundsChoice n (BoundsStart n now choice) now choice) (sym same) bound),
       ) in
       let sound_same : s.choice ≡ s.sound =
-      it.choice ∙ sym (first_sound n now v.paths v.used_before (gained_at n v)) ∙ sym it.sound in
+      it.choice ∙ sym (first_sound n now v.paths_before v.paths v.used_before (gained_at n v)) ∙ sym it.sound in
       let roles_same : s.choice ≡ s.roles =
-      it.choice ∙ sym (first_roles n now v.paths (gained_at n v)) ∙ sym it.roles in
+      it.choice ∙ sym (first_roles n now v.paths_before v.paths (leaves_silent v.used v.told) (gained_at n v))
+      ∙ sym it.roles in
       record {
         bounds = inl (subst (IsChoiceBoundAfter n all [] 0) roles_same chosen);
         choice = inl chosen;
@@ -146,14 +156,14 @@ module _ (d : DocumentState) (playable : IsPlayable d) where
 
     -- it settles by this, whatever it loses
     abbrev settled_by : ℕ
-    settled_by = choice_by n v.paths (past_row (row_at v)) (gained_at n v)
+    settled_by = choice_by n v.paths_before v.paths (past_row (row_at v)) (gained_at n v)
 
     settles_so : (s : Settling) → (settling_time n v).settling ≡ Some s
         → IsChoiceBoundAfter n all (b.at ∷ earlier) at settled_by
     settles_so s is =
         let it = tells n v s is in
         let bound =
-        bounds_choice n Sharp (made ++ now) (row_at v) (gained_at n v) it.calm
+        bounds_choice n Sharp v.paths_before (made ++ now) (row_at v) (gained_at n v) it.calm
         (λ row. let (rest, still) = unchanged n playable.network all b at late well row in
         sharp 0 rest (elim still [ inl each ↦ inl (each, refl) | inr wider ↦ inr (inl (wider, refl)) ]))
         (λ row off. let (rest, gains) = gained n playable.network all b at late row off in
@@ -167,7 +177,7 @@ module _ (d : DocumentState) (playable : IsPlayable d) where
     -- it has come to rest by that, or sooner after a loss by which no system is moved
     rest_so : (s : Settling) → IsTelling n v s → IsChoiceBoundAfter n all (b.at ∷ earlier) at settled_by
         → IsRestBoundAfter n all (b.at ∷ earlier) at s.sound
-    rest_so s it settles = elim (sound_or_sooner n v.paths v.used_before (row_at v) (gained_at n v)) [
+    rest_so s it settles = elim (sound_or_sooner n v.paths_before v.paths v.used_before (row_at v) (gained_at n v)) [
       | inl same ↦ inl (subst (IsChoiceBoundAfter n all (b.at ∷ earlier) at) (sym (it.sound ∙ same)) settles)
       | inr (off, which) ↦
           let (rest, loses) = by which in
@@ -180,25 +190,28 @@ module _ (d : DocumentState) (playable : IsPlayable d) where
             → HasComeToRest b at × RestsAfterLoss n made now s.sound
         by (inl (row, is)) =
             let x = lost_end n playable.network all b at late well row in
-            let flight = subst (FlightIsGone n made) (sym (it.sound ∙ is)) x.flight in (
-              x.rested,
-              elim x.which [
-                | inl cuts ↦ inl (cuts, flight)
-                | inr (fails, used) ↦ inr (inl (fails, inl (used, flight)))
-              ],
-            )
+            let flight = subst (FlightIsGone n made) (sym (it.sound ∙ is)) x.flight in
+            (x.rested, inr (inl (x.fails, inl (x.used, flight))))
         by (inr (inl (row, is))) =
             let (rest, fails) = failed n playable.network all b at late well row in
             (rest, inr (inl (fails, inr (it.sound ∙ is))))
         by (inr (inr (inl (row, is)))) =
             let (rest, lowers, flight) = lowered n playable.network all b at late well row in
             (rest, inr (inr (inl (lowers, (gone_by n v.paths v.used_before, flight, it.sound ∙ is)))))
-        by (inr (inr (inr (row, is)))) =
-            let (rest, turns, unused) = turned n playable.network all b at late well row in
-            (rest, inr (inr (inr (turns, elim unused [
-              | inl (used, none) ↦ let same = it.sound in inl (used, omega (arith, same, is, none))
-              | inr later ↦ let same = it.sound in inr (omega (arith, same, is, later))
-            ]))))
+        by (inr (inr (inr (inl (row, is))))) =
+            let x = cut_off n playable.network all b at late well row in
+            (x.rested, inl (x.cuts, (gone_by n v.paths v.used_before, x.flight, it.sound ∙ is)))
+        by (inr (inr (inr (inr (row, is))))) =
+            let (rest, turns, unused) = turned n playable.network all b at late well row in (
+              rest,
+              inr (inr (inr (
+                turns,
+                elim unused [
+                  | inl (used, none) ↦ let same = it.sound in inl (used, omega (arith, same, is, none))
+                  | inr later ↦ let same = it.sound in inr (omega (arith, same, is, later))
+                ],
+              ))),
+            )
 
     -- the choice and the roles stand by then, or sooner after a loss
     record IsSooner (s : Settling) : Type 0 where
@@ -215,18 +228,83 @@ module _ (d : DocumentState) (playable : IsPlayable d) where
         let (bound, past) = sound_before rest in
         (late, between, settles.2.0, off, (rest.settling.sound, bound, past), loses)
 
+    -- what ages does no later than ports beside a failed system are off
+    ages_first : (aged quiet : ℕ) → BoundsAging n made now aged quiet → aged ≤ quiet
+    ages_first aged quiet (inl (used, none, no_roles)) = omega (arith, none)
+    ages_first aged quiet (inr (is, is_roles)) =
+        lesser aged quiet (aging_span (pace_of n) (sync_paths n made)) (silence_span (pace_of n)) is is_roles
+
     no_later : (choice roles : ℕ) → BoundsLoss n made now choice roles → choice ≤ roles
-    no_later choice roles (inl (none, which)) = omega (arith, none)
-    no_later choice roles (inr (inl (turns, is, same))) = omega (arith, same)
-    no_later choice roles (inr (inr (fails, inl (used, none, no_roles)))) = omega (arith, none)
-    no_later choice roles (inr (inr (fails, inr (is, is_roles)))) =
-        lesser (aging_span (pace_of n) (sync_paths n made)) (silence_span (pace_of n)) is is_roles
-      where
-        lesser : (a b : ℕ) → choice ≡ min a b → roles ≡ b → choice ≤ roles
-        lesser a b is same = omega (arith, is, same)
+    no_later choice roles (inl (lowers, same, which)) = omega (arith, same)
+    no_later choice roles (inr (inl (fails, none, which))) = omega (arith, none)
+    no_later choice roles (inr (inr (inl (turns, is, same)))) = omega (arith, same)
+    no_later choice roles (inr (inr (inr (inl (fails, (aged, quiet, aging, inl (same, roles_same))))))) =
+        let first = ages_first aged quiet aging in omega (arith, same, roles_same, first)
+    no_later choice roles (inr (inr (inr (inl (fails, (aged, quiet, aging, inr (is, later))))))) =
+        greater choice roles quiet later
+    no_later choice roles (inr (inr (inr (inr (loses, is, inl (quiet, same)))))) = omega (arith, same)
+    no_later choice roles (inr (inr (inr (inr (loses, is, inr later))))) =
+        greater choice roles (silence_span (pace_of n)) later
+
+    abbrev silent : Bool
+    silent = leaves_silent v.used v.told
+
+    -- what is heard is held for as long by the delay of before
+    held_as : v.paths.delay ≡ (sync_paths n made).delay
+        → held_span n v.paths ≡ min (aging_span (pace_of n) (sync_paths n made)) (silence_span (pace_of n))
+    held_as delay = ap (λ d. min (longest_span (pace_of n) + d) (silence_span (pace_of n))) delay
+
+    -- what is lost at this time asks for what its row says
+    loses_by : (r : Row) → row_at v ≡ r → HasOwnBounds r
+        → HasComeToRest b at
+        × BoundsLoss n made now (choice_of_row n v.paths_before v.paths r (gained_at n v))
+        (roles_of_row n v.paths_before v.paths silent r (gained_at n v))
+    loses_by AnyPast row own = absurd own
+    loses_by Unchanged row own = absurd own
+    loses_by Gained row own = absurd own
+    loses_by Lowered row own =
+        let (rest, lowers, flight) = lowered n playable.network all b at late well row in
+        (rest, inl (lowers, refl, inl refl))
+    loses_by CutOff row own =
+        let x = cut_off n playable.network all b at late well row in
+        (x.rested, inl (x.lowers, refl, inr (x.cuts, refl)))
+    loses_by LostEnd row own =
+        let x = lost_end n playable.network all b at late well row in
+        (x.rested, inr (inl (x.fails, refl, inl (x.used, refl))))
+    loses_by FailedEnd row own =
+        let (rest, fails) = failed n playable.network all b at late well row in
+        (rest, inr (inl (fails, refl, inr refl)))
+    loses_by LostPower row own =
+        let (rest, fails, used) = lost_power n playable.network all b at late well (inl row) in
+        (rest, inr (inr (inr (inl (fails, (0, 0, inl (used, refl, refl), inl (refl, refl)))))))
+    loses_by PowerCutsOff row own =
+        let (rest, fails, used) = lost_power n playable.network all b at late well (inr row) in
+        (rest, inr (inr (inr (inl (fails, (0, 0, inl (used, refl, refl), inr (omega arith, omega arith)))))))
+    loses_by OneTurned row own =
+        let (rest, turns, unused) = turned n playable.network all b at late well row in
+        (rest, inr (inr (inl (turns, refl, refl))))
+    loses_by FailedHeard row own =
+        let (rest, fails, delay) = heard n playable.network all b at late well (inl row) in (
+          rest,
+          inr (inr (inr (inl (
+            fails,
+            (held_span n v.paths, silence_span (pace_of n), inr (held_as delay, refl), inl (refl, refl)),
+          )))),
+        )
+    loses_by FailureCutsOff row own =
+        let (rest, fails, delay) = heard n playable.network all b at late well (inr row) in (
+          rest,
+          inr (inr (inr (inl (
+            fails,
+            (held_span n v.paths, silence_span (pace_of n), inr (held_as delay, refl), inr (refl, refl)),
+          )))),
+        )
+    loses_by AnyLosses row own =
+        let (rest, loses, roles) = any_losses n playable.network all b at late row in
+        (rest, inr (inr (inr (inr (loses, refl, roles (loss_span n v.paths_before v.paths))))))
 
     sooner_so : (s : Settling) → IsTelling n v s → IsChoiceBoundAfter n all (b.at ∷ earlier) at settled_by → IsSooner s
-    sooner_so s it settles = elim (choice_or_none n v.paths (row_at v) (gained_at n v)) [
+    sooner_so s it settles = elim (choice_or_own n v.paths_before v.paths silent (row_at v) (gained_at n v)) [
       | inl (choice_same, roles_same) ↦
           let choice : settled_by ≡ s.choice = sym choice_same ∙ sym it.choice in
           let roles : settled_by ≡ s.roles = sym roles_same ∙ sym it.roles in
@@ -235,8 +313,13 @@ module _ (d : DocumentState) (playable : IsPlayable d) where
             choice = inl (subst (IsChoiceBoundAfter n all (b.at ∷ earlier) at) choice settles);
             sooner = omega (arith, choice, roles);
           }
-      | inr (off, which) ↦
-          let (rest, loses) = by which in
+      | inr (off, own, choice_is, roles_is) ↦
+          let (rest, by_row) = loses_by (row_at v) refl own in
+          let loses =
+          subst (λ roles. BoundsLoss n made now s.choice roles) (sym (it.roles ∙ roles_is))
+          (subst (λ choice. BoundsLoss n made now choice
+          (roles_of_row n v.paths_before v.paths silent (row_at v) (gained_at n v))) (sym (it.choice ∙ choice_is))
+          by_row) in
           let bound = lost s settles off rest loses in
           record {
             bounds = inr (s.choice, bound);
@@ -244,46 +327,6 @@ module _ (d : DocumentState) (playable : IsPlayable d) where
             sooner = no_later s.choice s.roles loses;
           }
     ]
-      where
-        by : AreSooner n v.paths (row_at v) (choice_by n v.paths (row_at v) (gained_at n v))
-            (roles_by n v.paths (row_at v) (gained_at n v))
-            → HasComeToRest b at × BoundsLoss n made now s.choice s.roles
-        by (inl (none, inl (inl row, roles))) =
-            let (rest, lowers, flight) = lowered n playable.network all b at late well row in
-            (rest, inl (it.choice ∙ none, inl (lowers, it.roles ∙ roles)))
-        by (inl (none, inl (inr (inl row), roles))) =
-            let x = lost_end n playable.network all b at late well row in (
-              x.rested,
-              inl (
-                it.choice ∙ none,
-                elim x.lowers [
-                  | inl lowers ↦ inl (lowers, it.roles ∙ roles)
-                  | inr (fails, used) ↦ inr (fails, inl (used, it.roles ∙ roles))
-                ],
-              ),
-            )
-        by (inl (none, inl (inr (inr row), roles))) =
-            let (rest, fails, used) = lost_power n playable.network all b at late well row in
-            (rest, inr (inr (fails, inl (used, it.choice ∙ none, it.roles ∙ roles))))
-        by (inl (none, inr (row, is))) =
-            let (rest, fails) = failed n playable.network all b at late well row in
-            (rest, inl (it.choice ∙ none, inr (fails, inr (it.roles ∙ is))))
-        by (inr (inl (row, is, same))) =
-            let (rest, turns, unused) = turned n playable.network all b at late well row in
-            (rest, inr (inl (turns, it.choice ∙ is, it.roles ∙ same ∙ sym it.choice)))
-        by (inr (inr (row, is, same))) =
-            let (rest, fails, delay) = heard n playable.network all b at late well row in
-            let aging : aging_span (pace_of n) v.paths ≡ aging_span (pace_of n) (sync_paths n made) =
-            ap (λ d. longest_span (pace_of n) + d) delay in (
-              rest,
-              inr (inr (
-                fails,
-                inr (
-                  it.choice ∙ is ∙ ap (λ a. min a (silence_span (pace_of n))) aging,
-                  it.roles ∙ same,
-                ),
-              )),
-            )
 
     later_so : TellsSo (b.at ∷ earlier) (time_at d (Some b) at)
     later_so s is =

@@ -1,6 +1,7 @@
 mod TimesLemmas
 mod NamedLemmas
 mod KindLemmas
+mod ToldLemmas
 mod MoreLemmas
 mod GainedLemmas
 mod UnmovedLemmas
@@ -12,7 +13,8 @@ mod RowBoundLemmas
 mod RowReasonLemmas
 mod StartRowLemmas
 mod RowLemmas
-pub mod ChoiceLemmas
+pub mod AnyLossLemmas
+mod ChoiceLemmas
 pub mod StepLemmas
 mod SettledLemmas
 pub mod EndLemmas

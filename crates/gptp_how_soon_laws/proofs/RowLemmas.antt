@@ -1,6 +1,6 @@
 -- What is told of a time after the first one, by its row, is so by its events.
 use Rattle.std.proofs.Common.{◌≡◌, ◌<◌, ◌≤◌, ◌⊎◌, inl, inr, ◌+◌, ◌*◌, ℕ, Bool, true, false, cond, List, [], ◌∷◌, ◌++◌, Option, Some, None, map, refl, sym, ap, subst, ◌∙◌, arith}
-use Rattle.std.specs.Prelude.{◌==◌, ◌&&◌, ◌||◌, not, nat_le, nat_lt, max}
+use Rattle.std.specs.Prelude.{◌==◌, ◌&&◌, ◌||◌, not, if◌then◌else◌, nat_le, nat_lt, max}
 use Rattle.std.specs.List.{AllByRecursion, list_all, list_any}
 use Rattle.std.proofs.lemmas.Bool.{and_parts, eqb-true, not-true, or_cases, or_from, or_parts}
 use Rattle.std.proofs.lemmas.Bool.Decides.{nat_tests}
@@ -21,11 +21,12 @@ use Rattle.gptp_network.specs.Snapshot.{events_by}
 use Rattle.gptp_topology.specs.Course.{cable_of}
 use Rattle.gptp_how_soon.specs.Bounds.{is_hard_to_hear, gone_by, unused_by}
 use Rattle.gptp_how_soon.specs.Chosen.{moves_counted, moves_joined, moves_some}
-use Rattle.gptp_how_soon.specs.Kinds.{are_heard, fails_and_recovers, fails_first, is_better, is_failing, is_gain, is_idle, is_loss, is_lowering, is_other, is_recovery, leaves_links, lowers_one, lowers_unused, makes_nothing, recovers, takes_one, begins_wider, first_wider_by, is_wider}
+use Rattle.gptp_how_soon.specs.Kinds.{are_heard, brings_nothing, fails_and_recovers, fails_first, is_better, is_failing, is_gain, is_idle, is_loss, is_lowering, is_other, is_recovery, leaves_links, lowers_one, lowers_unused, makes_nothing, recovers, takes_one, begins_wider, first_wider_by, is_wider}
 use Rattle.gptp_how_soon.specs.Links.{delay_set, longest_among, longest_delay, longest_set}
-use Rattle.gptp_how_soon.specs.Rest.{are_events_followed, are_losses_followed, are_recoveries_followed, are_turns_followed, heard_at_once, is_failing_followed, is_from_rest, is_lowering_followed, keeps_paths, rested, rested_by, is_wider_followed, settles_wider_by}
+use Rattle.gptp_how_soon.specs.Rest.{are_events_followed, are_losses_followed, are_recoveries_followed, are_turns_followed, heard_at_once, is_failing_followed, is_from_rest, is_lowering_followed, keeps_paths, leaves_silent, rested, rested_by, is_wider_followed, settles_wider_by}
 use Rattle.gptp_how_soon.specs.Times.{View, events_at, gained_at, ready_at, row_at, view_at}
-use Rattle.gptp_how_soon.specs.declared.bounds.Row.TheVariants.{FailedEnd, FailedHeard, Gained, LostEnd, LostPower, Lowered, OneTurned, Unchanged}
+use Rattle.gptp_how_soon.specs.declared.bounds.Row.{Row}
+use Rattle.gptp_how_soon.specs.declared.bounds.Row.TheVariants.{AnyLosses, CutOff, FailedEnd, FailedHeard, FailureCutsOff, Gained, LostEnd, LostPower, Lowered, OneTurned, PowerCutsOff, Unchanged}
 use Rattle.gptp_how_soon.specs.declared.bounds.Settling.{Settling}
 use Rattle.gptp_how_soon.specs.declared.bounds.SettlingTime.{SettlingTime}
 use Rattle.gptp_how_soon.specs.declared.kinds.Kind.{Kind}
@@ -34,12 +35,13 @@ use Rattle.gptp_how_soon.specs.declared.kinds.Told.{Told}
 use Rattle.gptp_how_soon.specs.declared.kinds.What.{What}
 use Rattle.gptp_how_soon.specs.declared.kinds.What.TheVariants as whats
 use Rattle.gptp_settling_time.specs.Gains.{HasDelaysWithin}
-use Rattle.gptp_settling_time.specs.HowSoon.{AreWiderEvents, BoundsGains, CutsOneEnd, EachEvent, FailsEndFirst, FailsHeardFirst, IsStillEvent, LowersOneLink, TurnsOneLink, way_span}
+use Rattle.gptp_settling_time.specs.HowSoon.{AreWiderEvents, BoundsGains, CutsOneEnd, EachEvent, FailsEndFirst, FailsHeardFirst, IsStillEvent, LosesEvents, LowersOneLink, RolesAfterLoss, TurnsOneLink, way_span}
 use Rattle.gptp_settling_time.specs.InTurn.{FlightIsGone}
-use Rattle.gptp_settling_time.specs.Losses.{UpIsUsed}
+use Rattle.gptp_settling_time.specs.Losses.{UpIsUsed, silence_span}
 use Rattle.gptp_settling_time.proofs.CutLemmas.{IsBy, all_by}
 use Rattle.gptp_settling_time.proofs.LeadOnLemmas.{all_still}
 use Rattle.gptp_settling_time.proofs.MomentLemmas.{all_at}
+use Rattle.gptp_how_soon_laws.proofs.AnyLossLemmas.{all_losses, none_fails}
 use Rattle.gptp_how_soon_laws.proofs.GainedLemmas.{AreFollowed, AreTurnsFollowed, all_gained, all_heard, all_idle, all_wider}
 use Rattle.gptp_how_soon_laws.proofs.KindLemmas.{told}
 use Rattle.gptp_how_soon_laws.proofs.FailedLemmas.{fails_end_first, fails_heard_first, used_up}
@@ -47,7 +49,7 @@ use Rattle.gptp_how_soon_laws.proofs.CutOffLemmas.{cuts_one_end}
 use Rattle.gptp_how_soon_laws.proofs.LoweredLemmas.{lowers_one_link, used_on, used_turned}
 use Rattle.gptp_how_soon_laws.proofs.TurnedLemmas.{turns_one_link}
 use Rattle.gptp_how_soon_laws.proofs.UnmovedLemmas.{AreWell, all_still_unmoved}
-use Rattle.gptp_how_soon_laws.proofs.RowReasonLemmas.{failed_from, gained_from, heard_from, lost_from, lowered_from, powered_from, turned_from, unchanged_from}
+use Rattle.gptp_how_soon_laws.proofs.RowReasonLemmas.{ReasonOf, reason_of}
 
 -- ---- who counts as moved
 
@@ -73,47 +75,31 @@ failing_takes es is = ap (λ test. lowers_one es || test) is ∙ or_true (lowers
     or_true false = refl
 
 -- a system whose priority1 gets worse takes nothing away
-leaves_not_down : (clock : ℕ) (what : What) (kind : Kind) → leaves_links (told clock what kind) ≡ true
-    → is_lowering (told clock what kind) ≡ false
-leaves_not_down clock whats.Priority1 Loss is = refl
-leaves_not_down clock whats.Fail Loss is = absurd cc
-leaves_not_down clock whats.LinkDown Loss is = absurd cc
-leaves_not_down clock whats.LinkUp Loss is = absurd cc
-leaves_not_down clock whats.LinkSet Loss is = absurd cc
-leaves_not_down clock whats.Recover Loss is = absurd cc
-leaves_not_down clock whats.Inject Loss is = absurd cc
-leaves_not_down clock whats.NoChange Loss is = absurd cc
-leaves_not_down clock what Idle is = refl
-leaves_not_down clock what Unused is = refl
-leaves_not_down clock what Gain is = refl
-leaves_not_down clock what (Wider by) is = refl
-leaves_not_down clock what Other is = refl
-
-leaves_not_failing : (clock : ℕ) (what : What) (kind : Kind) → leaves_links (told clock what kind) ≡ true
-    → is_failing (told clock what kind) ≡ false
-leaves_not_failing clock whats.Priority1 Loss is = refl
-leaves_not_failing clock whats.Fail Loss is = absurd cc
-leaves_not_failing clock whats.LinkDown Loss is = absurd cc
-leaves_not_failing clock whats.LinkUp Loss is = absurd cc
-leaves_not_failing clock whats.LinkSet Loss is = absurd cc
-leaves_not_failing clock whats.Recover Loss is = absurd cc
-leaves_not_failing clock whats.Inject Loss is = absurd cc
-leaves_not_failing clock whats.NoChange Loss is = absurd cc
-leaves_not_failing clock what Idle is = refl
-leaves_not_failing clock what Unused is = refl
-leaves_not_failing clock what Gain is = refl
-leaves_not_failing clock what (Wider by) is = refl
-leaves_not_failing clock what Other is = refl
+takes_no_link : (clock : ℕ) (what : What) (kind : Kind) → leaves_links (told clock what kind) ≡ true
+    → (is_lowering (told clock what kind) ≡ false) × (is_failing (told clock what kind) ≡ false)
+takes_no_link clock whats.Priority1 Loss is = (refl, refl)
+takes_no_link clock whats.Fail Loss is = absurd cc
+takes_no_link clock whats.LinkDown Loss is = absurd cc
+takes_no_link clock whats.LinkUp Loss is = absurd cc
+takes_no_link clock whats.LinkSet Loss is = absurd cc
+takes_no_link clock whats.Recover Loss is = absurd cc
+takes_no_link clock whats.Inject Loss is = absurd cc
+takes_no_link clock whats.NoChange Loss is = absurd cc
+takes_no_link clock what Idle is = (refl, refl)
+takes_no_link clock what Unused is = (refl, refl)
+takes_no_link clock what Gain is = (refl, refl)
+takes_no_link clock what (Wider by) is = (refl, refl)
+takes_no_link clock what Other is = (refl, refl)
 
 leaves_all : (es : List Told) → list_all leaves_links es ≡ true → takes_one es ≡ false
 leaves_all [] all = refl
 leaves_all (e ∷ []) all =
     let first = (and_parts (leaves_links e) (list_all leaves_links []) all).0 in
-    or_from (is_lowering e) (is_failing e && true) (leaves_not_down e.clock e.what e.kind first)
-    (ap (λ test. test && true) (leaves_not_failing e.clock e.what e.kind first))
+    let (lowers, fails) = takes_no_link e.clock e.what e.kind first in
+    or_from (is_lowering e) (is_failing e && true) lowers (ap (λ test. test && true) fails)
 leaves_all (e ∷ f ∷ es) all =
     let first = (and_parts (leaves_links e) (list_all leaves_links (f ∷ es)) all).0 in
-    ap (λ test. test && list_all lowers_unused (f ∷ es)) (leaves_not_failing e.clock e.what e.kind first)
+    ap (λ test. test && list_all lowers_unused (f ∷ es)) (takes_no_link e.clock e.what e.kind first).1
 
 -- ---- rest and delays
 
@@ -189,6 +175,25 @@ module _ (n : NetworkState) (network : IsNetwork n) (events : List Timed) (b : S
 
   abbrev v : View
   v = view_at n made now (Some b) at
+
+  -- what its tests said
+  abbrev Why : Row → Type 0
+  Why =
+      ReasonOf (is_from_rest v.longest at v.paths_before v.paths v.told (Some b))
+      (list_all makes_nothing v.told || begins_wider v.told) (are_losses_followed v.paths_before v.told && not v.moved)
+      (is_lowering_followed v.paths_before v.paths v.told && not v.moved) v.cut
+      (is_lowering_followed v.paths_before v.paths v.told && v.turned)
+      (is_failing_followed v.paths_before v.paths v.told && not v.moved) v.far v.moves_any v.used
+      (list_any is_loss v.told) (list_all brings_nothing v.told)
+
+  why : (row : Row) → row_at v ≡ row → Why row
+  why row is =
+      reason_of (is_from_rest v.longest at v.paths_before v.paths v.told (Some b))
+      (list_all makes_nothing v.told || begins_wider v.told) (are_losses_followed v.paths_before v.told && not v.moved)
+      (is_lowering_followed v.paths_before v.paths v.told && not v.moved) v.cut
+      (is_lowering_followed v.paths_before v.paths v.told && v.turned)
+      (is_failing_followed v.paths_before v.paths v.told && not v.moved) v.far v.moves_any v.used
+      (list_any is_loss v.told) (list_all brings_nothing v.told) row is
 
   -- it is from rest
   record IsFromRest : Type 0 where
@@ -283,13 +288,7 @@ module _ (n : NetworkState) (network : IsNetwork n) (events : List Timed) (b : S
       → (rest : HasComeToRest b at)
       × (EachEvent (IsStillEvent n) made now ⊎ AreWiderEvents n (b.at + rest.settling.sound) at made now)
   unchanged well row =
-      let (from, which) =
-      unchanged_from (is_from_rest v.longest at v.paths_before v.paths v.told (Some b))
-      (list_all makes_nothing v.told || begins_wider v.told) (are_losses_followed v.paths_before v.told && not v.moved)
-      (is_lowering_followed v.paths_before v.paths v.told && not v.moved) v.cut
-      (is_lowering_followed v.paths_before v.paths v.told && v.turned)
-      (is_failing_followed v.paths_before v.paths v.told && not v.moved) v.far v.used (list_any is_loss v.told)
-      row in
+      let (from, which) = why Unchanged row in
       let facts = from_rest from in (
         facts.rested,
         elim which [
@@ -324,13 +323,7 @@ module _ (n : NetworkState) (network : IsNetwork n) (events : List Timed) (b : S
   pub gained : row_at v ≡ Gained → NothingLapses n.params
       → HasComeToRest b at × BoundsGains n made now at (ready_at n v) (gained_at n v)
   gained row off =
-      let (from, none, which) =
-      gained_from (is_from_rest v.longest at v.paths_before v.paths v.told (Some b))
-      (list_all makes_nothing v.told || begins_wider v.told) (are_losses_followed v.paths_before v.told && not v.moved)
-      (is_lowering_followed v.paths_before v.paths v.told && not v.moved) v.cut
-      (is_lowering_followed v.paths_before v.paths v.told && v.turned)
-      (is_failing_followed v.paths_before v.paths v.told && not v.moved) v.far v.used (list_any is_loss v.told)
-      row in
+      let (from, none, which) = why Gained row in
       let facts = from_rest from in
       let (some, narrow) = or_parts (list_all makes_nothing v.told) (begins_wider v.told) which in (
         facts.rested,
@@ -374,87 +367,76 @@ module _ (n : NetworkState) (network : IsNetwork n) (events : List Timed) (b : S
         refl,
       )
 
-  -- what the test of paths says
-  keeps_so : keeps_paths v.paths_before v.paths ≡ true
-      → ((sync_paths n (made ++ now)).delay ≡ (sync_paths n made).delay)
-      × ((sync_paths n (made ++ now)).systems ≤ (sync_paths n made).systems)
-      × ((sync_paths n made).systems ≤ 255)
+  -- the greatest delay of a link in use stays, no path gets longer, and none had more than 255 systems
+  record KeepsPaths : Type 0 where
+    pub delay : (sync_paths n (made ++ now)).delay ≡ (sync_paths n made).delay
+    pub paths : (sync_paths n (made ++ now)).systems ≤ (sync_paths n made).systems
+    pub few : (sync_paths n made).systems ≤ 255
+
+  keeps_so : keeps_paths v.paths_before v.paths ≡ true → KeepsPaths
   keeps_so keeps =
       let few_test : Bool = nat_le v.paths_before.systems 255 in
       let delay_test : Bool = v.paths.delay == v.paths_before.delay in
       let paths_test : Bool = nat_le v.paths.systems v.paths_before.systems in
       let (two, paths) = and_parts (few_test && delay_test) paths_test keeps in
-      let (few, delay) = and_parts few_test delay_test two in (
-        eqb-true v.paths.delay v.paths_before.delay delay,
-        at_most v.paths.systems v.paths_before.systems paths,
-        at_most v.paths_before.systems 255 few,
-      )
-
-  -- a system fails by the first event, and no system is moved but such as are cut off
-  record IsFailing : Type 0 where
-    pub first : fails_first v.told ≡ true
-    pub unmoved : moves_joined n made (made ++ now) ≡ false
-    pub delay : (sync_paths n (made ++ now)).delay ≡ (sync_paths n made).delay
-    pub paths : (sync_paths n (made ++ now)).systems ≤ (sync_paths n made).systems
-    pub few : (sync_paths n made).systems ≤ 255
-
-  is_failing_so : (is_failing_followed v.paths_before v.paths v.told && not v.moved) ≡ true → IsFailing
-  is_failing_so fails =
-      let (followed, none) = and_parts (is_failing_followed v.paths_before v.paths v.told) (not v.moved) fails in
-      let (keeps, first) = and_parts (keeps_paths v.paths_before v.paths) (fails_first v.told) followed in
-      let (delay, paths, few) = keeps_so keeps in
+      let (few, delay) = and_parts few_test delay_test two in
       record {
-        first = first;
-        unmoved = counts_joined (takes_one v.told) n made (made ++ now) (failing_takes v.told first)
-            (not-true v.moved none);
-        delay = delay;
-        paths = paths;
-        few = few;
+        delay = eqb-true v.paths.delay v.paths_before.delay delay;
+        paths = at_most v.paths.systems v.paths_before.systems paths;
+        few = at_most v.paths_before.systems 255 few;
       }
+
+  -- a loss of this kind comes, by which no system is moved but such as are cut off
+  record TakesOne (kind : List Told → Bool) : Type 0 where
+    pub one : kind v.told ≡ true
+    pub unmoved : moves_joined n made (made ++ now) ≡ false
+    pub keeps : KeepsPaths
+
+  takes_so : (kind : List Told → Bool) → ((es : List Told) → kind es ≡ true → takes_one es ≡ true)
+      → (keeps_paths v.paths_before v.paths && kind v.told && not v.moved) ≡ true → TakesOne kind
+  takes_so kind takes is =
+      let (followed, none) = and_parts (keeps_paths v.paths_before v.paths && kind v.told) (not v.moved) is in
+      let (keeps, one) = and_parts (keeps_paths v.paths_before v.paths) (kind v.told) followed in
+      record {
+        one = one;
+        unmoved = counts_joined (takes_one v.told) n made (made ++ now) (takes v.told one) (not-true v.moved none);
+        keeps = keeps_so keeps;
+      }
+
+  -- a system fails by the first event
+  fails_so : (is_failing_followed v.paths_before v.paths v.told && not v.moved) ≡ true → TakesOne fails_first
+  fails_so = takes_so fails_first failing_takes
 
   failing_heard : AreWell n (made ++ now)
       → (is_failing_followed v.paths_before v.paths v.told && not v.moved) ≡ true → FailsHeardFirst n made now
   failing_heard well fails =
-      let x = is_failing_so fails in
-      fails_heard_first n network made now well x.unmoved x.delay x.paths x.few x.first
+      let x = fails_so fails in
+      fails_heard_first n network made now well x.unmoved x.keeps.delay x.keeps.paths x.keeps.few x.one
 
   -- which is a far end
   failing_end : AreWell n (made ++ now)
       → (is_failing_followed v.paths_before v.paths v.told && not v.moved) ≡ true → v.far ≡ true
       → FailsEndFirst n made now
   failing_end well fails far =
-      let x = is_failing_so fails in
-      fails_end_first n network made now well x.unmoved x.delay x.paths x.few x.first far
+      let x = fails_so fails in
+      fails_end_first n network made now well x.unmoved x.keeps.delay x.keeps.paths x.keeps.few x.one far
 
-  -- a link goes down by the one event, and no system is moved
+  -- a link goes down by the one event
+  goes_down : (is_lowering_followed v.paths_before v.paths v.told && not v.moved) ≡ true → TakesOne lowers_one
+  goes_down = takes_so lowers_one lowering_takes
+
   lowers_so : AreWell n (made ++ now) → (is_lowering_followed v.paths_before v.paths v.told && not v.moved) ≡ true
       → LowersOneLink n made now
   lowers_so well lowers =
-      let (followed, none) = and_parts (is_lowering_followed v.paths_before v.paths v.told) (not v.moved) lowers in
-      let (keeps, one) = and_parts (keeps_paths v.paths_before v.paths) (lowers_one v.told) followed in
-      let (delay, paths, few) = keeps_so keeps in
-      lowers_one_link n network made now well
-      (counts_joined (takes_one v.told) n made (made ++ now) (lowering_takes v.told one) (not-true v.moved none)) delay
-      paths few one
+      let x = goes_down lowers in
+      lowers_one_link n network made now well x.unmoved x.keeps.delay x.keeps.paths x.keeps.few x.one
 
   -- and it cuts off a far end
   cuts_so : AreWell n (made ++ now) → (is_lowering_followed v.paths_before v.paths v.told && not v.moved) ≡ true
       → v.cut ≡ true → CutsOneEnd n made now
   cuts_so well lowers cut =
-      let (followed, none) = and_parts (is_lowering_followed v.paths_before v.paths v.told) (not v.moved) lowers in
-      let (keeps, one) = and_parts (keeps_paths v.paths_before v.paths) (lowers_one v.told) followed in
-      let (delay, paths, few) = keeps_so keeps in
-      cuts_one_end n network made now well
-      (counts_joined (takes_one v.told) n made (made ++ now) (lowering_takes v.told one) (not-true v.moved none)) cut
-      delay paths few one
-
-  -- the greatest delay of a link in use stays where such a loss is followed
-  lowering_keeps : (is_lowering_followed v.paths_before v.paths v.told && not v.moved) ≡ true
-      → (sync_paths n (made ++ now)).delay ≡ (sync_paths n made).delay
-  lowering_keeps lowers =
-      let (followed, none) = and_parts (is_lowering_followed v.paths_before v.paths v.told) (not v.moved) lowers in
-      let (keeps, one) = and_parts (keeps_paths v.paths_before v.paths) (lowers_one v.told) followed in
-      (keeps_so keeps).0
+      let x = goes_down lowers in
+      cuts_one_end n network made now well x.unmoved cut x.keeps.delay x.keeps.paths x.keeps.few x.one
 
   -- what was in flight is gone by then
   flight_so : (sync_paths n (made ++ now)).delay ≡ (sync_paths n made).delay
@@ -477,62 +459,52 @@ module _ (n : NetworkState) (network : IsNetwork n) (events : List Timed) (b : S
   pub lowered : AreWell n (made ++ now) → row_at v ≡ Lowered
       → HasComeToRest b at × LowersOneLink n made now × FlightIsGone n (made ++ now) (gone_by n v.paths v.used_before)
   lowered well row =
-      let (from, lowers) =
-      lowered_from (is_from_rest v.longest at v.paths_before v.paths v.told (Some b))
-      (list_all makes_nothing v.told || begins_wider v.told) (are_losses_followed v.paths_before v.told && not v.moved)
-      (is_lowering_followed v.paths_before v.paths v.told && not v.moved) v.cut
-      (is_lowering_followed v.paths_before v.paths v.told && v.turned)
-      (is_failing_followed v.paths_before v.paths v.told && not v.moved) v.far v.used (list_any is_loss v.told)
-      row in
+      let (from, lowers) = why Lowered row in
       let one = lowers_so well lowers in
       ((from_rest from).rested, one, flight_on one)
 
   -- or a system loses its power that others heard
-  pub lost_power : AreWell n (made ++ now) → row_at v ≡ LostPower
+  pub lost_power : AreWell n (made ++ now) → (row_at v ≡ LostPower) ⊎ (row_at v ≡ PowerCutsOff)
       → HasComeToRest b at × FailsHeardFirst n made now × UpIsUsed n (made ++ now)
-  lost_power well row =
-      let (from, fails, used) =
-      powered_from (is_from_rest v.longest at v.paths_before v.paths v.told (Some b))
-      (list_all makes_nothing v.told || begins_wider v.told) (are_losses_followed v.paths_before v.told && not v.moved)
-      (is_lowering_followed v.paths_before v.paths v.told && not v.moved) v.cut
-      (is_lowering_followed v.paths_before v.paths v.told && v.turned)
-      (is_failing_followed v.paths_before v.paths v.told && not v.moved) v.far v.used (list_any is_loss v.told)
-      row in
+  lost_power well which =
+      let (from, fails, used) = by which in
       ((from_rest from).rested, failing_heard well fails, used_up n network (made ++ now) used)
+    where
+      by : (row_at v ≡ LostPower) ⊎ (row_at v ≡ PowerCutsOff) → Why LostPower
+      by (inl row) = why LostPower row
+      by (inr row) = why PowerCutsOff row
 
-  -- or a far end is lost: a link cuts it off, or it loses its power
+  -- or it cuts off its far end
+  pub record CutsEnd : Type 0 where
+    pub rested : HasComeToRest b at
+    pub cuts : CutsOneEnd n made now
+    pub lowers : LowersOneLink n made now
+    pub flight : FlightIsGone n made (gone_by n v.paths v.used_before)
+
+  pub cut_off : AreWell n (made ++ now) → row_at v ≡ CutOff → CutsEnd
+  cut_off well row =
+      let (from, lowers, cut) = why CutOff row in record {
+        rested = (from_rest from).rested;
+        cuts = cuts_so well lowers cut;
+        lowers = lowers_so well lowers;
+        flight = flight_so (goes_down lowers).keeps.delay;
+      }
+
+  -- or a far end loses its power
   pub record LosesEnd : Type 0 where
     pub rested : HasComeToRest b at
-    pub which : CutsOneEnd n made now ⊎ (FailsEndFirst n made now × UpIsUsed n (made ++ now))
-    pub lowers : LowersOneLink n made now ⊎ (FailsEndFirst n made now × UpIsUsed n (made ++ now))
+    pub fails : FailsEndFirst n made now
+    pub used : UpIsUsed n (made ++ now)
     pub flight : FlightIsGone n made (gone_by n v.paths v.used_before)
 
   pub lost_end : AreWell n (made ++ now) → row_at v ≡ LostEnd → LosesEnd
   lost_end well row =
-      let (from, which) =
-      lost_from (is_from_rest v.longest at v.paths_before v.paths v.told (Some b))
-      (list_all makes_nothing v.told || begins_wider v.told) (are_losses_followed v.paths_before v.told && not v.moved)
-      (is_lowering_followed v.paths_before v.paths v.told && not v.moved) v.cut
-      (is_lowering_followed v.paths_before v.paths v.told && v.turned)
-      (is_failing_followed v.paths_before v.paths v.told && not v.moved) v.far v.used (list_any is_loss v.told)
-      row in
-      let rest = (from_rest from).rested in
-      elim which [
-        | inl (lowers, cut) ↦ record {
-          rested = rest;
-          which = inl (cuts_so well lowers cut);
-          lowers = inl (lowers_so well lowers);
-          flight = flight_so (lowering_keeps lowers);
-        }
-        | inr (fails, far, used) ↦
-            let both : FailsEndFirst n made now × UpIsUsed n (made ++ now) =
-            (failing_end well fails far, used_up n network (made ++ now) used) in record {
-              rested = rest;
-              which = inr both;
-              lowers = inr both;
-              flight = flight_so (is_failing_so fails).delay;
-            }
-      ]
+      let (from, fails, far, used) = why LostEnd row in record {
+        rested = (from_rest from).rested;
+        fails = failing_end well fails far;
+        used = used_up n network (made ++ now) used;
+        flight = flight_so (fails_so fails).keeps.delay;
+      }
 
   -- what was in flight on links that aren't in use is gone so much later than elsewhere
   unused_so : TurnsOneLink n made now → IsUnusedBy n (made ++ now) (unused_by n v.used_before)
@@ -546,41 +518,48 @@ module _ (n : NetworkState) (network : IsNetwork n) (events : List Timed) (b : S
   pub turned : AreWell n (made ++ now) → row_at v ≡ OneTurned
       → HasComeToRest b at × TurnsOneLink n made now × IsUnusedBy n (made ++ now) (unused_by n v.used_before)
   turned well row =
-      let (from, turns) =
-      turned_from (is_from_rest v.longest at v.paths_before v.paths v.told (Some b))
-      (list_all makes_nothing v.told || begins_wider v.told) (are_losses_followed v.paths_before v.told && not v.moved)
-      (is_lowering_followed v.paths_before v.paths v.told && not v.moved) v.cut
-      (is_lowering_followed v.paths_before v.paths v.told && v.turned)
-      (is_failing_followed v.paths_before v.paths v.told && not v.moved) v.far v.used (list_any is_loss v.told)
-      row in
+      let (from, turns) = why OneTurned row in
       let (followed, one) = and_parts (is_lowering_followed v.paths_before v.paths v.told) v.turned turns in
       let (keeps, lowers) = and_parts (keeps_paths v.paths_before v.paths) (lowers_one v.told) followed in
-      let (delay, paths, few) = keeps_so keeps in
-      let turns = turns_one_link n network made now well one delay paths few lowers in
+      let x = keeps_so keeps in
+      let turns = turns_one_link n network made now well one x.delay x.paths x.few lowers in
       ((from_rest from).rested, turns, unused_so turns)
 
   -- or a far end hangs
   pub failed : AreWell n (made ++ now) → row_at v ≡ FailedEnd → HasComeToRest b at × FailsEndFirst n made now
   failed well row =
-      let (from, fails, far) =
-      failed_from (is_from_rest v.longest at v.paths_before v.paths v.told (Some b))
-      (list_all makes_nothing v.told || begins_wider v.told) (are_losses_followed v.paths_before v.told && not v.moved)
-      (is_lowering_followed v.paths_before v.paths v.told && not v.moved) v.cut
-      (is_lowering_followed v.paths_before v.paths v.told && v.turned)
-      (is_failing_followed v.paths_before v.paths v.told && not v.moved) v.far v.used (list_any is_loss v.told)
-      row in
+      let (from, fails, far) = why FailedEnd row in
       ((from_rest from).rested, failing_end well fails far)
 
   -- or a system that others heard
-  pub heard : AreWell n (made ++ now) → row_at v ≡ FailedHeard
+  pub heard : AreWell n (made ++ now) → (row_at v ≡ FailedHeard) ⊎ (row_at v ≡ FailureCutsOff)
       → HasComeToRest b at × FailsHeardFirst n made now
       × ((sync_paths n (made ++ now)).delay ≡ (sync_paths n made).delay)
-  heard well row =
-      let (from, fails) =
-      heard_from (is_from_rest v.longest at v.paths_before v.paths v.told (Some b))
-      (list_all makes_nothing v.told || begins_wider v.told) (are_losses_followed v.paths_before v.told && not v.moved)
-      (is_lowering_followed v.paths_before v.paths v.told && not v.moved) v.cut
-      (is_lowering_followed v.paths_before v.paths v.told && v.turned)
-      (is_failing_followed v.paths_before v.paths v.told && not v.moved) v.far v.used (list_any is_loss v.told)
-      row in
-      ((from_rest from).rested, failing_heard well fails, (is_failing_so fails).delay)
+  heard well which =
+      let (from, fails) = by which in
+      ((from_rest from).rested, failing_heard well fails, (fails_so fails).keeps.delay)
+    where
+      by : (row_at v ≡ FailedHeard) ⊎ (row_at v ≡ FailureCutsOff) → Why FailedHeard
+      by (inl row) = why FailedHeard row
+      by (inr row) = why FailureCutsOff row
+
+  -- Or there are losses, and nothing is brought. Then roles stand with the choice; or no sooner than no port beside a
+  -- system that fails is left capable.
+  pub any_losses : row_at v ≡ AnyLosses
+      → HasComeToRest b at × LosesEvents n made now
+      × ((choice : ℕ) → RolesAfterLoss n made now choice
+      (if leaves_silent v.used v.told then max choice (silence_span (pace_of n)) else choice))
+  any_losses row =
+      let (from, loss, only) = why AnyLosses row in (
+        (from_rest from).rested,
+        all_losses n network made now only loss,
+        by only v.used (list_any is_failing v.told) refl refl,
+      )
+    where
+      by : list_all brings_nothing v.told ≡ true → (used failing : Bool) → v.used ≡ used
+          → list_any is_failing v.told ≡ failing → (choice : ℕ)
+          → RolesAfterLoss n made now choice
+          (if not used && failing then max choice (silence_span (pace_of n)) else choice)
+      by only true failing used none choice = inl (inr (used_up n network (made ++ now) used), refl)
+      by only false false used none choice = inl (inl (none_fails n network made now only none), refl)
+      by only false true used none choice = inr refl

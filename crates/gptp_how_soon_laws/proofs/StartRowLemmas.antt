@@ -187,29 +187,30 @@ first_past n now =
     begun_past (is_from_rest v.longest v.at v.paths_before v.paths v.told v.before)
 
 -- all is sound as soon as the choice stands
-begun_sound : (n : NetworkState) (paths : SyncPaths) (used_before : Bool) (gained : ℕ) (rest : Bool)
+begun_sound : (n : NetworkState) (before paths : SyncPaths) (used_before : Bool) (gained : ℕ) (rest : Bool)
     → sound_by n paths used_before (if not rest then AnyPast else Gained) gained
-    ≡ choice_by n paths (if not rest then AnyPast else Gained) gained
-begun_sound n paths used_before gained true = refl
-begun_sound n paths used_before gained false = refl
+    ≡ choice_by n before paths (if not rest then AnyPast else Gained) gained
+begun_sound n before paths used_before gained true = refl
+begun_sound n before paths used_before gained false = refl
 
-pub first_sound : (n : NetworkState) (now : List Timed) (paths : SyncPaths) (used_before : Bool) (gained : ℕ)
+pub first_sound : (n : NetworkState) (now : List Timed) (before paths : SyncPaths) (used_before : Bool) (gained : ℕ)
     → sound_by n paths used_before (row_at (view_at n [] now None 0)) gained
-    ≡ choice_by n paths (row_at (view_at n [] now None 0)) gained
-first_sound n now paths used_before gained =
+    ≡ choice_by n before paths (row_at (view_at n [] now None 0)) gained
+first_sound n now before paths used_before gained =
     let v = view_at n [] now None 0 in
-    begun_sound n paths used_before gained (is_from_rest v.longest v.at v.paths_before v.paths v.told v.before)
+    begun_sound n before paths used_before gained
+    (is_from_rest v.longest v.at v.paths_before v.paths v.told v.before)
 
 -- and roles do then
-begun_roles : (n : NetworkState) (paths : SyncPaths) (gained : ℕ) (rest : Bool)
-    → roles_by n paths (if not rest then AnyPast else Gained) gained
-    ≡ choice_by n paths (if not rest then AnyPast else Gained) gained
-begun_roles n paths gained true = refl
-begun_roles n paths gained false = refl
+begun_roles : (n : NetworkState) (before paths : SyncPaths) (silent : Bool) (gained : ℕ) (rest : Bool)
+    → roles_by n before paths silent (if not rest then AnyPast else Gained) gained
+    ≡ choice_by n before paths (if not rest then AnyPast else Gained) gained
+begun_roles n before paths silent gained true = refl
+begun_roles n before paths silent gained false = refl
 
-pub first_roles : (n : NetworkState) (now : List Timed) (paths : SyncPaths) (gained : ℕ)
-    → roles_by n paths (row_at (view_at n [] now None 0)) gained
-    ≡ choice_by n paths (row_at (view_at n [] now None 0)) gained
-first_roles n now paths gained =
+pub first_roles : (n : NetworkState) (now : List Timed) (before paths : SyncPaths) (silent : Bool) (gained : ℕ)
+    → roles_by n before paths silent (row_at (view_at n [] now None 0)) gained
+    ≡ choice_by n before paths (row_at (view_at n [] now None 0)) gained
+first_roles n now before paths silent gained =
     let v = view_at n [] now None 0 in
-    begun_roles n paths gained (is_from_rest v.longest v.at v.paths_before v.paths v.told v.before)
+    begun_roles n before paths silent gained (is_from_rest v.longest v.at v.paths_before v.paths v.told v.before)

@@ -320,7 +320,7 @@ lost = (
   record { links = links_rest; lapses = inl refl },
   refl,
   (1000003050, (refl, ring_begun), omega arith),
-  inl (refl, inr ((fails, tt), inr span)),
+  inr (inl ((fails, tt), refl, inr span)),
 )
   where
     span : 11000000000 ≡ silence_span (pace_of ring_network)

@@ -10,5 +10,6 @@ mod RingLemmas
 mod FarLemmas
 mod PowerLemmas
 mod HeardRingLemmas
+mod RootlessRingLemmas
 mod TurnedRingLemmas
 mod AgeLemmas

@@ -205,7 +205,7 @@ lost = (
   record { links = links_rest; lapses = inl refl },
   refl,
   (1000003050, (refl, ring_begun), omega arith),
-  inl (refl, inr ((fails, (lowers_first, (lowers_second, tt))), inl (used, refl))),
+  inr (inl ((fails, (lowers_first, (lowers_second, tt))), refl, inl (used, refl))),
 )
 
 pub dark_choice : IsChoiceAloneBound dark_document 30000000000 0

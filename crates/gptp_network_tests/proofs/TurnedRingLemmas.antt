@@ -284,7 +284,7 @@ lost = (
   record { links = links_rest; lapses = inl refl },
   refl,
   (1000003050, (refl, ring_begun), omega arith),
-  inr (inl (turns, ways, refl)),
+  inr (inr (inl (turns, ways, refl))),
 )
   where
     ways : 2460 ≡ 2 * way_span (sync_paths ring_network (event ∷ []))

@@ -61,6 +61,13 @@ heard_document = record {
   events = record { at = 30000000000; act = Changing (Fail 0x80e1fffe00000b) } ∷ [];
 }
 
+-- the root fails, so that all others get another
+abbrev pub rootless_document : DocumentState
+rootless_document = record {
+  network = ring_network;
+  events = record { at = 30000000000; act = Changing (Fail 0x80e1fffe00000a) } ∷ [];
+}
+
 -- the farthest one loses its power: as it fails both its links go down
 abbrev pub dark_document : DocumentState
 dark_document = record {

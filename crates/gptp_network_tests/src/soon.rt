@@ -3,7 +3,7 @@
 
 ghost use Rattle.std.specs.Prelude.{◌≡◌, IfOk, OnOk, Some};
 ghost use Rattle.gptp_network_tests.specs.Pair.{HasBegun, first_member, pair_document};
-ghost use Rattle.gptp_network_tests.specs.Ring.{dark_document, far_document, heard_document, ring_document};
+ghost use Rattle.gptp_network_tests.specs.Ring.{dark_document, far_document, heard_document, ring_document, rootless_document};
 ghost use Rattle.gptp_network_tests.specs.Soon.{BetterClocksSettleSoon, ChoosesWithin, IsPairSoon, SettlesWithin, back_document, early_document};
 
 use crate::drawn::begun;
@@ -111,6 +111,17 @@ pub fn heard_systems_settle_soon<F: Fate>()
 pub fn turned_rings_settle_soon<F: Fate>()
     ensures choice { ChoosesWithin F.answers ring_document 30000000000 2460 }
     ensures roles { SettlesWithin F.answers ring_document 30000000000 2460 }
+{
+    choice_alone_bounds_hold::<F>();
+    choice_bounds_hold::<F>();
+}
+
+/// Where the root of the ring fails at 30 s, the others get another one. The choice stands 10.00000205 s later: three
+/// announce intervals and a delay for each of the three that are left on a path, an announce interval, and two delays. The
+/// roles do 11 s later.
+pub fn rootless_rings_settle_soon<F: Fate>()
+    ensures choice { ChoosesWithin F.answers rootless_document 30000000000 10000002050 }
+    ensures roles { SettlesWithin F.answers rootless_document 30000000000 11000000000 }
 {
     choice_alone_bounds_hold::<F>();
     choice_bounds_hold::<F>();

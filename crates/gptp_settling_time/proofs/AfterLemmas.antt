@@ -32,13 +32,14 @@ use Rattle.gptp_theorem.proofs.CalmLemmas.{pace_stands, quiet_stands}
 use Rattle.gptp_theorem.proofs.SyncPathLemmas.{paths_stand}
 use Rattle.gptp_settling_time.specs.ChoiceAlone.{ChoiceStands}
 use Rattle.gptp_settling_time.specs.Exactly.{SettlesBy}
-use Rattle.gptp_settling_time.specs.InTurn.{Aging, AnyPast, BeginsBy, ChoosesAfter, Cleared, Gained, Heard, IsTakenAs, Left, Past, RestsAs, SettlesAfter, Starting, Turned}
+use Rattle.gptp_settling_time.specs.InTurn.{Aging, AnyPast, BeginsBy, ChoosesAfter, Cleared, Gained, Heard, IsTakenAs, Left, Lost, Past, RestsAs, SettlesAfter, Starting, Turned}
 use Rattle.gptp_settling_time.proofs.AgingToLemmas.{IsAgingTo, aging_to_act, aging_to_chooses, aging_to_later, aging_to_settled}
 use Rattle.gptp_settling_time.proofs.BegunLemmas.{begun_keeps}
 use Rattle.gptp_settling_time.proofs.ClaimedToLemmas.{IsClaimedTo, claimed_act, claimed_later, claimed_settled}
 use Rattle.gptp_settling_time.proofs.ClearedToLemmas.{IsClearedTo, cleared_left, cleared_to_act, cleared_to_claimed, cleared_to_later}
 use Rattle.gptp_settling_time.proofs.KeptToLemmas.{IsNewsTo, KeepsTo, keeps_act, keeps_later, news_act_to, news_later_to}
 use Rattle.gptp_settling_time.proofs.LeftToLemmas.{IsLeftTo, left_to_act, left_to_chooses, left_to_later, left_to_settled}
+use Rattle.gptp_settling_time.proofs.LostToLemmas.{IsLostTo, lost_to_act, lost_to_chooses, lost_to_later, lost_to_settled}
 use Rattle.gptp_settling_time.proofs.TurnedToLemmas.{IsTurnedTo, turned_to_act, turned_to_claimed, turned_to_later, turned_to_settled}
 use Rattle.gptp_settling_time.proofs.StartEventLemmas.{IsStartingTo, begun_soon_claimed, begun_soon_news, starting_act, starting_begins, starting_later}
 use Rattle.gptp_settling_time.proofs.TimedNewsLemmas.{CanSettle, has_settled}
@@ -53,6 +54,7 @@ IsAfter d events (Left start) w = IsLeftTo d events start w
 IsAfter d events (Turned silent now) w = IsTurnedTo d events silent now w
 IsAfter d events (Cleared since silent right old) w = IsClearedTo d events since silent right old w
 IsAfter d events (Aging aged silent) w = IsAgingTo d events aged silent w
+IsAfter d events (Lost since most silent) w = IsLostTo d events since most silent w
 
 module _ (d : DocumentState) (events : List Timed) where
   pub after_keeps : (past : Past) (w : WorldState) → IsAfter d events past w → KeepsTo d events w
@@ -64,6 +66,7 @@ module _ (d : DocumentState) (events : List Timed) where
   after_keeps (Turned silent now) w so = so.keeps
   after_keeps (Cleared since silent right old) w so = so.keeps
   after_keeps (Aging aged silent) w so = so.keeps
+  after_keeps (Lost since most silent) w so = so.keeps
 
   pub after_later : (past : Past) (w : WorldState) (time : ℕ) → w.time ≤ time → NothingBefore time w.net.pending
       → IsAfter d events past w → IsAfter d events past (at time w)
@@ -76,6 +79,8 @@ module _ (d : DocumentState) (events : List Timed) where
   after_later (Cleared since silent right old) w time later first so = cleared_to_later d events since silent right old
       w time later first so
   after_later (Aging aged silent) w time later first so = aging_to_later d events aged silent w time later first so
+  after_later (Lost since most silent) w time later first so =
+      lost_to_later d events since most silent w time later first so
 
   pub after_act : {F : Type 0} (answers : Bounds → ℕ → F → Option ℕ → F → Type 0) (past : Past) (t : ActTrace)
       (fate drawn : F) (w : WorldState) → IsNextAct w t.told.timed
@@ -95,6 +100,8 @@ module _ (d : DocumentState) (events : List Timed) where
       cleared_to_act d events since silent right old answers t fate drawn w next was so
   after_act answers (Aging aged silent) t fate drawn w next was so =
       aging_to_act d events aged silent answers t fate drawn w next was so
+  after_act answers (Lost since most silent) t fate drawn w next was so =
+      lost_to_act d events since most silent answers t fate drawn w next was so
 
 -- ---- rest
 
@@ -115,6 +122,7 @@ module _ (d : DocumentState) (playable : IsPlayable d) (events : List Timed) (w 
   rests_as (Turned silent now) (Turned start was) none so = absurd none
   rests_as (Turned silent now) (Cleared start dark clean last) none so = absurd none
   rests_as (Turned silent now) (Aging gone start) none so = absurd none
+  rests_as (Turned silent now) (Lost begun most start) none so = absurd none
   rests_as (Cleared since silent right old) AnyPast none so = absurd none
   rests_as (Cleared since silent right old) Starting none so = absurd none
   rests_as (Cleared since silent right old) (Gained start) none so = absurd none
@@ -124,7 +132,9 @@ module _ (d : DocumentState) (playable : IsPlayable d) (events : List Timed) (w 
   rests_as (Cleared since silent right old) (Turned start now) none so = absurd none
   rests_as (Cleared since silent right old) (Cleared start dark clean last) none so = absurd none
   rests_as (Cleared since silent right old) (Aging gone start) none so = absurd none
+  rests_as (Cleared since silent right old) (Lost begun most start) none so = absurd none
   rests_as (Aging aged silent) seen none so = absurd none
+  rests_as (Lost since most silent) seen none so = absurd none
 
   pub taken_as : (past seen : Past) → IsTakenAs d.network events past w.time seen → IsAfter d events past w
       → IsAfter d events seen w
@@ -152,6 +162,7 @@ begins_after answers d playable fate until first w ts k (Left start) none = absu
 begins_after answers d playable fate until first w ts k (Turned silent now) none = absurd none
 begins_after answers d playable fate until first w ts k (Cleared since silent right old) none = absurd none
 begins_after answers d playable fate until first w ts k (Aging aged silent) none = absurd none
+begins_after answers d playable fate until first w ts k (Lost since most silent) none = absurd none
 
 -- ---- it settles
 
@@ -246,6 +257,10 @@ module _ (d : DocumentState) (playable : IsPlayable d) (all : List Timed) (calm 
       aging_to_settled d all aged silent w so playable calm off (inl (omega (arith, passed, on)))
   after_settles (Aging aged silent) so (off, inr used) =
       aging_to_settled d all aged silent w so playable calm off (inr used)
+  after_settles (Lost since most silent) so (off, passed, inl late) =
+      lost_to_settled d all since most silent w so playable (omega (arith, passed, on)) (inl (omega (arith, late, on)))
+  after_settles (Lost since most silent) so (off, passed, inr used) =
+      lost_to_settled d all since most silent w so playable (omega (arith, passed, on)) (inr used)
 
   -- a settled system has its settled choice
   chooses_so : Settled w → ChoiceStands w
@@ -268,3 +283,5 @@ module _ (d : DocumentState) (playable : IsPlayable d) (all : List Timed) (calm 
       aging_to_chooses d all aged silent w so playable calm off (inr (inl (omega (arith, late, on))))
   after_chooses (Aging aged silent) so (off, inr (inr used)) =
       aging_to_chooses d all aged silent w so playable calm off (inr (inr used))
+  after_chooses (Lost since most silent) so (off, passed) =
+      lost_to_chooses d all since most silent w so playable (omega (arith, passed, on))

@@ -106,7 +106,7 @@ module _ (p : SettlingParams) (number : ℕ) (w : WorldState) (draws : List Draw
     stations_now : w'.stations ≡ slice_set w.stations k.place dead
     stations_now = ap (λ (v : WorldState). v.stations) same
 
-    channels_now : w'.net.channels ≡ w.net.channels
+    pub channels_now : w'.net.channels ≡ w.net.channels
     channels_now = ap (λ (v : WorldState). v.net.channels) same
 
     pub time_now : w'.time ≡ w.time
@@ -115,11 +115,11 @@ module _ (p : SettlingParams) (number : ℕ) (w : WorldState) (draws : List Draw
     -- ---- systems
 
     -- one that lives then is another, and is as it was
-    record IsAsItWas (place : ℕ) (x : Station) : Type 0 where
-      here : slice_get w.stations place ≡ Some x
-      apart : place ≢ k.place
+    pub record IsAsItWas (place : ℕ) (x : Station) : Type 0 where
+      pub here : slice_get w.stations place ≡ Some x
+      pub apart : place ≢ k.place
 
-    stood : (place : ℕ) (x : Station) → slice_get w'.stations place ≡ Some x → x.live ≡ true → IsAsItWas place x
+    pub stood : (place : ℕ) (x : Station) → slice_get w'.stations place ≡ Some x → x.live ≡ true → IsAsItWas place x
     stood place x there live =
         let set : slice_get (slice_set w.stations k.place dead) place ≡ Some x =
         ap (λ xs. slice_get xs place) (sym stations_now) ∙ there in
@@ -136,7 +136,7 @@ module _ (p : SettlingParams) (number : ℕ) (w : WorldState) (draws : List Draw
           }
         ]
 
-    stays : (place : ℕ) (x : Station) → slice_get w.stations place ≡ Some x → place ≢ k.place
+    pub stays : (place : ℕ) (x : Station) → slice_get w.stations place ≡ Some x → place ≢ k.place
         → slice_get w'.stations place ≡ Some x
     stays place x there apart =
         ap (λ xs. slice_get xs place) stations_now ∙ get-set_other w.stations k.place place dead apart ∙ there
@@ -203,7 +203,7 @@ module _ (p : SettlingParams) (number : ℕ) (w : WorldState) (draws : List Draw
       named = x.named;
     }
 
-    stood_link : (at : LinkPlace) → LinkStandsAt at w' → LinkStandsAt at w
+    pub stood_link : (at : LinkPlace) → LinkStandsAt at w' → LinkStandsAt at w
     unfolding stood_at
     stood_link at s = record {
       channel = s.channel;
@@ -217,7 +217,7 @@ module _ (p : SettlingParams) (number : ℕ) (w : WorldState) (draws : List Draw
     }
 
     -- the system is at neither end of a link that stands then
-    elsewhere : (at : LinkPlace) → LinkStandsAt at w' → IsOtherSystem at number w
+    pub elsewhere : (at : LinkPlace) → LinkStandsAt at w' → IsOtherSystem at number w
     elsewhere at s place station named =
         let one = is.sound.wired.clocks place k.place station k.station named.here k.is.here
         (named.named ∙ sym k.is.named) in (
@@ -231,7 +231,7 @@ module _ (p : SettlingParams) (number : ℕ) (w : WorldState) (draws : List Draw
     changed = ap (λ (v : WorldState). v.last_change) same ∙ sym time_now
 
     module _ (at : LinkPlace) (s : StandsUnanswered at w') where
-      asked : IsAsItWas at.asking s.asking.station
+      pub asked : IsAsItWas at.asking s.asking.station
       asked = stood at.asking s.asking.station s.asking.here s.asking.live
 
       here_before : slice_get w.net.channels at.link ≡ Some s.channel
@@ -239,7 +239,7 @@ module _ (p : SettlingParams) (number : ℕ) (w : WorldState) (draws : List Draw
 
       -- beside one that had failed before they stay as they are
       module _ (other : at.answering ≢ k.place) where
-        stood_beside : StandsUnanswered at w
+        pub stood_beside : StandsUnanswered at w
         stood_beside = record {
           channel = s.channel;
           here = here_before;
@@ -259,7 +259,7 @@ module _ (p : SettlingParams) (number : ℕ) (w : WorldState) (draws : List Draw
           };
         }
 
-        abbrev beside : IsUnansweredAt at w → IsUnansweredAt at w'
+        abbrev pub beside : IsUnansweredAt at w → IsUnansweredAt at w'
         beside l = record {
           channel = l.channel;
           here = ap (λ cs. slice_get cs at.link) channels_now ∙ l.here;
@@ -282,7 +282,7 @@ module _ (p : SettlingParams) (number : ℕ) (w : WorldState) (draws : List Draw
           };
         }
 
-        silent_still : (next later : ℕ) → next ≤ later → IsSilentBy p next at w → IsSilentBy p later at w'
+        pub silent_still : (next later : ℕ) → next ≤ later → IsSilentBy p next at w → IsSilentBy p later at w'
         silent_still next later less (inl never) =
             inl (record { link = beside never.link; mute = never.mute; unmeasured = never.unmeasured })
         silent_still next later less (inr (change, one, soon)) =
@@ -318,7 +318,7 @@ module _ (p : SettlingParams) (number : ℕ) (w : WorldState) (draws : List Draw
             (clock_has w.stations at.asking s.asking.station _ asked.here s.asking.live s.asking.named)
             (clock_has w.stations at.answering k.station _ answered lives answers))
 
-        stood_good : LinkStandsAt at w
+        pub stood_good : LinkStandsAt at w
         stood_good = record {
           channel = s.channel;
           here = here_before;
@@ -337,7 +337,7 @@ module _ (p : SettlingParams) (number : ℕ) (w : WorldState) (draws : List Draw
               (is.known.set at.answering k.station answered).starts.params links.good;
         }
 
-        last_still : (first : ℕ) (x : IsFirstAt first at w) → IsLastAnswered (pair at w x.link).asker.asked at w'
+        pub last_still : (first : ℕ) (x : IsFirstAt first at w) → IsLastAnswered (pair at w x.link).asker.asked at w'
         last_still first x =
             last_begins p w w' is' changed first at x
             (ap (λ cs. slice_get cs at.link) channels_now ∙ x.link.here)

@@ -307,7 +307,7 @@ module _ (p : SettlingParams) (w : WorldState) (is : IsWorld p w) (place : ℕ) 
           (λ ways. failed_there k.place_a k.station_a k.is_a.here
           (k.is_a.named ∙ ap (λ d. (sender d channel).clock) ways)) begun k.at_a) k.at_b
 
-      never_answered : IsNeverAnswered at w'
+      pub never_answered : IsNeverAnswered at w'
       never_answered =
           let none_flies = mute_then in
           let channel_is : one.link.channel ≡ none_flies.now =

@@ -2,6 +2,7 @@
 use Rattle.std.proofs.Common.{◌≡◌, ◌⊎◌, inl, inr, ◌<◌, ◌≤◌, ◌+◌, ◌*◌, ℕ, suc, List, [], ◌∷◌, ◌++◌, refl, sym, ap, subst, ◌∙◌, append_assoc, arith}
 use Rattle.std.specs.Prelude.{min}
 use Rattle.std.specs.List.{AllByRecursion}
+use Rattle.std.proofs.Math.Nat.{le-max_left, le-max_right}
 use native.Mathlib.Decide.{dec_le}
 use Rattle.gptp_setup.specs.SettlingParams.{largest_interval}
 use Rattle.gptp_scenario.specs.Calm.{IsCalm, NothingLapses}
@@ -13,13 +14,14 @@ use Rattle.gptp_scenario.specs.declared.change.Timed.{Timed}
 use Rattle.gptp_network.specs.Document.{DocumentState}
 use Rattle.gptp_network.specs.Events.{AreInOrder}
 use Rattle.gptp_network.specs.Snapshot.{events_by}
-use Rattle.gptp_settling_time.specs.HowSoon.{AreGainEvents, AreHeardEvents, AreReadyAtStart, AreStartEvents, BoundsAging, BoundsEvents, BoundsLoss, BoundsStart, IsChoiceAloneBound, IsChoiceBound, IsChoiceBoundAfter, IsLossBoundAfter, IsRestBoundAfter, EachEvent, NoneBetween, OneEvent, RestsAfterLoss, events_at, way_span}
-use Rattle.gptp_settling_time.specs.InTurn.{Aging, AnyPast, AreCapableSoon, BeginsBy, ChoosesAfter, ChoosesByEvents, ComesByEvents, EventLeads, Gained, Heard, LeadOn, Left, Past, SettlesAfter, SettlesByEvents, Starting, StartsWith, TellsNothing, Turned, UsedVaryLittle}
-use Rattle.gptp_settling_time.specs.Losses.{FailsHeard, LowersLink, LowersUnused, TurnsLink, UpIsUsed, aging_span, silence_span}
+use Rattle.gptp_settling_time.specs.HowSoon.{AreGainEvents, AreHeardEvents, AreReadyAtStart, AreStartEvents, BoundsAging, BoundsAnyLoss, BoundsEvents, BoundsLoss, BoundsStart, IsChoiceAloneBound, IsChoiceBound, IsChoiceBoundAfter, IsLossBoundAfter, IsRestBoundAfter, EachEvent, NoneBetween, OneEvent, RestsAfterLoss, RolesAfterLoss, delay_between, events_at, way_span}
+use Rattle.gptp_settling_time.specs.InTurn.{Aging, AnyPast, AreCapableSoon, BeginsBy, ChoosesAfter, ChoosesByEvents, ComesByEvents, EventLeads, Gained, Heard, LeadOn, Left, Lost, Past, SettlesAfter, SettlesByEvents, Starting, StartsWith, TellsNothing, Turned, UsedVaryLittle}
+use Rattle.gptp_settling_time.specs.Losses.{FailsHeard, LowersLink, LowersUnused, TurnsLink, UpIsUsed, aging_span, loss_span, silence_span}
 use Rattle.gptp_settling_time.proofs.CalmLessLemmas.{failure_calm, fails_calm}
 use Rattle.gptp_settling_time.proofs.CutLemmas.{IsBy, all_by}
 use Rattle.gptp_settling_time.proofs.MomentLemmas.{all_at, last_by, parted}
-use Rattle.gptp_settling_time.proofs.LeadOnLemmas.{HasRested, HasSettled, IsLed, after_idle, any_leads, gains_led, heard_led, idle_led, leads_on, led_as, next, rested_so, settled_later, taken_later, wider_led}
+use Rattle.gptp_settling_time.proofs.LeadOnLemmas.{HasRested, HasSettled, IsLed, after_idle, any_leads, gains_led, heard_led, idle_led, lead_as, leads_on, led_as, next, rested_so, settled_later, taken_later, wider_led}
+use Rattle.gptp_settling_time.proofs.LosesLeadLemmas.{IsSilencedBy, long_silenced, losing_lead, now_silenced}
 use Rattle.gptp_settling_time.proofs.LossLeadLemmas.{IsLeftBy, ages_leads, aging_lead, cleared_led, dead_lead, loss_leads, settles_chooses, turn_leads}
 
 -- ---- a document
@@ -250,10 +252,11 @@ module _ (d : DocumentState) (network : IsNetwork d.network) (order : AreInOrder
         → IsFollowedTo d.network (events_by last d.events) last choice_then → last + choice_then < time
         → BoundsLoss d.network (events_by last d.events) now choice roles → IsLost
     lost_by last choice_then [] off is parts calm_then calm before soon loses = elim loses [
-      | inl (none, inl (lowers, is_none)) ↦ absurd lowers
-      | inl (none, inr (fails, after)) ↦ absurd fails
-      | inr (inl (turns, is_choice, same)) ↦ absurd turns
-      | inr (inr (fails, bounds)) ↦ absurd fails
+      | inl (lowers, is_roles, is_choice) ↦ absurd lowers
+      | inr (inl (fails, is_choice, after)) ↦ absurd fails
+      | inr (inr (inl (turns, is_choice, same))) ↦ absurd turns
+      | inr (inr (inr (inl (fails, bounds)))) ↦ absurd fails
+      | inr (inr (inr (inr (any, is_choice, after)))) ↦ absurd any
     ]
     lost_by last choice_then (event ∷ now) off is parts calm_then calm before soon loses = by loses
       where
@@ -301,15 +304,14 @@ module _ (d : DocumentState) (network : IsNetwork d.network) (order : AreInOrder
           chooses = λ settled late. off;
         }
 
-        lowered : (rest : List Timed) → now ≡ rest → OneEvent (LowersLink n) earlier (event ∷ rest) → roles ≡ 0
-            → IsLost
-        lowered (other ∷ rest) same none is_none = absurd none
-        lowered [] same lowers is_none =
+        lowered : (rest : List Timed) → now ≡ rest → OneEvent (LowersLink n) earlier (event ∷ rest) → IsLost
+        lowered (other ∷ rest) same none = absurd none
+        lowered [] same lowers =
             let x = loss_leads n earlier event 0 seen then
             (inl (record { lowers = lowers; calm = calm_then; off = off }, refl)) in
             let over = x.over in
             left 0 x (subst (λ es. LeadOn n (earlier ++ event ∷ []) (Left x.silent) es (Left x.silent)) (sym same) refl)
-            (λ settled late. (off, inl (omega (arith, over, here, is_none, late))))
+            (λ settled late. (off, inl (omega (arith, over, here, late))))
 
         -- by the one event a system turns
         turned : (rest : List Timed) → now ≡ rest → OneEvent (TurnsLink n) earlier (event ∷ rest)
@@ -333,9 +335,10 @@ module _ (d : DocumentState) (network : IsNetwork d.network) (order : AreInOrder
             }
 
         -- by the first a system fails that others hear, and what they hold of it ages on
-        heard : FailsHeard n earlier event → EachEvent (LowersUnused n) (earlier ++ event ∷ []) now
-            → BoundsAging n earlier (event ∷ now) choice roles → IsLost
-        heard fails others bounds =
+        heard : (held quiet : ℕ) → held ≤ choice → quiet ≤ roles → FailsHeard n earlier event
+            → EachEvent (LowersUnused n) (earlier ++ event ∷ []) now → BoundsAging n earlier (event ∷ now) held quiet
+            → IsLost
+        heard held quiet less quiet_less fails others bounds =
             let p = pace_of n in
             let span : ℕ = aging_span p (sync_paths n earlier) in
             let aged : ℕ = suc (event.at + span) in
@@ -357,29 +360,79 @@ module _ (d : DocumentState) (network : IsNetwork d.network) (order : AreInOrder
             used_so : UpIsUsed n (earlier ++ event ∷ now) → UpIsUsed n (events_by time d.events)
             used_so = subst (UpIsUsed n) (sym parts)
 
-            settles : BoundsAging n earlier (event ∷ now) choice roles → (settled : ℕ) → time + roles < settled
+            settles : BoundsAging n earlier (event ∷ now) held quiet → (settled : ℕ) → time + roles < settled
                 → (suc (event.at + silence_span (pace_of n)) ≤ settled) ⊎ UpIsUsed n (events_by time d.events)
             settles (inl (used, is_choice, is_roles)) settled late = inr (used_so used)
-            settles (inr (is_choice, is_roles)) settled late = inl (omega (arith, here, is_roles, late))
+            settles (inr (is_choice, is_roles)) settled late = inl (omega (arith, here, is_roles, late, quiet_less))
 
-            chooses : BoundsAging n earlier (event ∷ now) choice roles → (settled : ℕ) → time + choice < settled
+            chooses : BoundsAging n earlier (event ∷ now) held quiet → (settled : ℕ) → time + choice < settled
                 → (suc (event.at + aging_span (pace_of n) (sync_paths n earlier)) ≤ settled)
                 ⊎ ((suc (event.at + silence_span (pace_of n)) ≤ settled) ⊎ UpIsUsed n (events_by time d.events))
             chooses (inl (used, is_choice, is_roles)) settled late = inr (inr (used_so used))
             chooses (inr (is_choice, is_roles)) settled late =
                 lesser (aging_span (pace_of n) (sync_paths n earlier)) (silence_span (pace_of n)) is_choice
               where
-                lesser : (a b : ℕ) → choice ≡ min a b
+                lesser : (a b : ℕ) → held ≡ min a b
                     → (suc (event.at + a) ≤ settled)
                     ⊎ ((suc (event.at + b) ≤ settled) ⊎ UpIsUsed n (events_by time d.events))
                 lesser a b is = elim (dec_le a b) [
-                  | yes less ↦ inl (omega (arith, here, is, late, less))
-                  | no over ↦ inr (inl (omega (arith, here, is, late, over)))
+                  | yes first ↦ inl (omega (arith, here, is, late, less, first))
+                  | no over ↦ inr (inl (omega (arith, here, is, late, less, over)))
                 ]
 
+        -- whatever is taken away
+        any_lost : BoundsAnyLoss n earlier (event ∷ now) choice roles → IsLost
+        any_lost (any, is_choice, after) = by after
+          where
+            at_now : AllByRecursion (λ (t : Timed). t.at ≡ time) (event ∷ now)
+            at_now = subst (AllByRecursion (λ (t : Timed). t.at ≡ time)) is (all_at time d.events)
+
+            most : ℕ
+            most = delay_between n earlier (event ∷ now)
+
+            -- ports beside systems that fail aren't capable from a time on, by which roles stand
+            lost_so : (silent : ℕ) → EachEvent (IsSilencedBy n silent) earlier (event ∷ now)
+                → ((settled : ℕ) → time + roles < settled
+                → (suc (time + choice) ≤ settled)
+                × ((silent ≤ settled) ⊎ UpIsUsed n (events_by time d.events))) → IsLost
+            lost_so silent quiet settles =
+                let past : Past = Lost time most silent in
+                let less = le-max_left (sync_paths n earlier).delay (sync_paths n (earlier ++ event ∷ now)).delay in
+                let paths : choice ≡ loss_span (pace_of n) (sync_paths n (events_by time d.events)) most =
+                is_choice ∙ ap (λ es. loss_span (pace_of n) (sync_paths n es) most) (sym parts) in
+                record {
+                  first = before.first;
+                  begins = before.begins;
+                  last = past;
+                  lead = subst (λ es. LeadOn n [] before.first es past) (sym parts)
+                      (leads_on n [] before.first before.last past earlier (event ∷ now) before.lead
+                      (lead_as n earlier event now before.last seen past
+                      (taken_later n earlier before.last seen (suc (last + choice_then)) event.at
+                      (omega (arith, soon, here)) before.settles.1)
+                      (losing_lead n time network off most silent earlier (event ∷ now) seen at_now
+                      (subst (HasSettled n earlier seen) here then) calm_then less any quiet)));
+                  calm = calm;
+                  settles = λ settled late.
+                      let (passed, quiet_then) = settles settled late in (off, omega (arith, passed, paths), quiet_then);
+                  chooses = λ settled late. (off, omega (arith, late, paths));
+                }
+
+            by : RolesAfterLoss n earlier (event ∷ now) choice roles → IsLost
+            by (inl (inl none, is_roles)) =
+                lost_so time (now_silenced n time earlier (event ∷ now) at_now none)
+                (λ settled late. (omega (arith, late, is_roles), inl (omega (arith, late))))
+            by (inl (inr used, is_roles)) =
+                lost_so (suc (time + silence_span (pace_of n))) (long_silenced n time earlier (event ∷ now) at_now)
+                (λ settled late. (omega (arith, late, is_roles), inr (subst (UpIsUsed n) (sym parts) used)))
+            by (inr is_roles) =
+                let one = le-max_left choice (silence_span (pace_of n)) in
+                let other = le-max_right choice (silence_span (pace_of n)) in
+                lost_so (suc (time + silence_span (pace_of n))) (long_silenced n time earlier (event ∷ now) at_now)
+                (λ settled late. (omega (arith, late, is_roles, one), inl (omega (arith, late, is_roles, other))))
+
         by : BoundsLoss n earlier (event ∷ now) choice roles → IsLost
-        by (inl (none, inl (lowers, is_none))) = lowered now refl lowers is_none
-        by (inl (none, inr ((fails, others), after))) =
+        by (inl (lowers, is_roles, is_choice)) = lowered now refl lowers
+        by (inr (inl ((fails, others), is_choice, after))) =
             let span = silence_span (pace_of n) in
             let x = loss_leads n earlier event span seen then
             (inr (record { fails = fails; calm = calm_then; off = off }, refl)) in
@@ -394,8 +447,13 @@ module _ (d : DocumentState) (network : IsNetwork d.network) (order : AreInOrder
                 | inr long ↦ inl (omega (arith, over, here, long, late))
               ],
             ))
-        by (inr (inl (turns, is_choice, same))) = turned now refl turns is_choice same
-        by (inr (inr ((fails, others), bounds))) = heard fails others bounds
+        by (inr (inr (inl (turns, is_choice, same)))) = turned now refl turns is_choice same
+        by (inr (inr (inr (inl ((fails, others), (held, quiet, bounds, inl (same, roles_same))))))) =
+            heard held quiet (omega (arith, same)) (omega (arith, roles_same)) fails others bounds
+        by (inr (inr (inr (inl ((fails, others), (held, quiet, bounds, inr (is_later, roles_later))))))) =
+            let more = le-max_right choice quiet in
+            heard held quiet (omega (arith, is_later)) (omega (arith, roles_later, more)) fails others bounds
+        by (inr (inr (inr (inr any)))) = any_lost any
 
     lost_after : (earlier : List ℕ) → IsLossBoundAfter d.network d.events earlier time choice roles → IsLost
     lost_after [] none = absurd none

@@ -14,7 +14,7 @@ use Rattle.gptp_scenario.specs.declared.change.Change.TheVariants.{LinkDown, Lin
 use Rattle.gptp_scenario.specs.declared.change.Timed.{Timed}
 use Rattle.gptp_scenario.specs.declared.sync_wait.SyncPaths.{SyncPaths}
 use Rattle.gptp_settling_time.specs.HowSoon.{AfterIdleEvents, AreGainEvents, AreHeardEvents, AreWiderEvents, EachEvent, IsGainEvent, IsGainToo, IsHeardEvent, IsHeardToo, IsIdleEvent, IsStillEvent, TurnsUnused, way_span}
-use Rattle.gptp_settling_time.specs.InTurn.{Aging, AnyPast, Cleared, EventLeads, Gained, HasSettledAnyhow, HasSettledHeard, HasSettledSince, Heard, IsTakenAs, LeadOn, LeavesSettled, Left, MakesNothing, Past, RestsAs, SettlesAfter, Starting, Turned, TurnsInVain, WidensLink}
+use Rattle.gptp_settling_time.specs.InTurn.{Aging, AnyPast, Cleared, EventLeads, Gained, HasSettledAnyhow, HasSettledHeard, HasSettledSince, Heard, IsTakenAs, LeadOn, LeavesSettled, Left, Lost, MakesNothing, Past, RestsAs, SettlesAfter, Starting, Turned, TurnsInVain, WidensLink}
 use Rattle.gptp_settling_time.specs.Losses.{LeavesChoice}
 use Rattle.gptp_settling_time.proofs.MadeLemmas.{adds_later}
 use Rattle.gptp_settling_time.proofs.SamePathsLemmas.{idle_paths, priority_paths, turned_paths}
@@ -52,6 +52,7 @@ HasSettled n events (Left start) time = ⊥
 HasSettled n events (Turned silent now) time = ⊥
 HasSettled n events (Cleared begun silent right old) time = ⊥
 HasSettled n events (Aging aged silent) time = ⊥
+HasSettled n events (Lost since most silent) time = ⊥
 
 pub settled_later : (n : NetworkState) (events : List Timed) (past : Past) (time later : ℕ) → time ≤ later
     → HasSettled n events past time → HasSettled n events past later
@@ -64,6 +65,7 @@ settled_later n events (Left start) time later less is = absurd is
 settled_later n events (Turned silent now) time later less is = absurd is
 settled_later n events (Cleared begun silent right old) time later less is = absurd is
 settled_later n events (Aging aged silent) time later less is = absurd is
+settled_later n events (Lost since most silent) time later less is = absurd is
 
 -- or it has so as it may be taken
 abbrev pub HasRested : NetworkState → List Timed → Past → ℕ → Type 0
@@ -100,6 +102,7 @@ taken_later n events past seen time later less (inr rests) = inr (by past seen r
     by (Turned silent now) (Turned start was) none = absurd none
     by (Turned silent now) (Cleared start dark clean last) none = absurd none
     by (Turned silent now) (Aging gone start) none = absurd none
+    by (Turned silent now) (Lost begun most start) none = absurd none
     by (Cleared begun silent right old) AnyPast none = absurd none
     by (Cleared begun silent right old) Starting none = absurd none
     by (Cleared begun silent right old) (Gained start) none = absurd none
@@ -118,7 +121,9 @@ taken_later n events past seen time later less (inr rests) = inr (by past seen r
     by (Cleared begun silent right old) (Turned start now) none = absurd none
     by (Cleared begun silent right old) (Cleared start dark clean last) none = absurd none
     by (Cleared begun silent right old) (Aging gone start) none = absurd none
+    by (Cleared begun silent right old) (Lost since most start) none = absurd none
     by (Aging aged silent) seen none = absurd none
+    by (Lost since most silent) seen none = absurd none
 
 -- what is taken so is taken as nothing else
 taken_on : (n : NetworkState) (events : List Timed) (past seen other : Past) (time : ℕ)
@@ -142,6 +147,7 @@ taken_on n events past seen other time (inr rests) (inr again) = absurd (by past
     by (Turned silent now) (Turned start was) none again = none
     by (Turned silent now) (Cleared start dark clean last) none again = none
     by (Turned silent now) (Aging gone start) none again = none
+    by (Turned silent now) (Lost begun most start) none again = none
     by (Cleared begun silent right old) AnyPast none again = none
     by (Cleared begun silent right old) Starting none again = none
     by (Cleared begun silent right old) (Gained start) none again = none
@@ -150,7 +156,9 @@ taken_on n events past seen other time (inr rests) (inr again) = absurd (by past
     by (Cleared begun silent right old) (Turned start now) none again = none
     by (Cleared begun silent right old) (Cleared start dark clean last) none again = none
     by (Cleared begun silent right old) (Aging gone start) none again = none
+    by (Cleared begun silent right old) (Lost since most start) none again = none
     by (Aging aged silent) seen none again = none
+    by (Lost since most silent) seen none again = none
 
 settled_so : (n : NetworkState) (events : List Timed) (past : Past) (time : ℕ) → NothingLapses n.params
     → HasSettled n events past time → SettlesAfter n events past time
@@ -162,6 +170,7 @@ settled_so n events (Left start) time off is = absurd is
 settled_so n events (Turned silent now) time off is = absurd is
 settled_so n events (Cleared begun silent right old) time off is = absurd is
 settled_so n events (Aging aged silent) time off is = absurd is
+settled_so n events (Lost since most silent) time off is = absurd is
 
 -- what has come to rest has settled
 pub rested_so : (n : NetworkState) (events : List Timed) (past : Past) (time : ℕ) → NothingLapses n.params
@@ -179,14 +188,18 @@ rested_so n events past time off (seen, inr rests, is) = by past seen rests
     by (Turned silent now) AnyPast none = absurd none
     by (Turned silent now) Starting none = absurd none
     by (Turned silent now) (Gained start) none = absurd none
-    by (Turned silent now) (Heard start) rest = (off, elim rest.told [
-      | inl (used, told) ↦ omega (arith, told)
-      | inr told ↦ omega (arith, told)
-    ])
+    by (Turned silent now) (Heard start) rest = (
+      off,
+      elim rest.told [
+        | inl (used, told) ↦ omega (arith, told)
+        | inr told ↦ omega (arith, told)
+      ],
+    )
     by (Turned silent now) (Left start) none = absurd none
     by (Turned silent now) (Turned start was) none = absurd none
     by (Turned silent now) (Cleared start dark clean last) none = absurd none
     by (Turned silent now) (Aging gone start) none = absurd none
+    by (Turned silent now) (Lost begun most start) none = absurd none
     by (Cleared begun silent right old) AnyPast none = absurd none
     by (Cleared begun silent right old) Starting none = absurd none
     by (Cleared begun silent right old) (Gained start) none = absurd none
@@ -197,9 +210,30 @@ rested_so n events past time off (seen, inr rests, is) = by past seen rests
     by (Cleared begun silent right old) (Turned start now) none = absurd none
     by (Cleared begun silent right old) (Cleared start dark clean last) none = absurd none
     by (Cleared begun silent right old) (Aging gone start) none = absurd none
+    by (Cleared begun silent right old) (Lost since most start) none = absurd none
     by (Aging aged silent) seen none = absurd none
+    by (Lost since most silent) seen none = absurd none
 
 -- ---- an event leads from a network that has settled
+
+-- a link that isn't used is turned in vain, where ports are capable from no later than then
+turns_in_vain : (n : NetworkState) (made : List Timed) (event : Timed) (start : ℕ) → start ≤ event.at → (act : Act)
+    → TurnsUnused n made act → TurnsInVain n made event start act
+turns_in_vain n made event start late (Changing (LinkUp number port)) failed = failed
+turns_in_vain n made event start late (Changing (LinkDown number port)) failed = (failed, late)
+turns_in_vain n made event start late (Changing (LinkSet number port min max loss)) none = absurd none
+turns_in_vain n made event start late (Changing (Fail number)) none = absurd none
+turns_in_vain n made event start late (Changing (Recover number)) none = absurd none
+turns_in_vain n made event start late (Changing (Priority1 number value)) none = absurd none
+turns_in_vain n made event start late (Changing (Inject number port octets)) none = absurd none
+turns_in_vain n made event start late (Deliver link direction) none = absurd none
+turns_in_vain n made event start late (Expire number timer) none = absurd none
+
+pub makes_nothing : (n : NetworkState) (made : List Timed) (event : Timed) (start : ℕ) → start ≤ event.at
+    → NothingLapses n.params → IsIdleEvent n made event → MakesNothing n made event start
+makes_nothing n made event start late off (inl nothing) = inl nothing
+makes_nothing n made event start late off (inr turns) =
+    inr (off, turns_in_vain n made event start late event.act turns)
 
 -- the span from any past is enough to rest, and to become capable
 span_parts : (last capable clean one way time : ℕ) → last + (max capable clean + one + way) ≤ time
@@ -234,6 +268,7 @@ module _ (n : NetworkState) (made : List Timed) (event : Timed) where
   gain_leads (Turned silent now) next settled less gain = absurd settled
   gain_leads (Cleared begun silent right old) next settled less gain = absurd settled
   gain_leads (Aging aged silent) next settled less gain = absurd settled
+  gain_leads (Lost since most silent) next settled less gain = absurd settled
 
   heard_leads : (past : Past) (next : ℕ) → HasSettled n made past event.at → IsHeardEvent n next made event
       → EventLeads n made past event (Heard next)
@@ -249,6 +284,7 @@ module _ (n : NetworkState) (made : List Timed) (event : Timed) where
   heard_leads (Turned silent now) next settled heard = absurd settled
   heard_leads (Cleared begun silent right old) next settled heard = absurd settled
   heard_leads (Aging aged silent) next settled heard = absurd settled
+  heard_leads (Lost since most silent) next settled heard = absurd settled
 
   -- what makes nothing of what stands leads from a network that has settled to one that has settled by then, as if its
   -- ports had been capable from a time on
@@ -259,7 +295,7 @@ module _ (n : NetworkState) (made : List Timed) (event : Timed) where
     abbrev way : ℕ
     way = way_span (sync_paths n made)
 
-    abbrev since : ℕ
+    abbrev pub since : ℕ
     since = event.at - way
 
     way_over : (past : Past) → HasSettled n made past event.at → way ≤ event.at
@@ -271,29 +307,15 @@ module _ (n : NetworkState) (made : List Timed) (event : Timed) where
     way_over (Turned silent now) settled = absurd settled
     way_over (Cleared begun silent right old) settled = absurd settled
     way_over (Aging aged silent) settled = absurd settled
+    way_over (Lost begun most silent) settled = absurd settled
 
-    same_paths : IsStillEvent n made event → sync_paths n more ≡ sync_paths n made
+    pub same_paths : IsStillEvent n made event → sync_paths n more ≡ sync_paths n made
     same_paths (inl (inl nothing)) = idle_paths n network made event nothing
     same_paths (inl (inr turns)) = turned_paths n made event turns
     same_paths (inr leaves) = priority_paths n made event leaves.clock leaves.value leaves.act
 
-    turns_in_vain : (act : Act) → TurnsUnused n made act → TurnsInVain n made event since act
-    turns_in_vain (Changing (LinkUp number port)) failed = failed
-    turns_in_vain (Changing (LinkDown number port)) failed = (failed, omega arith)
-    turns_in_vain (Changing (LinkSet number port min max loss)) none = absurd none
-    turns_in_vain (Changing (Fail number)) none = absurd none
-    turns_in_vain (Changing (Recover number)) none = absurd none
-    turns_in_vain (Changing (Priority1 number value)) none = absurd none
-    turns_in_vain (Changing (Inject number port octets)) none = absurd none
-    turns_in_vain (Deliver link direction) none = absurd none
-    turns_in_vain (Expire number timer) none = absurd none
-
-    makes_nothing : IsIdleEvent n made event → MakesNothing n made event since
-    makes_nothing (inl nothing) = inl nothing
-    makes_nothing (inr turns) = inr (off, turns_in_vain event.act turns)
-
     leaves_still : IsStillEvent n made event → MakesNothing n made event since ⊎ LeavesChoice n made event
-    leaves_still (inl idle) = inl (makes_nothing idle)
+    leaves_still (inl idle) = inl (makes_nothing n made event since (omega arith) off idle)
     leaves_still (inr leaves) = inr leaves
 
     module _ (idle : IsStillEvent n made event) where
@@ -309,6 +331,7 @@ module _ (n : NetworkState) (made : List Timed) (event : Timed) where
       idle_leads (Turned silent now) settled = absurd settled
       idle_leads (Cleared begun silent right old) settled = absurd settled
       idle_leads (Aging aged silent) settled = absurd settled
+      idle_leads (Lost begun most silent) settled = absurd settled
 
       pub idle_settled : (past : Past) → HasSettled n made past event.at → HasSettled n more (Heard since) event.at
       idle_settled past settled =
@@ -340,6 +363,12 @@ led_more n made now event past next settled leads is = record {
 }
 
 -- what leads on as it may be taken leads on
+pub lead_as : (n : NetworkState) (made : List Timed) (event : Timed) (now : List Timed) (past seen last : Past)
+    → IsTakenAs n made past event.at seen → LeadOn n made seen (event ∷ now) last
+    → LeadOn n made past (event ∷ now) last
+lead_as n made event now past seen last taken (other, on, next, leads, rest) =
+    (other, taken_on n made past seen other event.at taken on, next, leads, rest)
+
 pub led_as : (n : NetworkState) (made now : List Timed) (past seen : Past) (time settled : ℕ)
     → AllByRecursion (λ (t : Timed). t.at ≡ time) now → time ≤ settled → IsTakenAs n made past time seen
     → IsLed n made now seen settled → IsLed n made now past settled
@@ -354,20 +383,11 @@ led_as n made [] past seen time settled at late taken is = record {
     by : HasRested n made seen settled → HasRested n made past settled
     by (other, on, has) =
         (other, taken_on n made past seen other settled (taken_later n made past seen time settled late taken) on, has)
-led_as n made (event ∷ now) past seen time settled (here, at) late taken is = by is.lead
-  where
-    by : LeadOn n made seen (event ∷ now) is.last → IsLed n made (event ∷ now) past settled
-    by (other, on, next, leads, rest) = record {
-      last = is.last;
-      lead = (
-        other,
-        taken_on n made past seen other event.at (subst (λ t. IsTakenAs n made past t seen) (sym here) taken) on,
-        next,
-        leads,
-        rest,
-      );
-      settles = is.settles;
-    }
+led_as n made (event ∷ now) past seen time settled (here, at) late taken is = record {
+  last = is.last;
+  lead = lead_as n made event now past seen is.last (subst (λ t. IsTakenAs n made past t seen) (sym here) taken) is.lead;
+  settles = is.settles;
+}
 
 module _ (n : NetworkState) (network : IsNetwork n) where
   heard_lead : (next : ℕ) (made now : List Timed) → EachEvent (IsHeardToo n next) made now
@@ -478,6 +498,7 @@ module _ (n : NetworkState) (network : IsNetwork n) where
     widens_leads made event (Turned silent now) settled by here calm is late widens soon = absurd is
     widens_leads made event (Cleared begun silent right old) settled by here calm is late widens soon = absurd is
     widens_leads made event (Aging aged silent) settled by here calm is late widens soon = absurd is
+    widens_leads made event (Lost begun most silent) settled by here calm is late widens soon = absurd is
 
     pub wider_led : (made now : List Timed) (past : Past) (settled : ℕ) → AllNow now → IsCalm n made
         → HasSettled n made past (suc settled) → settled < time → AreWiderEvents n settled time made now

@@ -32,7 +32,7 @@ use Rattle.gptp_theorem.proofs.CalmLemmas.{quiet_stands}
 use Rattle.gptp_theorem.proofs.SettlingInvariantLemmas.{IsFitEvent, least_of}
 use Rattle.gptp_theorem.proofs.SyncPathLemmas.{paths_stand}
 use Rattle.gptp_settling_time.specs.Gains.{ChangesNothing, IsIdleAfter, LeavesCapable, TakesNothing}
-use Rattle.gptp_settling_time.specs.InTurn.{AddsHeard, Aging, AnyPast, BettersClock, BringsUp, Cleared, ClearsBy, EventLeads, FailsNow, Gained, HasSettledAnyhow, HasSettledHeard, HasSettledSince, Heard, LeavesSettled, LeavesStanding, Left, LowersUnusedCalm, MakesNothing, Past, RecoversAlone, Starting, Turned, TurnsInVain, TurnsNow, WidensFrom}
+use Rattle.gptp_settling_time.specs.InTurn.{AddsHeard, Aging, AnyPast, BettersClock, BringsUp, Cleared, ClearsBy, EventLeads, FailsNow, Gained, HasSettledAnyhow, HasSettledHeard, HasSettledSince, Heard, LeavesSettled, LeavesStanding, Left, LosesNow, Lost, LowersUnusedCalm, MakesNothing, Past, RecoversAlone, Starting, Turned, TurnsInVain, TurnsNow, WidensFrom}
 use Rattle.gptp_settling_time.proofs.AgingDownLemmas.{down_aging}
 use Rattle.gptp_settling_time.proofs.AgingToLemmas.{IsAgingTo, aging_to_later}
 use Rattle.gptp_settling_time.proofs.AlwaysClaimedLemmas.{IsClaimedAlways, since_later}
@@ -62,6 +62,9 @@ use Rattle.gptp_settling_time.proofs.StandsStillLemmas.{StandsStill, claims_stan
 use Rattle.gptp_settling_time.proofs.StartEventLemmas.{IsStarting, IsStartingTo, starting_later, starting_made, starts_claimed, starts_news}
 use Rattle.gptp_settling_time.proofs.AfterLemmas.{IsAfter}
 use Rattle.gptp_settling_time.proofs.LossMadeLemmas.{HasRestedSo, aging_so, cleared_to, left_to, turned_so}
+use Rattle.gptp_settling_time.proofs.LostClaimedLemmas.{IsLostAlways}
+use Rattle.gptp_settling_time.proofs.LostMadeLemmas.{loses_first, loses_more, made_still}
+use Rattle.gptp_settling_time.proofs.LostToLemmas.{IsLostTo, lost_to_later}
 use Rattle.gptp_settling_time.proofs.WorldMovesLemmas.{near_so, stays_unmoved}
 use Rattle.gptp_graph.specs.Snapshot.{Snapshot}
 use Rattle.gptp_settling_time.specs.Losses.{LowersUnused}
@@ -200,12 +203,8 @@ module _ {F : Type 0} (answers : Bounds → ℕ → F → Option ℕ → F → T
 
   -- it changes nothing
   stands_still : ChangesNothing n made event.act → StandsStill then w'
-  stands_still nothing =
-      let acts : Acts (Changing is.change) then k.draws done w' =
-      subst (λ act. Acts act then k.draws done w') is.act k.acts in
-      let idle_after : IsIdleAfter n made is.change = subst (ChangesNothing n made) is.act nothing in
-      let idle = idle_so n made then keeps_then.stands keeps_then.claim.world.sound is.change idle_after in
-      idle_still then keeps_then.claim.world.sound k.draws w' is.change idle acts.1
+  stands_still =
+      made_still d playable made event then k.draws done w' is k.acts fit.octet refl time_now last_now keeps_then after
 
   -- or turns a link of which an end has failed
   module _ (start : ℕ) (off : NothingLapses n.params) where
@@ -402,6 +401,7 @@ module _ {F : Type 0} (answers : Bounds → ℕ → F → Option ℕ → F → T
     leads_to_heard (Turned silent now) next none so = absurd none
     leads_to_heard (Cleared since silent right old) next none so = absurd none
     leads_to_heard (Aging aged silent) next none so = absurd none
+    leads_to_heard (Lost since most silent) next none so = absurd none
 
     -- in each case it has rested
     rested_any : HasSettledAnyhow n made event.at → HasRestedSo p (last_change made + capability_span p) event.at then
@@ -530,6 +530,7 @@ module _ {F : Type 0} (answers : Bounds → ℕ → F → Option ℕ → F → T
     leads_to_left (Turned silent now) next none so = absurd none
     leads_to_left (Cleared since silent right old) next none so = absurd none
     leads_to_left (Aging aged silent) next none so = absurd none
+    leads_to_left (Lost since most silent) next none so = absurd none
 
     leads_to_turned : (past : Past) (silent now : ℕ) → EventLeads n made past event (Turned silent now)
         → IsAfter d made past w → IsTurnedTo d more silent now w'
@@ -544,6 +545,7 @@ module _ {F : Type 0} (answers : Bounds → ℕ → F → Option ℕ → F → T
     leads_to_turned (Turned start was) silent now none so = absurd none
     leads_to_turned (Cleared since start right old) silent now none so = absurd none
     leads_to_turned (Aging aged start) silent now none so = absurd none
+    leads_to_turned (Lost since most start) silent now none so = absurd none
 
     clears : (start since silent right old : ℕ) → HasRestedSo p start event.at then
         → ClearsBy n made event start since silent right old → IsClearedTo d more since silent right old w'
@@ -575,6 +577,7 @@ module _ {F : Type 0} (answers : Bounds → ℕ → F → Option ℕ → F → T
           is = fallen_cleared x.before dark falls x.is.left start clean last past x.is;
         }))))
     leads_to_cleared (Aging aged start) since silent right old none so = absurd none
+    leads_to_cleared (Lost begun most start) since silent right old none so = absurd none
 
     ages : (start aged silent : ℕ) → HasRestedSo p start event.at then → FailsNow n made event aged silent
         → IsAgingTo d more aged silent w'
@@ -612,6 +615,34 @@ module _ {F : Type 0} (answers : Bounds → ℕ → F → Option ℕ → F → T
               (up_so n made then keeps_then.stands end x.up came.1.place came.1.channel came.1.is)
               (unused_so n made then keeps_then.stands world.sound end x.failed);
         }))
+    leads_to_aging (Lost since most start) aged silent none so = absurd none
+
+    loses_now : (start since most silent : ℕ) → HasRestedSo p start event.at then
+        → LosesNow n made event since most silent → IsLostTo d more since most silent w'
+    loses_now =
+        loses_first d playable made event then k.draws done w' is k.acts fit.octet refl time_now last_now keeps_then
+        after
+
+    leads_to_lost : (past : Past) (since most silent : ℕ) → EventLeads n made past event (Lost since most silent)
+        → IsAfter d made past w → IsLostTo d more since most silent w'
+    leads_to_lost AnyPast since most silent (settled, now) so =
+        loses_now (last_change made + capability_span p) since most silent (rested_any settled) now
+    leads_to_lost Starting since most silent none so = absurd none
+    leads_to_lost (Gained start) since most silent (settled, now) so =
+        loses_now start since most silent (rested_gained start settled so.news) now
+    leads_to_lost (Heard start) since most silent (settled, now) so =
+        loses_now start since most silent (rested_heard start settled so.since) now
+    leads_to_lost (Left start) since most silent none so = absurd none
+    leads_to_lost (Turned start was) since most silent none so = absurd none
+    leads_to_lost (Cleared begun start right old) since most silent none so = absurd none
+    leads_to_lost (Aging aged start) since most silent none so = absurd none
+    leads_to_lost (Lost begun delay start) since most silent (more_now, same_since, same_most, same_silent) so =
+        loses_more d playable made event then k.draws done w' is k.acts fit.octet refl time_now last_now keeps_then
+        after since most silent
+        (subst (λ t. IsLostAlways p t most silent then) (sym same_since)
+        (subst (λ m. IsLostAlways p begun m silent then) (sym same_most)
+        (subst (λ t. IsLostAlways p begun delay t then) (sym same_silent)
+        (lost_to_later d made begun delay start w event.at k.ready.timely.now k.ready.timely.first so).is))) more_now
 
     leads_to_gain : (past : Past) (next : ℕ) → EventLeads n made past event (Gained next) → IsAfter d made past w
         → IsNewsFrom p next w'
@@ -628,6 +659,7 @@ module _ {F : Type 0} (answers : Bounds → ℕ → F → Option ℕ → F → T
     leads_to_gain (Turned silent now) next (inl (nothing, none)) so = absurd none
     leads_to_gain (Cleared since silent right old) next (inl (nothing, none)) so = absurd none
     leads_to_gain (Aging aged silent) next (inl (nothing, none)) so = absurd none
+    leads_to_gain (Lost since most silent) next (inl (nothing, none)) so = absurd none
     leads_to_gain Starting next (inl (nothing, none)) so = absurd none
     leads_to_gain AnyPast next (inr (inl (nothing, stays))) so = absurd stays
     leads_to_gain Starting next (inr (inl (nothing, stays))) so = absurd stays
@@ -635,6 +667,7 @@ module _ {F : Type 0} (answers : Bounds → ℕ → F → Option ℕ → F → T
     leads_to_gain (Turned silent now) next (inr (inl (nothing, stays))) so = absurd stays
     leads_to_gain (Cleared since silent right old) next (inr (inl (nothing, stays))) so = absurd stays
     leads_to_gain (Aging aged silent) next (inr (inl (nothing, stays))) so = absurd stays
+    leads_to_gain (Lost since most silent) next (inr (inl (nothing, stays))) so = absurd stays
     leads_to_gain (Gained start) next (inr (inl (nothing, same))) so = left_news start next nothing same so.news
     leads_to_gain (Heard start) next (inr (inl (nothing, same))) so =
         left_news start next nothing same (inl so.since.news)
@@ -648,6 +681,7 @@ module _ {F : Type 0} (answers : Bounds → ℕ → F → Option ℕ → F → T
     leads_to_gain (Turned silent now) next (inr (inr none)) so = absurd none
     leads_to_gain (Cleared since silent right old) next (inr (inr none)) so = absurd none
     leads_to_gain (Aging aged silent) next (inr (inr none)) so = absurd none
+    leads_to_gain (Lost since most silent) next (inr (inr none)) so = absurd none
 
     leads_to_start : (past : Past) → EventLeads n made past event Starting → IsAfter d made past w
         → IsStartingTo d more w'
@@ -661,6 +695,7 @@ module _ {F : Type 0} (answers : Bounds → ℕ → F → Option ℕ → F → T
     leads_to_start (Turned silent now) none so = absurd none
     leads_to_start (Cleared since silent right old) none so = absurd none
     leads_to_start (Aging aged silent) none so = absurd none
+    leads_to_start (Lost since most silent) none so = absurd none
 
     pub leads_to : (past next : Past) → EventLeads n made past event next → IsAfter d made past w
         → IsAfter d more next w'
@@ -672,3 +707,4 @@ module _ {F : Type 0} (answers : Bounds → ℕ → F → Option ℕ → F → T
     leads_to past (Turned silent now) leads so = leads_to_turned past silent now leads so
     leads_to past (Cleared since silent right old) leads so = leads_to_cleared past since silent right old leads so
     leads_to past (Aging aged silent) leads so = leads_to_aging past aged silent leads so
+    leads_to past (Lost since most silent) leads so = leads_to_lost past since most silent leads so

@@ -1,7 +1,7 @@
 -- A loss leads a network that has settled to what is left, or in which a system turns, or that is cleared.
-use Rattle.std.proofs.Common.{List, [], ap, append-nil, append_assoc, arith, inl, inr, refl, subst, suc, sym, ℕ, ◌*◌, ◌++◌, ◌+◌, ◌∙◌, ◌∷◌, ◌≡◌, ◌≤◌, ◌⊎◌}
+use Rattle.std.proofs.Common.{List, [], ap, append-nil, append_assoc, arith, inl, inr, max, pred, refl, subst, suc, sym, zero, ℕ, ◌*◌, ◌++◌, ◌+◌, ◌∙◌, ◌∷◌, ◌≡◌, ◌≤◌, ◌⊎◌}
 use Rattle.std.specs.List.{AllByRecursion}
-use Rattle.std.proofs.Math.Nat.{le-max_left, mul-le-mul_right}
+use Rattle.std.proofs.Math.Nat.{le-max_left, le-max_right, mul-le-mul_right}
 use Rattle.gptp_setup.specs.SettlingParams.{SettlingParams, largest_interval, longest_span}
 use Rattle.gptp_scenario.specs.Calm.{IsCalm, NothingLapses, last_change}
 use Rattle.gptp_scenario.specs.Network.{NetworkState, pace_of}
@@ -10,7 +10,7 @@ use Rattle.gptp_scenario.specs.SyncWait.{sync_paths}
 use Rattle.gptp_scenario.specs.declared.change.Timed.{Timed}
 use Rattle.gptp_scenario.specs.declared.sync_wait.SyncPaths.{SyncPaths}
 use Rattle.gptp_settling_time.specs.HowSoon.{CutsOneEnd, EachEvent, FailsEndFirst, LowersOneLink, RestsAfterLoss, TurnsOneLink, TurnsUnused, way_span}
-use Rattle.gptp_settling_time.specs.InTurn.{Aging, AnyPast, ChoosesAfter, Cleared, CutsCalm, EventLeads, FailsCalm, FailsNow, FlightIsGone, Gained, Heard, LeadOn, Left, LowersCalm, Past, SettlesAfter, Starting, Turned, TurnsCalm, echo_span, turned_echo_span}
+use Rattle.gptp_settling_time.specs.InTurn.{Aging, AnyPast, ChoosesAfter, Cleared, CutsCalm, EventLeads, FailsCalm, FailsNow, FlightIsGone, Gained, Heard, LeadOn, Left, LosesNow, Lost, LowersCalm, Past, SettlesAfter, Starting, Turned, TurnsCalm, echo_span, nearer_echo_span, turned_echo_span}
 use Rattle.gptp_settling_time.specs.Losses.{CutsFarEnd, FailsFarEnd, LowersLink, LowersUnused, TurnsLink, UpIsUsed, silence_span}
 use Rattle.gptp_settling_time.proofs.CalmLessLemmas.{fails_calm, lowers_calm}
 use Rattle.gptp_settling_time.proofs.SamePathsLemmas.{turned_paths}
@@ -62,6 +62,7 @@ module _ (n : NetworkState) (made : List Timed) (event : Timed) (roles : ℕ) wh
   loss_leads (Turned silent now) settled loses = absurd settled
   loss_leads (Cleared begun silent right old) settled loses = absurd settled
   loss_leads (Aging aged silent) settled loses = absurd settled
+  loss_leads (Lost since most silent) settled loses = absurd settled
 
 -- after one by which a system turns it has turned
 module _ (n : NetworkState) (made : List Timed) (event : Timed) where
@@ -89,6 +90,7 @@ module _ (n : NetworkState) (made : List Timed) (event : Timed) where
   turn_leads (Turned silent now) settled turns = absurd settled
   turn_leads (Cleared begun silent right old) settled turns = absurd settled
   turn_leads (Aging aged silent) settled turns = absurd settled
+  turn_leads (Lost since most silent) settled turns = absurd settled
 
   -- after one of a system that others hear what they hold of it ages
   pub ages_leads : (past : Past) (aged silent : ℕ) → HasSettled n made past event.at → FailsNow n made event aged silent
@@ -101,6 +103,20 @@ module _ (n : NetworkState) (made : List Timed) (event : Timed) where
   ages_leads (Turned start was) aged silent settled now = absurd settled
   ages_leads (Cleared begun start right old) aged silent settled now = absurd settled
   ages_leads (Aging gone start) aged silent settled now = absurd settled
+  ages_leads (Lost since most start) aged silent settled now = absurd settled
+
+  -- after any other it has lost
+  pub loses_leads : (past : Past) (since most silent : ℕ) → HasSettled n made past event.at
+      → LosesNow n made event since most silent → EventLeads n made past event (Lost since most silent)
+  loses_leads AnyPast since most silent settled now = (settled, now)
+  loses_leads Starting since most silent settled now = absurd settled
+  loses_leads (Gained start) since most silent settled now = (settled, now)
+  loses_leads (Heard start) since most silent settled now = (settled, now)
+  loses_leads (Left start) since most silent settled now = absurd settled
+  loses_leads (Turned start was) since most silent settled now = absurd settled
+  loses_leads (Cleared begun start right old) since most silent settled now = absurd settled
+  loses_leads (Aging aged start) since most silent settled now = absurd settled
+  loses_leads (Lost begun delay start) since most silent settled now = absurd settled
 
 -- what settles has its choice
 pub settles_chooses : (n : NetworkState) (events : List Timed) (past : Past) (settled : ℕ)
@@ -113,6 +129,7 @@ settles_chooses n events (Left silent) settled (off, late) = off
 settles_chooses n events (Turned silent now) settled so = so
 settles_chooses n events (Cleared begun silent right old) settled (off, late) = off
 settles_chooses n events (Aging aged silent) settled (off, late) = (off, inr late)
+settles_chooses n events (Lost since most silent) settled (off, passed, late) = (off, passed)
 
 -- a network that is left stays so where links go down of which an end has failed
 pub dead_lead : (n : NetworkState) (made now : List Timed) (silent : ℕ) → NothingLapses n.params → IsCalm n made
@@ -203,6 +220,7 @@ module _ (n : NetworkState) (made : List Timed) (event : Timed) (gone : ℕ) (fl
   cut_leads (Turned silent now) settled cuts = absurd settled
   cut_leads (Cleared begun silent right last) settled cuts = absurd settled
   cut_leads (Aging aged silent) settled cuts = absurd settled
+  cut_leads (Lost since most silent) settled cuts = absurd settled
 
   -- or as it fails, once the ports beside it have been unanswered for long enough
   fail_leads : (past : Past) → HasSettled n made past event.at → FailsCalm n made event
@@ -237,12 +255,13 @@ module _ (n : NetworkState) (made : List Timed) (event : Timed) (gone : ℕ) (fl
   fail_leads (Turned silent now) settled fails = absurd settled
   fail_leads (Cleared begun silent right last) settled fails = absurd settled
   fail_leads (Aging aged silent) settled fails = absurd settled
+  fail_leads (Lost since most silent) settled fails = absurd settled
 
 -- after another such link goes down it is, once right traces are told
 module _ (n : NetworkState) (made : List Timed) (event : Timed) (gone : ℕ)
     (flight : FlightIsGone n (made ++ event ∷ []) gone) where
   abbrev echo : ℕ
-  echo = echo_span n (made ++ event ∷ [])
+  echo = nearer_echo_span n (made ++ event ∷ [])
 
   record IsRightedBy (past : Past) : Type 0 where
     since : ℕ
@@ -274,6 +293,7 @@ module _ (n : NetworkState) (made : List Timed) (event : Timed) (gone : ℕ)
   right_leads (Turned silent now) settled lowers = absurd settled
   right_leads (Cleared begun silent right last) settled lowers = absurd settled
   right_leads (Aging aged silent) settled lowers = absurd settled
+  right_leads (Lost since most silent) settled lowers = absurd settled
 
 -- an announce interval is over by when ports beside a system that failed aren't capable
 interval_span : (p : SettlingParams) → largest_interval p ≤ capability_span p
@@ -281,6 +301,13 @@ interval_span p =
     let more : 1 * largest_interval p ≤ (p.params.lost + 5) * largest_interval p =
     mul-le-mul_right (largest_interval p) (omega arith) in
     omega (arith, more)
+
+-- What was in flight as all but the neighbours of the best tell what is right is gone once they do too.
+nearer_within : (systems hop gone : ℕ) → gone ≤ hop → pred (pred systems) * hop + gone ≤ max (pred systems * hop) gone
+nearer_within zero hop gone soon = let least = le-max_right (0 * hop) gone in omega (arith, least)
+nearer_within (suc zero) hop gone soon = let least = le-max_right (0 * hop) gone in omega (arith, least)
+nearer_within (suc (suc k)) hop gone soon =
+    let most = le-max_left (suc k * hop) gone in omega (arith, most, soon)
 
 -- it has come to rest by so much later
 module _ (n : NetworkState) (off : NothingLapses n.params) (time : ℕ) (made now : List Timed) (past : Past) (rest : ℕ)
@@ -332,23 +359,23 @@ module _ (n : NetworkState) (off : NothingLapses n.params) (time : ℕ) (made no
           (less_way (sync_paths n made).systems (sync_paths n (made ++ event ∷ [])).systems (sync_paths n made).delay
           (sync_paths n (made ++ event ∷ [])).delay fewer delay)
 
-    cut_led : CutsFarEnd n made event → others ≡ [] → FlightIsGone n made rest
-        → IsLed n made now past (suc (time + rest))
-    cut_led cuts alone flight =
-        let x = cut_leads n made event rest flight past settled_then
+    cut_led : CutsFarEnd n made event → others ≡ [] → (gone : ℕ) → FlightIsGone n made gone
+        → rest ≡ max (2 * way_span (sync_paths n (made ++ now))) gone → IsLed n made now past (suc (time + rest))
+    cut_led cuts alone gone flight is =
+        let x = cut_leads n made event gone flight past settled_then
         (record { cuts = cuts; calm = calm_then; off = off }) in
         let l = cuts.lowers in
         let less = way_then (subst (EachEvent (LowersUnused n) (made ++ event ∷ [])) (sym alone) tt) l.delay l.paths in
         let before = here in
         let early = x.early in
-        led x.since x.silent 0 (event.at + rest) x.since x.leads
-        (subst (λ es. LeadOn n (made ++ event ∷ []) (Cleared x.since x.silent 0 (event.at + rest)) es
-        (Cleared x.since x.silent 0 (event.at + rest))) (sym alone) refl) (omega (arith, before)) (omega arith)
+        led x.since x.silent 0 (event.at + gone) x.since x.leads
+        (subst (λ es. LeadOn n (made ++ event ∷ []) (Cleared x.since x.silent 0 (event.at + gone)) es
+        (Cleared x.since x.silent 0 (event.at + gone))) (sym alone) refl) (omega (arith, before, is)) (omega arith)
         (inl x.over) (omega (arith, early, before, less))
 
     -- another such link goes down
     right_led : LowersLink n made event → others ≡ [] → (gone : ℕ) → FlightIsGone n (made ++ now) gone
-        → rest ≡ echo_span n (made ++ now) + gone → IsLed n made now past (suc (time + rest))
+        → rest ≡ max (echo_span n (made ++ now)) gone → IsLed n made now past (suc (time + rest))
     right_led lowers alone gone flight is =
         let one : made ++ now ≡ made ++ event ∷ [] =
         ap (λ es. made ++ es) (same ∙ ap (λ es. event ∷ es) alone) in
@@ -356,17 +383,24 @@ module _ (n : NetworkState) (off : NothingLapses n.params) (time : ℕ) (made no
         (record { lowers = lowers; calm = calm_then; off = off }) in
         let less = way_then (subst (EachEvent (LowersUnused n) (made ++ event ∷ [])) (sym alone) tt) lowers.delay
         lowers.paths in
-        let echo_is : echo_span n (made ++ now) ≡ echo_span n (made ++ event ∷ []) = ap (echo_span n) one in
+        let last : Past = Cleared x.since x.since (event.at + 1 + nearer_echo_span n (made ++ event ∷ []))
+        (event.at + nearer_echo_span n (made ++ event ∷ []) + gone) in
+        let within : nearer_echo_span n (made ++ event ∷ []) + gone ≤ max (echo_span n (made ++ now)) gone =
+        subst (λ es. nearer_echo_span n es + gone ≤ max (echo_span n (made ++ now)) gone) one
+        (nearer_within (sync_paths n (made ++ now)).systems
+        (largest_interval (pace_of n) + (sync_paths n (made ++ now)).delay) gone (gone_soon flight)) in
         let before = here in
         let early = x.early in
-        led x.since x.since (event.at + 1 + echo_span n (made ++ event ∷ []))
-        (event.at + echo_span n (made ++ event ∷ []) + gone) x.since x.leads
-        (subst (λ es. LeadOn n (made ++ event ∷ []) (Cleared x.since x.since
-        (event.at + 1 + echo_span n (made ++ event ∷ [])) (event.at + echo_span n (made ++ event ∷ []) + gone)) es
-        (Cleared x.since x.since (event.at + 1 + echo_span n (made ++ event ∷ []))
-        (event.at + echo_span n (made ++ event ∷ []) + gone))) (sym alone) refl)
-        (omega (arith, before, is, echo_is)) (omega arith) (inl (omega arith))
+        led x.since x.since (event.at + 1 + nearer_echo_span n (made ++ event ∷ []))
+        (event.at + nearer_echo_span n (made ++ event ∷ []) + gone) x.since x.leads
+        (subst (λ es. LeadOn n (made ++ event ∷ []) last es last) (sym alone) refl)
+        (omega (arith, before, is, within)) (omega arith) (inl (omega arith))
         (omega (arith, early, before, less))
+      where
+        gone_soon : FlightIsGone n (made ++ now) gone
+            → gone ≤ largest_interval (pace_of n) + (sync_paths n (made ++ now)).delay
+        gone_soon (inl (used, delay)) = omega (arith, delay)
+        gone_soon (inr interval) = omega (arith, interval)
 
     fail_led : FailsFarEnd n made event → EachEvent (LowersUnused n) (made ++ event ∷ []) others
         → (UpIsUsed n (made ++ now) × FlightIsGone n made rest)
@@ -432,12 +466,13 @@ module _ (n : NetworkState) (off : NothingLapses n.params) (time : ℕ) (made no
         by_way (inr is) = let before = here in omega (arith, before, is)
 
   lost_led : (es : List Timed) → now ≡ es
-      → (CutsOneEnd n made es × FlightIsGone n made rest)
+      → (CutsOneEnd n made es
+      × ((gone : ℕ) × FlightIsGone n made gone × (rest ≡ max (2 * way_span (sync_paths n (made ++ now))) gone)))
       ⊎ ((FailsEndFirst n made es
       × ((UpIsUsed n (made ++ now) × FlightIsGone n made rest)
       ⊎ (rest ≡ capability_span (pace_of n) + way_span (sync_paths n (made ++ now)))))
       ⊎ ((LowersOneLink n made es
-      × ((gone : ℕ) × FlightIsGone n (made ++ now) gone × (rest ≡ echo_span n (made ++ now) + gone)))
+      × ((gone : ℕ) × FlightIsGone n (made ++ now) gone × (rest ≡ max (echo_span n (made ++ now)) gone)))
       ⊎ (TurnsOneLink n made es
       × ((UpIsUsed n (made ++ now) × (rest ≡ turned_echo_span n (made ++ now)))
       ⊎ (rest ≡ turned_echo_span n (made ++ now) + largest_interval (pace_of n))))))
@@ -449,7 +484,7 @@ module _ (n : NetworkState) (off : NothingLapses n.params) (time : ℕ) (made no
   lost_led (event ∷ other ∷ others) same (inl (none, flight)) = absurd none
   lost_led (event ∷ other ∷ others) same (inr (inr (inl (none, after)))) = absurd none
   lost_led (event ∷ other ∷ others) same (inr (inr (inr (none, after)))) = absurd none
-  lost_led (event ∷ []) same (inl (cuts, flight)) = cut_led event [] same cuts refl flight
+  lost_led (event ∷ []) same (inl (cuts, (gone, flight, is))) = cut_led event [] same cuts refl gone flight is
   lost_led (event ∷ []) same (inr (inr (inl (lowers, (gone, flight, is))))) =
       right_led event [] same lowers refl gone flight is
   lost_led (event ∷ []) same (inr (inr (inr (turns, which)))) = turned_led event [] same turns refl which

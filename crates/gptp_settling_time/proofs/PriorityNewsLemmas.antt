@@ -89,7 +89,7 @@ module _ (w w' : WorldState) (r : Reacts w w') where
         good = rw (bounds, answers, asks) stands.good;
       }
 
-  stood_unanswered : (at : LinkPlace) → StandsUnanswered at w' → StandsUnanswered at w
+  pub stood_unanswered : (at : LinkPlace) → StandsUnanswered at w' → StandsUnanswered at w
   stood_unanswered at s =
       let (old, here, same) = alike bare bare w.net.channels w'.net.channels (sym r.links) at.link s.channel s.here in
       let begins = ap (λ (q : PortId). q.clock) (same_sender at.direction old s.channel same) in
@@ -124,7 +124,7 @@ module _ (gone : ℕ) (at : LinkPlace) (place value : ℕ) (w : WorldState) (dra
           (subst (InvUnanswered (silent_setting at w is.link) gone) (sym same_view) is.inv);
     }
 
-  prioritized_silent : CallsIfLive place (Priority value) w draws w' → IsSilent gone at w'
+  pub prioritized_silent : CallsIfLive place (Priority value) w draws w' → IsSilent gone at w'
   prioritized_silent (inl (answer, k)) = called_silent answer k
   prioritized_silent (inr (failed, none, same)) = subst (IsSilent gone at) (sym same) is
 

@@ -224,7 +224,7 @@ module _ (n : NetworkState) (network : IsNetwork n) (made : List Timed) where
 
 -- ---- a link with a failed end comes up or goes down
 
-any_in : {X : Type 0} (p : X → Bool) (xs : List X) → list_any p xs ≡ true → (x : X) × In x xs × (p x ≡ true)
+pub any_in : {X : Type 0} (p : X → Bool) (xs : List X) → list_any p xs ≡ true → (x : X) × In x xs × (p x ≡ true)
 any_in p [] none = absurd cc
 any_in p (x ∷ xs) some =
     elim (or_cases (p x) (list_any p xs) some) [

@@ -42,6 +42,7 @@ use Rattle.gptp_system.specs.declared.port.Port.{Port}
 use Rattle.gptp_settling_time.proofs.AskedInTimeLemmas.{AreAskedInTime}
 use Rattle.gptp_settling_time.proofs.BetweenFailedLemmas.{AreGoneBetween}
 use Rattle.gptp_settling_time.proofs.AlwaysClaimedLemmas.{IsClaimedAlways}
+use Rattle.gptp_settling_time.proofs.LastAnsweredLemmas.{IsLastAnswered, IsSince, last_then}
 use Rattle.gptp_settling_time.proofs.SameLinkLemmas.{StaysSameLink}
 use Rattle.gptp_settling_time.proofs.NewsSoonLemmas.{IsNewsFrom, from_silent, from_sound}
 use Rattle.gptp_settling_time.proofs.StandsLikeLemmas.{StandsLike, claims_like, from_like, news_like, turn_like_network}
@@ -162,7 +163,7 @@ module _ (w w' : WorldState) (still : StandsStill w w') where
       let channels = still.channels in
       λ i. record { time = time i; stations = seen i; lanes = lanes_view (channels i) }
 
-  systems_still : live_stations w'.stations ≡ live_stations w.stations
+  pub systems_still : live_stations w'.stations ≡ live_stations w.stations
   systems_still = of_plain live_stations live_plain w.stations w'.stations still.stations
 
   pub snapshot_still : snapshot_of w' ≡ snapshot_of w
@@ -311,7 +312,7 @@ module _ (w w' : WorldState) (still : StandsStill w w') where
 
   -- ---- ports beside failed systems
 
-  unanswered_before : (at : LinkPlace) → StandsUnanswered at w' → StandsUnanswered at w
+  pub unanswered_before : (at : LinkPlace) → StandsUnanswered at w' → StandsUnanswered at w
   unanswered_before at s = record {
     channel = s.channel;
     here = ap (λ cs. slice_get cs at.link) (sym still.channels) ∙ s.here;
@@ -356,6 +357,20 @@ module _ (w w' : WorldState) (still : StandsStill w w') where
         inv = subst (λ (k : Setting). InvUnanswered k gone (silent_view at w' after)) (sym settled)
             (subst (λ (u : Unanswered). InvUnanswered (silent_setting at w l) gone u) (sym seen) is.inv);
       }
+
+  pub last_still : (sent : ℕ) (at : LinkPlace) → IsLastAnswered sent at w → IsLastAnswered sent at w'
+  last_still sent at is =
+      let l = is.link in
+      let a = end_still at.asking (sender at.direction l.channel) l.asking in
+      let b = station_still at.answering l.answering.station l.answering.here in
+      let time = still.time in
+      let seen : silent_view at w' (unanswered_still at l) ≡ silent_view at w l = λ i. record {
+        time = time i;
+        asker = asker_view (interval_of (a.same i).setup.params.pdelay) (measure_at (a.state i));
+      } in
+      last_then sent at w w' is (unanswered_still at l)
+      (λ i. setting_named at.direction l.channel (a.same i).setup (b.same i).setup) (λ f member. member)
+      (subst (IsSince (silent_setting at w l) sent) (sym seen) is.since)
 
   pub never_still : (at : LinkPlace) → IsNeverAnswered at w → IsNeverAnswered at w'
   never_still at is =

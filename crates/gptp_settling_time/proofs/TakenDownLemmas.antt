@@ -14,7 +14,7 @@ use Rattle.gptp_links.specs.Fate.{Draw}
 use Rattle.gptp_setup.specs.Intervals.{interval_of}
 use Rattle.gptp_setup.specs.SettlingParams.{SettlingParams, largest_interval}
 use Rattle.gptp_system.specs.declared.answer.Answer.{Answer}
-use Rattle.gptp_system.specs.Input.{PortDown}
+use Rattle.gptp_system.specs.Input.{Input, PortDown}
 use Rattle.gptp_system.specs.Measures.{measure_at}
 use Rattle.gptp_system.specs.State.{clock}
 use Rattle.gptp_model.specs.Act.{Calls, in_state}
@@ -39,7 +39,8 @@ use Rattle.gptp_invariants.specs.WorldStanding.{snapshot_of}
 use Rattle.gptp_invariants.proofs.ChoiceCalmKeptLemmas.{KeepsNetwork, calls_keep, keeps_on, net_keeps}
 use Rattle.gptp_invariants.proofs.FailedNeverAnsweredLemmas.{never_called}
 use Rattle.gptp_invariants.proofs.FailedUnansweredCallLemmas.{CallStep, call_seen, view_stays}
-use Rattle.gptp_settling_time.proofs.LastAnsweredLemmas.{AreOffBy, IsLastAnswered, IsSince, last_then}
+use Rattle.gptp_settling_time.proofs.EndsToldLemmas.{off_told, silent_told}
+use Rattle.gptp_settling_time.proofs.LastAnsweredLemmas.{AreOffBy}
 use Rattle.gptp_settling_time.proofs.LinkStoodLemmas.{stood_in, stood_untold}
 use Rattle.gptp_settling_time.proofs.ReactsLemmas.{lives_as}
 use Rattle.gptp_settling_time.proofs.SamePartsLemmas.{of_down}
@@ -90,57 +91,6 @@ told_stand : (channel : Channel) (w : WorldState) (draws : List Draw) (w' : Worl
 told_stand channel w draws w' k =
     if_live_stand k.place_b channel.b.port k.between k.second w' k.at_b
     ∙ if_live_stand k.place_a channel.a.port w k.first k.between k.at_a
-
--- ---- a port beside a failed system
-
-module _ (gone : ℕ) (at : LinkPlace) (place : ℕ) (port : PortId) (w : WorldState) (draws : List Draw) (w' : WorldState)
-    (named : (station : Station) → slice_get w.stations place ≡ Some station → clock station.system ≡ port.clock)
-    (clocks : HaveOwnClocks w) (l : IsUnansweredAt at w) (old : IsOldBy gone at w l)
-    (apart : sender at.direction l.channel ≢ port) where
-  module _ (answer : Answer) (k : Calls place (PortDown port.port) w draws answer w') where
-    step : CallStep place (PortDown port.port) gone at w w' l
-    step = call_seen gone at place (PortDown port.port) w draws answer w' k clocks l old (λ same. tt)
-
-    other : at.asking ≡ place → (sender at.direction l.channel).port ≢ port.port
-    other same number_is =
-        let clock_is : (sender at.direction l.channel).clock ≡ port.clock =
-        sym l.asking.named ∙ named l.asking.station (ap (slice_get w.stations) (sym same) ∙ l.asking.here) in
-        apart (λ i. record { clock = clock_is i; port = number_is i })
-
-    same_part : measure_at step.after.asking.state ≡ measure_at l.asking.state
-    same_part = elim step.part [
-      | inl called ↦ of_down.leaves l.asking.station.system w.time port.port (sender at.direction l.channel).port
-          (measure_at l.asking.state) (measure_at step.after.asking.state) (other called.0) called.1
-      | inr left ↦ left.1
-    ]
-
-    same_view : silent_view at w' step.after ≡ silent_view at w l
-    same_view = view_stays step (ap (asker_view (interval_of l.asking.station.setup.params.pdelay)) same_part)
-
-    called_silent : InvUnanswered (silent_setting at w l) gone (silent_view at w l) → IsSilent gone at w'
-    called_silent inv = record {
-      link = step.after;
-      old = step.old;
-      inv = subst (λ (x : Setting). InvUnanswered x gone (silent_view at w' step.after)) (sym step.settled)
-          (subst (InvUnanswered (silent_setting at w l) gone) (sym same_view) inv);
-    }
-
--- so it is where its last request that is answered is known
-abbrev IsLastBy : ℕ → ℕ → LinkPlace → WorldState → Type 0
-IsLastBy gone sent at w = (last : IsLastAnswered sent at w) × IsOldBy gone at w last.link
-
-called_last : (gone sent : ℕ) (at : LinkPlace) (place : ℕ) (port : PortId) (w : WorldState) (draws : List Draw)
-    (w' : WorldState)
-    → ((station : Station) → slice_get w.stations place ≡ Some station → clock station.system ≡ port.clock)
-    → HaveOwnClocks w → (is : IsLastBy gone sent at w) → sender at.direction is.0.link.channel ≢ port
-    → (answer : Answer) → Calls place (PortDown port.port) w draws answer w' → IsLastBy gone sent at w'
-called_last gone sent at place port w draws w' named clocks (last, old) apart answer k =
-    let x = step gone at place port w draws w' named clocks last.link old apart answer k in
-    let same = same_view gone at place port w draws w' named clocks last.link old apart answer k in (
-      last_then sent at w w' last x.after x.settled x.fewer
-          (subst (IsSince (silent_setting at w last.link) sent) (sym same) last.since),
-      x.old,
-    )
 
 -- ---- the link goes down
 
@@ -227,80 +177,12 @@ module _ (p : SettlingParams) (w : WorldState) (is : IsWorld p w) (place : ℕ) 
                 (sym (receiver_bare at.direction old s.channel same)) s.answering);
           }
 
-      joins : JoinTheSame w.net.channels taken.net.channels
-      joins = set_join w.net.channels place channel (lost channel) here refl refl
-
-      -- its port is none of the link that goes down
-      no_end : (v : WorldState) → JoinTheSame w.net.channels v.net.channels → (l : IsUnansweredAt at v)
-          (way : Direction) → sender at.direction l.channel ≢ sender way channel
-      no_end v on l way same =
-          let was = on at.link l.channel l.here in
-          apart (is.sound.wired.apart at.link place at.direction way was.old channel was.here here
-          (sym (begins_same w.net.channels at.link at.direction l.channel was) ∙ same))
-
-      ports : (direction : Direction) → IsPortAmong (sender direction channel) taken.stations
-      ports = join_among w place channel is.sound.wired.ports here
-
-      link_taken : (l : IsUnansweredAt at w) → IsUnansweredAt at taken
-      link_taken l = record {
-        channel = l.channel;
-        here = get-set_other w.net.channels place at.link (lost channel) apart ∙ l.here;
-        up = l.up;
-        asking = l.asking;
-        answering = l.answering;
-      }
-
-      silent_at : (gone : ℕ) → IsSilent gone at w → IsSilent gone at w'
-      unfolding link_taken
-      silent_at gone one =
-          each_end_told PortDown channel taken (IsSilent gone at)
-          (λ direction q v ds answer v' c stays named number so.
-          called_silent gone at q (sender direction channel) v ds v'
-          (λ station there.
-          ap (λ (x : Station). clock x.system) (same_there v.stations q station c.station there c.here) ∙ named)
-          (stays_clocks taken v stays is.sound.wired.clocks) so.link so.old
-          (no_end v (join_on w.net.channels taken.net.channels v.net.channels joins stays.links) so.link direction)
-          answer c so.inv) is.sound.wired.setups ports draws w' k
-          (record { link = link_taken one.link; old = one.old; inv = one.inv })
-
-      last_at : (sent : ℕ) → IsLastAnswered sent at w → IsLastAnswered sent at w'
-      unfolding link_taken
-      last_at sent one =
-          let gone : ℕ = max (w.time + one.link.channel.bounds.max) (w.last_change + largest_interval p) in
-          (each_end_told PortDown channel taken (IsLastBy gone sent at)
-          (λ direction q v ds answer v' c stays named number so.
-          called_last gone sent at q (sender direction channel) v ds v'
-          (λ station there.
-          ap (λ (x : Station). clock x.system) (same_there v.stations q station c.station there c.here) ∙ named)
-          (stays_clocks taken v stays is.sound.wired.clocks) so
-          (no_end v (join_on w.net.channels taken.net.channels v.net.channels joins stays.links) so.0.link direction)
-          answer c) is.sound.wired.setups ports draws w' k (
-            record { link = link_taken one.link; replies = one.replies; since = one.since },
-            λ f member.
-                is.known.fresh.frames at.link (other_direction at.direction) one.link.channel f one.link.here member,
-          )).0
-
-      never_at : IsNeverAnswered at w → IsNeverAnswered at w'
-      unfolding link_taken
-      never_at one =
-          each_end_told PortDown channel taken (IsNeverAnswered at)
-          (λ direction q v ds answer v' c stays named number so.
-          never_called at q (PortDown (sender direction channel).port) v ds answer v' c
-          (stays_clocks taken v stays is.sound.wired.clocks) so (λ same. tt) (λ same. tt)) is.sound.wired.setups ports
-          draws w' k
-          (record { link = link_taken one.link; mute = one.mute; unmeasured = one.unmeasured })
-
-    silent_still : (start : ℕ) (at : LinkPlace) → StandsUnanswered at w' → IsSilentBy p start at w
-        → IsSilentBy p start at w'
-    silent_still start at s (inl never) = inl (never_at at s never)
-    silent_still start at s (inr (change, one, soon)) =
-        inr (change, silent_at at s (change + largest_interval p) one, soon)
-
     pub silent_down : (start : ℕ) → AreSilentBy p start w → AreSilentBy p start w'
-    silent_down start silent at s = silent_still start at s (silent at (before at s))
+    silent_down start silent at s =
+        silent_told p PortDown of_down w is place channel (lost channel) here refl refl (taken_down place channel w.net)
+        refl draws w' k at (apart at s) start (silent at (before at s))
 
     pub off_down : (start : ℕ) → AreOffBy p start w → AreOffBy p start w'
-    off_down start off at s = elim (off at (before at s)) [
-      | inl silent ↦ inl (silent_still start at s silent)
-      | inr (sent, last, soon) ↦ inr (sent, last_at at s sent last, soon)
-    ]
+    off_down start off at s =
+        off_told p PortDown of_down w is place channel (lost channel) here refl refl (taken_down place channel w.net)
+        refl draws w' k at (apart at s) start (off at (before at s))

@@ -18,6 +18,9 @@
 --   twice the greatest delay for each system of a path but one.
 -- - By the first event a system fails that others hear, and no other comes but such links. The choice stands once what
 --   they hold of it has aged, or once no port beside it is capable. Roles stand by the latter.
+-- - By the events anything is taken away, whatever is moved. The choice asks for the longest receipt timeout and the
+--   greatest delay for each system of a path, and then for an announce interval and the greatest delay for each but one.
+--   Roles stand then too, once the ports beside a system that failed aren't capable any more.
 --
 -- Events make nothing of what stands that change nothing, and so does a link with a failed end that comes up or goes
 -- down. So does a priority1 that moves no system: one that gets worse, for instance, of a system that is nobody's best.
@@ -25,20 +28,20 @@
 -- behind events that make nothing: a link that comes up between live systems, a system that recovers, and a priority1
 -- of a live system that gets better. The first is heard at once where its delay varies little, the second where it uses
 -- no link, the last where no path has more than 255 systems. At time 0 links may go down and come up, systems fail and
--- a priority1 be set. Not followed are other delays that are set, and other events that take something away at a later
--- time. There the span stands.
-use Rattle.std.specs.Prelude.{◌≡◌, ◌<◌, ◌≤◌, ◌⊎◌, ◌+◌, ◌*◌, ◌==◌, ℕ, ⊤, min, pred, suc, List, [], ◌∷◌, ◌++◌, filter}
+-- a priority1 be set. Not followed are other delays that are set, octets that are put onto a link, and gains and losses
+-- of one time. There the span stands.
+use Rattle.std.specs.Prelude.{◌≡◌, ◌<◌, ◌≤◌, ◌⊎◌, ◌+◌, ◌*◌, ◌==◌, ℕ, ⊤, max, min, pred, suc, List, [], ◌∷◌, ◌++◌, filter}
 use Rattle.gptp_lists.specs.Members.{In}
 use Rattle.gptp_setup.specs.Intervals.{interval_of}
 use Rattle.gptp_setup.specs.SettlingParams.{SettlingParams, largest_interval}
-use Rattle.gptp_scenario.specs.Calm.{IsCalm, NothingLapses}
+use Rattle.gptp_scenario.specs.Calm.{IsCalm, IsLive, NothingLapses}
 use Rattle.gptp_scenario.specs.Network.{NetworkState, pace_of}
 use Rattle.gptp_scenario.specs.SettlingAtOnce.{settling_span_at_once}
 use Rattle.gptp_scenario.specs.SettlingTime.{capability_span, settling_span_with}
 use Rattle.gptp_scenario.specs.SyncWait.{sync_paths}
 use Rattle.gptp_scenario.specs.declared.change.Act.{Act}
 use Rattle.gptp_scenario.specs.declared.change.Act.TheVariants.{Change as Changing}
-use Rattle.gptp_scenario.specs.declared.change.Change.TheVariants.{LinkDown, LinkUp}
+use Rattle.gptp_scenario.specs.declared.change.Change.TheVariants.{Fail, LinkDown, LinkUp}
 use Rattle.gptp_scenario.specs.declared.change.Timed.{Timed}
 use Rattle.gptp_scenario.specs.declared.sync_wait.SyncPaths.{SyncPaths}
 use Rattle.gptp_model.specs.World.{port_id}
@@ -46,7 +49,7 @@ use Rattle.gptp_network.specs.Document.{DocumentState}
 use Rattle.gptp_network.specs.Snapshot.{events_by}
 use Rattle.gptp_settling_time.specs.Gains.{ChangesNothing, EndHasFailed, LeavesCapable, TakesNothing}
 use Rattle.gptp_settling_time.specs.InTurn.{AddsHeard, BettersClock, FlightIsGone, MakesNothing, NoneUsed, TellsNothing, UsedVaryLittle, WidensLink, echo_span, turned_echo_span}
-use Rattle.gptp_settling_time.specs.Losses.{CutsFarEnd, FailsFarEnd, FailsHeard, LeavesChoice, LowersLink, LowersUnused, TurnsLink, UpIsUsed, aging_span, silence_span}
+use Rattle.gptp_settling_time.specs.Losses.{CutsFarEnd, FailsFarEnd, FailsHeard, LeavesChoice, LosesAny, LowersLink, LowersUnused, TurnsLink, UpIsUsed, aging_span, loss_span, silence_span}
 
 -- ---- times
 
@@ -244,18 +247,80 @@ BoundsAging n made now choice roles =
     ⊎ ((choice ≡ min (aging_span (pace_of n) (sync_paths n made)) (silence_span (pace_of n)))
     × (roles ≡ silence_span (pace_of n)))
 
--- How soon the choice and the roles stand after the events of a time that take something away. The choice stands at
--- once where no system is moved, and so do roles after a link goes down. After a far end fails roles stand at once
--- where each link that is up then is in use, as where it loses its power; else once too many requests of the ports
--- beside it are lost. Where one system is moved its neighbours come to hold what it tells, and it what they tell, after
--- a way each. Where a system fails that others hear what they hold of it has to age.
+-- ---- any loss
+
+-- behind an event of the same time that takes something away: another, or what makes nothing of what then stands
+abbrev pub IsLossToo : NetworkState → List Timed → Timed → Type 0
+IsLossToo n made event = LosesAny n made event.act ⊎ IsIdleEvent n made event
+
+-- the first of them takes something away, and the others are such
+abbrev pub AreLossEvents : NetworkState → List Timed → List Timed → Type 0
+AreLossEvents n made [] = ⊥
+AreLossEvents n made (event ∷ events) =
+    LosesAny n made event.act × EachEvent (IsLossToo n) (made ++ event ∷ []) events
+
+-- each of them takes something away, or makes nothing of what stands; and one does the first
+abbrev pub LosesEvents : NetworkState → List Timed → List Timed → Type 0
+LosesEvents n = AfterIdleEvents n (AreLossEvents n)
+
+-- by none of them a live system fails
+abbrev pub NoneFails : NetworkState → List Timed → List Timed → Type 0
+NoneFails n = EachEvent (λ made event. (number : ℕ) → event.act ≡ Changing (Fail number) → IsLive n.systems made number
+    → ⊥)
+
+-- the greatest delay of a link in use, before them or after them
+abbrev pub delay_between : NetworkState → List Timed → List Timed → ℕ
+delay_between n made now = max (sync_paths n made).delay (sync_paths n (made ++ now)).delay
+
+-- after such a loss the roles stand so soon
+abbrev pub RolesAfterLoss : NetworkState → List Timed → List Timed → ℕ → ℕ → Type 0
+RolesAfterLoss n made now choice roles =
+    ((NoneFails n made now ⊎ UpIsUsed n (made ++ now)) × (roles ≡ choice))
+    ⊎ (roles ≡ max choice (silence_span (pace_of n)))
+
+-- ---- what a loss asks for
+
+-- After a link goes down by which no system is moved but such as are cut off, choice and roles stand at once; where it
+-- cuts off its far end, as soon as where it moves one system.
+abbrev pub BoundsLowered : NetworkState → List Timed → List Timed → ℕ → ℕ → Type 0
+BoundsLowered n made now choice roles =
+    LowersOneLink n made now × (roles ≡ choice)
+    × ((choice ≡ 0) ⊎ (CutsOneEnd n made now × (choice ≡ 2 * way_span (sync_paths n (made ++ now)))))
+
+-- After a far end fails the choice stands at once. So do roles where each link that is up then is in use, as where it
+-- loses its power; else once too many requests of the ports beside it are lost.
+abbrev pub BoundsFailed : NetworkState → List Timed → List Timed → ℕ → ℕ → Type 0
+BoundsFailed n made now choice roles =
+    FailsEndFirst n made now × (choice ≡ 0) × RolesAfterFailure n (made ++ now) roles
+
+-- Where one system is moved its neighbours hold what it tells then, and it what they tell, after a way each.
+abbrev pub BoundsTurned : NetworkState → List Timed → List Timed → ℕ → ℕ → Type 0
+BoundsTurned n made now choice roles =
+    TurnsOneLink n made now × (choice ≡ 2 * way_span (sync_paths n (made ++ now))) × (roles ≡ choice)
+
+-- Where a system fails that others hear, and none is moved but such as are cut off, the choice asks for what they hold
+-- of it to age. It may ask for two ways more, as where one system is moved.
+abbrev pub BoundsHeard : NetworkState → List Timed → List Timed → ℕ → ℕ → Type 0
+BoundsHeard n made now choice roles =
+    FailsHeardFirst n made now
+    × ((aged : ℕ) × (silent : ℕ) × BoundsAging n made now aged silent
+    × (((choice ≡ aged) × (roles ≡ silent))
+    ⊎ ((choice ≡ aged + 2 * way_span (sync_paths n (made ++ now))) × (roles ≡ max choice silent))))
+
+-- Whatever is taken away, and whatever is moved, the choice asks for all that is held to be told anew.
+abbrev pub BoundsAnyLoss : NetworkState → List Timed → List Timed → ℕ → ℕ → Type 0
+BoundsAnyLoss n made now choice roles =
+    LosesEvents n made now
+    × (choice ≡ loss_span (pace_of n) (sync_paths n (made ++ now)) (delay_between n made now))
+    × RolesAfterLoss n made now choice roles
+
+-- What the events of a time take away asks for so much: of the choice, and of the roles.
 abbrev pub BoundsLoss : NetworkState → List Timed → List Timed → ℕ → ℕ → Type 0
 BoundsLoss n made now choice roles =
-    ((choice ≡ 0)
-    × ((LowersOneLink n made now × (roles ≡ 0))
-    ⊎ (FailsEndFirst n made now × RolesAfterFailure n (made ++ now) roles)))
-    ⊎ ((TurnsOneLink n made now × (choice ≡ 2 * way_span (sync_paths n (made ++ now))) × (roles ≡ choice))
-    ⊎ (FailsHeardFirst n made now × BoundsAging n made now choice roles))
+    BoundsLowered n made now choice roles
+    ⊎ (BoundsFailed n made now choice roles
+    ⊎ (BoundsTurned n made now choice roles
+    ⊎ (BoundsHeard n made now choice roles ⊎ BoundsAnyLoss n made now choice roles)))
 
 -- The events of a time take something away, and ask for what `Asks` says. Nothing lapses for want of Sync. The network
 -- is calm, and the events come once the time before has come to rest, by one of its bounds.
@@ -277,12 +342,13 @@ LosesNext n events Then last time Asks =
 -- use what was in flight is gone in that time too.
 abbrev pub RestsAfterLoss : NetworkState → List Timed → List Timed → ℕ → Type 0
 RestsAfterLoss n made now rest =
-    (CutsOneEnd n made now × FlightIsGone n made rest)
+    (CutsOneEnd n made now
+    × ((gone : ℕ) × FlightIsGone n made gone × (rest ≡ max (2 * way_span (sync_paths n (made ++ now))) gone)))
     ⊎ ((FailsEndFirst n made now
     × ((UpIsUsed n (made ++ now) × FlightIsGone n made rest)
     ⊎ (rest ≡ capability_span (pace_of n) + way_span (sync_paths n (made ++ now)))))
     ⊎ ((LowersOneLink n made now
-    × ((gone : ℕ) × FlightIsGone n (made ++ now) gone × (rest ≡ echo_span n (made ++ now) + gone)))
+    × ((gone : ℕ) × FlightIsGone n (made ++ now) gone × (rest ≡ max (echo_span n (made ++ now)) gone)))
     ⊎ (TurnsOneLink n made now
     × ((UpIsUsed n (made ++ now) × (rest ≡ turned_echo_span n (made ++ now)))
     ⊎ (rest ≡ turned_echo_span n (made ++ now) + largest_interval (pace_of n))))))

@@ -14,6 +14,8 @@
 --   went down that moved none, and right traces have been told by distance since. When what was in flight is gone, and
 --   ports without a link aren't capable, the network has come to rest as if all had been heard.
 -- - Aging: a system failed that others heard. What they hold of it ages, and the choice stands once that is gone.
+-- - Lost: anything was taken away at one time, whatever was moved. The network settles as one that has gained, once all
+--   that is held is told by live systems over links in use.
 --
 -- An event leads from one past to another (`EventLeads`). It may always lead to any past. At time 0, as the network
 -- starts, it may take something away, since nothing is told yet. To a gain it leads where it takes nothing away, or
@@ -56,9 +58,9 @@ use Rattle.gptp_settling_time.specs.ChoiceAlone.{ChoiceStandsAs}
 use Rattle.gptp_settling_time.specs.Documents.{IsSettledAs}
 use Rattle.gptp_settling_time.specs.Exactly.{SettlesBy}
 use Rattle.gptp_settling_time.specs.Gains.{AreCapableAnyway, AreCapableNext, AreCapableStill, ChangesNothing, EndHasFailed, HasRested, IsDownAfter, IsNoWorse, JoinsLive, LeavesCapable, TakesNothing, UsesNoLink, exchanged_from}
-use Rattle.gptp_settling_time.specs.Losses.{CutsFarEnd, FailsFarEnd, FailsHeard, LeavesChoice, LowersLink, LowersUnused, TurnsLink, UpIsUsed, aging_span, silence_span}
+use Rattle.gptp_settling_time.specs.Losses.{AreSilentAfter, CutsFarEnd, FailsFarEnd, FailsHeard, LeavesChoice, LosesAny, LowersLink, LowersUnused, TurnsLink, UpIsUsed, aging_span, loss_span, silence_span}
 
--- What a network came from. The numbers are times.
+-- What a network came from. The numbers are times, but for the second of a loss.
 pub data Past : Type 0 where
   AnyPast : Past
   Starting : Past
@@ -74,6 +76,9 @@ pub data Past : Type 0 where
   Cleared : ℕ → ℕ → ℕ → ℕ → Past
   -- from the first on what is held of the failed system is gone; from the second on ports without a link aren't capable
   Aging : ℕ → ℕ → Past
+  -- at the first something was taken away; what was in flight is gone so much later as the second says; from the third
+  -- on ports without a link aren't capable
+  Lost : ℕ → ℕ → ℕ → Past
 
 -- ---- events at time 0
 
@@ -256,14 +261,19 @@ abbrev pub echo_span : NetworkState → List Timed → ℕ
 echo_span n events =
     pred (sync_paths n events).systems * (largest_interval (pace_of n) + (sync_paths n events).delay)
 
--- After another link goes down, by which no system is moved, traces may name it until right ones have been told.
+-- The best always tells a right trace, so that its neighbours do at once. All others do so much later.
+abbrev pub nearer_echo_span : NetworkState → List Timed → ℕ
+nearer_echo_span n events =
+    pred (pred (sync_paths n events).systems) * (largest_interval (pace_of n) + (sync_paths n events).delay)
+
+-- After such a link goes down traces may name it until then.
 abbrev pub ClearsTraces : NetworkState → List Timed → Timed → ℕ → ℕ → ℕ → ℕ → Type 0
 ClearsTraces n before event start silent right old =
     LowersCalm n before event
     × (silent ≡ start)
-    × (right ≡ event.at + 1 + echo_span n (before ++ event ∷ []))
+    × (right ≡ event.at + 1 + nearer_echo_span n (before ++ event ∷ []))
     × ((gone : ℕ) × FlightIsGone n (before ++ event ∷ []) gone
-    × (old ≡ event.at + echo_span n (before ++ event ∷ []) + gone))
+    × (old ≡ event.at + nearer_echo_span n (before ++ event ∷ []) + gone))
 
 abbrev pub ClearsBy : NetworkState → List Timed → Timed → ℕ → ℕ → ℕ → ℕ → ℕ → Type 0
 ClearsBy n before event start since silent right old =
@@ -301,6 +311,7 @@ LeadsToGain n before (Left silent) event next = ⊥
 LeadsToGain n before (Turned silent time) event next = ⊥
 LeadsToGain n before (Cleared since silent right old) event next = ⊥
 LeadsToGain n before (Aging aged silent) event next = ⊥
+LeadsToGain n before (Lost since most silent) event next = ⊥
 
 abbrev pub LeadsToHeard : NetworkState → List Timed → Past → Timed → ℕ → Type 0
 LeadsToHeard n before AnyPast event next =
@@ -324,6 +335,7 @@ LeadsToHeard n before (Left silent) event next = ⊥
 LeadsToHeard n before (Turned silent time) event next = ⊥
 LeadsToHeard n before (Cleared since silent right old) event next = ⊥
 LeadsToHeard n before (Aging aged silent) event next = ⊥
+LeadsToHeard n before (Lost since most silent) event next = ⊥
 
 -- a network that had settled is left so
 abbrev pub LeadsToLeft : NetworkState → List Timed → Past → Timed → ℕ → Type 0
@@ -339,6 +351,7 @@ LeadsToLeft n before (Left silent) event next = LowersUnusedCalm n before event 
 LeadsToLeft n before (Turned silent time) event next = ⊥
 LeadsToLeft n before (Cleared since silent right old) event next = ⊥
 LeadsToLeft n before (Aging aged silent) event next = ⊥
+LeadsToLeft n before (Lost since most silent) event next = ⊥
 
 -- in a network that had settled a system turns by it now
 abbrev pub TurnsNow : NetworkState → List Timed → Timed → ℕ → ℕ → ℕ → Type 0
@@ -357,6 +370,7 @@ LeadsToTurned n before (Left start) event silent time = ⊥
 LeadsToTurned n before (Turned start now) event silent time = ⊥
 LeadsToTurned n before (Cleared since start right old) event silent time = ⊥
 LeadsToTurned n before (Aging aged start) event silent time = ⊥
+LeadsToTurned n before (Lost since most start) event silent time = ⊥
 
 -- a network that had settled is cleared, and one that is so stays so
 abbrev pub LeadsToCleared : NetworkState → List Timed → Past → Timed → ℕ → ℕ → ℕ → ℕ → Type 0
@@ -374,6 +388,7 @@ LeadsToCleared n before (Cleared start dark clean last) event since silent right
     LowersUnusedCalm n before event × (clean ≤ event.at)
     × ((since ≡ start) × (silent ≡ dark) × (right ≡ clean) × (old ≡ last))
 LeadsToCleared n before (Aging aged start) event since silent right old = ⊥
+LeadsToCleared n before (Lost start most dark) event since silent right old = ⊥
 
 -- In a network that had settled a system fails that others hear. What they hold of it ages.
 pub record FailsNow (n : NetworkState) (before : List Timed) (event : Timed) (aged silent : ℕ) : Type 0 where
@@ -397,6 +412,37 @@ LeadsToAging n before (Turned start now) event aged silent = ⊥
 LeadsToAging n before (Cleared since start right old) event aged silent = ⊥
 LeadsToAging n before (Aging gone start) event aged silent =
     LowersUnusedCalm n before event × (aged ≡ gone) × (silent ≡ start)
+LeadsToAging n before (Lost since most start) event aged silent = ⊥
+
+-- In a network that had settled something is taken away now. What is in flight comes within a greatest delay.
+pub record LosesNow (n : NetworkState) (before : List Timed) (event : Timed) (since most silent : ℕ) : Type 0 where
+  pub loses : LosesAny n before event.act
+  pub calm : IsCalm n before
+  pub off : NothingLapses n.params
+  pub now : since ≡ event.at
+  pub delay : (sync_paths n before).delay ≤ most
+  pub unanswered : AreSilentAfter (pace_of n) event.at silent event.act
+
+-- At that time more may be taken away, and events come that make nothing of what then stands.
+pub record LosesMore (n : NetworkState) (before : List Timed) (event : Timed) (since silent : ℕ) : Type 0 where
+  pub more : (LosesAny n before event.act × AreSilentAfter (pace_of n) event.at silent event.act)
+      ⊎ MakesNothing n before event since
+  pub now : event.at ≡ since
+
+abbrev pub LeadsToLost : NetworkState → List Timed → Past → Timed → ℕ → ℕ → ℕ → Type 0
+LeadsToLost n before AnyPast event since most silent =
+    HasSettledAnyhow n before event.at × LosesNow n before event since most silent
+LeadsToLost n before Starting event since most silent = ⊥
+LeadsToLost n before (Gained start) event since most silent =
+    HasSettledSince n before start event.at × LosesNow n before event since most silent
+LeadsToLost n before (Heard start) event since most silent =
+    HasSettledHeard n before start event.at × LosesNow n before event since most silent
+LeadsToLost n before (Left start) event since most silent = ⊥
+LeadsToLost n before (Turned start now) event since most silent = ⊥
+LeadsToLost n before (Cleared begun start right old) event since most silent = ⊥
+LeadsToLost n before (Aging aged start) event since most silent = ⊥
+LeadsToLost n before (Lost begun delay start) event since most silent =
+    LosesMore n before event since silent × (since ≡ begun) × (most ≡ delay) × (silent ≡ start)
 
 -- from a gain, and from what is heard, the start stays
 abbrev pub StaysFrom : Past → ℕ → Type 0
@@ -408,6 +454,7 @@ StaysFrom (Left silent) next = ⊥
 StaysFrom (Turned silent time) next = ⊥
 StaysFrom (Cleared since silent right old) next = ⊥
 StaysFrom (Aging aged silent) next = ⊥
+StaysFrom (Lost since most silent) next = ⊥
 
 -- nothing is told as the network starts, and this is the last event then
 abbrev pub StartsFrom : NetworkState → List Timed → Past → Timed → ℕ → Type 0
@@ -419,6 +466,7 @@ StartsFrom n before (Left silent) event next = ⊥
 StartsFrom n before (Turned silent time) event next = ⊥
 StartsFrom n before (Cleared since silent right old) event next = ⊥
 StartsFrom n before (Aging aged silent) event next = ⊥
+StartsFrom n before (Lost since most silent) event next = ⊥
 
 -- nothing is told as the network starts, nor after this event
 abbrev pub StartsStill : Past → Timed → Type 0
@@ -430,6 +478,7 @@ StartsStill (Left silent) event = ⊥
 StartsStill (Turned silent time) event = ⊥
 StartsStill (Cleared since silent right old) event = ⊥
 StartsStill (Aging aged silent) event = ⊥
+StartsStill (Lost since most silent) event = ⊥
 
 abbrev pub EventLeads : NetworkState → List Timed → Past → Timed → Past → Type 0
 EventLeads n before past event AnyPast = ⊤
@@ -443,6 +492,7 @@ EventLeads n before past event (Turned silent time) = LeadsToTurned n before pas
 EventLeads n before past event (Cleared since silent right old) = LeadsToCleared n before past event since silent right
     old
 EventLeads n before past event (Aging aged silent) = LeadsToAging n before past event aged silent
+EventLeads n before past event (Lost since most silent) = LeadsToLost n before past event since most silent
 
 -- ---- rest
 
@@ -506,6 +556,7 @@ BeginsBy n (Left silent) = ⊥
 BeginsBy n (Turned silent time) = ⊥
 BeginsBy n (Cleared since silent right old) = ⊥
 BeginsBy n (Aging aged silent) = ⊥
+BeginsBy n (Lost since most silent) = ⊥
 
 -- By this time a calm network has settled after these events. From any past the span has to pass, the sharper one where
 -- nothing lapses. Else ports become capable; then an announce interval passes where something may not be heard; and
@@ -529,6 +580,10 @@ SettlesAfter n events (Turned silent time) settled =
 SettlesAfter n events (Cleared since silent right old) settled = NothingLapses n.params ×
     ((silent ≤ settled) ⊎ UpIsUsed n events)
 SettlesAfter n events (Aging aged silent) settled = NothingLapses n.params × ((silent ≤ settled) ⊎ UpIsUsed n events)
+SettlesAfter n events (Lost since most silent) settled =
+    NothingLapses n.params
+    × (suc (since + loss_span (pace_of n) (sync_paths n events) most) ≤ settled)
+    × ((silent ≤ settled) ⊎ UpIsUsed n events)
 
 -- By this time the choice stands after these events: as soon as it has settled, and at once in a network that is left.
 -- Where something ages it does once that is gone.
@@ -542,6 +597,8 @@ ChoosesAfter n events (Turned silent time) settled = SettlesAfter n events (Turn
 ChoosesAfter n events (Cleared since silent right old) settled = NothingLapses n.params
 ChoosesAfter n events (Aging aged silent) settled =
     NothingLapses n.params × ((aged ≤ settled) ⊎ ((silent ≤ settled) ⊎ UpIsUsed n events))
+ChoosesAfter n events (Lost since most silent) settled =
+    NothingLapses n.params × (suc (since + loss_span (pace_of n) (sync_paths n events) most) ≤ settled)
 
 -- By a time a document has settled, or its choice stands, as `So` says of what it came from: each of its events up to
 -- another time leads from one past to the next.

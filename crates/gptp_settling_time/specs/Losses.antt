@@ -1,8 +1,9 @@
--- Events by which no system is moved, or none but such as are cut off, or one.
+-- Events that take something away, and those of them by which no system is moved, or none but such as are cut off, or
+-- one.
 --
 -- An event *moves* a system that lives after it where another system, or the same with another identity, is the best of
 -- its component then, or it is nearer to that or farther from it. So its root or its steps are others.
-use Rattle.std.specs.Prelude.{◌≡◌, ◌≢◌, ◌⊎◌, ◌<◌, ◌≤◌, ◌+◌, ◌*◌, ℕ, suc, true, List, [], ◌∷◌, ◌++◌, Some, slice_get}
+use Rattle.std.specs.Prelude.{◌≡◌, ◌≢◌, ◌⊎◌, ◌<◌, ◌≤◌, ◌+◌, ◌*◌, ℕ, pred, suc, true, List, [], ◌∷◌, ◌++◌, Some, slice_get}
 use Rattle.gptp_lists.specs.Members.{In}
 use Rattle.gptp_graph.specs.Best.{IsBest}
 use Rattle.gptp_graph.specs.Distance.{IsDistance}
@@ -12,6 +13,7 @@ use Rattle.gptp_scenario.specs.Calm.{IsLive, IsUsed}
 use Rattle.gptp_scenario.specs.Change.{link_after}
 use Rattle.gptp_scenario.specs.Network.{IsEnd, NetworkState}
 use Rattle.gptp_scenario.specs.SyncWait.{sync_paths}
+use Rattle.gptp_scenario.specs.declared.change.Act.{Act}
 use Rattle.gptp_scenario.specs.declared.change.Act.TheVariants.{Change as Changing}
 use Rattle.gptp_scenario.specs.declared.change.Change.TheVariants.{Fail, LinkDown, Priority1}
 use Rattle.gptp_scenario.specs.declared.change.Timed.{Timed}
@@ -19,7 +21,7 @@ use Rattle.gptp_scenario.specs.declared.network.LinkSpec.{LinkSpec}
 use Rattle.gptp_scenario.specs.declared.sync_wait.SyncPaths.{SyncPaths}
 use Rattle.gptp_model.specs.World.{port_id}
 use Rattle.gptp_setup.specs.Intervals.{interval_of}
-use Rattle.gptp_setup.specs.SettlingParams.{SettlingParams, longest_span}
+use Rattle.gptp_setup.specs.SettlingParams.{SettlingParams, largest_interval, longest_span}
 use Rattle.gptp_settling_time.specs.Gains.{EndHasFailed, IsUpAfter}
 
 -- in the second snapshot the system has the best that it has in the first, and is as far from it
@@ -173,3 +175,29 @@ pub record TurnsLink (n : NetworkState) (before : List Timed) (event : Timed) : 
   pub delay : (sync_paths n (before ++ event ∷ [])).delay ≤ (sync_paths n before).delay
   pub paths : (sync_paths n (before ++ event ∷ [])).systems ≤ (sync_paths n before).systems
   pub few : (sync_paths n before).systems ≤ 255
+
+-- ---- any loss
+
+-- After these events this act takes down a link in use, lets a live system fail, or sets the priority1 of one. Links
+-- that are in use then were so before, with the same bounds.
+abbrev pub LosesAny : NetworkState → List Timed → Act → Type 0
+LosesAny n before (Changing (LinkDown number port)) = (place : ℕ) (v : LinkSpec) → slice_get n.links place ≡ Some v
+    → IsEnd (port_id number port) (link_after before v)
+    → IsUsed n.systems before (link_after before v)
+LosesAny n before (Changing (Fail number)) = IsLive n.systems before number
+LosesAny n before (Changing (Priority1 number value)) = IsLive n.systems before number
+LosesAny n before act = ⊥
+
+-- From this time on ports aren't capable whose links lead to a system that fails by the act: once too many of their
+-- requests are lost. No other act asks for more than its own time.
+abbrev pub AreSilentAfter : SettlingParams → ℕ → ℕ → Act → Type 0
+AreSilentAfter p time silent (Changing (Fail number)) = time + silence_span p < silent
+AreSilentAfter p time silent act = time ≤ silent
+
+-- How soon the choice stands after such events, where the paths are these then, and what was in flight is gone after a
+-- greatest delay. For each system of a path what it holds ages, and what it then says comes: so all that is held is told
+-- by live systems over links in use. Then an announce interval passes, and the greatest delay for each system of a path
+-- but one.
+abbrev pub loss_span : SettlingParams → SyncPaths → ℕ → ℕ
+loss_span p paths most =
+    paths.systems * (longest_span p + most) + largest_interval p + pred paths.systems * paths.delay

@@ -10,7 +10,7 @@ use Rattle.gptp_topology.proofs.StandingLemmas.{few_nodes}
 use Rattle.gptp_how_soon.specs.Times.{settling_time}
 use Rattle.gptp_how_soon.specs.Walk.{IsFirstWalk, WalkTells, view_seen}
 use Rattle.gptp_how_soon.specs.declared.bounds.SettlingTime.{SettlingTime}
-use Rattle.gptp_how_soon.proofs.TimesLemmas.{Walked, walked_all, walked_first, walked_more}
+use Rattle.gptp_how_soon.proofs.TimesLemmas.{Walked, short_walked, walked_all, walked_first, walked_more}
 use Rattle.gptp_how_soon.proofs.times.settling_times.Goals as goal
 
 pub loop-event-init : goal.loop-event-init
@@ -37,6 +37,12 @@ tell-requires-clause-short c =
     (so.made ++ so.now) c.loop-event.walk.tables so.stands.tables
     (allowed_before (so.made ++ so.now) (drop c.loop-event.event-index c.events-events.result.now)
     c.args.document.now.events so.told.split c.well_formed-3.ensures.allowed)
+
+pub tell-requires-clause-short_before : goal.tell-requires-clause-short_before
+tell-requires-clause-short_before c =
+    short_walked c.args.document.now (subst IsNetwork c.network.ensures c.well_formed-2.ensures)
+    (drop c.loop-event.event-index c.events-events.result.now) c.loop-event.walk c.loop-event.at
+    c.loop-event.times.items c.well_formed-3.ensures.allowed c.loop-event.invariant
 
 pub loop-event-preserved : goal.loop-event-preserved
 loop-event-preserved c =
@@ -68,6 +74,12 @@ settle-requires-clause-short c =
     (so.made ++ so.now) c.loop-event.walk.tables so.stands.tables
     (allowed_before (so.made ++ so.now) (drop c.loop-event.event-index c.events-events.result.now)
     c.args.document.now.events so.told.split c.well_formed-3.ensures.allowed))
+
+pub settle-requires-clause-short_before : goal.settle-requires-clause-short_before
+settle-requires-clause-short_before c =
+    short_walked c.args.document.now (subst IsNetwork c.network.ensures c.well_formed-2.ensures)
+    (drop c.loop-event.event-index c.events-events.result.now) c.loop-event.walk c.loop-event.at
+    c.loop-event.times.items c.well_formed-3.ensures.allowed c.loop-event.invariant
 
 pub returns-clause-times : goal.returns-clause-times
 returns-clause-times c =
