@@ -140,13 +140,14 @@ module _ (n : NetworkState) (network : IsNetwork n) (paths : SyncPaths) (few : p
       by AnyLosses = lost
       by Gained = early
 
-  sound_most : (used : Bool) (row : Row) (gained : ℕ) → gained ≤ 195000000000000
-      → sound_by n paths used row gained ≤ 195000000000000
-  sound_most used row gained early =
+  sound_most : (before : SyncPaths) (used : Bool) (row : Row) (gained : ℕ) → before.delay ≤ 16000000000
+      → gained ≤ 195000000000000
+      → sound_by n before paths used row gained ≤ 195000000000000
+  sound_most before used row gained soon early =
       either_most (not (n.params.sync_timeout == 0)) _ _ 195000000000000 span (by row)
     where
-      gone : gone_by n paths used ≤ 16000000000
-      gone = either_most used paths.delay (largest_interval (pace_of n)) 16000000000 short largest
+      gone : (x : SyncPaths) → x.delay ≤ 16000000000 → gone_by n x used ≤ 16000000000
+      gone x most = either_most used x.delay (largest_interval (pace_of n)) 16000000000 most largest
 
       unused : unused_by n used ≤ 16000000000
       unused = either_most used 0 (largest_interval (pace_of n)) 16000000000 (omega arith) largest
@@ -157,12 +158,12 @@ module _ (n : NetworkState) (network : IsNetwork n) (paths : SyncPaths) (few : p
           mul-le (pred paths.systems) (largest_interval (pace_of n) + paths.delay) 512 32000000000
           (pred_few paths.systems 512 few) (omega (arith, l, short))
 
-      by : (r : Row) → sound_of_row n paths used r gained ≤ 195000000000000
+      by : (r : Row) → sound_of_row n before paths used r gained ≤ 195000000000000
       by AnyPast = at_once
       by Unchanged = omega arith
-      by Lowered = let e = echo in let g = gone in omega (arith, e, g)
-      by CutOff = let w = way in let g = gone in omega (arith, w, g)
-      by LostEnd = let g = gone in omega (arith, g)
+      by Lowered = let e = echo in let g = gone paths short in omega (arith, e, g)
+      by CutOff = let w = way in let g = gone paths short in omega (arith, w, g)
+      by LostEnd = let g = gone before soon in omega (arith, g)
       by FailedEnd = let w = way in let c = capable_most in omega (arith, w, c)
       by LostPower = at_once
       by PowerCutsOff = at_once
@@ -196,7 +197,7 @@ module _ (n : NetworkState) (network : IsNetwork n) (paths : SyncPaths) (few : p
     needed_most false = let s = span in let e = exact_most in omega (arith, s, e)
     needed_most true =
         let r = roles_most before silent row gained short_before early in
-        let h = sound_most used_before row gained early in
+        let h = sound_most before used_before row gained short_before early in
         let s = set_most sets in let l = largest in let e = exact_most in omega (arith, soon, r, h, s, l, e, short)
 
     watch_most : (calm : Bool)

@@ -33,14 +33,14 @@ asked_again p paths = interval_of p.pdelay + two_exchanges p paths
 abbrev pub silence_span : Params → ℕ
 silence_span p = (p.lost + 2) * interval_of p.pdelay
 
--- How long others hold what they heard of a system that fails: it comes within the greatest delay, and stays for the
--- longest receipt timeout.
+-- How long others hold what they heard of a system that fails: it comes within the greatest delay of before, and stays
+-- for the longest receipt timeout.
 abbrev pub aging_span : NetworkState → SyncPaths → ℕ
-aging_span n paths = longest_span (pace_of n) + paths.delay
+aging_span n before = longest_span (pace_of n) + before.delay
 
 -- how long it counts: no longer than the ports beside that system stay capable
 abbrev pub held_span : NetworkState → SyncPaths → ℕ
-held_span n paths = min (aging_span n paths) (silence_span n.params)
+held_span n before = min (aging_span n before) (silence_span n.params)
 
 -- the greatest delay for each system of a path but one
 abbrev pub way_span : SyncPaths → ℕ
@@ -90,8 +90,8 @@ choice_of_row n before paths LostEnd gained = 0
 choice_of_row n before paths FailedEnd gained = 0
 choice_of_row n before paths LostPower gained = 0
 choice_of_row n before paths PowerCutsOff gained = 2 * way_span paths
-choice_of_row n before paths FailedHeard gained = held_span n paths
-choice_of_row n before paths FailureCutsOff gained = held_span n paths + 2 * way_span paths
+choice_of_row n before paths FailedHeard gained = held_span n before
+choice_of_row n before paths FailureCutsOff gained = held_span n before + 2 * way_span paths
 choice_of_row n before paths OneTurned gained = 2 * way_span paths
 choice_of_row n before paths AnyLosses gained = loss_span n before paths
 choice_of_row n before paths Gained gained = gained
@@ -145,30 +145,31 @@ abbrev pub unused_by : NetworkState → Bool → ℕ
 unused_by n used_before = if used_before then 0 else largest_interval (pace_of n)
 
 -- By when all that is held and in flight is sound: as soon as the choice stands, but after a loss it may name what is
--- gone. After a far end is cut off, or loses its power, only what was in flight does. Where a far end fails, and ports
+-- gone. After a far end is cut off, or loses its power, only what was in flight does. Of one that loses its power that
+-- came by its own links too. Where a far end fails, and ports
 -- beside it may still be capable, roles have to stand first, and then a way to pass. After a link goes down by which no
 -- system is moved traces have to be told anew first, and so they do where one system turns, once the choice stands.
 -- After other losses all is sound as soon as the choice stands from any past.
-abbrev pub sound_of_row : NetworkState → SyncPaths → Bool → Row → ℕ → ℕ
-sound_of_row n paths used_before AnyPast gained = settling_span_at_once (pace_of n) paths
-sound_of_row n paths used_before Unchanged gained = 0
-sound_of_row n paths used_before Lowered gained = max (echo_span n paths) (gone_by n paths used_before)
-sound_of_row n paths used_before CutOff gained = max (2 * way_span paths) (gone_by n paths used_before)
-sound_of_row n paths used_before LostEnd gained = gone_by n paths used_before
-sound_of_row n paths used_before FailedEnd gained = capability_span (pace_of n) + way_span paths
-sound_of_row n paths used_before LostPower gained = settling_span_at_once (pace_of n) paths
-sound_of_row n paths used_before PowerCutsOff gained = settling_span_at_once (pace_of n) paths
-sound_of_row n paths used_before FailedHeard gained = settling_span_at_once (pace_of n) paths
-sound_of_row n paths used_before FailureCutsOff gained = settling_span_at_once (pace_of n) paths
-sound_of_row n paths used_before OneTurned gained =
+abbrev pub sound_of_row : NetworkState → SyncPaths → SyncPaths → Bool → Row → ℕ → ℕ
+sound_of_row n before paths used_before AnyPast gained = settling_span_at_once (pace_of n) paths
+sound_of_row n before paths used_before Unchanged gained = 0
+sound_of_row n before paths used_before Lowered gained = max (echo_span n paths) (gone_by n paths used_before)
+sound_of_row n before paths used_before CutOff gained = max (2 * way_span paths) (gone_by n paths used_before)
+sound_of_row n before paths used_before LostEnd gained = gone_by n before used_before
+sound_of_row n before paths used_before FailedEnd gained = capability_span (pace_of n) + way_span paths
+sound_of_row n before paths used_before LostPower gained = settling_span_at_once (pace_of n) paths
+sound_of_row n before paths used_before PowerCutsOff gained = settling_span_at_once (pace_of n) paths
+sound_of_row n before paths used_before FailedHeard gained = settling_span_at_once (pace_of n) paths
+sound_of_row n before paths used_before FailureCutsOff gained = settling_span_at_once (pace_of n) paths
+sound_of_row n before paths used_before OneTurned gained =
     2 * way_span paths + echo_span n paths + unused_by n used_before
-sound_of_row n paths used_before AnyLosses gained = settling_span_at_once (pace_of n) paths
-sound_of_row n paths used_before Gained gained = gained
+sound_of_row n before paths used_before AnyLosses gained = settling_span_at_once (pace_of n) paths
+sound_of_row n before paths used_before Gained gained = gained
 
-abbrev pub sound_by : NetworkState → SyncPaths → Bool → Row → ℕ → ℕ
-sound_by n paths used_before row gained =
+abbrev pub sound_by : NetworkState → SyncPaths → SyncPaths → Bool → Row → ℕ → ℕ
+sound_by n before paths used_before row gained =
     if not (n.params.sync_timeout == 0) then settling_span_with (pace_of n) paths paths.systems
-    else sound_of_row n paths used_before row gained
+    else sound_of_row n before paths used_before row gained
 
 -- a port at a link whose bounds are set measures it anew
 abbrev pub set_span : Params → SyncPaths → Bool → ℕ
@@ -215,7 +216,7 @@ abbrev pub settling_by : NetworkState → ℕ → ℕ → SyncPaths → SyncPath
 settling_by n at last_set before paths calm sets used_before silent row gained =
     if calm
     then Some (settled n at last_set paths sets (choice_by n before paths row gained)
-    (roles_by n before paths silent row gained) (sound_by n paths used_before row gained))
+    (roles_by n before paths silent row gained) (sound_by n before paths used_before row gained))
     else None
 
 abbrev pub times_by : NetworkState → ℕ → ℕ → SyncPaths → SyncPaths → Bool → Bool → Bool → Bool → Row → ℕ

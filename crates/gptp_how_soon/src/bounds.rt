@@ -181,22 +181,22 @@ fn silence_span(network: &Network) -> u64
 
 /// By how much later than a system fails others don't hold any more what they heard of it, in ns.
 #[tactic(auto, using(gptp_scenario::proofs::SpanLemmas::few_spans))]
-fn aging_span(network: &Network, paths: SyncPaths) -> u64
-    requires { paths.delay ≤ 16000000000 }
-    ensures is { result ≡ aging_span network.now paths }
+fn aging_span(network: &Network, before: SyncPaths) -> u64
+    requires { before.delay ≤ 16000000000 }
+    ensures is { result ≡ aging_span network.now before }
     ensures bound { result ≤ 176000000000 }
 {
     network.well_formed();
-    u64::from(network.params().timeout) * interval_of(network.largest()) + paths.delay
+    u64::from(network.params().timeout) * interval_of(network.largest()) + before.delay
 }
 
 /// By how much later than a system fails what others heard of it doesn't count any more, in ns.
-fn held_span(network: &Network, paths: SyncPaths) -> u64
-    requires { paths.delay ≤ 16000000000 }
-    ensures is { result ≡ held_span network.now paths }
+fn held_span(network: &Network, before: SyncPaths) -> u64
+    requires { before.delay ≤ 16000000000 }
+    ensures is { result ≡ held_span network.now before }
     ensures bound { result ≤ 176000000000 }
 {
-    aging_span(network, paths).min(silence_span(network))
+    aging_span(network, before).min(silence_span(network))
 }
 
 /// How long the network takes at most to settle from any past where nothing lapses for want of Sync, in ns.
@@ -248,8 +248,8 @@ fn choice_by(network: &Network, before: SyncPaths, paths: SyncPaths, row: Row, g
     match row {
         Row::AnyPast => settling_span_at_once(network, paths),
         Row::Unchanged | Row::Lowered | Row::LostEnd | Row::FailedEnd | Row::LostPower => 0,
-        Row::FailedHeard => held_span(network, paths),
-        Row::FailureCutsOff => held_span(network, paths) + 2 * way_span(paths),
+        Row::FailedHeard => held_span(network, before),
+        Row::FailureCutsOff => held_span(network, before) + 2 * way_span(paths),
         Row::CutOff | Row::PowerCutsOff | Row::OneTurned => 2 * way_span(paths),
         Row::AnyLosses => loss_span(network, before, paths),
         Row::Gained => gained,
@@ -296,7 +296,7 @@ fn roles_by(
         Row::Unchanged | Row::Lowered | Row::LostEnd | Row::LostPower => 0,
         Row::FailedEnd | Row::FailedHeard => silence_span(network),
         Row::FailureCutsOff => {
-            (held_span(network, paths) + 2 * way_span(paths)).max(silence_span(network))
+            (held_span(network, before) + 2 * way_span(paths)).max(silence_span(network))
         }
         Row::CutOff | Row::PowerCutsOff | Row::OneTurned => 2 * way_span(paths),
         Row::AnyLosses => roles_after_losses(network, before, paths, silent),
@@ -343,11 +343,19 @@ fn unused_by(network: &Network, used_before: bool) -> u64
 }
 
 /// The bound of what is held and in flight, in ns.
-fn sound_by(network: &Network, paths: SyncPaths, used_before: bool, row: Row, gained: u64) -> u64
+fn sound_by(
+    network: &Network,
+    before: SyncPaths,
+    paths: SyncPaths,
+    used_before: bool,
+    row: Row,
+    gained: u64,
+) -> u64
     requires few { paths.systems ≤ 512 }
     requires short { paths.delay ≤ 16000000000 }
+    requires short_before { before.delay ≤ 16000000000 }
     requires gained { gained ≤ 195000000000000 }
-    ensures is { result ≡ sound_by network.now paths used_before row gained }
+    ensures is { result ≡ sound_by network.now before paths used_before row gained }
     ensures bound { result ≤ 195000000000000 }
 {
     if network.params().sync_timeout != 0 {
@@ -363,7 +371,7 @@ fn sound_by(network: &Network, paths: SyncPaths, used_before: bool, row: Row, ga
         Row::Unchanged => 0,
         Row::Lowered => echo_span(network, paths).max(gone_by(network, paths, used_before)),
         Row::CutOff => (2 * way_span(paths)).max(gone_by(network, paths, used_before)),
-        Row::LostEnd => gone_by(network, paths, used_before),
+        Row::LostEnd => gone_by(network, before, used_before),
         Row::FailedEnd => capability_span(network) + way_span(paths),
         Row::OneTurned => {
             2 * way_span(paths) + echo_span(network, paths) + unused_by(network, used_before)
@@ -469,7 +477,7 @@ pub(crate) fn times_by(
     let settling = if calm {
         let choice = choice_by(network, before, paths, row, gained);
         let roles = roles_by(network, before, paths, silent, row, gained);
-        let sound = sound_by(network, paths, used_before, row, gained);
+        let sound = sound_by(network, before, paths, used_before, row, gained);
         Some(settled(network, at, last_set, paths, sets, choice, roles, sound))
     } else {
         None

@@ -6,7 +6,7 @@ use Rattle.std.proofs.lemmas.Bool.{eqb-false, eqb-true}
 use Rattle.std.proofs.lemmas.Bool.Decides.{nat_tests}
 use Rattle.gptp_lists.specs.Members.{In}
 use Rattle.gptp_lists.proofs.SystemSpecLemmas.{In-left, In-parts}
-use Rattle.gptp_setup.specs.SettlingParams.{largest_interval, longest_span}
+use Rattle.gptp_setup.specs.SettlingParams.{largest_interval}
 use Rattle.gptp_scenario.specs.Calm.{NothingLapses}
 use Rattle.gptp_scenario.specs.Network.{NetworkState, pace_of}
 use Rattle.gptp_scenario.specs.SettlingTime.{window_span}
@@ -185,8 +185,8 @@ module _ (d : DocumentState) (playable : IsPlayable d) where
           inr (late, between, settles.2.0, off, (rest.settling.sound, bound, past), loses)
     ]
       where
-        by : IsSoundSooner n v.paths v.used_before (row_at v)
-            (sound_by n v.paths v.used_before (row_at v) (gained_at n v))
+        by : IsSoundSooner n v.paths_before v.paths v.used_before (row_at v)
+            (sound_by n v.paths_before v.paths v.used_before (row_at v) (gained_at n v))
             → HasComeToRest b at × RestsAfterLoss n made now s.sound
         by (inl (row, is)) =
             let x = lost_end n playable.network all b at late well row in
@@ -249,11 +249,6 @@ module _ (d : DocumentState) (playable : IsPlayable d) where
     abbrev silent : Bool
     silent = leaves_silent v.used v.told
 
-    -- what is heard is held for as long by the delay of before
-    held_as : v.paths.delay ≡ (sync_paths n made).delay
-        → held_span n v.paths ≡ min (aging_span (pace_of n) (sync_paths n made)) (silence_span (pace_of n))
-    held_as delay = ap (λ d. min (longest_span (pace_of n) + d) (silence_span (pace_of n))) delay
-
     -- what is lost at this time asks for what its row says
     loses_by : (r : Row) → row_at v ≡ r → HasOwnBounds r
         → HasComeToRest b at
@@ -284,19 +279,19 @@ module _ (d : DocumentState) (playable : IsPlayable d) where
         let (rest, turns, unused) = turned n playable.network all b at late well row in
         (rest, inr (inr (inl (turns, refl, refl))))
     loses_by FailedHeard row own =
-        let (rest, fails, delay) = heard n playable.network all b at late well (inl row) in (
+        let (rest, fails) = heard n playable.network all b at late well (inl row) in (
           rest,
           inr (inr (inr (inl (
             fails,
-            (held_span n v.paths, silence_span (pace_of n), inr (held_as delay, refl), inl (refl, refl)),
+            (held_span n v.paths_before, silence_span (pace_of n), inr (refl, refl), inl (refl, refl)),
           )))),
         )
     loses_by FailureCutsOff row own =
-        let (rest, fails, delay) = heard n playable.network all b at late well (inr row) in (
+        let (rest, fails) = heard n playable.network all b at late well (inr row) in (
           rest,
           inr (inr (inr (inl (
             fails,
-            (held_span n v.paths, silence_span (pace_of n), inr (held_as delay, refl), inr (refl, refl)),
+            (held_span n v.paths_before, silence_span (pace_of n), inr (refl, refl), inr (refl, refl)),
           )))),
         )
     loses_by AnyLosses row own =

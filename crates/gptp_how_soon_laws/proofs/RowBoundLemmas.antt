@@ -124,27 +124,29 @@ choice_or_own n before paths silent row gained = by (n.params.sync_timeout == 0)
 
 -- All is sound by that bound. Or nothing lapses, and it is sooner after a loss by which no system is moved, or one
 -- turns.
-abbrev pub IsSoundSooner : NetworkState → SyncPaths → Bool → Row → ℕ → Type 0
-IsSoundSooner n paths used_before row sound =
-    ((row ≡ LostEnd) × (sound ≡ gone_by n paths used_before))
+abbrev pub IsSoundSooner : NetworkState → SyncPaths → SyncPaths → Bool → Row → ℕ → Type 0
+IsSoundSooner n before paths used_before row sound =
+    ((row ≡ LostEnd) × (sound ≡ gone_by n before used_before))
     ⊎ (((row ≡ FailedEnd) × (sound ≡ capability_span (pace_of n) + way_span paths))
     ⊎ (((row ≡ Lowered) × (sound ≡ max (echo_span n paths) (gone_by n paths used_before)))
     ⊎ (((row ≡ CutOff) × (sound ≡ max (2 * way_span paths) (gone_by n paths used_before)))
     ⊎ ((row ≡ OneTurned) × (sound ≡ 2 * way_span paths + echo_span n paths + unused_by n used_before)))))
 
 pub sound_or_sooner : (n : NetworkState) (before paths : SyncPaths) (used_before : Bool) (row : Row) (gained : ℕ)
-    → (sound_by n paths used_before row gained ≡ choice_by n before paths (past_row row) gained)
-    ⊎ (NothingLapses n.params × IsSoundSooner n paths used_before row (sound_by n paths used_before row gained))
+    → (sound_by n before paths used_before row gained ≡ choice_by n before paths (past_row row) gained)
+    ⊎ (NothingLapses n.params
+    × IsSoundSooner n before paths used_before row (sound_by n before paths used_before row gained))
 sound_or_sooner n before paths used_before row gained = by (n.params.sync_timeout == 0) refl row
   where
     span : ℕ
     span = settling_span_with (pace_of n) paths paths.systems
 
     by : (off : Bool) → (n.params.sync_timeout == 0) ≡ off → (r : Row)
-        → (cond (not off) span (sound_of_row n paths used_before r gained)
+        → (cond (not off) span (sound_of_row n before paths used_before r gained)
         ≡ cond (not off) span (choice_of_row n before paths (past_row r) gained))
         ⊎ (NothingLapses n.params
-        × IsSoundSooner n paths used_before r (cond (not off) span (sound_of_row n paths used_before r gained)))
+        × IsSoundSooner n before paths used_before r
+        (cond (not off) span (sound_of_row n before paths used_before r gained)))
     by false is r = inl refl
     by true is AnyPast = inl refl
     by true is Unchanged = inl refl
@@ -164,7 +166,7 @@ sound_or_sooner n before paths used_before row gained = by (n.params.sync_timeou
 pub record IsTelling (n : NetworkState) (v : View) (s : Settling) : Type 0 where
   pub calm : v.calm ≡ true
   pub choice : s.choice ≡ choice_by n v.paths_before v.paths (row_at v) (gained_at n v)
-  pub sound : s.sound ≡ sound_by n v.paths v.used_before (row_at v) (gained_at n v)
+  pub sound : s.sound ≡ sound_by n v.paths_before v.paths v.used_before (row_at v) (gained_at n v)
   pub roles : s.roles ≡ roles_by n v.paths_before v.paths (leaves_silent v.used v.told) (row_at v) (gained_at n v)
   pub rest : s.sound ≤ s.rest
   pub exact : max (v.at + s.roles) (v.last_set + largest_interval (pace_of n)) + window_span n.params
@@ -179,7 +181,7 @@ tells n v s is = by v.calm refl is
         settled n v.at v.last_set v.paths (sets_link v.told)
         (choice_by n v.paths_before v.paths (row_at v) (gained_at n v))
         (roles_by n v.paths_before v.paths (leaves_silent v.used v.told) (row_at v) (gained_at n v))
-        (sound_by n v.paths v.used_before (row_at v) (gained_at n v))
+        (sound_by n v.paths_before v.paths v.used_before (row_at v) (gained_at n v))
 
     by : (calm : Bool) → v.calm ≡ calm → (if calm then Some it else None) ≡ Some s → IsTelling n v s
     by true calm told =
