@@ -3,7 +3,7 @@ use Rattle.std.proofs.Common.{◌≡◌, ◌⊎◌, ◌<◌, ◌≤◌, ℕ, zer
 use Rattle.gptp_lists.specs.Members.{In}
 use Rattle.gptp_graph.specs.Best.{IsBest}
 use Rattle.gptp_graph.specs.Path.{IsPath}
-use Rattle.gptp_graph.specs.Snapshot.{IsLinked, IsWellFormed, PortIdentity, Snapshot, System, clocks, port_of}
+use Rattle.gptp_graph.specs.Snapshot.{IsLinked, IsWellFormed, PortIdentity, Snapshot, clocks, port_of}
 use Rattle.gptp_graph.proofs.DistanceLemmas.{best_at_zero}
 use Rattle.gptp_graph.proofs.LinkLemmas.{Joins-clock}
 use Rattle.gptp_graph.proofs.PathLemmas.{IsPath-self}
