@@ -47,6 +47,14 @@ use Rattle.gptp_invariants.proofs.WorldNewsLemmas.{acts_silent, silent_later}
 abbrev pub GoesBy : SettlingParams → ℕ → WorldState → Type 0
 GoesBy p gone w = (UpIsInUse w × (gone ≡ delay_in w)) ⊎ (gone ≡ largest_interval p)
 
+-- so it is in a network that has settled
+pub goes_due : (p : SettlingParams) (gone : ℕ) (w : WorldState) → IsWorld p w → IsSettledSeen p w → GoesBy p gone w
+    → AreDueBy (w.time + gone) w
+goes_due p gone w is seen goes = elim goes [
+  | inl (used, delay) ↦ subst (λ t. AreDueBy (w.time + t) w) (sym delay) (due_by_delay p w is seen used)
+  | inr interval ↦ subst (λ t. AreDueBy (w.time + t) w) (sym interval) (due_by_interval p w is)
+]
+
 -- links tell right traces by distance, and what they told before is gone by a time
 pub record IsBecomingRight (p : SettlingParams) (n : Network) (right gone old : ℕ) (w : WorldState) : Type 0 where
   pub times : RightTimes n
@@ -150,13 +158,7 @@ module _ (p : SettlingParams) (g : Snapshot) (since silent right old : ℕ) (w w
       ]
 
       due : AreDueBy (w.time + gone) w
-      due = elim becomes.goes [
-        | inl (used, delay) ↦
-            subst (λ t. AreDueBy (w.time + t) w) (sym delay)
-            (due_by_delay p w is.left.standing.world (left_seen p g silent w is.left quiet off) used)
-        | inr interval ↦
-            subst (λ t. AreDueBy (w.time + t) w) (sym interval) (due_by_interval p w is.left.standing.world)
-      ]
+      due = goes_due p gone w is.left.standing.world (left_seen p g silent w is.left quiet off) becomes.goes
 
       -- a moment comes by which all is right
       all_by_now : right ≤ w'.time

@@ -6,6 +6,7 @@ use Rattle.gptp_graph.specs.Snapshot.{Joins, PortIdentity, Snapshot}
 use Rattle.gptp_links.specs.declared.link.Direction.{Direction}
 use Rattle.gptp_links.specs.declared.link.Direction.TheVariants.{FromA, FromB}
 use Rattle.gptp_links.specs.Fate.{Draw}
+use Rattle.gptp_scenario.specs.Calm.{NothingLapses}
 use Rattle.gptp_setup.specs.SettlingParams.{SettlingParams, largest_interval}
 use Rattle.gptp_system.specs.Input.{PortDown}
 use Rattle.gptp_model.specs.Changing.{TellsEnds, taken_down}
@@ -52,7 +53,8 @@ module _ (p : SettlingParams) (since silent old : ℕ) (w w' : WorldState) (is' 
     (left : IsLeftAlways p (snapshot_of w) silent w') (asked : HaveAskedBy since w')
     (silent_by : AreSilentBy p silent w') (x : ℕ) (far : IsFarEnd (snapshot_of w) x)
     (has : HasAllBut (snapshot_of w) (snapshot_of w') x)
-    (gone : (a b : PortIdentity) → Joins (snapshot_of w') a b → a.clock ≢ x) (due : AreDueBy old w) where
+    (gone : (a b : PortIdentity) → Joins (snapshot_of w') a b → a.clock ≢ x)
+    (due : HaveQuietLinks p.params w' → NothingLapses p.params → AreDueBy old w') where
   pub clears : IsCleared p (snapshot_of w) since silent 0 old w'
   clears = record {
     left = left;
@@ -64,7 +66,7 @@ module _ (p : SettlingParams) (since silent old : ℕ) (w w' : WorldState) (is' 
         (snapshot_of w') (stands_well w' is'.sound is'.between is'.encodable)
         (subst (λ h. IsLeftUnmoved h (snapshot_of w')) same left.left) x (subst (λ h. IsFarEnd h x) same far)
         (subst (λ h. HasAllBut h (snapshot_of w') x) same has) gone (view w') less (left.seen quiet off).unlinked old
-        due);
+        (due quiet off));
   }
     where
       same : snapshot_of w ≡ seen.n.graph

@@ -50,11 +50,11 @@ use Rattle.gptp_settling_time.proofs.WorldMovesLemmas.{cut_off_so, far_end_so, n
 use Rattle.gptp_bmca_machine.specs.SoundLaws.{AllAreNear}
 use Rattle.gptp_invariants.specs.ChoiceView.{says_announce, view}
 use Rattle.gptp_settling_time.specs.Losses.{FailsFarEnd, IsCutOff, IsFarEnd, LowersLink, silence_span}
-use Rattle.gptp_settling_time.proofs.ClearedLemmas.{GoesBy, IsCleared}
+use Rattle.gptp_settling_time.proofs.ClearedLemmas.{GoesBy, IsCleared, goes_due}
 use Rattle.gptp_settling_time.proofs.ClearedToLemmas.{IsClearedTo}
 use Rattle.gptp_settling_time.proofs.ClearsLemmas.{all_but_cut, clears, cut_joins_none, nearer_echo, ready_asked, rights}
-use Rattle.gptp_settling_time.proofs.DueLemmas.{AreDueBy, due_by_delay, due_by_interval}
-use Rattle.gptp_settling_time.proofs.LeftClaimedLemmas.{HaveAskedBy, IsLeftAlways}
+use Rattle.gptp_settling_time.proofs.DueLemmas.{AreDueBy, due_by_delay, due_by_interval, due_reduced}
+use Rattle.gptp_settling_time.proofs.LeftClaimedLemmas.{HaveAskedBy, IsLeftAlways, left_seen}
 use Rattle.gptp_settling_time.proofs.ReducedLemmas.{IsReduced}
 use Rattle.std.proofs.Math.Nat.{add-mul, mul-le-mul_left}
 
@@ -165,8 +165,9 @@ module _ (d : DocumentState) (playable : IsPlayable d) (made : List Timed) (even
           rest.silent (stays_joined d playable made event then w' keeps after x.moves))
 
       -- it cuts off a far end
-      module _ (lost old : ℕ) (far : IsFarEnd (snapshot_of then) lost) (cut : IsCutOff (snapshot_of w') lost)
-          (lost_end : (came.1.channel.a.clock ≡ lost) ⊎ (came.1.channel.b.clock ≡ lost)) (due : AreDueBy old then) where
+      module _ (lost gone old : ℕ) (far : IsFarEnd (snapshot_of then) lost) (cut : IsCutOff (snapshot_of w') lost)
+          (lost_end : (came.1.channel.a.clock ≡ lost) ⊎ (came.1.channel.b.clock ≡ lost)) (goes : GoesBy p gone w')
+          (is : old ≡ event.at + gone) where
         cut_since : IsCleared p (snapshot_of then) start start 0 old w'
         cut_since =
             clears p start start old then w' after.claim.world lowered_seen lowered_near rest.sound lowered_less
@@ -174,13 +175,18 @@ module _ (d : DocumentState) (playable : IsPlayable d) (made : List Timed) (even
             (all_but_cut p then world_then came.1.place came.1.channel came.1.is.here draws w' after.claim.world
             (ends p start x.clock x.port then draws done w' keeps.claim.pace world_then after.claim.world
             keeps.claim.measured after.claim.measured came was_up) lowered_seen lowered_near lost lost_end)
-            (cut_joins_none (snapshot_of w') lost cut) due
+            (cut_joins_none (snapshot_of w') lost cut)
+            (λ quiet off.
+            subst (λ t. AreDueBy t w') (omega (arith, is, time))
+            (goes_due p gone w' after.claim.world
+            (left_seen p (snapshot_of then) start w' lowered_since quiet off) goes))
 
     abbrev lowers_by : CutsCalm n made event → LowersCalm n made event
     lowers_by cuts = record { lowers = cuts.cuts.lowers; calm = cuts.calm; off = cuts.off }
 
-    cut_to : (old : ℕ) → CutsCalm n made event → AreDueBy old then → IsClearedTo d more start start 0 old w'
-    cut_to old calm due =
+    cut_to : (gone old : ℕ) → CutsCalm n made event → GoesBy p gone w' → old ≡ event.at + gone
+        → IsClearedTo d more start start 0 old w'
+    cut_to gone old calm goes by =
         let lowers = lowers_by calm in
         let y = calm.cuts in
         let channel = (came lowers).1.channel in
@@ -192,8 +198,8 @@ module _ (d : DocumentState) (playable : IsPlayable d) (made : List Timed) (even
         record {
           keeps = after;
           before = snapshot_of then;
-          is = cut_since lowers y.lost old (far_end_so d playable made then keeps y.lost y.far)
-              (cut_off_so d playable more w' after y.lost y.cut) lost_end due;
+          is = cut_since lowers y.lost gone old (far_end_so d playable made then keeps y.lost y.far)
+              (cut_off_so d playable more w' after y.lost y.cut) lost_end goes by;
         }
 
     -- a system fails that is the far end of its links
@@ -243,7 +249,10 @@ module _ (d : DocumentState) (playable : IsPlayable d) (made : List Timed) (even
             (failed_reduced p y.clock then draws done w' world_then after.claim.world came_fail lived) failed_since
             failed_asked silent_by y.clock (far_end_so d playable made then keeps y.clock y.far)
             (all_but p y.clock then draws done w' world_then after.claim.world came_fail lived)
-            (none_joined p y.clock then draws done w' world_then after.claim.world came_fail lived) due;
+            (none_joined p y.clock then draws done w' world_then after.claim.world came_fail lived)
+            (λ quiet off.
+            due_reduced old then w'
+            (failed_reduced p y.clock then draws done w' world_then after.claim.world came_fail lived) due);
       }
 
     -- a port beside a failed system is off no later than it is known to be silent
@@ -303,10 +312,9 @@ module _ (d : DocumentState) (playable : IsPlayable d) (made : List Timed) (even
 
     pub cleared_to : (since silent right old : ℕ) → ClearsBy n made event start since silent right old
         → IsClearedTo d more since silent right old w'
-    cleared_to since silent right old (begun, inl (inl (cuts, same), zero, (gone, flight, is))) =
-        cleared_so start 0 since silent right old begun same zero
-        (cut_to old cuts (subst (λ t. AreDueBy t then) (sym is) (gone_by gone cuts.calm cuts.off flight)))
-    cleared_to since silent right old (begun, inl (inr (fails, same), zero, (gone, flight, is))) =
+    cleared_to since silent right old (begun, inl (zero, inl (cuts, same, (gone, flight, is)))) =
+        cleared_so start 0 since silent right old begun same zero (cut_to gone old cuts (goes_by gone flight) is)
+    cleared_to since silent right old (begun, inl (zero, inr (fails, same, (gone, flight, is)))) =
         cleared_so silent 0 since silent right old begun refl zero
         (failed_cleared fails silent (let short = silence_short in omega (arith, same, short)) old
         (unanswered_silent p silent w' after.claim.silent (omega (arith, last, time, same)))
