@@ -131,10 +131,6 @@ gone_by n paths used_before = if used_before then paths.delay else largest_inter
 abbrev pub echo_span : NetworkState → SyncPaths → ℕ
 echo_span n paths = pred paths.systems * (largest_interval (pace_of n) + paths.delay)
 
--- Where a link was up that isn't in use what was in flight on it may be gone an announce interval later than elsewhere.
-abbrev pub unused_by : NetworkState → Bool → ℕ
-unused_by n used_before = if used_before then 0 else largest_interval (pace_of n)
-
 -- By when all that is held and in flight is sound: as soon as the choice stands, but after a loss it may name what is
 -- gone. After a far end is cut off, or loses its power, only what was in flight does. Where a far end fails, and ports
 -- beside it may still be capable, roles have to stand first, and then a way to pass. After a link goes down by which no
@@ -149,8 +145,7 @@ sound_of_row n paths used_before LostEnd gained = gone_by n paths used_before
 sound_of_row n paths used_before FailedEnd gained = capability_span (pace_of n) + way_span paths
 sound_of_row n paths used_before LostPower gained = settling_span_at_once (pace_of n) paths
 sound_of_row n paths used_before FailedHeard gained = settling_span_at_once (pace_of n) paths
-sound_of_row n paths used_before OneTurned gained =
-    2 * way_span paths + echo_span n paths + unused_by n used_before
+sound_of_row n paths used_before OneTurned gained = 2 * way_span paths + echo_span n paths
 sound_of_row n paths used_before AnyLosses gained = settling_span_at_once (pace_of n) paths
 sound_of_row n paths used_before Gained gained = gained
 

@@ -6,7 +6,7 @@ ghost use Rattle.gptp_network.specs.declared.keys.TheConstants.{LATEST_EVENT};
 ghost use Rattle.gptp_scenario.specs.Network.{pace_of};
 ghost use Rattle.gptp_scenario.specs.SettlingAtOnce.{settling_span_at_once};
 ghost use Rattle.gptp_scenario.specs.SettlingTime.{capability_span};
-ghost use Rattle.gptp_how_soon.specs.Bounds.{aging_span, asked_again, choice_by, echo_span, exact_from, exact_span, gone_by, heard_by, is_again, is_hard_to_hear, loss_span, ready, roles_after_losses, roles_by, set_span, settled, silence_span, sound_by, times_by, two_exchanges, unused_by, watch, way_span};
+ghost use Rattle.gptp_how_soon.specs.Bounds.{aging_span, asked_again, choice_by, echo_span, exact_from, exact_span, gone_by, heard_by, is_again, is_hard_to_hear, loss_span, ready, roles_after_losses, roles_by, set_span, settled, silence_span, sound_by, times_by, two_exchanges, watch, way_span};
 
 use crate::kinds::{Told, recovers};
 use crate::links::varies;
@@ -312,19 +312,6 @@ fn gone_by(network: &Network, paths: SyncPaths, used_before: bool) -> u64
     }
 }
 
-/// By how much later than elsewhere what was in flight on links that aren't in use is gone, in ns.
-fn unused_by(network: &Network, used_before: bool) -> u64
-    ensures is { result ≡ unused_by network.now used_before }
-    ensures bound { result ≤ 16000000000 }
-{
-    network.well_formed();
-    if !used_before {
-        interval_of(network.largest())
-    } else {
-        0
-    }
-}
-
 /// The bound of what is held and in flight, in ns.
 fn sound_by(network: &Network, paths: SyncPaths, used_before: bool, row: Row, gained: u64) -> u64
     requires few { paths.systems ≤ 512 }
@@ -345,9 +332,7 @@ fn sound_by(network: &Network, paths: SyncPaths, used_before: bool, row: Row, ga
         Row::CutOff => (2 * way_span(paths)).max(gone_by(network, paths, used_before)),
         Row::LostEnd => gone_by(network, paths, used_before),
         Row::FailedEnd => capability_span(network) + way_span(paths),
-        Row::OneTurned => {
-            2 * way_span(paths) + echo_span(network, paths) + unused_by(network, used_before)
-        }
+        Row::OneTurned => 2 * way_span(paths) + echo_span(network, paths),
         Row::Gained => gained,
     }
 }

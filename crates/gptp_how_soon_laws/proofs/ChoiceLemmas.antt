@@ -202,11 +202,8 @@ module _ (d : DocumentState) (playable : IsPlayable d) where
             let x = cut_off n playable.network all b at late well row in
             (x.rested, inl (x.cuts, (gone_by n v.paths v.used_before, x.flight, it.sound ∙ is)))
         by (inr (inr (inr (inr (row, is))))) =
-            let (rest, turns, unused) = turned n playable.network all b at late well row in
-            (rest, inr (inr (inr (turns, elim unused [
-              | inl (used, none) ↦ let same = it.sound in inl (used, omega (arith, same, is, none))
-              | inr later ↦ let same = it.sound in inr (omega (arith, same, is, later))
-            ]))))
+            let (rest, turns) = turned n playable.network all b at late well row in
+            (rest, inr (inr (inr (turns, it.sound ∙ is))))
 
     -- the choice and the roles stand by then, or sooner after a loss
     record IsSooner (s : Settling) : Type 0 where
@@ -261,7 +258,7 @@ module _ (d : DocumentState) (playable : IsPlayable d) where
         let (rest, fails, used) = lost_power n playable.network all b at late well row in
         (rest, inr (inr (inr (inl (fails, inl (used, refl, refl))))))
     loses_by OneTurned row own =
-        let (rest, turns, unused) = turned n playable.network all b at late well row in
+        let (rest, turns) = turned n playable.network all b at late well row in
         (rest, inr (inr (inl (turns, refl, refl))))
     loses_by FailedHeard row own =
         let (rest, fails, delay) = heard n playable.network all b at late well row in

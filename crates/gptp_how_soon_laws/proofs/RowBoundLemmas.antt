@@ -13,7 +13,7 @@ use Rattle.gptp_scenario.specs.SyncWait.{sync_paths}
 use Rattle.gptp_scenario.specs.declared.change.Timed.{Timed}
 use Rattle.gptp_scenario.specs.declared.sync_wait.SyncPaths.{SyncPaths}
 use Rattle.gptp_topology.specs.After.{is_calm}
-use Rattle.gptp_how_soon.specs.Bounds.{choice_by, choice_of_row, echo_span, gone_by, roles_by, roles_of_row, settled, sound_by, sound_of_row, unused_by}
+use Rattle.gptp_how_soon.specs.Bounds.{choice_by, choice_of_row, echo_span, gone_by, roles_by, roles_of_row, settled, sound_by, sound_of_row}
 use Rattle.gptp_how_soon.specs.Kinds.{sets_link}
 use Rattle.gptp_how_soon.specs.Rest.{leaves_silent}
 use Rattle.gptp_how_soon.specs.Times.{View, gained_at, row_at, settling_time}
@@ -124,7 +124,7 @@ IsSoundSooner n paths used_before row sound =
     ⊎ (((row ≡ FailedEnd) × (sound ≡ capability_span (pace_of n) + way_span paths))
     ⊎ (((row ≡ Lowered) × (sound ≡ max (echo_span n paths) (gone_by n paths used_before)))
     ⊎ (((row ≡ CutOff) × (sound ≡ max (2 * way_span paths) (gone_by n paths used_before)))
-    ⊎ ((row ≡ OneTurned) × (sound ≡ 2 * way_span paths + echo_span n paths + unused_by n used_before)))))
+    ⊎ ((row ≡ OneTurned) × (sound ≡ 2 * way_span paths + echo_span n paths)))))
 
 pub sound_or_sooner : (n : NetworkState) (before paths : SyncPaths) (used_before : Bool) (row : Row) (gained : ℕ)
     → (sound_by n paths used_before row gained ≡ choice_by n before paths (past_row row) gained)

@@ -2,7 +2,7 @@
 -- but for what is due soon.
 use Rattle.std.proofs.Common.{List, Some, ap, arith, inl, inr, pred, slice_get, subst, suc, sym, ℕ, ◌*◌, ◌+◌, ◌∙◌, ◌≡◌, ◌≢◌, ◌≤◌, ◌⊎◌, refl}
 use Rattle.gptp_lists.specs.Members.{In}
-use Rattle.gptp_graph.specs.Snapshot.{Joins, PortIdentity, Snapshot}
+use Rattle.gptp_graph.specs.Snapshot.{Joins, PortIdentity, Snapshot, port_of}
 use Rattle.gptp_links.specs.declared.link.Direction.{Direction}
 use Rattle.gptp_links.specs.declared.link.Direction.TheVariants.{FromA, FromB}
 use Rattle.gptp_links.specs.Fate.{Draw}
@@ -22,13 +22,14 @@ use Rattle.gptp_invariants.proofs.WorldStandsLemmas.{stands_well}
 use Rattle.gptp_settling_time.specs.Losses.{IsCutOff, IsFarEnd}
 use Rattle.gptp_settling_time.proofs.ClearedLemmas.{GoesBy, IsBecomingRight, IsCleared}
 use Rattle.gptp_settling_time.proofs.FarEndLemmas.{HasAllBut}
-use Rattle.gptp_settling_time.proofs.FitsLemmas.{IsLeftUnmoved}
+use Rattle.gptp_settling_time.proofs.FitsLemmas.{IsLeftUnmoved, best_before, joined_stays}
 use Rattle.gptp_settling_time.proofs.LeftClaimedLemmas.{HaveAskedBy, IsLeftAlways, left_calm, left_net, left_network}
 use Rattle.gptp_settling_time.proofs.LostEndLemmas.{but_old_reduced, lost_end_sound}
 use Rattle.gptp_settling_time.proofs.LoweredLemmas.{still_joins}
 use Rattle.gptp_settling_time.proofs.ReducedLemmas.{IsReduced}
+use Rattle.gptp_settling_time.proofs.NamesItselfLemmas.{itself_begins}
 use Rattle.gptp_settling_time.proofs.RightBeginLemmas.{right_begins, root_right}
-use Rattle.gptp_settling_time.proofs.TellsRightLemmas.{told_last, told_times}
+use Rattle.gptp_settling_time.proofs.TellsRightLemmas.{right_last}
 use Rattle.gptp_settling_time.proofs.UnlinkedLemmas.{IsLeftSeen}
 use Rattle.gptp_graph.specs.PathBound.{path_bound}
 use Rattle.gptp_settling_time.proofs.SettledSeenLemmas.{IsSettledSeen}
@@ -111,19 +112,24 @@ rights p g since silent gone w left asked silent_by goes sound = record {
         (w.time + nearer_echo p w + gone) w
     becomes seen quiet =
         let n = left_network p silent w in
-        let by = told_last n (suc w.time) (pred (path_bound (snapshot_of w))) in
+        let net = left_net p silent w left.standing.world in
+        let by = right_last n (suc w.time) (pred (path_bound (snapshot_of w))) in
         record {
-          times = told_times n (suc w.time);
+          base = suc w.time;
           goes = goes;
           levels = right_begins says_announce n (suc w.time) (view w) (omega arith)
-              (root_right says_announce g n left.well (left_net p silent w left.standing.world) left.near left.left
-              (view w)
+              (root_right says_announce g n net left.near (view w)
               (record {
                 calm = left_calm p silent w left.standing left.asked quiet seen.unlinked;
                 invariant = seen.invariant;
                 late = let past = left.late in omega (arith, past);
                 none = seen.unlinked;
-              }) sound (told_times n (suc w.time)));
+              })
+              (λ v u best joined is here.
+              best_before g n.graph left.well net.graph left.left v best
+              (joined_stays g n.graph left.well net.graph left.left (port_of v joined.0) (port_of u joined.1) joined.2)
+              is)
+              (itself_begins says_announce n g (view w) sound) (suc w.time));
           is = omega (arith, by);
           early = omega arith;
           by = omega arith;

@@ -4,9 +4,7 @@ use Rattle.gptp_lists.specs.Members.{In}
 use Rattle.gptp_graph.specs.Snapshot.{Joins}
 use Rattle.gptp_setup.specs.SettlingParams.{SettlingParams, largest_interval}
 use Rattle.gptp_model.specs.World.{Channel, WorldState}
-use Rattle.gptp_bmca_machine.specs.Calm.{Calm}
 use Rattle.gptp_bmca_machine.specs.Frame.{Announce, AnnounceFrame, Lane}
-use Rattle.gptp_bmca_machine.specs.Network.{Network}
 use Rattle.gptp_bmca_machine.proofs.SettledLemmas.{since_grows}
 use Rattle.gptp_invariants.specs.ChoiceCalm.{delay_in}
 use Rattle.gptp_invariants.specs.ChoiceSettlesAsMachine.{IsWorld}
@@ -38,32 +36,26 @@ UpIsInUse w = (link : ℕ) (channel : Channel) → slice_get w.net.channels link
     → channel_is_used (live_stations w.stations) channel ≡ true
 
 -- or by the greatest delay of a link in use, where each link that is up is in use
-pub due_in_use : (p : SettlingParams) (w : WorldState) → IsWorld p w → (n : Network) → Calm n (view w)
-    → n.graph ≡ snapshot_of w → n.start ≤ w.time → UpIsInUse w → AreDueBy (w.time + n.most) w
-due_in_use p w is n calm graph begun used j l f a there member said =
-    by (calm.facts.fresh j l f there member joins)
+pub due_by_delay : (p : SettlingParams) (w : WorldState) → IsWorld p w → IsSettledSeen p w → UpIsInUse w
+    → AreDueBy (w.time + delay_in w) w
+due_by_delay p w is seen used j l f a there member said = by (seen.calm.facts.fresh j l f there member joins)
   where
-    joins : Joins n.graph l.from l.to
+    joins : Joins seen.n.graph l.from l.to
     joins =
         let at = frame_from w j l f there member in
         let up = frames_on_links w is.sound at.link at.direction at.channel at.frame at.here at.among in
-        subst (λ h. Joins h l.from l.to) (sym graph)
+        subst (λ h. Joins h l.from l.to) (sym seen.graph)
         (subst (λ (x : Lane). Joins (snapshot_of w) x.from x.to) (sym at.lane_is)
         (used_joins w at.link at.direction at.channel at.here (used at.link at.channel at.here up)))
 
-    by : (f.due ≤ w.time + n.most) ⊎ (f.due < n.start) → f.due ≤ w.time + n.most
-    by (inl soon) = soon
-    by (inr old) = let left = calm.left j l f there member in absurd (omega (arith, old, left, begun))
-
--- so it is where the network has settled
-pub due_by_delay : (p : SettlingParams) (w : WorldState) → IsWorld p w → IsSettledSeen p w → UpIsInUse w
-    → AreDueBy (w.time + delay_in w) w
-due_by_delay p w is seen used =
-    let begun = seen.net.begun in
-    let grows = since_grows seen.n 0 (pred seen.n.reach) (omega arith) in
-    let late = seen.late in
-    subst (λ most. AreDueBy (w.time + most) w) seen.most
-    (due_in_use p w is seen.n seen.calm seen.graph (omega (arith, begun, grows, late)) used)
+    by : (f.due ≤ w.time + seen.n.most) ⊎ (f.due < seen.n.start) → f.due ≤ w.time + delay_in w
+    by (inl soon) = let most = seen.most in omega (arith, soon, most)
+    by (inr old) =
+        let left = seen.calm.left j l f there member in
+        let begun = seen.net.begun in
+        let grows = since_grows seen.n 0 (pred seen.n.reach) (omega arith) in
+        let late = seen.late in
+        absurd (omega (arith, old, left, begun, grows, late))
 
 -- it stays so as long as the network stays
 pub use_kept : (w w' : WorldState) → KeepsNetwork w w' → UpIsInUse w → UpIsInUse w'

@@ -143,3 +143,4 @@ pub mod LosesLeadLemmas
 pub mod MovedFlightLemmas
 pub mod RightBeginLemmas
 pub mod ToldAnewLemmas
+pub mod NamesItselfLemmas

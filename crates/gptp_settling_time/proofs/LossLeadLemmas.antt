@@ -430,14 +430,14 @@ module _ (n : NetworkState) (off : NothingLapses n.params) (time : ℕ) (made no
         (omega (arith, early, before)) (inl (omega (arith, over, before))) (omega (arith, is))
 
     -- one system turns, and it is taken as heard from now on
-    turned_led : TurnsLink n made event → others ≡ []
-        → (UpIsUsed n (made ++ now) × (rest ≡ turned_echo_span n (made ++ now)))
-        ⊎ (rest ≡ turned_echo_span n (made ++ now) + largest_interval (pace_of n))
+    turned_led : TurnsLink n made event → others ≡ [] → rest ≡ turned_echo_span n (made ++ now)
         → IsLed n made now past (suc (time + rest))
-    turned_led turns alone which =
+    turned_led turns alone is =
         let x = turn_leads n made event past settled_then (record { turns = turns; calm = calm_then; off = off }) in
         let last : Past = Turned x.silent event.at in
-        let over : event.at + way_span (sync_paths n (made ++ now)) ≤ suc (time + rest) = by_way which in
+        let before = here in
+        let over : event.at + way_span (sync_paths n (made ++ now)) ≤ suc (time + rest) =
+        omega (arith, before, is) in
         record {
           last = last;
           lead = subst (λ es. LeadOn n made past es last) (sym (same ∙ ap (λ es. event ∷ es) alone))
@@ -447,10 +447,7 @@ module _ (n : NetworkState) (off : NothingLapses n.params) (time : ℕ) (made no
             inr (record {
               calm = calm;
               off = off;
-              told = elim which [
-                | inl (used, is) ↦ let before = here in inl (used, omega (arith, before, is))
-                | inr is ↦ let before = here in inr (omega (arith, before, is))
-              ];
+              told = omega (arith, before, is);
               later = omega arith;
               unlinked = x.early;
               over = over;
@@ -458,12 +455,6 @@ module _ (n : NetworkState) (off : NothingLapses n.params) (time : ℕ) (made no
             over,
           );
         }
-      where
-        by_way : (UpIsUsed n (made ++ now) × (rest ≡ turned_echo_span n (made ++ now)))
-            ⊎ (rest ≡ turned_echo_span n (made ++ now) + largest_interval (pace_of n))
-            → event.at + way_span (sync_paths n (made ++ now)) ≤ suc (time + rest)
-        by_way (inl (used, is)) = let before = here in omega (arith, before, is)
-        by_way (inr is) = let before = here in omega (arith, before, is)
 
   lost_led : (es : List Timed) → now ≡ es
       → (CutsOneEnd n made es
@@ -473,9 +464,7 @@ module _ (n : NetworkState) (off : NothingLapses n.params) (time : ℕ) (made no
       ⊎ (rest ≡ capability_span (pace_of n) + way_span (sync_paths n (made ++ now)))))
       ⊎ ((LowersOneLink n made es
       × ((gone : ℕ) × FlightIsGone n (made ++ now) gone × (rest ≡ max (echo_span n (made ++ now)) gone)))
-      ⊎ (TurnsOneLink n made es
-      × ((UpIsUsed n (made ++ now) × (rest ≡ turned_echo_span n (made ++ now)))
-      ⊎ (rest ≡ turned_echo_span n (made ++ now) + largest_interval (pace_of n))))))
+      ⊎ (TurnsOneLink n made es × (rest ≡ turned_echo_span n (made ++ now)))))
       → IsLed n made now past (suc (time + rest))
   lost_led [] same (inl (none, flight)) = absurd none
   lost_led [] same (inr (inl (none, after))) = absurd none
@@ -487,7 +476,7 @@ module _ (n : NetworkState) (off : NothingLapses n.params) (time : ℕ) (made no
   lost_led (event ∷ []) same (inl (cuts, (gone, flight, is))) = cut_led event [] same cuts refl gone flight is
   lost_led (event ∷ []) same (inr (inr (inl (lowers, (gone, flight, is))))) =
       right_led event [] same lowers refl gone flight is
-  lost_led (event ∷ []) same (inr (inr (inr (turns, which)))) = turned_led event [] same turns refl which
+  lost_led (event ∷ []) same (inr (inr (inr (turns, is)))) = turned_led event [] same turns refl is
   lost_led (event ∷ others) same (inr (inl ((fails, lowers), by))) = fail_led event others same fails lowers by
 
   pub cleared_led : RestsAfterLoss n made now rest → IsLed n made now past (suc (time + rest))

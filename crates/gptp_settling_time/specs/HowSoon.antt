@@ -333,8 +333,7 @@ LosesNext n events Then last time Asks =
 -- How much later a network has come to rest after a loss. After the loss of a far end what was in flight has to be
 -- gone. Where it fails and a link is up then that isn't in use, roles have to stand, and the greatest delay to pass for
 -- each system of a path but one. After another link goes down that moves no system right traces have to be told first.
--- Where it so moves one system the network settles before. It has within two ways, and where each link that is up is in
--- use what was in flight is gone in that time too.
+-- Where it so moves one system the network settles before, within two ways.
 abbrev pub RestsAfterLoss : NetworkState → List Timed → List Timed → ℕ → Type 0
 RestsAfterLoss n made now rest =
     (CutsOneEnd n made now
@@ -344,9 +343,7 @@ RestsAfterLoss n made now rest =
     ⊎ (rest ≡ capability_span (pace_of n) + way_span (sync_paths n (made ++ now)))))
     ⊎ ((LowersOneLink n made now
     × ((gone : ℕ) × FlightIsGone n (made ++ now) gone × (rest ≡ max (echo_span n (made ++ now)) gone)))
-    ⊎ (TurnsOneLink n made now
-    × ((UpIsUsed n (made ++ now) × (rest ≡ turned_echo_span n (made ++ now)))
-    ⊎ (rest ≡ turned_echo_span n (made ++ now) + largest_interval (pace_of n))))))
+    ⊎ (TurnsOneLink n made now × (rest ≡ turned_echo_span n (made ++ now)))))
 
 -- By so much later than a time the network has come to rest, by the times before it, the latest first: it has settled,
 -- and nothing that is held, or in flight, names what is gone. The first time of all is 0.

@@ -514,14 +514,12 @@ turned_echo_span n events =
     2 * (pred (sync_paths n events).systems * (sync_paths n events).delay) + echo_span n events
 
 -- A network in which a system turned at a time has come to rest by another, as one whose ports are capable from a start
--- on. Traces are told anew. What was in flight is gone then, or an announce interval later where a link is up that
--- isn't in use. Ports without a link aren't capable from the start on. And the greatest delay has passed for each
--- system of a path but one.
+-- on. Traces are told anew, and what was in flight is gone by then. Ports without a link aren't capable from the start
+-- on. And the greatest delay has passed for each system of a path but one.
 pub record HasToldAnew (n : NetworkState) (events : List Timed) (silent turned start time : ℕ) : Type 0 where
   pub calm : IsCalm n events
   pub off : NothingLapses n.params
-  pub told : (UpIsUsed n events × (turned + turned_echo_span n events < time))
-      ⊎ (turned + turned_echo_span n events + largest_interval (pace_of n) < time)
+  pub told : turned + turned_echo_span n events < time
   pub later : turned ≤ start
   pub unlinked : silent ≤ start
   pub over : HasSettledHeard n events start time
