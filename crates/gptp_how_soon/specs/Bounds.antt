@@ -12,7 +12,7 @@ use Rattle.gptp_topology.specs.declared.course.Cable.{Cable}
 use Rattle.gptp_how_soon.specs.Kinds.{recovers}
 use Rattle.gptp_how_soon.specs.Links.{varies}
 use Rattle.gptp_how_soon.specs.declared.bounds.Row.{Row}
-use Rattle.gptp_how_soon.specs.declared.bounds.Row.TheVariants.{AnyLosses, AnyPast, CutOff, FailedEnd, FailedHeard, Gained, LostEnd, LostPower, Lowered, OneTurned, Unchanged}
+use Rattle.gptp_how_soon.specs.declared.bounds.Row.TheVariants.{AnyLosses, AnyPast, CutOff, FailedEnd, FailedHeard, FailureCutsOff, Gained, LostEnd, LostPower, Lowered, OneTurned, PowerCutsOff, Unchanged}
 use Rattle.gptp_how_soon.specs.declared.bounds.Settling.{Settling}
 use Rattle.gptp_how_soon.specs.declared.bounds.SettlingTime.{SettlingTime}
 use Rattle.gptp_how_soon.specs.declared.kinds.Told.{Told}
@@ -37,6 +37,10 @@ silence_span p = (p.lost + 2) * interval_of p.pdelay
 -- longest receipt timeout.
 abbrev pub aging_span : NetworkState → SyncPaths → ℕ
 aging_span n paths = longest_span (pace_of n) + paths.delay
+
+-- how long it counts: no longer than the ports beside that system stay capable
+abbrev pub held_span : NetworkState → SyncPaths → ℕ
+held_span n paths = min (aging_span n paths) (silence_span n.params)
 
 -- the greatest delay for each system of a path but one
 abbrev pub way_span : SyncPaths → ℕ
@@ -85,7 +89,9 @@ choice_of_row n before paths CutOff gained = 2 * way_span paths
 choice_of_row n before paths LostEnd gained = 0
 choice_of_row n before paths FailedEnd gained = 0
 choice_of_row n before paths LostPower gained = 0
-choice_of_row n before paths FailedHeard gained = min (aging_span n paths) (silence_span n.params)
+choice_of_row n before paths PowerCutsOff gained = 2 * way_span paths
+choice_of_row n before paths FailedHeard gained = held_span n paths
+choice_of_row n before paths FailureCutsOff gained = held_span n paths + 2 * way_span paths
 choice_of_row n before paths OneTurned gained = 2 * way_span paths
 choice_of_row n before paths AnyLosses gained = loss_span n before paths
 choice_of_row n before paths Gained gained = gained
@@ -111,7 +117,10 @@ roles_of_row n before paths silent CutOff gained = 2 * way_span paths
 roles_of_row n before paths silent LostEnd gained = 0
 roles_of_row n before paths silent FailedEnd gained = silence_span n.params
 roles_of_row n before paths silent LostPower gained = 0
+roles_of_row n before paths silent PowerCutsOff gained = choice_of_row n before paths PowerCutsOff gained
 roles_of_row n before paths silent FailedHeard gained = silence_span n.params
+roles_of_row n before paths silent FailureCutsOff gained =
+    max (choice_of_row n before paths FailureCutsOff gained) (silence_span n.params)
 roles_of_row n before paths silent OneTurned gained = choice_of_row n before paths OneTurned gained
 roles_of_row n before paths silent AnyLosses gained = roles_after_losses n before paths silent
 roles_of_row n before paths silent Gained gained = gained
@@ -134,8 +143,8 @@ echo_span n paths = pred paths.systems * (largest_interval (pace_of n) + paths.d
 -- By when all that is held and in flight is sound: as soon as the choice stands, but after a loss it may name what is
 -- gone. After a far end is cut off, or loses its power, only what was in flight does. Where a far end fails, and ports
 -- beside it may still be capable, roles have to stand first, and then a way to pass. After a link goes down by which no
--- system is moved traces have to be told anew first, and so they do where one system turns, once the choice stands.
--- After other losses all is sound as soon as the choice stands from any past.
+-- system is moved, or a system that others heard loses its power, traces have to be told anew first. So they do where
+-- one system turns, once the choice stands. After other losses all is sound as soon as the choice stands from any past.
 abbrev pub sound_of_row : NetworkState → SyncPaths → Bool → Row → ℕ → ℕ
 sound_of_row n paths used_before AnyPast gained = settling_span_at_once (pace_of n) paths
 sound_of_row n paths used_before Unchanged gained = 0
@@ -143,8 +152,11 @@ sound_of_row n paths used_before Lowered gained = max (echo_span n paths) (gone_
 sound_of_row n paths used_before CutOff gained = max (2 * way_span paths) (gone_by n paths used_before)
 sound_of_row n paths used_before LostEnd gained = gone_by n paths used_before
 sound_of_row n paths used_before FailedEnd gained = capability_span (pace_of n) + way_span paths
-sound_of_row n paths used_before LostPower gained = settling_span_at_once (pace_of n) paths
+sound_of_row n paths used_before LostPower gained = max (echo_span n paths) paths.delay
+sound_of_row n paths used_before PowerCutsOff gained =
+    max (2 * way_span paths) (max (echo_span n paths) paths.delay)
 sound_of_row n paths used_before FailedHeard gained = settling_span_at_once (pace_of n) paths
+sound_of_row n paths used_before FailureCutsOff gained = settling_span_at_once (pace_of n) paths
 sound_of_row n paths used_before OneTurned gained = 2 * way_span paths + echo_span n paths
 sound_of_row n paths used_before AnyLosses gained = settling_span_at_once (pace_of n) paths
 sound_of_row n paths used_before Gained gained = gained

@@ -3,6 +3,7 @@ use Rattle.std.proofs.Common.{◌≡◌, ◌⊎◌, ◌<◌, ◌≤◌, ◌+◌,
 use Rattle.gptp_lists.specs.Members.{In}
 use Rattle.gptp_graph.specs.Snapshot.{Joins}
 use Rattle.gptp_setup.specs.SettlingParams.{SettlingParams, largest_interval}
+use Rattle.gptp_model.specs.Sound.{IsSound}
 use Rattle.gptp_model.specs.World.{Channel, WorldState}
 use Rattle.gptp_bmca_machine.specs.Frame.{Announce, AnnounceFrame, Lane}
 use Rattle.gptp_bmca_machine.proofs.SettledLemmas.{since_grows}
@@ -35,18 +36,22 @@ abbrev pub UpIsInUse : WorldState → Type 0
 UpIsInUse w = (link : ℕ) (channel : Channel) → slice_get w.net.channels link ≡ Some channel → channel.up ≡ true
     → channel_is_used (live_stations w.stations) channel ≡ true
 
--- or by the greatest delay of a link in use, where each link that is up is in use
+-- then what is in flight comes over links in use
+pub in_use_joins : (w : WorldState) → IsSound w → UpIsInUse w → (j : ℕ) (l : Lane) (f : AnnounceFrame)
+    → slice_get (view w).lanes j ≡ Some l → In f l.frames → Joins (snapshot_of w) l.from l.to
+in_use_joins w sound used j l f there member =
+    let at = frame_from w j l f there member in
+    let up = frames_on_links w sound at.link at.direction at.channel at.frame at.here at.among in
+    subst (λ (x : Lane). Joins (snapshot_of w) x.from x.to) (sym at.lane_is)
+    (used_joins w at.link at.direction at.channel at.here (used at.link at.channel at.here up))
+
+-- and it is due within the greatest delay
 pub due_by_delay : (p : SettlingParams) (w : WorldState) → IsWorld p w → IsSettledSeen p w → UpIsInUse w
     → AreDueBy (w.time + delay_in w) w
 due_by_delay p w is seen used j l f a there member said = by (seen.calm.facts.fresh j l f there member joins)
   where
     joins : Joins seen.n.graph l.from l.to
-    joins =
-        let at = frame_from w j l f there member in
-        let up = frames_on_links w is.sound at.link at.direction at.channel at.frame at.here at.among in
-        subst (λ h. Joins h l.from l.to) (sym seen.graph)
-        (subst (λ (x : Lane). Joins (snapshot_of w) x.from x.to) (sym at.lane_is)
-        (used_joins w at.link at.direction at.channel at.here (used at.link at.channel at.here up)))
+    joins = subst (λ h. Joins h l.from l.to) (sym seen.graph) (in_use_joins w is.sound used j l f there member)
 
     by : (f.due ≤ w.time + seen.n.most) ⊎ (f.due < seen.n.start) → f.due ≤ w.time + delay_in w
     by (inl soon) = let most = seen.most in omega (arith, soon, most)

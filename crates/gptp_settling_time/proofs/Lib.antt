@@ -79,6 +79,8 @@ pub mod ReselectsLemmas
 pub mod UnmovedLemmas
 pub mod BetterClockLemmas
 pub mod FitsLemmas
+pub mod TouchedLemmas
+pub mod NotTakenLemmas
 pub mod UnlinkedLemmas
 pub mod LastAnsweredLemmas
 pub mod ReplyDueLemmas
@@ -125,6 +127,7 @@ pub mod AgingClaimedLemmas
 pub mod AgingDownLemmas
 pub mod AgingToLemmas
 pub mod FailedHeardLemmas
+pub mod LostPowerLemmas
 pub mod EmptiedLemmas
 pub mod LiveTracesLemmas
 pub mod LostClaimedLemmas

@@ -20,7 +20,7 @@ use Rattle.gptp_bmca_machine.specs.Touch.{Hear, HeldInTouch, StationTouch}
 use Rattle.gptp_bmca_machine.proofs.HearingLemmas.{final_taken}
 use Rattle.gptp_bmca_machine.proofs.PlaceLemmas.{received_injective, same_there}
 use Rattle.gptp_settling_time.proofs.RightStageLemmas.{AllRight, HoldsRight, RightStage, right_enters, right_goes, right_holds, right_tells}
-use Rattle.gptp_settling_time.proofs.SoundButOldLemmas.{mid_heard}
+use Rattle.gptp_settling_time.proofs.TouchedLemmas.{mid_heard}
 use Rattle.gptp_settling_time.proofs.TellsRightLemmas.{IsRightOf, IsSettledState, LevelTellsRight, LinkFacts, LinkTellsRight, link_facts, right_fits, right_waits, tells_right, tells_right_from, tells_right_until}
 
 module _ (says : Spelling) (n : Network) (net : IsSettlingNetwork n) (near : AllAreNear n.graph) where
@@ -69,7 +69,7 @@ module _ (says : Spelling) (n : Network) (net : IsSettlingNetwork n) (near : All
         | inl (kept, is_kept) ↦ elim (mid_heard call.s.clock (suc q) mid.time touch pu.held step.mid r step.before
             (sym kept ∙ holds)) [
               | inl before ↦ inl before
-              | inr (hears, taken) ↦ inr (hears, place)
+              | inr (hears, usable, taken) ↦ inr (hears, place)
             ]
         | inr becomes ↦
             absurd (let z : Mine call.s'.root call.s'.steps ≡ Received r = sym becomes.mine ∙ holds in cc)

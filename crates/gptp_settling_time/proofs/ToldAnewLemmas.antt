@@ -6,7 +6,6 @@ use Rattle.gptp_lists.specs.Members.{In}
 use Rattle.gptp_graph.specs.Distance.{IsDistance}
 use Rattle.gptp_graph.specs.PathBound.{path_bound}
 use Rattle.gptp_graph.specs.Snapshot.{Snapshot, clocks}
-use Rattle.gptp_graph.proofs.LinkLemmas.{Joins-clock}
 use Rattle.gptp_graph.proofs.PathBoundLemmas.{IsDistance-within}
 use Rattle.gptp_links.specs.Fate.{Draw}
 use Rattle.gptp_scenario.specs.Calm.{NothingLapses}
@@ -37,12 +36,11 @@ use Rattle.gptp_invariants.proofs.ChoiceSeenActLemmas.{acts_seen}
 use Rattle.gptp_invariants.proofs.ChoiceSettlesAsMachineLemmas.{kept_back, paths_bound}
 use Rattle.gptp_invariants.proofs.WorldNewsCourseLemmas.{later_keeps}
 use Rattle.gptp_invariants.proofs.WorldNewsLemmas.{acts_silent, silent_later}
-use Rattle.gptp_invariants.proofs.WorldStandsLemmas.{stands_well}
 use Rattle.gptp_settling_time.proofs.AlwaysClaimedLemmas.{IsClaimedAlways}
 use Rattle.gptp_settling_time.proofs.ClearedLemmas.{BecomesSound, IsCleared, cleared_claimed, cleared_step, same_time}
 use Rattle.gptp_settling_time.proofs.ClearsLemmas.{nearer_echo}
 use Rattle.gptp_settling_time.proofs.DueLemmas.{AreDueBy, due_by_interval}
-use Rattle.gptp_settling_time.proofs.LeftClaimedLemmas.{HaveAskedBy, IsLeftAlways, asked_acts, asked_later, left_calm, left_net, left_network, same_left}
+use Rattle.gptp_settling_time.proofs.LeftClaimedLemmas.{HaveAskedBy, IsLeftAlways, asked_acts, asked_later, left_calm, left_itself, left_net, left_network, same_left}
 use Rattle.gptp_settling_time.proofs.MovedAlwaysLemmas.{IsMovedAlways, calm_now, moved_acts, moved_later, moved_seen, nothing_held, turned_by}
 use Rattle.gptp_settling_time.proofs.MovedFlightLemmas.{FlightsFit, fits_then, flights_begin, flights_kept}
 use Rattle.gptp_settling_time.proofs.MovedLemmas.{best_before}
@@ -141,21 +139,8 @@ module _ (p : SettlingParams) (g : Snapshot) (silent start : ℕ) (w : WorldStat
     -- all fits what is left of it, as after a loss that moved no system
     pub moved_left : IsLeftAlways p (snapshot_of w) silent w
     moved_left =
-        let well = stands_well w world.sound world.between world.encodable in
-        record {
-          standing = is.standing;
-          asked = is.asked;
-          well = well;
-          left = record {
-            systems = λ s member. member;
-            links = λ a b joins. joins;
-            unmoved = λ v known. inl (record { best = λ b of. of; far = λ d there. there });
-          };
-          near = subst (λ (z : Network). AllAreNear z.graph) (sym is.same) is.turns.near;
-          farther = λ a b joins known gone. absurd (gone (Joins-clock (snapshot_of w) a b well joins));
-          late = omega (arith, late);
-          seen = left_so;
-        }
+        left_itself p silent w is.standing is.asked
+        (subst (λ (z : Network). AllAreNear z.graph) (sym is.same) is.turns.near) (omega (arith, late)) left_so
 
 -- ---- it goes on
 

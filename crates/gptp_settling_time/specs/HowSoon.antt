@@ -298,9 +298,14 @@ abbrev pub BoundsTurned : NetworkState → List Timed → List Timed → ℕ →
 BoundsTurned n made now choice roles =
     TurnsOneLink n made now × (choice ≡ 2 * way_span (sync_paths n (made ++ now))) × (roles ≡ choice)
 
--- Where a system fails that others hear, and none is moved, the choice asks for what they hold of it to age.
+-- Where a system fails that others hear, and none is moved but such as are cut off, the choice asks for what they hold
+-- of it to age. It may ask for two ways more, as where one system is moved.
 abbrev pub BoundsHeard : NetworkState → List Timed → List Timed → ℕ → ℕ → Type 0
-BoundsHeard n made now choice roles = FailsHeardFirst n made now × BoundsAging n made now choice roles
+BoundsHeard n made now choice roles =
+    FailsHeardFirst n made now
+    × ((aged : ℕ) × (silent : ℕ) × BoundsAging n made now aged silent
+    × (((choice ≡ aged) × (roles ≡ silent))
+    ⊎ ((choice ≡ aged + 2 * way_span (sync_paths n (made ++ now))) × (roles ≡ max choice silent))))
 
 -- Whatever is taken away, and whatever is moved, the choice asks for all that is held to be told anew.
 abbrev pub BoundsAnyLoss : NetworkState → List Timed → List Timed → ℕ → ℕ → Type 0
@@ -333,7 +338,8 @@ LosesNext n events Then last time Asks =
 -- How much later a network has come to rest after a loss. After the loss of a far end what was in flight has to be
 -- gone. Where it fails and a link is up then that isn't in use, roles have to stand, and the greatest delay to pass for
 -- each system of a path but one. After another link goes down that moves no system right traces have to be told first.
--- Where it so moves one system the network settles before, within two ways.
+-- Where it so moves one system the network settles before, within two ways. Right traces have to be told, too, where a
+-- system fails that others hear, and each link that is up then is in use.
 abbrev pub RestsAfterLoss : NetworkState → List Timed → List Timed → ℕ → Type 0
 RestsAfterLoss n made now rest =
     (CutsOneEnd n made now
@@ -343,7 +349,9 @@ RestsAfterLoss n made now rest =
     ⊎ (rest ≡ capability_span (pace_of n) + way_span (sync_paths n (made ++ now)))))
     ⊎ ((LowersOneLink n made now
     × ((gone : ℕ) × FlightIsGone n (made ++ now) gone × (rest ≡ max (echo_span n (made ++ now)) gone)))
-    ⊎ (TurnsOneLink n made now × (rest ≡ turned_echo_span n (made ++ now)))))
+    ⊎ ((TurnsOneLink n made now × (rest ≡ turned_echo_span n (made ++ now)))
+    ⊎ (FailsHeardFirst n made now × UpIsUsed n (made ++ now)
+    × (max (echo_span n (made ++ now)) (sync_paths n (made ++ now)).delay ≤ rest)))))
 
 -- By so much later than a time the network has come to rest, by the times before it, the latest first: it has settled,
 -- and nothing that is held, or in flight, names what is gone. The first time of all is 0.
