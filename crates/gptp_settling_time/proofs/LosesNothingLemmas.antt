@@ -9,7 +9,7 @@ use Rattle.gptp_invariants.specs.ChoiceSettlesAsMachine.{IsWorld}
 use Rattle.gptp_invariants.specs.DelayLinkView.{LinkPlace}
 use Rattle.gptp_invariants.specs.DelayMeasured.{LinkIsMeasured}
 use Rattle.gptp_invariants.specs.WorldNews.{AreReadyBy}
-use Rattle.gptp_invariants.specs.WorldStanding.{channel_is_used, snapshot_of}
+use Rattle.gptp_invariants.specs.WorldStanding.{channel_is_used}
 use Rattle.gptp_settling_time.proofs.LastAnsweredLemmas.{AreOffBy, IsOffBy}
 use Rattle.gptp_settling_time.proofs.LosingLemmas.{TakesAway}
 use Rattle.gptp_settling_time.proofs.SameLinkLemmas.{ready_same}

@@ -15,9 +15,8 @@ use Rattle.gptp_model.specs.World.{WorldState}
 use Rattle.gptp_model.specs.declared.done.Done.{Done}
 use Rattle.gptp_invariants.specs.ChoiceCalm.{HaveQuietLinks}
 use Rattle.gptp_invariants.specs.ChoiceSettlesAsMachine.{IsWorld}
-use Rattle.gptp_invariants.specs.DelayLinkView.{LinkPlace, pair}
+use Rattle.gptp_invariants.specs.DelayLinkView.{pair}
 use Rattle.gptp_invariants.specs.DelayMeasured.{LinkIsMeasured}
-use Rattle.gptp_invariants.specs.FailedUnanswered.{StandsUnanswered}
 use Rattle.gptp_invariants.specs.WorldNews.{AreReadyBy}
 use Rattle.gptp_invariants.specs.WorldStanding.{live_stations, snapshot_of, stations_have_clock}
 use Rattle.gptp_invariants.proofs.WorldNewsLemmas.{ready_goes_through}

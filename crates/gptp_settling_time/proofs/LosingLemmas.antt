@@ -12,8 +12,7 @@ use Rattle.gptp_links.specs.declared.link.Direction.{Direction}
 use Rattle.gptp_scenario.specs.Calm.{NothingLapses}
 use Rattle.gptp_scenario.specs.Params.{KeepPace}
 use Rattle.gptp_setup.specs.SettlingParams.{SettlingParams}
-use Rattle.gptp_model.specs.World.{Channel, WorldState, receiver, sender, world_queue}
-use Rattle.gptp_model.proofs.StayLemmas.{sender_same}
+use Rattle.gptp_model.specs.World.{Channel, WorldState, sender, world_queue}
 use Rattle.gptp_bmca_machine.specs.Facts.{NetworkSetting, StationFacts}
 use Rattle.gptp_bmca_machine.specs.Frame.{Announce, AnnounceFrame, Lane}
 use Rattle.gptp_invariants.specs.ChoiceCalm.{HaveQuietLinks, delay_in, greatest_channel_delay}
