@@ -347,10 +347,10 @@ power_lead n made (event ∷ now) other time aged silent off calm (at, later) (l
       Aging aged silent,
       (record { lowers = lowers; calm = calm; off = off }, refl, refl),
       subst (λ es. LeadOn n (made ++ other ∷ []) (Aging aged silent) (event ∷ now)
-      (Cleared time silent (time + 1 + nearer_echo_span n es)
-      (time + nearer_echo_span n es + (sync_paths n es).delay))) all
-      (power_lead n (made ++ other ∷ []) now event time aged silent off
-      (lowers_calm n made other off calm lowers) later others (subst (UpIsUsed n) (sym all) used)),
+          (Cleared time silent (time + 1 + nearer_echo_span n es)
+          (time + nearer_echo_span n es + (sync_paths n es).delay))) all
+          (power_lead n (made ++ other ∷ []) now event time aged silent off
+          (lowers_calm n made other off calm lowers) later others (subst (UpIsUsed n) (sym all) used)),
     )
 
 -- an announce interval is over by when ports beside a system that failed aren't capable
@@ -573,15 +573,14 @@ module _ (n : NetworkState) (off : NothingLapses n.params) (time : ℕ) (made no
             ap (λ es. made ++ es) (same ∙ ap (λ es. event ∷ es) alone) in
             let leads = power_leads n made event aged silent falls (subst (UpIsUsed n) one used) past settled_then in
             let last : Past = Cleared time silent right old in
-            ends (subst (λ es. LeadOn n made past es last) (sym (same ∙ ap (λ es. event ∷ es) alone))
-            (
+            ends (subst (λ es. LeadOn n made past es last) (sym (same ∙ ap (λ es. event ∷ es) alone)) (
               past,
               inl refl,
               last,
               subst (λ t. EventLeads n made past event (Cleared t silent (t + 1 + nearer_echo_span n (made ++ now))
-              (t + nearer_echo_span n (made ++ now) + (sync_paths n (made ++ now)).delay))) here
-              (subst (λ es. EventLeads n made past event (Cleared event.at silent (event.at + 1 + nearer_echo_span n es)
-              (event.at + nearer_echo_span n es + (sync_paths n es).delay))) (sym one) leads),
+                  (t + nearer_echo_span n (made ++ now) + (sync_paths n (made ++ now)).delay))) here
+                  (subst (λ es. EventLeads n made past event (Cleared event.at silent (event.at + 1 + nearer_echo_span n es)
+                  (event.at + nearer_echo_span n es + (sync_paths n es).delay))) (sym one) leads),
               refl,
             ))
         by (other ∷ more) alone =
@@ -590,20 +589,19 @@ module _ (n : NetworkState) (off : NothingLapses n.params) (time : ℕ) (made no
             (other ∷ more)) in
             let last : Past = Cleared time silent right old in
             let at_then = (subst (AllByRecursion (λ (t : Timed). t.at ≡ time)) same at).1 in
-            ends (subst (λ es. LeadOn n made past es last) (sym (same ∙ ap (λ es. event ∷ es) alone))
-            (
+            ends (subst (λ es. LeadOn n made past es last) (sym (same ∙ ap (λ es. event ∷ es) alone)) (
               past,
               inl refl,
               Aging aged silent,
               ages_leads n made event past aged silent settled_then falls,
               subst (λ es. LeadOn n (made ++ event ∷ []) (Aging aged silent) (other ∷ more)
-              (Cleared time silent (time + 1 + nearer_echo_span n es)
-              (time + nearer_echo_span n es + (sync_paths n es).delay))) (sym all)
-              (power_lead n (made ++ event ∷ []) more other time aged silent off
-              (failure_calm n made event off calm_then fails.clock fails.act)
-              (subst (AllByRecursion (λ (t : Timed). t.at ≡ time)) alone at_then)
-              (subst (EachEvent (LowersUnused n) (made ++ event ∷ [])) alone lowers)
-              (subst (UpIsUsed n) all used)),
+                  (Cleared time silent (time + 1 + nearer_echo_span n es)
+                  (time + nearer_echo_span n es + (sync_paths n es).delay))) (sym all)
+                  (power_lead n (made ++ event ∷ []) more other time aged silent off
+                  (failure_calm n made event off calm_then fails.clock fails.act)
+                  (subst (AllByRecursion (λ (t : Timed). t.at ≡ time)) alone at_then)
+                  (subst (EachEvent (LowersUnused n) (made ++ event ∷ [])) alone lowers)
+                  (subst (UpIsUsed n) all used)),
             ))
 
   lost_led : (es : List Timed) → now ≡ es
@@ -631,7 +629,6 @@ module _ (n : NetworkState) (off : NothingLapses n.params) (time : ℕ) (made no
       right_led event [] same lowers refl gone flight is
   lost_led (event ∷ []) same (inr (inr (inr (inl (turns, is))))) = turned_led event [] same turns refl is
   lost_led (event ∷ others) same (inr (inl ((fails, lowers), by))) = fail_led event others same fails lowers by
-
   lost_led (event ∷ others) same (inr (inr (inr (inr ((fails, lowers), used, long))))) =
       power_led event others same fails lowers used long
 

@@ -1,7 +1,6 @@
 -- A world in which what others heard of a failed system ages, and each link that is up is in use: as it lost its power.
 -- Nothing is held or in flight but over links in use, so that traces are told anew from then on.
 use Rattle.std.proofs.Common.{◌≡◌, ◌∙◌, ◌+◌, ◌*◌, ℕ, suc, pred, List, refl, ap, subst, sym, inl, inr, arith}
-use Rattle.gptp_graph.specs.PathBound.{path_bound}
 use Rattle.gptp_graph.specs.Snapshot.{IsWellFormed, Snapshot}
 use Rattle.gptp_scenario.specs.Calm.{NothingLapses}
 use Rattle.gptp_scenario.specs.Network.{pace_of}
