@@ -1,7 +1,7 @@
 -- What leaves the same systems alive and the same links in use leaves a calm network calm, where nothing lapses for want
 -- of Sync.
 use Rattle.std.proofs.Common.{◌≡◌, ℕ, true, List, [], ◌∷◌, ◌++◌, sym, subst, ◌∙◌, inl, inr}
-use Rattle.std.specs.Prelude.{Bool, ◌&&◌, ◌==◌, get_or, slice_get}
+use Rattle.std.specs.Prelude.{◌&&◌, ◌==◌, get_or}
 use Rattle.std.proofs.lemmas.Bool.{and_from, eq-eqb, eqb-true}
 use Rattle.gptp_graph.proofs.Sure.{and_true}
 use Rattle.std.proofs.lemmas.List.Folds.{list_any_at}

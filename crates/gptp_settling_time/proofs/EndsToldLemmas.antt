@@ -1,6 +1,6 @@
 -- The ends of a link are told that it comes up or goes down: ports of other links beside failed systems stay as silent as
 -- they were.
-use Rattle.std.proofs.Common.{◌≡◌, ◌≢◌, ◌+◌, ℕ, List, Some, slice_get, slice_set, refl, sym, ap, subst, ◌∙◌, inl, inr}
+use Rattle.std.proofs.Common.{◌≡◌, ◌≢◌, ◌+◌, ℕ, List, Some, slice_get, slice_set, sym, ap, subst, ◌∙◌, inl, inr}
 use Rattle.std.specs.Prelude.{max}
 use Rattle.gptp_lists.proofs.MappedLemmas.{same_there}
 use Rattle.gptp_lists.proofs.PlaceLemmas.{get-set_other}

@@ -31,19 +31,18 @@ use Rattle.gptp_theorem.specs.PlayedLaws.{IsMade, IsPlayable}
 use Rattle.gptp_theorem.proofs.CalmLemmas.{quiet_stands}
 use Rattle.gptp_theorem.proofs.SettlingInvariantLemmas.{IsFitEvent, least_of}
 use Rattle.gptp_theorem.proofs.SyncPathLemmas.{paths_stand}
-use Rattle.gptp_settling_time.specs.Gains.{ChangesNothing, IsIdleAfter, LeavesCapable, TakesNothing}
+use Rattle.gptp_settling_time.specs.Gains.{ChangesNothing, LeavesCapable, TakesNothing}
 use Rattle.gptp_settling_time.specs.InTurn.{AddsHeard, Aging, AnyPast, BettersClock, BringsUp, Cleared, ClearsBy, EventLeads, FailsNow, Gained, HasSettledAnyhow, HasSettledHeard, HasSettledSince, Heard, LeavesSettled, LeavesStanding, Left, LosesNow, Lost, LowersUnusedCalm, MakesNothing, Past, RecoversAlone, Starting, Turned, TurnsInVain, TurnsNow, WidensFrom}
 use Rattle.gptp_settling_time.proofs.AgingDownLemmas.{down_aging}
 use Rattle.gptp_settling_time.proofs.AgingToLemmas.{IsAgingTo, aging_to_later}
 use Rattle.gptp_settling_time.proofs.AlwaysClaimedLemmas.{IsClaimedAlways, since_later}
 use Rattle.gptp_settling_time.proofs.BegunLemmas.{rested_sound}
 use Rattle.gptp_settling_time.proofs.ClaimedToLemmas.{IsClaimedTo}
-use Rattle.gptp_settling_time.proofs.GainLemmas.{better_lives, down_so, few_so, gain_so, idle_so, lives_so, unused_so, up_so, used_so, within_so}
+use Rattle.gptp_settling_time.proofs.GainLemmas.{better_lives, down_so, few_so, gain_so, lives_so, unused_so, up_so, used_so, within_so}
 use Rattle.gptp_settling_time.proofs.DeadDownLemmas.{asked_on, dead_left, reduced as dead_reduced, silent_on, snapshot_now}
 use Rattle.gptp_settling_time.proofs.FailedDownLemmas.{lowered_claimed, lowered_news}
 use Rattle.gptp_settling_time.proofs.FailedUpLemmas.{raised_claimed, raised_from}
 use Rattle.gptp_settling_time.proofs.HeardLemmas.{heard_on}
-use Rattle.gptp_settling_time.proofs.IdleLemmas.{idle_still}
 use Rattle.gptp_settling_time.proofs.KeptToLemmas.{KeepsTo, keeps_later}
 use Rattle.gptp_settling_time.proofs.LinkUpLemmas.{link_up_claimed}
 use Rattle.gptp_settling_time.proofs.LeftToLemmas.{IsLeftTo, left_to_later}

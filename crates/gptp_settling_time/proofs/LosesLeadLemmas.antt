@@ -1,5 +1,5 @@
 -- Events of a time that take something away lead a network that has settled to one that has lost.
-use Rattle.std.proofs.Common.{List, [], arith, append_assoc, inl, inr, refl, subst, suc, sym, ℕ, ◌++◌, ◌+◌, ◌∷◌, ◌≡◌, ◌<◌, ◌≤◌}
+use Rattle.std.proofs.Common.{List, [], arith, inl, inr, refl, subst, suc, sym, ℕ, ◌++◌, ◌+◌, ◌∷◌, ◌≡◌, ◌≤◌}
 use Rattle.std.specs.List.{AllByRecursion}
 use Rattle.gptp_setup.specs.SettlingParams.{SettlingParams}
 use Rattle.gptp_scenario.specs.Calm.{IsCalm, IsLive, NothingLapses}
@@ -10,7 +10,7 @@ use Rattle.gptp_scenario.specs.declared.change.Act.TheVariants.{Deliver, Expire,
 use Rattle.gptp_scenario.specs.declared.change.Change.TheVariants.{LinkDown, LinkUp, LinkSet, Fail, Recover, Priority1, Inject}
 use Rattle.gptp_scenario.specs.declared.change.Timed.{Timed}
 use Rattle.gptp_scenario.specs.declared.sync_wait.SyncPaths.{SyncPaths}
-use Rattle.gptp_settling_time.specs.HowSoon.{AreLossEvents, EachEvent, IsLossToo, LosesEvents, NoneFails}
+use Rattle.gptp_settling_time.specs.HowSoon.{EachEvent, IsLossToo, LosesEvents, NoneFails}
 use Rattle.gptp_settling_time.specs.InTurn.{Heard, LeadOn, Lost, Past}
 use Rattle.gptp_settling_time.specs.Losses.{AreSilentAfter, LosesAny, silence_span}
 use Rattle.gptp_settling_time.proofs.CalmStillLemmas.{idle_calm}

@@ -1,5 +1,5 @@
 -- What makes nothing of what stands takes nothing away from a world, among events that do.
-use Rattle.std.proofs.Common.{◌≡◌, ◌+◌, ℕ, refl, sym, ap, subst, ◌∙◌, inl, inr}
+use Rattle.std.proofs.Common.{◌+◌, ℕ, refl, sym, ap, subst, ◌∙◌, inl, inr}
 use Rattle.gptp_lists.specs.Members.{In}
 use Rattle.gptp_graph.specs.Snapshot.{Snapshot, clocks}
 use Rattle.gptp_setup.specs.SettlingParams.{SettlingParams, largest_interval}
@@ -9,7 +9,7 @@ use Rattle.gptp_invariants.specs.ChoiceSettlesAsMachine.{IsWorld}
 use Rattle.gptp_invariants.specs.DelayLinkView.{LinkPlace}
 use Rattle.gptp_invariants.specs.DelayMeasured.{LinkIsMeasured}
 use Rattle.gptp_invariants.specs.WorldNews.{AreReadyBy}
-use Rattle.gptp_invariants.specs.WorldStanding.{channel_is_used, snapshot_of}
+use Rattle.gptp_invariants.specs.WorldStanding.{channel_is_used}
 use Rattle.gptp_settling_time.proofs.LastAnsweredLemmas.{AreOffBy, IsOffBy}
 use Rattle.gptp_settling_time.proofs.LosingLemmas.{TakesAway}
 use Rattle.gptp_settling_time.proofs.SameLinkLemmas.{ready_same}
@@ -30,7 +30,8 @@ module _ (p : SettlingParams) (w w' : WorldState) (still : StandsStill w w') whe
     world = is';
     measured = measured';
     off = λ at s. off_still silent at (off at (unanswered_before w w' still at s));
-    ready = λ at s. ready_same p since at w w' (links_still w w' still at) (ready at (stood_still w w' still p is is' at s));
+    ready = λ at s.
+        ready_same p since at w w' (links_still w w' still at) (ready at (stood_still w w' still p is is' at s));
     lived = λ v known. subst (λ (g : Snapshot). In v (clocks g)) (snapshot_still w w' still) known;
     used = λ link channel here used. record {
       old = channel;

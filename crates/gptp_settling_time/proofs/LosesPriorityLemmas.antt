@@ -11,7 +11,6 @@ use Rattle.gptp_scenario.specs.declared.change.Act.TheVariants.{Change as Changi
 use Rattle.gptp_scenario.specs.declared.change.Change.TheVariants.{Priority1}
 use Rattle.gptp_setup.specs.SettlingParams.{SettlingParams, largest_interval}
 use Rattle.gptp_system.specs.Input.{Priority}
-use Rattle.gptp_system.specs.Measures.{measure_at}
 use Rattle.gptp_model.specs.Acts.{Acts, AtSystem}
 use Rattle.gptp_model.specs.Changing.{CallsIfLive, with_setup, with_station}
 use Rattle.gptp_model.specs.Sound.{HaveOwnClocks}

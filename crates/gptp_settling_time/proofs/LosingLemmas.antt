@@ -1,6 +1,6 @@
 -- The events of one time take something away: what a world keeps through each of them, so that the claim after a loss
 -- begins once the last is made.
-use Rattle.std.proofs.Common.{◌≡◌, ◌⊎◌, ◌<◌, ◌≤◌, ◌+◌, ◌*◌, ℕ, suc, Bool, true, false, List, [], ◌∷◌, Some, slice_get, refl, sym, ap, subst, ◌∙◌, inl, inr, arith}
+use Rattle.std.proofs.Common.{◌≡◌, ◌≤◌, ◌+◌, ℕ, suc, Bool, true, false, List, [], ◌∷◌, Some, slice_get, refl, sym, ap, subst, ◌∙◌, inl, inr, arith}
 use Rattle.std.specs.Prelude.{if◌then◌else◌, max}
 use Rattle.std.proofs.Math.Nat.{max-le}
 use Rattle.gptp_lists.specs.Members.{In}
@@ -12,8 +12,7 @@ use Rattle.gptp_links.specs.declared.link.Direction.{Direction}
 use Rattle.gptp_scenario.specs.Calm.{NothingLapses}
 use Rattle.gptp_scenario.specs.Params.{KeepPace}
 use Rattle.gptp_setup.specs.SettlingParams.{SettlingParams}
-use Rattle.gptp_model.specs.World.{Channel, WorldState, receiver, sender, world_queue}
-use Rattle.gptp_model.proofs.StayLemmas.{sender_same}
+use Rattle.gptp_model.specs.World.{Channel, WorldState, sender, world_queue}
 use Rattle.gptp_bmca_machine.specs.Facts.{NetworkSetting, StationFacts}
 use Rattle.gptp_bmca_machine.specs.Frame.{Announce, AnnounceFrame, Lane}
 use Rattle.gptp_invariants.specs.ChoiceCalm.{HaveQuietLinks, delay_in, greatest_channel_delay}
