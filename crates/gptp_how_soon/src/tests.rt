@@ -255,7 +255,10 @@ fn a_far_end_that_a_link_cuts_off_costs_two_ways(rt: HostRuntime) -> Result<(), 
         rt.alloc(),
         "[[event]]\nat = 30000000000\nkind = \"link_down\"\nclock = \"000000000000000b\"\nport = 2\n[[event]]\nat = 100000000000\nkind = \"link_down\"\nclock = \"000000000000000b\"\nport = 1\n",
     )?;
-    assert_eq!(rt; soon(&times, 100_000_000_000), Some((1_640, 100_000_007_040)));
+    assert_eq!(rt;
+        soon(&times, 100_000_000_000),
+        Some((1_640, 100_000_007_040))
+    );
     Ok(())
 }
 

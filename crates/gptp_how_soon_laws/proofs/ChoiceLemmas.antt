@@ -202,11 +202,16 @@ module _ (d : DocumentState) (playable : IsPlayable d) where
             let x = cut_off n playable.network all b at late well row in
             (x.rested, inl (x.cuts, (gone_by n v.paths v.used_before, x.flight, it.sound ∙ is)))
         by (inr (inr (inr (inr (row, is))))) =
-            let (rest, turns, unused) = turned n playable.network all b at late well row in
-            (rest, inr (inr (inr (turns, elim unused [
-              | inl (used, none) ↦ let same = it.sound in inl (used, omega (arith, same, is, none))
-              | inr later ↦ let same = it.sound in inr (omega (arith, same, is, later))
-            ]))))
+            let (rest, turns, unused) = turned n playable.network all b at late well row in (
+              rest,
+              inr (inr (inr (
+                turns,
+                elim unused [
+                  | inl (used, none) ↦ let same = it.sound in inl (used, omega (arith, same, is, none))
+                  | inr later ↦ let same = it.sound in inr (omega (arith, same, is, later))
+                ],
+              ))),
+            )
 
     -- the choice and the roles stand by then, or sooner after a loss
     record IsSooner (s : Settling) : Type 0 where

@@ -569,8 +569,7 @@ module _ (n : NetworkState) (network : IsNetwork n) (events : List Timed) (b : S
       × ((choice : ℕ) → RolesAfterLoss n made now choice
       (if leaves_silent v.used v.told then max choice (silence_span (pace_of n)) else choice))
   any_losses row =
-      let (from, loss, only) = why AnyLosses row in
-      (
+      let (from, loss, only) = why AnyLosses row in (
         (from_rest from).rested,
         all_losses n network made now only loss,
         by only v.used (list_any is_failing v.told) refl refl,

@@ -38,6 +38,9 @@ fn interval() -> ArrayVec<i8, MOST_PORTS> {
     intervals
 }
 
+/// Just before both ports ask for the second time. So far nothing has asked for memory; for its window each does then.
+const ASKED_AGAIN: u64 = 999_999_999;
+
 /// When the second system follows the first.
 const SETTLED: u64 = 10_000_000_000;
 
@@ -270,6 +273,7 @@ fn expect_settled(rt: &impl Abort, world: &World<PcgFate>) {
 fn a_refused_allocation_leaves_the_world(rt: HostRuntime) -> Result<(), Fail> {
     let network = build(&rt)?;
     let mut world = begin(&rt, &network)?;
+    assert!(rt; world.advance(ASKED_AGAIN).is_ok());
     for _ in 0..20 {
         assert!(rt; act(&rt, &mut world)?);
     }

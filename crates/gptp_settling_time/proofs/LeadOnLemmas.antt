@@ -188,10 +188,13 @@ rested_so n events past time off (seen, inr rests, is) = by past seen rests
     by (Turned silent now) AnyPast none = absurd none
     by (Turned silent now) Starting none = absurd none
     by (Turned silent now) (Gained start) none = absurd none
-    by (Turned silent now) (Heard start) rest = (off, elim rest.told [
-      | inl (used, told) ↦ omega (arith, told)
-      | inr told ↦ omega (arith, told)
-    ])
+    by (Turned silent now) (Heard start) rest = (
+      off,
+      elim rest.told [
+        | inl (used, told) ↦ omega (arith, told)
+        | inr told ↦ omega (arith, told)
+      ],
+    )
     by (Turned silent now) (Left start) none = absurd none
     by (Turned silent now) (Turned start was) none = absurd none
     by (Turned silent now) (Cleared start dark clean last) none = absurd none

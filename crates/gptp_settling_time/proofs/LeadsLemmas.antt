@@ -614,7 +614,6 @@ module _ {F : Type 0} (answers : Bounds → ℕ → F → Option ℕ → F → T
               (up_so n made then keeps_then.stands end x.up came.1.place came.1.channel came.1.is)
               (unused_so n made then keeps_then.stands world.sound end x.failed);
         }))
-
     leads_to_aging (Lost since most start) aged silent none so = absurd none
 
     loses_now : (start since most silent : ℕ) → HasRestedSo p start event.at then

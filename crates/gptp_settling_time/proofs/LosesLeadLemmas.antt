@@ -96,8 +96,12 @@ module _ (n : NetworkState) (time : ℕ) where
       lost,
       inl refl,
       lost,
-      (record { more = inr (makes_nothing n made event time (omega (arith, here)) off idle); now = here },
-          refl, refl, refl),
+      (
+        record { more = inr (makes_nothing n made event time (omega (arith, here)) off idle); now = here },
+        refl,
+        refl,
+        refl,
+      ),
       more_lead (made ++ event ∷ []) now at each quiet,
     )
 

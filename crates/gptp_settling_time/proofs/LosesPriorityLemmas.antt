@@ -105,7 +105,7 @@ module _ (p : SettlingParams) (owner value : ℕ) (w : WorldState) (draws : List
   was_used link new here used =
       let (old, there, same) = alike bare bare w.net.channels w'.net.channels (sym r.links) link new here in
       let lives : (v : ℕ) → stations_have_clock (live_stations w'.stations) v ≡ true
-          → stations_have_clock (live_stations w.stations) v ≡ true = λ v has. sym (r.lives v) ∙ has in
+      → stations_have_clock (live_stations w.stations) v ≡ true = λ v has. sym (r.lives v) ∙ has in
       record {
         old = old;
         here = there;
