@@ -56,7 +56,7 @@ module _ (n : NetworkState) (made : List Timed) (time : ℕ) where
 -- ---- the events lead on
 
 module _ (n : NetworkState) (time : ℕ) where
-  abbrev AreNow : List Timed → Type 0
+  abbrev pub AreNow : List Timed → Type 0
   AreNow = AllByRecursion (λ (t : Timed). t.at ≡ time)
 
   pub long_silenced : (made now : List Timed) → AreNow now
@@ -139,3 +139,73 @@ module _ (n : NetworkState) (time : ℕ) where
               (idle_calm n network off made event idle calm)
               (subst (λ (x : SyncPaths). x.delay ≤ most) (sym stays) less) others quiet,
         )
+
+-- ---- what the events ask for
+
+-- By them the network has lost. Its choice stands after the span of a loss, and roles do once ports without a link aren't
+-- capable.
+pub record LosesBy (n : NetworkState) (time : ℕ) (made now : List Timed) (past : Past) (choice roles : ℕ) : Type 0
+  where
+    pub most : ℕ
+    pub silent : ℕ
+    pub lead : LeadOn n made past now (Lost time most silent)
+    pub span : choice ≡ loss_span (pace_of n) (sync_paths n (made ++ now)) most
+    pub more : choice ≤ roles
+    pub quiet : (silent ≤ suc (time + roles)) ⊎ UpIsUsed n (made ++ now)
+
+module _ (n : NetworkState) (time : ℕ) (network : IsNetwork n) (off : NothingLapses n.params) (made now : List Timed)
+    (past : Past) (at : AreNow n time now) (settled : HasSettled n made past time) (calm : IsCalm n made) where
+  pub any_leads : (choice roles : ℕ) → BoundsAnyLoss n made now choice roles
+      → LosesBy n time made now past choice roles
+  any_leads choice roles (any, is_choice, after) = by after
+    where
+      most : ℕ
+      most = delay_between n made now
+
+      lost_by : (silent : ℕ) → EachEvent (IsSilencedBy n silent) made now → choice ≤ roles
+          → (silent ≤ suc (time + roles)) ⊎ UpIsUsed n (made ++ now) → LosesBy n time made now past choice roles
+      lost_by silent silenced more quiet = record {
+        most = most;
+        silent = silent;
+        lead = losing_lead n time network off most silent made now past at settled calm
+            (le-max_left (sync_paths n made).delay (sync_paths n (made ++ now)).delay) any silenced;
+        span = is_choice;
+        more = more;
+        quiet = quiet;
+      }
+
+      by : RolesAfterLoss n made now choice roles → LosesBy n time made now past choice roles
+      by (inl (inl none, same)) =
+          lost_by time (now_silenced n time made now at none) (omega (arith, same)) (inl (omega arith))
+      by (inl (inr used, same)) =
+          lost_by (suc (time + silence_span (pace_of n))) (long_silenced n time made now at) (omega (arith, same))
+          (inr used)
+      by (inr is_roles) =
+          let one = le-max_left choice (silence_span (pace_of n)) in
+          let other = le-max_right choice (silence_span (pace_of n)) in
+          lost_by (suc (time + silence_span (pace_of n))) (long_silenced n time made now at)
+          (omega (arith, is_roles, one)) (inl (omega (arith, is_roles, other)))
+
+  -- and then it has come to rest
+  pub any_rests : (rest : ℕ) → RestsAfterAnyLoss n made now rest → IsLed n made now past (suc (time + rest))
+  any_rests rest (choice, roles, bounds, is) =
+      let x = any_leads choice roles bounds in
+      let span = x.span in
+      let more = x.more in
+      let roles_most = le-max_left roles (choice + (sync_paths n (made ++ now)).delay) in
+      let late : suc (time + roles) ≤ suc (time + rest) = omega (arith, is, roles_most) in
+      record {
+        last = Lost time x.most x.silent;
+        lead = x.lead;
+        settles = (
+          Heard time,
+          inr (record {
+            off = off;
+            told = omega (arith, span, more, late);
+            later = omega arith;
+            unlinked = elim x.quiet [ inl soon ↦ inl (omega (arith, soon, late)) | inr used ↦ inr used ];
+            over = omega (arith, span, more, late);
+          }),
+          omega (arith, span, more, late),
+        );
+      }

@@ -71,3 +71,17 @@ module _ (d : DocumentState) (events : List Timed) (since most silent : ℕ) whe
     lost_to_settled (inr used) =
         lost_settles p since most w.time w
         (lost_now p since most silent w so.is (none_unanswered d events w so.keeps w.time used)) late (omega arith)
+
+  -- once it has come to rest claims are made of all links always
+  pub lost_to_claimed : (w : WorldState) (start : ℕ) → IsLostTo d events since most silent w → IsPlayable d
+      → HasToldAll d.network events since most silent start w.time → IsClaimedTo d events start w
+  lost_to_claimed w start so playable rest = record {
+    keeps = so.keeps;
+    since = lost_claimed p since most silent w so.is (late w so playable rest.told) start rest.later
+        (silent_by rest.unlinked);
+  }
+    where
+      silent_by : (silent ≤ w.time) ⊎ UpIsUsed d.network events → AreSilentBy p start w
+      silent_by (inl past) =
+          silent_from_now p start silent w so.is.standing.world so.is.standing.silent past
+      silent_by (inr used) = none_unanswered d events w so.keeps start used

@@ -330,13 +330,13 @@ LosesNext n events Then last time Asks =
 
 -- ---- rest
 
--- How much later a network has come to rest after a loss. After the loss of a far end what was in flight has to be
+-- How much later a network has come to rest after a loss by which one system is moved at most. After the loss of a far end what was in flight has to be
 -- gone. Where it fails and a link is up then that isn't in use, roles have to stand, and the greatest delay to pass for
 -- each system of a path but one. After another link goes down that moves no system right traces have to be told first.
 -- Where it so moves one system the network settles before. It has within two ways, and where each link that is up is in
 -- use what was in flight is gone in that time too.
-abbrev pub RestsAfterLoss : NetworkState → List Timed → List Timed → ℕ → Type 0
-RestsAfterLoss n made now rest =
+abbrev pub RestsAfterOneLoss : NetworkState → List Timed → List Timed → ℕ → Type 0
+RestsAfterOneLoss n made now rest =
     (CutsOneEnd n made now
     × ((gone : ℕ) × FlightIsGone n made gone × (rest ≡ max (2 * way_span (sync_paths n (made ++ now))) gone)))
     ⊎ ((FailsEndFirst n made now
@@ -347,6 +347,16 @@ RestsAfterLoss n made now rest =
     ⊎ (TurnsOneLink n made now
     × ((UpIsUsed n (made ++ now) × (rest ≡ turned_echo_span n (made ++ now)))
     ⊎ (rest ≡ turned_echo_span n (made ++ now) + largest_interval (pace_of n))))))
+
+-- After any loss it has once roles stand, and the greatest delay is over since the choice does: all that is held, and in
+-- flight, is told by live systems over links in use.
+abbrev pub RestsAfterAnyLoss : NetworkState → List Timed → List Timed → ℕ → Type 0
+RestsAfterAnyLoss n made now rest =
+    (choice : ℕ) × (roles : ℕ) × BoundsAnyLoss n made now choice roles
+    × (rest ≡ max roles (choice + (sync_paths n (made ++ now)).delay))
+
+abbrev pub RestsAfterLoss : NetworkState → List Timed → List Timed → ℕ → Type 0
+RestsAfterLoss n made now rest = RestsAfterOneLoss n made now rest ⊎ RestsAfterAnyLoss n made now rest
 
 -- By so much later than a time the network has come to rest, by the times before it, the latest first: it has settled,
 -- and nothing that is held, or in flight, names what is gone. The first time of all is 0.

@@ -15,7 +15,7 @@
 --   ports without a link aren't capable, the network has come to rest as if all had been heard.
 -- - Aging: a system failed that others heard. What they hold of it ages, and the choice stands once that is gone.
 -- - Lost: anything was taken away at one time, whatever was moved. The network settles as one that has gained, once all
---   that is held is told by live systems over links in use.
+--   that is held is told by live systems over links in use. It has come to rest then, as if all had been heard.
 --
 -- An event leads from one past to another (`EventLeads`). It may always lead to any past. At time 0, as the network
 -- starts, it may take something away, since nothing is told yet. To a gain it leads where it takes nothing away, or
@@ -521,10 +521,21 @@ pub record HasToldAnew (n : NetworkState) (events : List Timed) (silent turned s
   pub unlinked : silent ≤ start
   pub over : HasSettledHeard n events start time
 
+-- A network that has lost at a time has come to rest by another, as one whose ports are capable from a start on: its
+-- choice stands. Ports without a link aren't capable then, or no link is up that isn't in use. And the greatest delay has
+-- passed for each system of a path but one.
+pub record HasToldAll (n : NetworkState) (events : List Timed) (since most silent start time : ℕ) : Type 0 where
+  pub off : NothingLapses n.params
+  pub told : suc (since + loss_span (pace_of n) (sync_paths n events) most) ≤ time
+  pub later : since ≤ start
+  pub unlinked : (silent ≤ time) ⊎ UpIsUsed n events
+  pub over : HasSettledHeard n events start time
+
 -- then it is as if all had been heard from that start on
 abbrev pub RestsAs : NetworkState → List Timed → Past → ℕ → Past → Type 0
 RestsAs n events (Turned silent turned) time (Heard start) = HasToldAnew n events silent turned start time
 RestsAs n events (Cleared since silent right old) time (Heard start) = HasCleared n events since silent old start time
+RestsAs n events (Lost since most silent) time (Heard start) = HasToldAll n events since most silent start time
 RestsAs n events past time seen = ⊥
 
 -- what the network is taken to come from as an event comes at this time
