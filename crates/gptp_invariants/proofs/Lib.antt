@@ -95,7 +95,8 @@ pub mod UnmeasuredLemmas
 pub mod FailedUnansweredCallLemmas
 pub mod FailedUnansweredExpiryLemmas
 pub mod FailedUnansweredDeliveryLemmas
-pub mod FailedNeverAnsweredLemmas
+pub mod FailedOffLemmas
+pub mod FailedLastAnsweredLemmas
 pub mod FailedUnansweredActLemmas
 pub mod FailedSilentLemmas
 pub mod WorldBeforeLemmas
