@@ -1,10 +1,11 @@
 -- A port beside a failed system, by the last of its requests that is answered: once as many intervals between requests
 -- have passed since then as requests may be lost, and two more, it is off.
-use Rattle.std.proofs.Common.{◌≡◌, ◌⊎◌, ◌≤◌, ◌<◌, ◌+◌, ◌*◌, ◌==◌, ℕ, Bool, true, false, List, Option, Some, None, refl, sym, ap, subst, ◌∙◌, inl, inr, arith, eqb-true}
+use Rattle.std.proofs.Common.{◌≡◌, ◌≢◌, ◌⊎◌, ◌≤◌, ◌<◌, ◌+◌, ◌*◌, ◌==◌, ℕ, Bool, true, false, List, Option, Some, None, slice_get, refl, sym, ap, subst, ◌∙◌, inl, inr, arith, eqb-true}
 use Rattle.std.specs.Prelude.{if◌then◌else◌}
 use Rattle.std.proofs.Math.Nat.{mul-le-mul_right}
 use Rattle.gptp_lists.specs.Members.{In}
 use Rattle.gptp_lists.proofs.MappedLemmas.{same_there, some_same}
+use Rattle.gptp_vector.specs.declared.port.PortId.{PortId}
 use Rattle.gptp_messages.specs.Grammar.{Reads}
 use Rattle.gptp_messages.specs.declared.message.Message.{Message}
 use Rattle.gptp_messages.specs.declared.message.Message.TheVariants as messages
@@ -22,13 +23,14 @@ use Rattle.gptp_setup.specs.declared.timer.Timer.TheVariants as timers
 use Rattle.gptp_system.specs.declared.answer.Answer.{Answer}
 use Rattle.gptp_system.specs.Input.{Expires as TimerExpires, Frame as FrameHeard, Input}
 use Rattle.gptp_system.specs.Measures.{HearsPart, IsPartAfter, Part, measure_at, part_heard}
-use Rattle.gptp_system.specs.State.{SystemState, number}
+use Rattle.gptp_system.specs.State.{SystemState, clock, number}
 use Rattle.gptp_model.specs.Act.{Calls, Delivers, Hears, TimerRunsOut}
 use Rattle.gptp_model.specs.Acts.{Acts, at as at_time}
 use Rattle.gptp_model.specs.Agrees.{stopped}
 use Rattle.gptp_model.specs.Changing.{CallsIfLive}
 use Rattle.gptp_model.specs.Sound.{HaveOwnClocks}
 use Rattle.gptp_model.specs.declared.done.Done.{Done}
+use Rattle.gptp_model.specs.declared.station.Station.{Station}
 use Rattle.gptp_model.specs.World.{WorldState, receiver, sender, world_queue}
 use Rattle.gptp_pdelay_machine.specs.Asker.{Asker}
 use Rattle.gptp_pdelay_machine.specs.Messages.{Reply}
@@ -42,6 +44,7 @@ use Rattle.gptp_invariants.specs.DelayMeasured.{LinkIsMeasured}
 use Rattle.gptp_invariants.specs.FailedUnanswered.{IsLastAnswered, IsLastReply, IsOff, IsOldBy, IsSilent, IsUnansweredAt, silence_span, silent_setting, silent_view}
 use Rattle.gptp_invariants.proofs.DelayEndLemmas.{HearsWhatFits}
 use Rattle.gptp_invariants.proofs.DelayLinkCallLemmas.{asker_timer}
+use Rattle.gptp_invariants.proofs.PortInputLemmas.{IsOfPort}
 use Rattle.gptp_invariants.proofs.FailedOffLemmas.{gone_by}
 use Rattle.gptp_invariants.proofs.FailedUnansweredCallLemmas.{CallStep, LaneShrinks, call_seen, relinked, relinked_settled, view_stays}
 use Rattle.gptp_invariants.proofs.FailedUnansweredDeliveryLemmas.{arrives, asker_hears_seen, flies_there, lane, number_same, step as heard_by}
@@ -180,7 +183,9 @@ octets_heard s now period p octets n x x' (inl (m, reads, is)) = go (n == p) ref
     ]
     go false other left = inr (ap (asker_view period) left)
 
--- ---- a call that leaves the port as it is
+-- ---- a call
+
+-- it leaves the port as it is
 
 module _ (sent : ℕ) (at : LinkPlace) (place : ℕ) (input : Input) (w : WorldState) (draws : List Draw) (answer : Answer)
     (w' : WorldState) (k : Calls place input w draws answer w') (clocks : HaveOwnClocks w)
@@ -202,6 +207,23 @@ module _ (sent : ℕ) (at : LinkPlace) (place : ℕ) (input : Input) (w : WorldS
         | inl own ↦ leaves (measure_at called.after.asking.state) own.0 own.1
         | inr left ↦ left.1
       ]))))
+
+-- so does an input of another port of the link's
+pub last_beside : {input : ℕ → Input} → IsOfPort input → (sent : ℕ) (at : LinkPlace) (place : ℕ) (port : PortId)
+    (w : WorldState) (draws : List Draw) (answer : Answer) (w' : WorldState)
+    (k : Calls place (input port.port) w draws answer w') → clock k.station.system ≡ port.clock → HaveOwnClocks w
+    → (last : IsLastAnswered sent at w) → sender at.direction last.link.channel ≢ port → IsLastAnswered sent at w'
+last_beside {input} of sent at place port w draws answer w' k named clocks last apart =
+    last_called sent at place (input port.port) w draws answer w' k clocks last
+    (λ same. of.fits port.port (sender at.direction last.link.channel).port) (λ x same part.
+    of.leaves last.link.asking.station.system w.time port.port (sender at.direction last.link.channel).port
+    (measure_at last.link.asking.state) x (λ number_is.
+    let one : last.link.asking.station ≡ k.station =
+    same_there w.stations place last.link.asking.station k.station
+    (ap (slice_get w.stations) (sym same) ∙ last.link.asking.here) k.here in
+    let clock_is : (sender at.direction last.link.channel).clock ≡ port.clock =
+    sym last.link.asking.named ∙ ap (λ (y : Station). clock y.system) one ∙ named in
+    apart (λ i. record { clock = clock_is i; port = number_is i })) part)
 
 -- an input that touches no port, where the system lives
 pub last_told : (sent : ℕ) (at : LinkPlace) (place : ℕ) (input : Input) → ((n : ℕ) → HearsWhatFits n input)

@@ -22,32 +22,12 @@ use Rattle.gptp_invariants.specs.WorldNews.{AreSilentBy, IsSilentBy}
 use Rattle.gptp_invariants.specs.FailedUnanswered.{IsLastAnswered, IsOff, IsUnansweredAt, StandsUnanswered}
 use Rattle.gptp_invariants.proofs.DelayLinkCallLemmas.{at_own}
 use Rattle.gptp_invariants.proofs.WorldBeforeLemmas.{calls_before, stood}
-use Rattle.gptp_invariants.proofs.FailedLastAnsweredLemmas.{last_called, last_changed}
+use Rattle.gptp_invariants.proofs.FailedLastAnsweredLemmas.{last_beside, last_changed}
 use Rattle.gptp_invariants.proofs.FailedOffLemmas.{off_called, off_changed}
+use Rattle.gptp_invariants.proofs.PortInputLemmas.{of_up}
 use Rattle.gptp_model.specs.Ahead.{IsPortAmong}
 use Rattle.gptp_model.proofs.EndLemmas.{each_end_told}
 use Rattle.gptp_model.proofs.ActsByLemmas.{PortCallsKeep, ends_told, join_among}
-
--- ---- one call
-
--- a system is called, and this port is none of the link that comes up
-beside_last : (sent : ℕ) (at : LinkPlace) (place : ℕ) (port : PortId) (w : WorldState) (draws : List Draw)
-    (answer : Answer) (w' : WorldState) (k : Calls place (PortUp port.port) w draws answer w')
-    → clock k.station.system ≡ port.clock → HaveOwnClocks w → (last : IsLastAnswered sent at w)
-    → sender at.direction last.link.channel ≢ port → IsLastAnswered sent at w'
-beside_last sent at place port w draws answer w' k named clocks last apart =
-    last_called sent at place (PortUp port.port) w draws answer w' k clocks last (λ same. tt) (λ x same part.
-    elim (at_own port.port (sender at.direction last.link.channel).port
-    (part_asked last.link.asking.station.system w.time reset_peer) (measure_at last.link.asking.state) x part) [
-      | inl own ↦
-          let one : last.link.asking.station ≡ k.station =
-          same_there w.stations place last.link.asking.station k.station
-          (ap (slice_get w.stations) (sym same) ∙ last.link.asking.here) k.here in
-          let clock_is : (sender at.direction last.link.channel).clock ≡ port.clock =
-          sym last.link.asking.named ∙ ap (λ (y : Station). clock y.system) one ∙ named in
-          absurd (apart (λ i. record { clock = clock_is i; port = own.0 i }))
-      | inr beside ↦ beside.1
-    ])
 
 -- a port beside a failed system stood so before ports came up
 pub stood_up : (at : LinkPlace) (first : WorldState)
@@ -153,7 +133,7 @@ module _ (p : SettlingParams) (start : ℕ) (at : LinkPlace) (place : ℕ) (chan
         last_through sent is =
             each_end_told PortUp channel brought (IsLastAnswered sent at)
             (λ direction q v ds answer v' c stays named number last.
-            beside_last sent at q (sender direction channel) v ds answer v' c named
+            last_beside of_up sent at q (sender direction channel) v ds answer v' c named
             (stays_clocks brought v stays wired.clocks) last
             (no_end v (join_on w.net.channels brought.net.channels v.net.channels joins stays.links) last.link
             direction)) wired.setups ports draws w' k

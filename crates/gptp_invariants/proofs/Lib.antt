@@ -96,6 +96,7 @@ pub mod FailedUnansweredCallLemmas
 pub mod FailedUnansweredExpiryLemmas
 pub mod FailedUnansweredDeliveryLemmas
 pub mod FailedOffLemmas
+pub mod PortInputLemmas
 pub mod FailedLastAnsweredLemmas
 pub mod FailedUnansweredActLemmas
 pub mod FailedSilentLemmas

@@ -31,7 +31,7 @@ IsMuteTo n input = ⊤
 -- open.
 module _ (Says : Option Measurement → ℕ → Progress → Type 0)
     (none : (threshold : ℕ) (q : Progress) → is_answered q ≡ false → Says None threshold q)
-    (open : (last : Option Measurement) (threshold : ℕ) (q q' : Progress) → Says last threshold q
+    (opens : (last : Option Measurement) (threshold : ℕ) (q q' : Progress) → Says last threshold q
     → is_answered q' ≡ false → Says last threshold q') where
   abbrev Is : PeerState → Type 0
   Is p = Says p.last p.threshold p.progress
@@ -59,8 +59,8 @@ module _ (Says : Option Measurement → ℕ → Progress → Type 0)
           → Is (part_asked s now (λ q.
           if waits then (if lost then reset_peer q else record q { progress = Closed; lost = q.lost + 1 }) else q) x).peer
       by true true = none p.threshold _ refl
-      by true false = open p.last p.threshold p.progress _ so refl
-      by false lost = open p.last p.threshold p.progress _ so refl
+      by true false = opens p.last p.threshold p.progress _ so refl
+      by false lost = opens p.last p.threshold p.progress _ so refl
 
   -- what is heard is no reply
   heard_so : (s : SystemState) (now : ℕ) (octets : List ℕ) (m : Message) (x : Part) → Reads octets m

@@ -72,7 +72,6 @@ use Rattle.gptp_invariants.proofs.WorldStandsLemmas.{used_up}
 use Rattle.gptp_model.proofs.BareLemmas.{bare}
 use Rattle.gptp_setup.specs.SettlingParams.{largest_interval}
 use Rattle.gptp_settling_time.proofs.HeardLemmas.{IsHeardAt, heard_acts, heard_due, heard_later, heard_link, heard_now, heard_on}
-use Rattle.gptp_settling_time.proofs.LastAnsweredLemmas.{AreOffBy, off_by, silent_are_off}
 use Rattle.gptp_settling_time.proofs.LinkStoodLemmas.{stood_in}
 use Rattle.gptp_settling_time.proofs.OrderedLemmas.{link_seen, tells}
 use Rattle.gptp_invariants.proofs.DelayCapableKeptLemmas.{stood}
@@ -292,7 +291,7 @@ pub record IsStanding (p : SettlingParams) (start : ℕ) (w : WorldState) : Type
   pub pace : KeepPace p
   pub world : IsWorld p w
   pub measured : LinkIsMeasured w
-  pub off : AreOffBy p start w
+  pub silent : AreSilentBy p start w
 
 -- such is a world since news
 abbrev pub standing : {p : SettlingParams} {start : ℕ} {w : WorldState} → IsNews p start w → IsStanding p start w
@@ -300,7 +299,7 @@ standing {p} {start} {w} news = record {
   pace = news.pace;
   world = news.world;
   measured = news.measured;
-  off = silent_are_off p start w news.silent;
+  silent = news.silent;
 }
 
 -- ---- ports are capable from the start on
@@ -372,7 +371,7 @@ module _ (p : SettlingParams) (start : ℕ) (w : WorldState) (news : IsStanding 
             (linked_capable p start w world heard quiet late place station here i q to there joins
             (way_of w (port_identity_number (own station.system (suc i))) to joins));
         unlinked = λ none. elim (linked_or_off p w world
-            (off_by p start w news.pace world news.off late) place station here lives i q there) [
+            (silent_off p start w world news.silent late) place station here lives i q there) [
               | inl linked ↦ absurd (none linked)
               | inr off ↦ (shown.each i h q stands there).off off
             ];

@@ -35,7 +35,7 @@ use Rattle.gptp_settling_time.proofs.LeftClaimedLemmas.{HaveAskedBy, HaveAskedLo
 use Rattle.gptp_settling_time.proofs.LoweredLemmas.{StandsReduced, StayOrAreAlone, less, other, told, wires}
 use Rattle.gptp_settling_time.proofs.ReducedLemmas.{IsReduced}
 use Rattle.gptp_settling_time.proofs.SettledSeenLemmas.{IsSettledSeen}
-use Rattle.gptp_settling_time.proofs.TakenDownLemmas.{off_down, silent_down, stood_down, told_keeps}
+use Rattle.gptp_settling_time.proofs.TakenDownLemmas.{silent_down, stood_down, told_keeps}
 use Rattle.gptp_settling_time.proofs.UnlinkedLemmas.{IsLeftSeen, LostAreFarther}
 use Rattle.gptp_settling_time.proofs.WidenedLemmas.{ready_first}
 
@@ -129,7 +129,7 @@ module _ (p : SettlingParams) (before : Snapshot) (silent owner port : ℕ) (w :
       pace = left.standing.pace;
       world = is';
       measured = measured';
-      off = off_down p w is k.place k.channel k.is.here draws w' is' tells silent left.standing.off;
+      silent = silent_down p w is k.place k.channel k.is.here draws w' is' tells silent left.standing.silent;
     }
 
     -- ports beside failed systems stay silent

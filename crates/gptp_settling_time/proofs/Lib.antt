@@ -80,7 +80,6 @@ pub mod UnmovedLemmas
 pub mod BetterClockLemmas
 pub mod FitsLemmas
 pub mod UnlinkedLemmas
-pub mod LastAnsweredLemmas
 pub mod ReplyDueLemmas
 pub mod LeftClaimedLemmas
 pub mod GoesDownLemmas

@@ -31,15 +31,15 @@ use Rattle.gptp_pdelay_machine.specs.Silence.{InvUnanswered}
 use Rattle.gptp_invariants.specs.ChoiceSettlesAsMachine.{IsWorld}
 use Rattle.gptp_invariants.specs.DelayLinkView.{LinkPlace, asker_view, other_direction}
 use Rattle.gptp_invariants.specs.DelayMeasured.{LinkStandsAt, StationIsLiveAt}
-use Rattle.gptp_invariants.specs.FailedUnanswered.{IsFailedAmong, IsNeverAnswered, IsOldBy, IsSilent, IsUnansweredAt, StandsUnanswered, silent_setting, silent_view}
+use Rattle.gptp_invariants.specs.FailedUnanswered.{IsFailedAmong, IsLastAnswered, IsOff, IsUnansweredAt, StandsUnanswered}
 use Rattle.gptp_invariants.specs.WorldNews.{AreSilentBy, IsSilentBy}
 use Rattle.gptp_invariants.proofs.ChoiceCalmKeptLemmas.{KeepsNetwork, calls_keep, keeps_on, net_keeps}
-use Rattle.gptp_invariants.proofs.FailedNeverAnsweredLemmas.{never_called}
+use Rattle.gptp_invariants.proofs.FailedLastAnsweredLemmas.{last_beside}
+use Rattle.gptp_invariants.proofs.FailedOffLemmas.{off_called}
+use Rattle.gptp_invariants.proofs.PortInputLemmas.{of_down}
 use Rattle.gptp_invariants.proofs.FailedUnansweredCallLemmas.{CallStep, call_seen, view_stays}
-use Rattle.gptp_settling_time.proofs.LastAnsweredLemmas.{AreOffBy, IsLastAnswered, IsSince, last_then}
 use Rattle.gptp_settling_time.proofs.LinkStoodLemmas.{stood_in, stood_untold}
 use Rattle.gptp_settling_time.proofs.ReactsLemmas.{lives_as}
-use Rattle.gptp_settling_time.proofs.SamePartsLemmas.{of_down}
 
 -- ---- the network
 
@@ -80,57 +80,6 @@ told_stand : (channel : Channel) (w : WorldState) (draws : List Draw) (w' : Worl
 told_stand channel w draws w' k =
     if_live_stand k.place_b channel.b.port k.between k.second w' k.at_b
     ∙ if_live_stand k.place_a channel.a.port w k.first k.between k.at_a
-
--- ---- a port beside a failed system
-
-module _ (gone : ℕ) (at : LinkPlace) (place : ℕ) (port : PortId) (w : WorldState) (draws : List Draw) (w' : WorldState)
-    (named : (station : Station) → slice_get w.stations place ≡ Some station → clock station.system ≡ port.clock)
-    (clocks : HaveOwnClocks w) (l : IsUnansweredAt at w) (old : IsOldBy gone at w l)
-    (apart : sender at.direction l.channel ≢ port) where
-  module _ (answer : Answer) (k : Calls place (PortDown port.port) w draws answer w') where
-    step : CallStep place (PortDown port.port) gone at w w' l
-    step = call_seen gone at place (PortDown port.port) w draws answer w' k clocks l old (λ same. tt)
-
-    other : at.asking ≡ place → (sender at.direction l.channel).port ≢ port.port
-    other same number_is =
-        let clock_is : (sender at.direction l.channel).clock ≡ port.clock =
-        sym l.asking.named ∙ named l.asking.station (ap (slice_get w.stations) (sym same) ∙ l.asking.here) in
-        apart (λ i. record { clock = clock_is i; port = number_is i })
-
-    same_part : measure_at step.after.asking.state ≡ measure_at l.asking.state
-    same_part = elim step.part [
-      | inl called ↦ of_down.leaves l.asking.station.system w.time port.port (sender at.direction l.channel).port
-          (measure_at l.asking.state) (measure_at step.after.asking.state) (other called.0) called.1
-      | inr left ↦ left.1
-    ]
-
-    same_view : silent_view at w' step.after ≡ silent_view at w l
-    same_view = view_stays step (ap (asker_view (interval_of l.asking.station.setup.params.pdelay)) same_part)
-
-    called_silent : InvUnanswered (silent_setting at w l) gone (silent_view at w l) → IsSilent gone at w'
-    called_silent inv = record {
-      link = step.after;
-      old = step.old;
-      inv = subst (λ (x : Setting). InvUnanswered x gone (silent_view at w' step.after)) (sym step.settled)
-          (subst (InvUnanswered (silent_setting at w l) gone) (sym same_view) inv);
-    }
-
--- so it is where its last request that is answered is known
-abbrev IsLastBy : ℕ → ℕ → LinkPlace → WorldState → Type 0
-IsLastBy gone sent at w = (last : IsLastAnswered sent at w) × IsOldBy gone at w last.link
-
-called_last : (gone sent : ℕ) (at : LinkPlace) (place : ℕ) (port : PortId) (w : WorldState) (draws : List Draw)
-    (w' : WorldState)
-    → ((station : Station) → slice_get w.stations place ≡ Some station → clock station.system ≡ port.clock)
-    → HaveOwnClocks w → (is : IsLastBy gone sent at w) → sender at.direction is.0.link.channel ≢ port
-    → (answer : Answer) → Calls place (PortDown port.port) w draws answer w' → IsLastBy gone sent at w'
-called_last gone sent at place port w draws w' named clocks (last, old) apart answer k =
-    let x = step gone at place port w draws w' named clocks last.link old apart answer k in
-    let same = same_view gone at place port w draws w' named clocks last.link old apart answer k in (
-      last_then sent at w w' last x.after x.settled x.fewer
-          (subst (IsSince (silent_setting at w last.link) sent) (sym same) last.since),
-      x.old,
-    )
 
 -- ---- the link goes down
 
@@ -240,57 +189,29 @@ module _ (p : SettlingParams) (w : WorldState) (is : IsWorld p w) (place : ℕ) 
         answering = l.answering;
       }
 
-      silent_at : (gone : ℕ) → IsSilent gone at w → IsSilent gone at w'
-      unfolding link_taken
-      silent_at gone one =
-          each_end_told PortDown channel taken (IsSilent gone at)
-          (λ direction q v ds answer v' c stays named number so.
-          called_silent gone at q (sender direction channel) v ds v'
-          (λ station there.
-          ap (λ (x : Station). clock x.system) (same_there v.stations q station c.station there c.here) ∙ named)
-          (stays_clocks taken v stays is.sound.wired.clocks) so.link so.old
-          (no_end v (join_on w.net.channels taken.net.channels v.net.channels joins stays.links) so.link direction)
-          answer c so.inv) is.sound.wired.setups ports draws w' k
-          (record { link = link_taken one.link; old = one.old; inv = one.inv })
-
       last_at : (sent : ℕ) → IsLastAnswered sent at w → IsLastAnswered sent at w'
       unfolding link_taken
       last_at sent one =
-          let gone : ℕ = max (w.time + one.link.channel.bounds.max) (w.last_change + largest_interval p) in
-          (each_end_told PortDown channel taken (IsLastBy gone sent at)
-          (λ direction q v ds answer v' c stays named number so.
-          called_last gone sent at q (sender direction channel) v ds v'
-          (λ station there.
-          ap (λ (x : Station). clock x.system) (same_there v.stations q station c.station there c.here) ∙ named)
-          (stays_clocks taken v stays is.sound.wired.clocks) so
-          (no_end v (join_on w.net.channels taken.net.channels v.net.channels joins stays.links) so.0.link direction)
-          answer c) is.sound.wired.setups ports draws w' k (
-            record { link = link_taken one.link; replies = one.replies; since = one.since },
-            λ f member.
-                is.known.fresh.frames at.link (other_direction at.direction) one.link.channel f one.link.here member,
-          )).0
+          each_end_told PortDown channel taken (IsLastAnswered sent at)
+          (λ direction q v ds answer v' c stays named number last.
+          last_beside of_down sent at q (sender direction channel) v ds answer v' c named
+          (stays_clocks taken v stays is.sound.wired.clocks) last
+          (no_end v (join_on w.net.channels taken.net.channels v.net.channels joins stays.links) last.link direction))
+          is.sound.wired.setups ports draws w' k
+          (record { link = link_taken one.link; replies = one.replies; inv = one.inv })
 
-      never_at : IsNeverAnswered at w → IsNeverAnswered at w'
+      off_at : IsOff at w → IsOff at w'
       unfolding link_taken
-      never_at one =
-          each_end_told PortDown channel taken (IsNeverAnswered at)
+      off_at one =
+          each_end_told PortDown channel taken (IsOff at)
           (λ direction q v ds answer v' c stays named number so.
-          never_called at q (PortDown (sender direction channel).port) v ds answer v' c
+          off_called at q (PortDown (sender direction channel).port) v ds answer v' c
           (stays_clocks taken v stays is.sound.wired.clocks) so (λ same. tt) (λ same. tt)) is.sound.wired.setups ports
           draws w' k
-          (record { link = link_taken one.link; mute = one.mute; unmeasured = one.unmeasured })
-
-    silent_still : (start : ℕ) (at : LinkPlace) → StandsUnanswered at w' → IsSilentBy p start at w
-        → IsSilentBy p start at w'
-    silent_still start at s (inl never) = inl (never_at at s never)
-    silent_still start at s (inr (change, one, soon)) =
-        inr (change, silent_at at s (change + largest_interval p) one, soon)
+          (record { link = link_taken one.link; mute = one.mute; off = one.off })
 
     pub silent_down : (start : ℕ) → AreSilentBy p start w → AreSilentBy p start w'
-    silent_down start silent at s = silent_still start at s (silent at (before at s))
-
-    pub off_down : (start : ℕ) → AreOffBy p start w → AreOffBy p start w'
-    off_down start off at s = elim (off at (before at s)) [
-      | inl silent ↦ inl (silent_still start at s silent)
+    silent_down start silent at s = elim (silent at (before at s)) [
+      | inl off ↦ inl (off_at at s off)
       | inr (sent, last, soon) ↦ inr (sent, last_at at s sent last, soon)
     ]
