@@ -1,26 +1,17 @@
 -- A link that comes up leaves those ports silent that are beside failed systems elsewhere.
-use Rattle.std.proofs.Common.{◌≡◌, ◌≢◌, ℕ, true, List, Some, slice_get, refl, sym, ap, ◌∙◌, inl, inr}
-use Rattle.gptp_lists.proofs.MappedLemmas.{same_there}
+use Rattle.std.proofs.Common.{◌≡◌, ◌≢◌, ℕ, true, List, Some, slice_get, refl, sym, ◌∙◌, inl, inr}
 use Rattle.gptp_lists.proofs.PlaceLemmas.{get-set_other}
-use Rattle.gptp_vector.specs.declared.port.PortId.{PortId}
 use Rattle.gptp_links.specs.declared.link.Direction.{Direction}
 use Rattle.gptp_links.specs.Fate.{Draw}
-use Rattle.gptp_pdelay.specs.Peer.{reset_peer}
 use Rattle.gptp_setup.specs.SettlingParams.{SettlingParams}
-use Rattle.gptp_system.specs.declared.answer.Answer.{Answer}
 use Rattle.gptp_system.specs.Input.{PortUp}
-use Rattle.gptp_system.specs.Measures.{part_asked, measure_at}
-use Rattle.gptp_system.specs.State.{clock}
-use Rattle.gptp_model.specs.declared.station.Station.{Station}
-use Rattle.gptp_model.specs.Act.{Calls}
 use Rattle.gptp_model.specs.Changing.{TellsEnds, brought_up}
-use Rattle.gptp_model.specs.Sound.{HaveOwnClocks, IsWired}
+use Rattle.gptp_model.specs.Sound.{IsWired}
 use Rattle.gptp_model.specs.World.{Channel, WorldState, sender}
 use Rattle.gptp_model.proofs.StayLemmas.{JoinTheSame, begins_same, join_on, set_join, stays_clocks}
 use Rattle.gptp_invariants.specs.DelayLinkView.{LinkPlace}
 use Rattle.gptp_invariants.specs.WorldNews.{AreSilentBy, IsSilentBy}
 use Rattle.gptp_invariants.specs.FailedUnanswered.{IsLastAnswered, IsOff, IsUnansweredAt, StandsUnanswered}
-use Rattle.gptp_invariants.proofs.DelayLinkCallLemmas.{at_own}
 use Rattle.gptp_invariants.proofs.WorldBeforeLemmas.{calls_before, stood}
 use Rattle.gptp_invariants.proofs.FailedLastAnsweredLemmas.{last_beside, last_changed}
 use Rattle.gptp_invariants.proofs.FailedOffLemmas.{off_called, off_changed}

@@ -44,7 +44,7 @@ use Rattle.gptp_invariants.specs.ChoiceView.{lane_place, frame_view, held_view, 
 use Rattle.gptp_invariants.specs.DelayLinkView.{IsLinkOf, LinkPlace, link_frame_view, other_direction, pair}
 use Rattle.gptp_invariants.specs.DelayMeasured.{LinkIsMeasured, LinkStandsAt}
 use Rattle.gptp_invariants.specs.WorldEncodableLaws.{SetsAnOctet}
-use Rattle.gptp_invariants.specs.WorldNews.{IsNews, at_news, news_network}
+use Rattle.gptp_invariants.specs.WorldNews.{AreSilentBy, IsNews, at_news, news_network}
 use Rattle.gptp_invariants.specs.WorldStanding.{channel_is_used, live_stations, snapshot_of}
 use Rattle.gptp_invariants.proofs.ChoiceCalmKeptLemmas.{KeepsNetwork, acts_keep, delay_kept, links_quiet, same_network_with}
 use Rattle.gptp_invariants.proofs.ChoiceCalmLemmas.{calm, nothing_lapses}
@@ -56,7 +56,7 @@ use Rattle.gptp_invariants.proofs.ChoiceSeenLaneLemmas.{lane_there}
 use Rattle.gptp_invariants.proofs.ChoiceSettlesAsMachineLemmas.{kept_back}
 use Rattle.gptp_invariants.proofs.DelayLinkLemmas.{sender_opposite, good_between}
 use Rattle.gptp_invariants.proofs.WorldGreatestDelayLemmas.{delay_of_used}
-use Rattle.gptp_invariants.proofs.WorldNewsLemmas.{news_are_kept, news_go_on}
+use Rattle.gptp_invariants.proofs.WorldNewsLemmas.{news_are_kept, news_go_on, silent_off}
 use Rattle.gptp_invariants.proofs.WorldStandsLemmas.{stands_well}
 use Rattle.gptp_invariants.proofs.WorldWayLemmas.{IsWay, one_way, way_of}
 use Rattle.gptp_settling_time.specs.Starts.{DelaysVaryLittle}

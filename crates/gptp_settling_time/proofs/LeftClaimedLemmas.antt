@@ -43,6 +43,7 @@ use Rattle.gptp_invariants.proofs.WorldNewsCourseLemmas.{later_keeps}
 use Rattle.gptp_invariants.proofs.WorldOutlineLemmas.{acts_time}
 use Rattle.gptp_invariants.proofs.WorldSettledLemmas.{still_acts_stay, time_stays}
 use Rattle.gptp_invariants.proofs.WorldStandsLemmas.{stands_well}
+use Rattle.gptp_invariants.proofs.WorldNewsLemmas.{acts_silent, silent_later}
 use Rattle.gptp_settling_time.specs.ChoiceAlone.{ChoiceStands}
 use Rattle.gptp_settling_time.proofs.AlwaysClaimedLemmas.{AreHeard, IsStanding, linked_on, same_start, start_calm, start_network}
 use Rattle.gptp_settling_time.proofs.FitsLemmas.{IsLeftUnmoved, UnlinkedHoldNothing}

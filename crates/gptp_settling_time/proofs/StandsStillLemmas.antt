@@ -34,7 +34,7 @@ use Rattle.gptp_invariants.specs.ChoiceSettlesAsMachine.{IsWorld}
 use Rattle.gptp_invariants.specs.ChoiceView.{lanes_view, says_announce, says_sync, station_view, view}
 use Rattle.gptp_invariants.specs.DelayLinkView.{IsEndAmong, IsLinkOf, IsMeasuring, LinkPlace, asker_view, pair_view, setting_view, setup_stamping, kept_view}
 use Rattle.gptp_invariants.specs.DelayMeasured.{LinkIsMeasured, LinkStandsAt, StationIsLiveAt}
-use Rattle.gptp_invariants.specs.FailedUnanswered.{IsFailedAmong, IsNeverAnswered, IsSilent, IsUnansweredAt, IsUnmeasured, StandsUnanswered, silent_setting, silent_view}
+use Rattle.gptp_invariants.specs.FailedUnanswered.{IsFailedAmong, IsLastAnswered, IsOff, IsUnansweredAt, StandsUnanswered, silent_setting, silent_view}
 use Rattle.gptp_invariants.specs.WorldNews.{AreSilentBy, IsNews, turn_network}
 use Rattle.gptp_invariants.specs.WorldSound.{IsSoundWorld}
 use Rattle.gptp_invariants.specs.WorldStanding.{channel_is_used, live_stations, snapshot_of, standing_system, used_channels}
@@ -45,6 +45,7 @@ use Rattle.gptp_settling_time.proofs.AlwaysClaimedLemmas.{IsClaimedAlways}
 use Rattle.gptp_settling_time.proofs.SameLinkLemmas.{StaysSameLink}
 use Rattle.gptp_settling_time.proofs.NewsSoonLemmas.{IsNewsFrom, from_silent, from_sound}
 use Rattle.gptp_settling_time.proofs.StandsLikeLemmas.{StandsLike, claims_like, from_like, news_like, turn_like_network}
+use Rattle.gptp_invariants.proofs.FailedLastAnsweredLemmas.{last_stays}
 
 -- a station but for the priority1 that it starts with
 abbrev pub plain : Station → Station
@@ -337,33 +338,24 @@ module _ (w w' : WorldState) (still : StandsStill w w') where
         };
       }
 
-  pub silent_still : (gone : ℕ) (at : LinkPlace) → IsSilent gone at w → IsSilent gone at w'
-  silent_still gone at is =
+  pub last_still : (sent : ℕ) (at : LinkPlace) → IsLastAnswered sent at w → IsLastAnswered sent at w'
+  last_still sent at is =
       let l = is.link in
       let a = end_still at.asking (sender at.direction l.channel) l.asking in
       let b = station_still at.answering l.answering.station l.answering.here in
-      let time = still.time in
       let after = unanswered_still at l in
       let settled : silent_setting at w' after ≡ silent_setting at w l =
       λ i. setting_named at.direction l.channel (a.same i).setup (b.same i).setup in
-      let seen : silent_view at w' after ≡ silent_view at w l = λ i. record {
-        time = time i;
-        asker = asker_view (interval_of (a.same i).setup.params.pdelay) (measure_at (a.state i));
-      } in
-      record {
-        link = after;
-        old = is.old;
-        inv = subst (λ (k : Setting). InvUnanswered k gone (silent_view at w' after)) (sym settled)
-            (subst (λ (u : Unanswered). InvUnanswered (silent_setting at w l) gone u) (sym seen) is.inv);
-      }
+      last_stays sent at w w' is after settled (λ f member. member)
+      (λ i. asker_view (interval_of (a.same i).setup.params.pdelay) (measure_at (a.state i)))
 
-  pub never_still : (at : LinkPlace) → IsNeverAnswered at w → IsNeverAnswered at w'
-  never_still at is =
+  pub off_still : (at : LinkPlace) → IsOff at w → IsOff at w'
+  off_still at is =
       let a = end_still at.asking (sender at.direction is.link.channel) is.link.asking in
       record {
         link = unanswered_still at is.link;
         mute = is.mute;
-        unmeasured = subst (λ (q : Port). IsUnmeasured q.peer) (sym a.state) is.unmeasured;
+        off = subst (λ (q : Port). is_capable q.peer ≡ false) (sym a.state) is.off;
       }
 
   -- what is in flight beside failed systems and between them is in time still
@@ -423,8 +415,8 @@ module _ (p : SettlingParams) (start : ℕ) (w w' : WorldState) (still : StandsS
 
   silent_then : AreSilentBy p start w → AreSilentBy p start w'
   silent_then silent at s = elim (silent at (unanswered_before w w' still at s)) [
-    | inl never ↦ inl (never_still w w' still at never)
-    | inr (change, one, soon) ↦ inr (change, silent_still w w' still (change + largest_interval p) at one, soon)
+    | inl off ↦ inl (off_still w w' still at off)
+    | inr (sent, last, soon) ↦ inr (sent, last_still w w' still sent at last, soon)
   ]
 
   sound_then : IsSoundWorld w → IsSoundWorld w'
