@@ -27,8 +27,9 @@ two_exchanges p paths = interval_of p.pdelay + (paths.delay + p.turnaround + pat
 abbrev pub asked_again : Params → SyncPaths → ℕ
 asked_again p paths = interval_of p.pdelay + two_exchanges p paths
 
--- How long a port beside a system that fails may stay capable: until one more of its requests is lost than may be, and
--- given up an interval after it went, where the last one that was answered went before.
+-- How long a port beside a system that fails may stay capable. The last of its requests that is answered went before
+-- the failure. Those after it are lost, one an interval, and each is given up an interval after it went. The port isn't
+-- capable once one more is lost than may be.
 abbrev pub silence_span : Params → ℕ
 silence_span p = (p.lost + 2) * interval_of p.pdelay
 
@@ -47,8 +48,8 @@ way_span paths = pred paths.systems * paths.delay
 abbrev pub is_again : List Told → Cable → Bool
 is_again told c = recovers told c.a.clock || recovers told c.b.clock
 
--- From when on ports at new links are capable: after two exchanges, the first of which a port that stayed on asks for
--- within an interval where a system recovers.
+-- From when on ports at new links are capable: after two exchanges. Where a system recovers, a port that stayed on asks
+-- for the first of them within an interval.
 abbrev pub ready : Params → SyncPaths → List Told → List Cable → ℕ
 ready p paths told new =
     if length new == 0 then 0 else if list_any (is_again told) new then asked_again p paths else two_exchanges p paths
@@ -57,7 +58,7 @@ ready p paths told new =
 abbrev pub is_hard_to_hear : List Told → Cable → Bool
 is_hard_to_hear told c = is_again told c || varies c
 
--- An announce interval passes where something may not be heard at once, or where that isn't followed.
+-- An announce interval passes where something may not be heard at once, or where it isn't followed that all is.
 abbrev pub heard_by : NetworkState → Bool → List Told → List Cable → ℕ
 heard_by n followed told new =
     if followed && not (list_any (is_hard_to_hear told) new) then 0 else largest_interval (pace_of n)
@@ -107,15 +108,16 @@ roles_by n paths row gained =
 abbrev pub gone_by : NetworkState → SyncPaths → Bool → ℕ
 gone_by n paths used_before = if used_before then paths.delay else largest_interval (pace_of n)
 
--- After a link goes down each tells a trace without it so much later: one that hears such a trace tells one an announce
--- interval and a delay later at most, and so it goes for each system of a path but one.
+-- How much later than a link that goes down each system tells a trace without it. One that hears such a trace tells one
+-- an announce interval and a delay later at most, and so on for each system of a path but one.
 abbrev pub echo_span : NetworkState → SyncPaths → ℕ
 echo_span n paths = pred paths.systems * (largest_interval (pace_of n) + paths.delay)
 
--- All that is held and in flight is sound as soon as the choice stands. But after a loss it may name what is gone.
--- After the loss of a far end that is what was in flight. So it is after a system fails that leaves ports that may be
--- capable, but the roles are to stand, and a way is to pass. After a link goes down by which no system is moved traces
--- are told anew first. Else all is sound as soon as the choice stands from any past.
+-- By when all that is held and in flight is sound: as soon as the choice stands, but after a loss it may name what is
+-- gone. After a far end is cut off, or loses its power, only what was in flight does. Where a far end fails, and ports
+-- beside it may still be capable, roles have to stand first, and then a way to pass. After a link goes down by which no
+-- system is moved traces have to be told anew first. After other losses all is sound as soon as the choice stands from
+-- any past.
 abbrev pub sound_of_row : NetworkState → SyncPaths → Bool → Row → ℕ → ℕ
 sound_of_row n paths used_before AnyPast gained = settling_span_at_once (pace_of n) paths
 sound_of_row n paths used_before Unchanged gained = 0

@@ -27,7 +27,7 @@ rested b at = rested_by b at b.settling
 abbrev pub are_events_followed : List Told → Bool
 are_events_followed told = not (list_any is_other told) && not (fails_and_recovers told)
 
--- a link that isn't used is followed as it comes up, and as it goes down where no event of the time is a gain
+-- A link that isn't used is followed where it comes up, and where it goes down and no event of the time is a gain.
 abbrev pub are_turns_followed : List Told → Bool
 are_turns_followed told = not (list_any lowers_unused told && list_any is_gain told)
 
@@ -36,8 +36,8 @@ are_turns_followed told = not (list_any lowers_unused told && list_any is_gain t
 abbrev pub are_recoveries_followed : ℕ → ℕ → ℕ → List Told → Bool
 are_recoveries_followed longest last at told = nat_lt (last + longest) at && not (list_any lowers_unused told)
 
--- A link that gets wider is followed as the first event of a time whose others change nothing, where what was before
--- settles by its wider delays too: two messages of the link take so much longer, and a way does.
+-- A link that gets wider is followed as the first event of a time whose others change nothing. What was before has to
+-- settle in time by its wider delays too: two messages of the link take so much longer, and a way does.
 abbrev pub settles_wider_by : SettlingTime → ℕ → SyncPaths → SyncPaths → ℕ → Option Settling → Bool
 settles_wider_by b at paths_before paths by None = false
 settles_wider_by b at paths_before paths by (Some s) =
@@ -52,8 +52,8 @@ is_wider_followed b at paths_before paths told =
 abbrev pub are_losses_followed : SyncPaths → List Told → Bool
 are_losses_followed paths_before told = nat_le paths_before.systems 255 && list_all leaves_links told
 
--- Other losses leave paths as they are: the greatest delay of a link in use stays, no path gets longer, and none had
--- more than 255 systems before.
+-- Other losses are followed where they leave paths as they are: the greatest delay of a link in use stays, no path gets
+-- longer, and none had more than 255 systems before.
 abbrev pub keeps_paths : SyncPaths → SyncPaths → Bool
 keeps_paths paths_before paths =
     nat_le paths_before.systems 255 && (paths.delay == paths_before.delay)
@@ -79,16 +79,18 @@ is_from_rest longest at paths_before paths told (Some b) =
 
 -- ---- rows
 
--- a system fails, and none is moved
+-- a system fails, and none is moved: whether it was a far end, and whether each link that is up then is in use
 abbrev pub failed_row : Bool → Bool → Row
 failed_row far used =
     if far then if used then LostEnd else FailedEnd else if used then LostPower else FailedHeard
 
--- Not from rest, or after a loss, the network may come from any past. Events that make nothing of what stands leave it
--- as it was. So does a link that gets wider, and so do losses that are followed, where no system is moved; one that is
--- cut off doesn't count where one link or one system is taken away. It counts whether the link that goes down cuts off
--- a far end, whether a system that is moved alone turns, whether a link is up then that isn't in use, and whether a
--- system that fails was a far end, so that no other heard it. At the start nothing was, and so nothing is lost.
+-- What is known of a time, by what was seen of it. Not from rest, or after a loss that isn't followed, the network may
+-- come from any past. The first time has no loss: nothing was there to be lost. Events that make nothing of what stands
+-- leave it as it was. So does a link that gets wider, and so do losses that are followed, where no system is moved.
+-- Where one link or one system is taken away such as are cut off don't count as moved. There it matters whether the
+-- link that goes down cuts off a far end (`cut`), and whether the one system that it moves turns (`turned`). Of a
+-- system that fails it matters whether it was a far end, so that no other heard it (`far`), and whether each link that
+-- is up then is in use (`used`).
 abbrev pub row_of : Bool → Bool → SyncPaths → SyncPaths → List Told → Bool → Bool → Bool → Bool → Bool → Row
 row_of from_rest first paths_before paths told moved cut turned far used =
     if not from_rest then AnyPast
@@ -100,19 +102,19 @@ row_of from_rest first paths_before paths told moved cut turned far used =
     else if is_failing_followed paths_before paths told && not moved then failed_row far used
     else if list_any is_loss told then AnyPast else Gained
 
--- it counts whether a system is moved
+-- whether the row depends on who is moved
 abbrev pub asks_who_is_moved : Bool → SyncPaths → SyncPaths → List Told → Bool
 asks_who_is_moved from_rest paths_before paths told =
     from_rest
     && (are_losses_followed paths_before told || is_lowering_followed paths_before paths told
     || is_failing_followed paths_before paths told)
 
--- and whether a system was a far end
+-- and on whether the system that fails was a far end
 abbrev pub asks_who_is_far : Bool → SyncPaths → SyncPaths → List Told → Bool
 asks_who_is_far from_rest paths_before paths told = from_rest && is_failing_followed paths_before paths told
 
--- It is followed that all is heard at once at the start, and later where it is so of each event. Who gets better is
--- heard so where no path had more than 255 systems before.
+-- All is heard at once at the start, and later where what each event tells is heard so. Of a system that gets better
+-- that is followed where no path had more than 255 systems before.
 abbrev pub heard_at_once : Bool → SyncPaths → List Told → Bool
 heard_at_once first paths_before told =
     first || (are_heard false told && (nat_le paths_before.systems 255 || not (list_any is_better told)))

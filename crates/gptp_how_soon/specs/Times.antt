@@ -31,25 +31,28 @@ use Rattle.gptp_how_soon.specs.declared.bounds.SettlingTime.{SettlingTime}
 use Rattle.gptp_how_soon.specs.declared.bounds.Row.{Row}
 use Rattle.gptp_how_soon.specs.declared.kinds.Told.{Told}
 
--- What is seen of a time: when a link was last set, and the greatest delay that one has had; the time before, and what
--- Sync had to cross then, and whether each link that was up was in use; the links that are new at it; its events,
--- whether they move a system, of which such as are cut off don't count where one link or one system is taken away,
--- whether each link that is lost cuts off a far end, whether they move one system alone that turns, and whether those
--- that they name were far ends; whether each link that is up is in use; what Sync has to cross; and whether the network
--- is calm.
+-- what is seen of a time
 pub record View : Type 0 where
   pub at : ℕ
+  -- when a link was last set, and the greatest delay that one has had
   pub last_set : ℕ
   pub longest : ℕ
+  -- the time before, what Sync had to cross then, and whether each link that was up was in use
   pub before : Option SettlingTime
   pub paths_before : SyncPaths
   pub used_before : Bool
+  -- the links that are new at this time, and its events
   pub new : List Cable
   pub told : List Told
+  -- whether they move a system, of which such as are cut off don't count where one link or one system is taken away
   pub moved : Bool
+  -- whether each link that is lost cuts off a far end
   pub cut : Bool
+  -- whether they move one system alone that turns
   pub turned : Bool
+  -- whether the systems that they name were far ends
   pub far : Bool
+  -- whether each link that is up is in use, what Sync has to cross, and whether the network is calm
   pub used : Bool
   pub paths : SyncPaths
   pub calm : Bool

@@ -40,30 +40,28 @@ pub struct SettlingTime {
     pub watch: u64,
 }
 
-/// What is known of a time.
+/// What is known of a time. All rows but the first are from rest: what was before has come to rest.
 #[derive(Clone, Copy)]
 pub enum Row {
     /// The network may come from any past.
     AnyPast,
-    /// It is from rest, and its events change nothing.
+    /// Its events leave what stands as it was.
     Unchanged,
-    /// It is from rest, and a link goes down by its one event that moves no system; one that it cuts off doesn't count,
-    /// which was no far end.
+    /// By its one event a link goes down. No system is moved but such as are cut off, none of which was a far end.
     Lowered,
-    /// It is from rest, and loses a far end: a link so goes down, and cuts it off; or a system loses its power that was
-    /// the far end of its links, and each link that is up is in use.
+    /// A far end is lost. By the one event a link goes down that cuts it off; or by the first a system fails that was
+    /// the far end of its links, and each link that is up then is in use, as where it loses its power.
     LostEnd,
-    /// It is from rest, and such a system fails; a link is up that isn't in use.
+    /// A system fails that was the far end of its links. A link is up then that isn't in use.
     FailedEnd,
-    /// It is from rest, and a system loses its power that others heard, which changes no choice, where a system that it
-    /// cuts off doesn't count; each link that is up is in use.
+    /// A system fails that others heard, and no system is moved but such as are cut off. Each link that is up then is
+    /// in use, as where it loses its power.
     LostPower,
-    /// It is from rest, and such a system fails; a link is up that isn't in use.
+    /// A system fails that others heard, and none is moved but such as are cut off. A link is up that isn't in use.
     FailedHeard,
-    /// It is from rest, and a link goes down by its one event that moves one system alone. That keeps its root, and
-    /// turns to others for it.
+    /// By its one event a link goes down that moves one system alone. That keeps its root, and turns to others for it.
     OneTurned,
-    /// It is from rest, and none of its events is a loss.
+    /// None of its events is a loss.
     Gained,
 }
 

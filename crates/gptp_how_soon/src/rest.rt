@@ -173,7 +173,7 @@ pub(crate) fn asks_who_is_moved(
             || is_failing_followed(paths_before, paths, told))
 }
 
-/// Whether it counts if the system that its events name was a far end.
+/// Whether the row depends on whether the system that its events name was a far end.
 pub(crate) fn asks_who_is_far(
     from_rest: bool,
     paths_before: SyncPaths,
@@ -185,8 +185,8 @@ pub(crate) fn asks_who_is_far(
     from_rest && is_failing_followed(paths_before, paths, told)
 }
 
-/// What is known of a time at which a system fails and none is moved, where the one that fails was a far end or wasn't,
-/// and each link that is up is in use or isn't.
+/// What is known of a time at which a system fails and none is moved, by whether the one that fails was a far end, and
+/// whether each link that is up then is in use.
 fn failed_row(far: bool, used: bool) -> Row
     ensures { result ≡ failed_row far used }
 {
@@ -201,9 +201,9 @@ fn failed_row(far: bool, used: bool) -> Row
     }
 }
 
-/// What is known of a time, where it is from rest or isn't, its events move a system or don't, each link that is lost
-/// cuts off a far end or doesn't, a system that they move alone turns or doesn't, the one that fails was a far end or
-/// wasn't, and each link that is up is in use or isn't.
+/// What is known of a time, by whether it is from rest, whether it is the first, and what its events do: whether they
+/// move a system, whether each link that is lost cuts off a far end, whether a system that they move alone turns,
+/// whether the one that fails was a far end, and whether each link that is up then is in use.
 pub(crate) fn row_of(
     from_rest: bool,
     first: bool,

@@ -26,7 +26,9 @@ use Rattle.gptp_settling_time.specs.Losses.{aging_span, silence_span}
 use Rattle.gptp_settling_time.proofs.MomentLemmas.{parted}
 use Rattle.gptp_settling_time.proofs.WellFormedLemmas.{after_well}
 use Rattle.gptp_how_soon_laws.specs.Choice.{SettlingsAreChoiceBounds}
-use Rattle.gptp_how_soon_laws.proofs.RowLemmas.{AreSooner, HasComeToRest, IsSoundSooner, IsTelling, bounds_choice, choice_or_none, failed, first_past, first_roles, first_sound, gained, heard, lost_end, lost_power, lowered, never_unchanged, past_row, sound_or_sooner, started, tells, turned, unchanged}
+use Rattle.gptp_how_soon_laws.proofs.RowBoundLemmas.{AreSooner, IsSoundSooner, IsTelling, bounds_choice, choice_or_none, past_row, sound_or_sooner, tells}
+use Rattle.gptp_how_soon_laws.proofs.RowLemmas.{HasComeToRest, failed, gained, heard, lost_end, lost_power, lowered, turned, unchanged}
+use Rattle.gptp_how_soon_laws.proofs.StartRowLemmas.{first_past, first_roles, first_sound, never_unchanged, started}
 use Rattle.gptp_how_soon_laws.proofs.UnmovedLemmas.{AreWell}
 use Rattle.gptp_how_soon_laws.proofs.TimesLemmas.{AreTimes, later_times, times_after, times_parts}
 

@@ -8,6 +8,9 @@ mod LoweredLemmas
 mod FailedLemmas
 mod CutOffLemmas
 mod TurnedLemmas
+mod RowBoundLemmas
+mod RowReasonLemmas
+mod StartRowLemmas
 mod RowLemmas
 pub mod ChoiceLemmas
 pub mod StepLemmas

@@ -31,7 +31,9 @@ use Rattle.gptp_invariants.proofs.WorldNewsCourseLemmas.{later_keeps}
 use Rattle.gptp_settling_time.proofs.AlwaysClaimedLemmas.{IsClaimedAlways}
 use Rattle.gptp_settling_time.proofs.FitsLemmas.{UnlinkedHoldNothing}
 use Rattle.gptp_settling_time.proofs.LeftClaimedLemmas.{HaveAskedBy, IsLeftAlways, asked_acts, asked_heard, asked_later, left_acts, left_calm, left_later, left_net, left_network, left_seen, same_left}
-use Rattle.gptp_settling_time.proofs.RightLemmas.{IsSettledState, LevelTellsRight, all_right, right_kept, tells_right_from}
+use Rattle.gptp_settling_time.proofs.RightKeptLemmas.{right_kept}
+use Rattle.gptp_settling_time.proofs.RightLemmas.{all_right}
+use Rattle.gptp_settling_time.proofs.TellsRightLemmas.{IsSettledState, LevelTellsRight, tells_right_from}
 use Rattle.gptp_settling_time.proofs.DueLemmas.{AreDueBy, UpIsInUse, due_by_delay, due_by_interval, use_kept}
 use Rattle.gptp_settling_time.proofs.UnlinkedLemmas.{IsLeftSeen}
 use native.Mathlib.Decide.{dec_le}

@@ -27,7 +27,7 @@ use Rattle.gptp_settling_time.proofs.LeftClaimedLemmas.{HaveAskedBy, IsLeftAlway
 use Rattle.gptp_settling_time.proofs.LostEndLemmas.{but_old_reduced, lost_end_sound}
 use Rattle.gptp_settling_time.proofs.LoweredLemmas.{still_joins}
 use Rattle.gptp_settling_time.proofs.ReducedLemmas.{IsReduced}
-use Rattle.gptp_settling_time.proofs.RightLemmas.{right_begins}
+use Rattle.gptp_settling_time.proofs.TellsRightLemmas.{right_begins}
 use Rattle.gptp_graph.specs.PathBound.{path_bound}
 use Rattle.gptp_settling_time.proofs.SettledSeenLemmas.{IsSettledSeen}
 use Rattle.gptp_settling_time.proofs.SoundButOldLemmas.{IsSoundButOld}

@@ -115,6 +115,8 @@ pub mod LeadOnLemmas
 pub mod LossLeadLemmas
 pub mod RightStageLemmas
 pub mod DueLemmas
+pub mod TellsRightLemmas
+pub mod RightKeptLemmas
 pub mod RightLemmas
 pub mod AgingLemmas
 pub mod AgingStillLemmas

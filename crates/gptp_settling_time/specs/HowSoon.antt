@@ -1,27 +1,32 @@
 -- How soon the choice stands after the events of a time of a document.
 --
 -- What stands *before* a time stands after all earlier events, and what stands *at* it after those of that time too. A
--- *choice bound* at a time says by how much later the choice and the roles stand. Where nothing lapses for want of Sync
--- the span from any past (`settling_span_at_once`) always is one. A time by which the choice of the time before stands
--- has sharper ones, by its events. It is 0 where they make nothing of what stands. Where they are gains it is what
--- ports take to become capable, an announce interval, and the greatest delay for each system of a path but one. No
--- announce interval has to pass where what the first gain tells is heard at once, and after it links alone come up
--- whose delay varies little, and systems recover that use no link. Nor has one at the start where all delays vary
--- little.
+-- *choice bound* at a time says by how much later the choice and the roles stand.
 --
--- Events that make nothing of what stands ask for no time: such that change nothing, and a link with a failed end that
--- comes up or goes down. Nor does a priority1 that moves no system, as one that gets worse of a system that is nobody's
--- best. Nor does a link in use whose delays are set so that they get wider, if that comes first. These gains are
--- followed, at a time behind events that make nothing: a link that comes up between live systems, a system that
--- recovers, and a priority1 of a live system that gets better. The first is heard at once where its delay varies
--- little, the second where it uses no link, the last where no path has more than 255 systems. At time 0 links may go
--- down and come up, systems fail and a priority1 be set. Not followed are other delays that are set, and other events
--- that take something away at a later time. There the span stands. But the one event of a time asks for none, too, if a
--- link goes down by it and no system is moved but such as are cut off. Nor does the choice ask for time where by the
--- first event a system fails that is the far end of each of its links, and no other comes but links that go down of
--- which an end has failed. Roles stand once the ports beside it aren't capable any more, or at once where no link is up
--- that isn't in use. Where by the one event a link goes down that so moves one system alone, which isn't cut off,
--- choice and roles ask for twice the greatest delay for each system of a path but one.
+-- Where nothing lapses for want of Sync the span from any past (`settling_span_at_once`) always is a choice bound. A
+-- time by which the choice of the time before stands has sharper ones, by its events:
+-- - They make nothing of what stands. The bound is 0.
+-- - They are gains. It is what ports take to become capable, an announce interval, and the greatest delay for each
+--   system of a path but one. No announce interval has to pass where what the first gain tells is heard at once, and
+--   each later gain is a link whose delay varies little, or a system that recovers and uses no link. Nor has one at the
+--   start where all delays vary little.
+-- - By the one event a link goes down, and no system is moved but such as are cut off. It is 0.
+-- - By the first event a system fails that is the far end of each of its links, and no other comes but links that go
+--   down of which an end has failed. The bound of the choice is 0. Roles stand once the ports beside it aren't capable
+--   any more, or at once where no link is up that isn't in use.
+-- - By the one event a link goes down that so moves one system alone, which isn't cut off. Choice and roles ask for
+--   twice the greatest delay for each system of a path but one.
+-- - By the first event a system fails that others hear, and no other comes but such links. The choice stands once what
+--   they hold of it has aged, or once no port beside it is capable. Roles stand by the latter.
+--
+-- Events make nothing of what stands that change nothing, and so does a link with a failed end that comes up or goes
+-- down. So does a priority1 that moves no system: one that gets worse, for instance, of a system that is nobody's best.
+-- Wider delays of a link in use ask for no time either, where they come first. These gains are followed, at a time
+-- behind events that make nothing: a link that comes up between live systems, a system that recovers, and a priority1
+-- of a live system that gets better. The first is heard at once where its delay varies little, the second where it uses
+-- no link, the last where no path has more than 255 systems. At time 0 links may go down and come up, systems fail and
+-- a priority1 be set. Not followed are other delays that are set, and other events that take something away at a later
+-- time. There the span stands.
 use Rattle.std.specs.Prelude.{◌≡◌, ◌<◌, ◌≤◌, ◌⊎◌, ◌+◌, ◌*◌, ◌==◌, ℕ, ⊤, min, pred, suc, List, [], ◌∷◌, ◌++◌, filter}
 use Rattle.gptp_lists.specs.Members.{In}
 use Rattle.gptp_setup.specs.Intervals.{interval_of}
@@ -82,8 +87,8 @@ IsGainEvent n next made event = TakesNothing n made event.act × LeavesCapable n
 abbrev pub IsHeardEvent : NetworkState → ℕ → List Timed → Timed → Type 0
 IsHeardEvent n next made event = AddsHeard n made event next ⊎ BettersClock n made event next
 
--- behind such a one of the same time: a link that comes up so, a system that recovers so, or what makes nothing of what
--- then stands
+-- Behind an event that is heard at once, at the same time: a link whose delay varies little comes up, a system recovers
+-- that uses none, or the event makes nothing of what then stands.
 abbrev pub IsHeardToo : NetworkState → ℕ → List Timed → Timed → Type 0
 IsHeardToo n next made event = AddsHeard n made event next ⊎ MakesNothing n made event next
 
@@ -91,7 +96,7 @@ IsHeardToo n next made event = AddsHeard n made event next ⊎ MakesNothing n ma
 abbrev pub IsGainToo : NetworkState → ℕ → List Timed → Timed → Type 0
 IsGainToo n next made event = IsGainEvent n next made event ⊎ MakesNothing n made event next
 
--- each of the events is such a one
+-- this is so of each of the events, by what stands just before it
 abbrev pub EachEvent : (List Timed → Timed → Type 0) → List Timed → List Timed → Type 0
 EachEvent Is made [] = ⊤
 EachEvent Is made (event ∷ events) = Is made event × EachEvent Is (made ++ event ∷ []) events
@@ -108,7 +113,7 @@ AreGainEvents n next made [] = ⊥
 AreGainEvents n next made (event ∷ events) =
     IsGainEvent n next made event × EachEvent (IsGainToo n next) (made ++ event ∷ []) events
 
--- so it is of the events, or of those that come after such that make nothing of what stands
+-- this is so of the events, or of those that are left behind the first ones, which make nothing of what stands
 abbrev pub AfterIdleEvents : NetworkState → (List Timed → List Timed → Type 0) → List Timed → List Timed → Type 0
 AfterIdleEvents n Are made [] = Are made []
 AfterIdleEvents n Are made (event ∷ events) =
@@ -194,7 +199,7 @@ BoundsNext n events Then last time choice =
 
 -- ---- losses
 
--- one event comes, which is such a one
+-- one event comes, and this is so of it
 abbrev pub OneEvent : (List Timed → Timed → Type 0) → List Timed → List Timed → Type 0
 OneEvent Is made [] = ⊥
 OneEvent Is made (event ∷ []) = Is made event
@@ -219,30 +224,31 @@ FailsEndFirst n made [] = ⊥
 FailsEndFirst n made (event ∷ events) =
     FailsFarEnd n made event × EachEvent (LowersUnused n) (made ++ event ∷ []) events
 
--- after them the roles stand so soon
+-- how soon the roles stand after them
 abbrev pub RolesAfterFailure : NetworkState → List Timed → ℕ → Type 0
 RolesAfterFailure n events roles =
     (UpIsUsed n events × (roles ≡ 0)) ⊎ (roles ≡ silence_span (pace_of n))
 
--- by the first of them a system fails that others hear, and by the others such links go down
+-- By the first of them a system fails that others hear. By the others links go down that are up, and of which an end
+-- has failed.
 abbrev pub FailsHeardFirst : NetworkState → List Timed → List Timed → Type 0
 FailsHeardFirst n made [] = ⊥
 FailsHeardFirst n made (event ∷ events) =
     FailsHeard n made event × EachEvent (LowersUnused n) (made ++ event ∷ []) events
 
--- After them the choice stands so soon, and the roles do: at once where each link that is up is in use; else the choice
--- once what is held of the failed system has aged, or no port beside it is capable, whichever is sooner.
+-- How soon the choice and the roles stand after them: at once where each link that is up is in use. Else the choice
+-- stands once what is held of the failed system has aged, or no port beside it is capable, whichever is sooner.
 abbrev pub BoundsAging : NetworkState → List Timed → List Timed → ℕ → ℕ → Type 0
 BoundsAging n made now choice roles =
     (UpIsUsed n (made ++ now) × (choice ≡ 0) × (roles ≡ 0))
     ⊎ ((choice ≡ min (aging_span (pace_of n) (sync_paths n made)) (silence_span (pace_of n)))
     × (roles ≡ silence_span (pace_of n)))
 
--- What the events of a time take away asks for so much: of the choice, and of the roles. The choice stands at once
--- where no system is moved, and so do roles after a link goes down. After a system fails they do where each link that
--- is up then is in use, as where it loses its power; else once too many requests of the ports beside it are lost. Where
--- one system is moved its neighbours hold what it tells then, and it what they tell, after a way each.
--- Where a system fails that others hear the choice asks for what they hold of it to age.
+-- How soon the choice and the roles stand after the events of a time that take something away. The choice stands at
+-- once where no system is moved, and so do roles after a link goes down. After a far end fails roles stand at once
+-- where each link that is up then is in use, as where it loses its power; else once too many requests of the ports
+-- beside it are lost. Where one system is moved its neighbours come to hold what it tells, and it what they tell, after
+-- a way each. Where a system fails that others hear what they hold of it has to age.
 abbrev pub BoundsLoss : NetworkState → List Timed → List Timed → ℕ → ℕ → Type 0
 BoundsLoss n made now choice roles =
     ((choice ≡ 0)
@@ -251,8 +257,8 @@ BoundsLoss n made now choice roles =
     ⊎ ((TurnsOneLink n made now × (choice ≡ 2 * way_span (sync_paths n (made ++ now))) × (roles ≡ choice))
     ⊎ (FailsHeardFirst n made now × BoundsAging n made now choice roles))
 
--- Events at a time take something away, and ask for so much: nothing lapses, and they come to a calm network behind one
--- of the bounds of the time before.
+-- The events of a time take something away, and ask for what `Asks` says. Nothing lapses for want of Sync. The network
+-- is calm, and the events come once the time before has come to rest, by one of its bounds.
 abbrev pub LosesNext : NetworkState → List Timed → (ℕ → Type 0) → ℕ → ℕ → (List Timed → List Timed → Type 0) → Type 0
 LosesNext n events Then last time Asks =
     (last < time)
@@ -264,9 +270,9 @@ LosesNext n events Then last time Asks =
 
 -- ---- rest
 
--- After the loss of a far end a network has come to rest so much later: what was in flight is gone. Where a link is up
--- then that isn't in use, roles stand, and the greatest delay has passed for each system of a path but one. After
--- another such link goes down right traces are told before.
+-- How much later a network has come to rest after a loss. After the loss of a far end what was in flight has to be
+-- gone. Where it fails and a link is up then that isn't in use, roles have to stand, and the greatest delay to pass for
+-- each system of a path but one. After another link goes down that moves no system right traces have to be told first.
 abbrev pub RestsAfterLoss : NetworkState → List Timed → List Timed → ℕ → Type 0
 RestsAfterLoss n made now rest =
     (CutsOneEnd n made now × FlightIsGone n made rest)
@@ -287,7 +293,7 @@ IsRestBoundAfter n events (last ∷ earlier) time rest =
 
 -- ---- bounds
 
--- A choice bound at a time, by the times before it: such a bound, but after a loss.
+-- A choice bound at a time that is no loss, by the times before it, the latest first.
 abbrev pub IsChoiceBoundAfter : NetworkState → List Timed → List ℕ → ℕ → ℕ → Type 0
 IsChoiceBoundAfter n events [] time choice = BoundsFirst n events time choice
 IsChoiceBoundAfter n events (last ∷ earlier) time choice =

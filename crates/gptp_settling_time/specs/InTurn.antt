@@ -1,26 +1,35 @@
 -- How soon a document has settled, event by event: each event leaves known of the network what it came from.
 --
--- After some events of a document its network came from *any past*; or it is *starting*, and nothing is told yet; or it
--- has *gained* only, since it started or had rested, and its ports at links are capable from a start on; or the same is
--- so and all that is told over its links is *heard*, so that no announce interval has to pass. An event leads from one
--- to another (`EventLeads`). It may always lead to any past. At time 0, as the network starts, it may take something
--- away, since nothing is told yet. To a gain it leads where it takes nothing away, or changes nothing. To what is heard
--- it leads where the network has settled and it changes nothing, brings up a link between live systems, lets a system
--- recover that uses none, or sets a better priority1. Where the delay of that link varies little the first Announce
--- over it comes to a port that is capable already, and a system that gets better tells so at once. What makes nothing
--- of what stands leaves a network settled that had settled, whatever it came from, and so does a priority1 that moves
--- no system, and what widens the delays of a link in use. Where all was heard before, such links may also come up, and
--- such systems recover, one after another at any time, as several at once; and what changes nothing asks for no time at
--- all. Nor does a link that goes down by which no system is moved but such as are cut off, in a network that had
--- settled. That network is *left*: its choice stands, but what is held may name links that are gone. So it is where a
--- system fails that is the far end of each of its links: roles stand once the ports beside it aren't capable any more,
--- or once no link is up that isn't in use. A network that is left stays so where a link goes down of which an end has
--- failed. Where a system is lost that was the far end of its links, nobody holds what names it: the network is
--- *cleared*. So it is where another such link goes down, once right traces have been told by distance. When what was in
--- flight is gone, and ports without a link aren't capable, it has come to rest as if all had been heard. Where a system
--- fails that others hear, what they hold of it ages; the choice stands once that is gone. Where a link goes down that
--- so moves one system alone, it has *turned*, and the network settles 1 ns and the greatest delay for each system of a
--- path but one later.
+-- After some events of a document its network has one of these *pasts*.
+-- - Any past: nothing is known of what it came from.
+-- - Starting: nothing is told yet.
+-- - Gained: it has only gained since it started or had rested. From a start on its ports at links are capable.
+-- - Heard: the same is so, and all that is told over its links is heard. So no announce interval has to pass.
+-- - Left: something was taken away that moved no system but such as were cut off. The choice stands, but what is held
+--   may name links that are gone.
+-- - Turned: a link went down and so moved one system alone. The network settles 1 ns and the greatest delay for each
+--   system of a path but one later.
+-- - Cleared: a system was lost that was the far end of its links, so that nobody holds what names it. Or another link
+--   went down that moved none, and right traces have been told by distance since. When what was in flight is gone, and
+--   ports without a link aren't capable, the network has come to rest as if all had been heard.
+-- - Aging: a system failed that others heard. What they hold of it ages, and the choice stands once that is gone.
+--
+-- An event leads from one past to another (`EventLeads`). It may always lead to any past. At time 0, as the network
+-- starts, it may take something away, since nothing is told yet. To a gain it leads where it takes nothing away, or
+-- changes nothing.
+--
+-- To what is heard it leads where the network has settled, and the event changes nothing, brings up a link between live
+-- systems, lets a system recover that uses none, or sets a better priority1. Where the delay of that link varies little
+-- the first Announce over it comes to a port that is capable already; and a system that gets better tells so at once.
+-- An event that makes nothing of what stands leaves a settled network settled, whatever it came from. So does a
+-- priority1 that moves no system, and so do wider delays of a link in use. Where all was heard before, such links may
+-- also come up, and such systems recover, one after another at any time, and several at once. What changes nothing asks
+-- for no time at all then.
+--
+-- A settled network is left where a link goes down by which no system is moved but such as are cut off. It is left,
+-- too, where a system fails that is the far end of each of its links. Then roles stand once the ports beside it aren't
+-- capable any more, or at once where each link that is up is in use. A network that is left stays so where a link goes
+-- down of which an end has failed.
 use Rattle.std.specs.Prelude.{◌≡◌, ◌<◌, ◌≤◌, ◌⊎◌, ◌+◌, ◌*◌, ℕ, ⊤, pred, suc, List, [], ◌∷◌, ◌++◌, Option, Some, slice_get}
 use Rattle.gptp_lists.specs.Members.{In}
 use Rattle.gptp_vector.specs.declared.port.PortId.{PortId}
@@ -48,19 +57,21 @@ use Rattle.gptp_settling_time.specs.Exactly.{SettlesBy}
 use Rattle.gptp_settling_time.specs.Gains.{AreCapableAnyway, AreCapableNext, AreCapableStill, ChangesNothing, EndHasFailed, HasRested, IsDownAfter, IsNoWorse, JoinsLive, LeavesCapable, TakesNothing, UsesNoLink, exchanged_from}
 use Rattle.gptp_settling_time.specs.Losses.{CutsFarEnd, FailsFarEnd, FailsHeard, LeavesChoice, LowersLink, LowersUnused, TurnsLink, UpIsUsed, aging_span, silence_span}
 
--- what a network came from, and from when on its ports are capable; of one that is left, from when on ports without a
--- link aren't; of one in which a system has turned, from when on they aren't, and when it did; of one that is cleared,
--- from when on its ports are capable, from when on those without a link aren't, from when on what is held is right, and
--- by when what was in flight is gone; of one in which what is held of a failed
--- system ages, from when on it is gone, and from when on ports without a link aren't capable
+-- What a network came from. The numbers are times.
 pub data Past : Type 0 where
   AnyPast : Past
   Starting : Past
+  -- from this one on its ports at links are capable; and so for what is heard
   Gained : ℕ → Past
   Heard : ℕ → Past
+  -- from this one on ports without a link aren't capable
   Left : ℕ → Past
+  -- from the first on ports without a link aren't capable; at the second a system turned
   Turned : ℕ → ℕ → Past
+  -- from the first on its ports are capable; from the second on those without a link aren't; from the third on what is
+  -- held is right; and by the fourth what was in flight is gone
   Cleared : ℕ → ℕ → ℕ → ℕ → Past
+  -- from the first on what is held of the failed system is gone; from the second on ports without a link aren't capable
   Aging : ℕ → ℕ → Past
 
 -- ---- events at time 0
@@ -211,8 +222,8 @@ pub record LowersUnusedCalm (n : NetworkState) (before : List Timed) (event : Ti
   pub calm : IsCalm n before
   pub off : NothingLapses n.params
 
--- After either of the first two the choice stands. Ports without a link aren't capable from the next time on: as from
--- the one before where a link goes down, and beside a system that fails once too many of their requests are lost.
+-- A link goes down, or a far end fails, and the choice stands. Ports without a link aren't capable from the next time
+-- on. After a link that is the time before. After a system that fails it is when too many of their requests are lost.
 abbrev pub LeavesStanding : NetworkState → List Timed → Timed → ℕ → ℕ → Type 0
 LeavesStanding n before event start next =
     (LowersCalm n before event × (next ≡ start))
@@ -230,7 +241,7 @@ abbrev pub FlightIsGone : NetworkState → List Timed → ℕ → Type 0
 FlightIsGone n events gone =
     (UpIsUsed n events × (gone ≡ (sync_paths n events).delay)) ⊎ (gone ≡ largest_interval (pace_of n))
 
--- After either of these nothing that is held names what is gone, nor anything in flight that is taken.
+-- A far end is cut off, or it fails. Nothing that is held names what is gone, nor does anything that is still taken.
 abbrev pub ClearsFarEnd : NetworkState → List Timed → Timed → ℕ → ℕ → ℕ → ℕ → Type 0
 ClearsFarEnd n before event start silent right old =
     ((CutsCalm n before event × (silent ≡ start))
@@ -238,13 +249,13 @@ ClearsFarEnd n before event start silent right old =
     × (right ≡ 0)
     × ((gone : ℕ) × FlightIsGone n before gone × (old ≡ event.at + gone))
 
--- Who is told a right trace holds it, and tells it, an announce interval and the greatest delay later: by so much for
--- each system of a path but one.
+-- An announce interval and the greatest delay for each system of a path but one: so much later who is told a right
+-- trace holds it, and tells it.
 abbrev pub echo_span : NetworkState → List Timed → ℕ
 echo_span n events =
     pred (sync_paths n events).systems * (largest_interval (pace_of n) + (sync_paths n events).delay)
 
--- After such a link goes down traces may name it until then.
+-- After another link goes down, by which no system is moved, traces may name it until right ones have been told.
 abbrev pub ClearsTraces : NetworkState → List Timed → Timed → ℕ → ℕ → ℕ → ℕ → Type 0
 ClearsTraces n before event start silent right old =
     LowersCalm n before event
@@ -258,7 +269,8 @@ ClearsBy n before event start since silent right old =
     (since ≡ start)
     × (ClearsFarEnd n before event start silent right old ⊎ ClearsTraces n before event start silent right old)
 
--- the network has settled from any past by this time, or from such a start, where something may not be heard or all is
+-- By this time the network has settled from any past; or from a start from which its ports are capable, where something
+-- may not be heard at once; or from such a start where all is heard.
 pub record HasSettledAnyhow (n : NetworkState) (events : List Timed) (time : ℕ) : Type 0 where
   pub calm : IsCalm n events
   pub passed : last_change events + settling_span_at_once (pace_of n) (sync_paths n events) ≤ time
@@ -275,7 +287,8 @@ HasSettledHeard n events start time =
 abbrev pub AddsHeard : NetworkState → List Timed → Timed → ℕ → Type 0
 AddsHeard n before event next = BringsUp n before event next ⊎ RecoversAlone n before event next
 
--- from rest ports are capable whatever came before; from a gain or a start they were so from another start on
+-- From any past the network has rested, and its ports are capable whatever came before. From a gain, and from what is
+-- heard, they were capable from another start on.
 abbrev pub LeadsToGain : NetworkState → List Timed → Past → Timed → ℕ → Type 0
 LeadsToGain n before AnyPast event next =
     HasRested n before event.at
@@ -361,7 +374,7 @@ LeadsToCleared n before (Cleared start dark clean last) event since silent right
     × ((since ≡ start) × (silent ≡ dark) × (right ≡ clean) × (old ≡ last))
 LeadsToCleared n before (Aging aged start) event since silent right old = ⊥
 
--- In a network that had settled a system fails that others hear, so that what they hold of it ages.
+-- In a network that had settled a system fails that others hear. What they hold of it ages.
 pub record FailsNow (n : NetworkState) (before : List Timed) (event : Timed) (aged silent : ℕ) : Type 0 where
   pub fails : FailsHeard n before event
   pub calm : IsCalm n before
@@ -384,7 +397,7 @@ LeadsToAging n before (Cleared since start right old) event aged silent = ⊥
 LeadsToAging n before (Aging gone start) event aged silent =
     LowersUnusedCalm n before event × (aged ≡ gone) × (silent ≡ start)
 
--- a gain, and what is heard, stays so from the start that it had
+-- from a gain, and from what is heard, the start stays
 abbrev pub StaysFrom : Past → ℕ → Type 0
 StaysFrom AnyPast next = ⊥
 StaysFrom Starting next = ⊥
@@ -509,7 +522,8 @@ ChoosesAfter n events (Cleared since silent right old) settled = NothingLapses n
 ChoosesAfter n events (Aging aged silent) settled =
     NothingLapses n.params × ((aged ≤ settled) ⊎ ((silent ≤ settled) ⊎ UpIsUsed n events))
 
--- A document comes by a time to what so comes after its events up to another, one after another.
+-- By a time a document has settled, or its choice stands, as `So` says of what it came from: each of its events up to
+-- another time leads from one past to the next.
 pub record ComesByEvents (So : NetworkState → List Timed → Past → ℕ → Type 0) (d : DocumentState)
     (until settled : ℕ) : Type 0 where
   pub calm : IsCalm d.network (events_by until d.events)
@@ -526,7 +540,7 @@ SettlesByEvents = ComesByEvents SettlesAfter
 abbrev pub ChoosesByEvents : DocumentState → ℕ → ℕ → Type 0
 ChoosesByEvents = ComesByEvents ChoosesAfter
 
--- The world after each act of its run is settled that is done by then, and later than those events.
+-- The world after an act of the run is settled where the act is no earlier than that time, and later than those events.
 abbrev pub ActsFindSettledInTurn : {F : Type 0} → (Bounds → ℕ → F → Option ℕ → F → Type 0) → Type 0
 ActsFindSettledInTurn {F} answers = (d : DocumentState) (until settled : ℕ) (fate : F) (first w : WorldState)
     (ts : List ActTrace) (t : ActTrace)
@@ -535,7 +549,7 @@ ActsFindSettledInTurn {F} answers = (d : DocumentState) (until settled : ℕ) (f
     → last_change (events_by t.told.timed.at d.events) < t.told.timed.at
     → IsSettledAs d t.told.timed.at t.after
 
--- and by the time by which its choice stands it does so in that world
+-- and from the time on by which its choice stands it stands in that world
 abbrev pub ActsFindChoiceInTurn : {F : Type 0} → (Bounds → ℕ → F → Option ℕ → F → Type 0) → Type 0
 ActsFindChoiceInTurn {F} answers = (d : DocumentState) (until settled : ℕ) (fate : F) (first w : WorldState)
     (ts : List ActTrace) (t : ActTrace)

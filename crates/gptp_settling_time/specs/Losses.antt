@@ -90,7 +90,7 @@ abbrev pub IsFarEnd : Snapshot → ℕ → Type 0
 IsFarEnd g v = (u far near : ℕ) → Adjacent g v u → IsDistance g v far → IsDistance g u near
     → (near < far) ⊎ ((near ≡ far) × (u < v))
 
--- By such an event a system is cut off that was the far end of its links.
+-- Such an event takes down a link and so cuts off a system that was the far end of its links.
 pub record CutsFarEnd (n : NetworkState) (before : List Timed) (event : Timed) : Type 0 where
   pub lowers : LowersLink n before event
   pub lost : ℕ
@@ -100,15 +100,15 @@ pub record CutsFarEnd (n : NetworkState) (before : List Timed) (event : Timed) :
   pub far : (g : Snapshot) → StandsAfter n before g → IsFarEnd g lost
   pub cut : (g : Snapshot) → StandsAfter n (before ++ event ∷ []) g → IsCutOff g lost
 
--- How long a port beside a system that fails may stay capable. Its last request that is answered went before that. The
--- next goes a peer delay interval later. It is lost, as are those after it: each is given up an interval after it went,
--- until one more is lost than may be.
+-- How long a port beside a system that fails may stay capable. The last of its requests that is answered went before
+-- the failure. The next one goes a peer delay interval later, and is lost, as are those after it. Each is given up an
+-- interval after it went. The port isn't capable once one more is lost than may be.
 abbrev pub silence_span : SettlingParams → ℕ
 silence_span p = (p.params.lost + 2) * interval_of p.params.pdelay
 
--- After these events this one lets a live system fail that is the far end of each of its links, and no system is moved
--- but such as are cut off, which there are none of then.
--- The greatest delay of a link in use stays, and no path gets longer. None had more than 255 systems.
+-- After these events this one lets a live system fail that is the far end of each of its links. No shortest path leads
+-- through it, so no system is moved by that; what `moves` says of systems that are cut off isn't needed here. The
+-- greatest delay of a link in use stays, and no path gets longer. None had more than 255 systems.
 pub record FailsFarEnd (n : NetworkState) (before : List Timed) (event : Timed) : Type 0 where
   pub clock : ℕ
   pub act : event.act ≡ Changing (Fail clock)

@@ -1,0 +1,176 @@
+-- What is told of a time is what its row says. The bounds are those of a network that gains, or comes from any past. Or
+-- they are sooner: after a loss by which no system is moved, or one alone.
+use Rattle.std.proofs.Common.{◌≡◌, ◌≤◌, ◌⊎◌, inl, inr, ◌+◌, ◌*◌, ℕ, Bool, true, false, cond, List, Some, None, refl, sym, ap, subst, arith}
+use Rattle.std.specs.Prelude.{◌==◌, not, max, min, if◌then◌else◌}
+use Rattle.std.proofs.lemmas.Bool.{eqb-false, eqb-true}
+use Rattle.gptp_lists.proofs.MappedLemmas.{some_same}
+use Rattle.gptp_setup.specs.SettlingParams.{largest_interval}
+use Rattle.gptp_scenario.specs.Calm.{NothingLapses}
+use Rattle.gptp_scenario.specs.Network.{NetworkState, pace_of}
+use Rattle.gptp_scenario.specs.SettlingAtOnce.{settling_span_at_once}
+use Rattle.gptp_scenario.specs.SettlingTime.{capability_span, settling_span_with, window_span}
+use Rattle.gptp_scenario.specs.SyncWait.{sync_paths}
+use Rattle.gptp_scenario.specs.declared.change.Timed.{Timed}
+use Rattle.gptp_scenario.specs.declared.sync_wait.SyncPaths.{SyncPaths}
+use Rattle.gptp_topology.specs.After.{is_calm}
+use Rattle.gptp_how_soon.specs.Bounds.{choice_by, choice_of_row, echo_span, gone_by, roles_by, roles_of_row, settled, sound_by, sound_of_row}
+use Rattle.gptp_how_soon.specs.Kinds.{sets_link}
+use Rattle.gptp_how_soon.specs.Times.{View, gained_at, row_at, settling_time}
+use Rattle.gptp_how_soon.specs.declared.bounds.Row.{Row}
+use Rattle.gptp_how_soon.specs.declared.bounds.Row.TheVariants.{AnyPast, FailedEnd, FailedHeard, Gained, LostEnd, LostPower, Lowered, OneTurned, Unchanged}
+use Rattle.gptp_how_soon.specs.declared.bounds.Settling.{Settling}
+use Rattle.gptp_settling_time.specs.HowSoon.{BoundsChoice, way_span}
+use Rattle.gptp_settling_time.specs.Losses.{aging_span, silence_span}
+use Rattle.gptp_topology.proofs.RestLemmas.{calm_from}
+
+-- what bounds the choice where no loss has a bound of its own
+abbrev pub past_row : Row → Row
+past_row AnyPast = AnyPast
+past_row Unchanged = Unchanged
+past_row Lowered = AnyPast
+past_row LostEnd = AnyPast
+past_row LostPower = AnyPast
+past_row FailedEnd = AnyPast
+past_row FailedHeard = AnyPast
+past_row OneTurned = AnyPast
+past_row Gained = Gained
+
+-- by its row it is bounded how soon a calm network settles
+pub bounds_choice : (n : NetworkState) (Sharp : ℕ → Type 0) (events : List Timed) (row : Row) (gained : ℕ)
+    → is_calm n events ≡ true → (row ≡ Unchanged → Sharp 0) → (row ≡ Gained → NothingLapses n.params → Sharp gained)
+    → BoundsChoice n (Sharp (choice_by n (sync_paths n events) (past_row row) gained)) events
+    (choice_by n (sync_paths n events) (past_row row) gained)
+bounds_choice n Sharp events row gained calm unchanged is_gained =
+    (calm_from n events calm, by (n.params.sync_timeout == 0) refl)
+  where
+    span : ℕ
+    span = settling_span_with (pace_of n) (sync_paths n events) (sync_paths n events).systems
+
+    by_row : NothingLapses n.params → (r : Row) → row ≡ r
+        → (choice_of_row n (sync_paths n events) (past_row r) gained
+        ≡ settling_span_at_once (pace_of n) (sync_paths n events))
+        ⊎ Sharp (choice_of_row n (sync_paths n events) (past_row r) gained)
+    by_row off AnyPast is = inl refl
+    by_row off Lowered is = inl refl
+    by_row off LostEnd is = inl refl
+    by_row off LostPower is = inl refl
+    by_row off FailedEnd is = inl refl
+    by_row off FailedHeard is = inl refl
+    by_row off OneTurned is = inl refl
+    by_row off Unchanged is = inr (unchanged is)
+    by_row off Gained is = inr (is_gained is off)
+
+    by : (off : Bool) → (n.params.sync_timeout == 0) ≡ off
+        → ((NothingLapses n.params → ⊥)
+        × (cond (not off) span (choice_of_row n (sync_paths n events) (past_row row) gained) ≡ span))
+        ⊎ (NothingLapses n.params
+        × ((cond (not off) span (choice_of_row n (sync_paths n events) (past_row row) gained)
+        ≡ settling_span_at_once (pace_of n) (sync_paths n events))
+        ⊎ Sharp (cond (not off) span (choice_of_row n (sync_paths n events) (past_row row) gained))))
+    by true is = let off = eqb-true n.params.sync_timeout 0 is in inr (off, by_row off row refl)
+    by false is = inl (eqb-false n.params.sync_timeout 0 is, refl)
+
+-- The choice and the roles stand by the same bound. Or nothing lapses, and they do sooner after a loss: at once after a
+-- link went down or a far end lost its power, and the choice after a system failed that no other heard; and within two
+-- ways where one system turns. Else after a system failed it does once nobody holds what was heard of it.
+abbrev pub AreSooner : NetworkState → SyncPaths → Row → ℕ → ℕ → Type 0
+AreSooner n paths row choice roles =
+    ((choice ≡ 0)
+    × ((((row ≡ Lowered) ⊎ ((row ≡ LostEnd) ⊎ (row ≡ LostPower))) × (roles ≡ 0))
+    ⊎ ((row ≡ FailedEnd) × (roles ≡ silence_span (pace_of n)))))
+    ⊎ (((row ≡ OneTurned) × (choice ≡ 2 * way_span paths) × (roles ≡ choice))
+    ⊎ ((row ≡ FailedHeard) × (choice ≡ min (aging_span (pace_of n) paths) (silence_span (pace_of n)))
+    × (roles ≡ silence_span (pace_of n))))
+
+pub choice_or_none : (n : NetworkState) (paths : SyncPaths) (row : Row) (gained : ℕ)
+    → ((choice_by n paths row gained ≡ choice_by n paths (past_row row) gained)
+    × (roles_by n paths row gained ≡ choice_by n paths (past_row row) gained))
+    ⊎ (NothingLapses n.params × AreSooner n paths row (choice_by n paths row gained) (roles_by n paths row gained))
+choice_or_none n paths row gained = by (n.params.sync_timeout == 0) refl row
+  where
+    span : ℕ
+    span = settling_span_with (pace_of n) paths paths.systems
+
+    by : (off : Bool) → (n.params.sync_timeout == 0) ≡ off → (r : Row)
+        → ((cond (not off) span (choice_of_row n paths r gained)
+        ≡ cond (not off) span (choice_of_row n paths (past_row r) gained))
+        × (cond (not off) span (roles_of_row n paths r gained)
+        ≡ cond (not off) span (choice_of_row n paths (past_row r) gained)))
+        ⊎ (NothingLapses n.params
+        × AreSooner n paths r (cond (not off) span (choice_of_row n paths r gained))
+        (cond (not off) span (roles_of_row n paths r gained)))
+    by false is r = inl (refl, refl)
+    by true is AnyPast = inl (refl, refl)
+    by true is Unchanged = inl (refl, refl)
+    by true is Gained = inl (refl, refl)
+    by true is Lowered = inr (eqb-true n.params.sync_timeout 0 is, inl (refl, inl (inl refl, refl)))
+    by true is LostEnd = inr (eqb-true n.params.sync_timeout 0 is, inl (refl, inl (inr (inl refl), refl)))
+    by true is LostPower = inr (eqb-true n.params.sync_timeout 0 is, inl (refl, inl (inr (inr refl), refl)))
+    by true is FailedEnd = inr (eqb-true n.params.sync_timeout 0 is, inl (refl, inr (refl, refl)))
+    by true is FailedHeard = inr (eqb-true n.params.sync_timeout 0 is, inr (inr (refl, refl, refl)))
+    by true is OneTurned = inr (eqb-true n.params.sync_timeout 0 is, inr (inl (refl, refl, refl)))
+
+-- All is sound by that bound. Or nothing lapses, and it is sooner after a loss by which no system is moved.
+abbrev pub IsSoundSooner : NetworkState → SyncPaths → Bool → Row → ℕ → Type 0
+IsSoundSooner n paths used_before row sound =
+    ((row ≡ LostEnd) × (sound ≡ gone_by n paths used_before))
+    ⊎ (((row ≡ FailedEnd) × (sound ≡ capability_span (pace_of n) + way_span paths))
+    ⊎ ((row ≡ Lowered) × (sound ≡ echo_span n paths + gone_by n paths used_before)))
+
+pub sound_or_sooner : (n : NetworkState) (paths : SyncPaths) (used_before : Bool) (row : Row) (gained : ℕ)
+    → (sound_by n paths used_before row gained ≡ choice_by n paths (past_row row) gained)
+    ⊎ (NothingLapses n.params × IsSoundSooner n paths used_before row (sound_by n paths used_before row gained))
+sound_or_sooner n paths used_before row gained = by (n.params.sync_timeout == 0) refl row
+  where
+    span : ℕ
+    span = settling_span_with (pace_of n) paths paths.systems
+
+    by : (off : Bool) → (n.params.sync_timeout == 0) ≡ off → (r : Row)
+        → (cond (not off) span (sound_of_row n paths used_before r gained)
+        ≡ cond (not off) span (choice_of_row n paths (past_row r) gained))
+        ⊎ (NothingLapses n.params
+        × IsSoundSooner n paths used_before r (cond (not off) span (sound_of_row n paths used_before r gained)))
+    by false is r = inl refl
+    by true is AnyPast = inl refl
+    by true is Unchanged = inl refl
+    by true is Gained = inl refl
+    by true is OneTurned = inl refl
+    by true is FailedHeard = inl refl
+    by true is LostPower = inl refl
+    by true is LostEnd = inr (eqb-true n.params.sync_timeout 0 is, inl (refl, refl))
+    by true is FailedEnd = inr (eqb-true n.params.sync_timeout 0 is, inr (inl (refl, refl)))
+    by true is Lowered = inr (eqb-true n.params.sync_timeout 0 is, inr (inr (refl, refl)))
+
+-- what is told of a calm network
+pub record IsTelling (n : NetworkState) (v : View) (s : Settling) : Type 0 where
+  pub calm : v.calm ≡ true
+  pub choice : s.choice ≡ choice_by n v.paths (row_at v) (gained_at n v)
+  pub sound : s.sound ≡ sound_by n v.paths v.used_before (row_at v) (gained_at n v)
+  pub roles : s.roles ≡ roles_by n v.paths (row_at v) (gained_at n v)
+  pub rest : s.sound ≤ s.rest
+  pub exact : max (v.at + s.roles) (v.last_set + largest_interval (pace_of n)) + window_span n.params
+      + v.paths.systems * (n.params.threshold + n.params.residence)
+      ≤ s.exact_from
+
+pub tells : (n : NetworkState) (v : View) (s : Settling) → (settling_time n v).settling ≡ Some s → IsTelling n v s
+tells n v s is = by v.calm refl is
+  where
+    it : Settling
+    it =
+        settled n v.at v.last_set v.paths (sets_link v.told) (choice_by n v.paths (row_at v) (gained_at n v))
+        (roles_by n v.paths (row_at v) (gained_at n v)) (sound_by n v.paths v.used_before (row_at v) (gained_at n v))
+
+    by : (calm : Bool) → v.calm ≡ calm → (if calm then Some it else None) ≡ Some s → IsTelling n v s
+    by true calm told =
+        let same : it ≡ s = some_same it s told in
+        record {
+          calm = calm;
+          choice = ap (λ (x : Settling). x.choice) (sym same);
+          sound = ap (λ (x : Settling). x.sound) (sym same);
+          roles = ap (λ (x : Settling). x.roles) (sym same);
+          rest = subst (λ (x : Settling). x.sound ≤ x.rest) same (omega arith);
+          exact = subst (λ (x : Settling). max (v.at + x.roles) (v.last_set + largest_interval (pace_of n))
+              + window_span n.params + v.paths.systems * (n.params.threshold + n.params.residence)
+              ≤ x.exact_from) same (omega arith);
+        }
+    by false calm told = absurd cc

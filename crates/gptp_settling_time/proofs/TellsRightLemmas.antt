@@ -1,0 +1,304 @@
+-- In a network that has settled: what is known of a link that leads farther, and from when on what it tells is right.
+-- Who is told what is right holds it, and tells it, an announce interval and the greatest delay later.
+use Rattle.std.proofs.Math.Nat.{mul-le-mul_right}
+use Rattle.std.proofs.Common.{◌≡◌, ◌≢◌, ◌⊎◌, ◌<◌, ◌≤◌, ◌+◌, ◌*◌, ℕ, suc, true, Some, slice_get, refl, sym, ap, subst, ◌∙◌, inl, inr, arith}
+use Rattle.gptp_lists.specs.Members.{In}
+use Rattle.gptp_graph.specs.Best.{IsBest}
+use Rattle.gptp_graph.specs.Distance.{IsDistance}
+use Rattle.gptp_graph.specs.Snapshot.{Adjacent, IsLinked, Joins, PortIdentity, Snapshot, System, clocks, port_of}
+use Rattle.gptp_graph.proofs.BestLemmas.{IsBest-neighbour}
+use Rattle.gptp_graph.proofs.ExistenceLemmas.{distance_exists}
+use Rattle.gptp_graph.proofs.LinkDecisions.{IsLinked-dec}
+use Rattle.gptp_graph.proofs.LinkLemmas.{Joins-clock, Joins-sym}
+use Rattle.gptp_graph.proofs.PathBoundLemmas.{IsDistance-within}
+use Rattle.gptp_graph.proofs.SystemLemmas.{In-clocks}
+use Rattle.gptp_bmca_machine.specs.Calm.{Calm}
+use Rattle.gptp_bmca_machine.specs.Clean.{CameSound, IsWorse, Whole}
+use Rattle.gptp_bmca_machine.specs.Facts.{FollowsPort, IsLiveStationState, station_system}
+use Rattle.gptp_bmca_machine.specs.Frame.{Announce, Lane, Spelling}
+use Rattle.gptp_bmca_machine.specs.Levels.{Invariant, LeadsFarther}
+use Rattle.gptp_bmca_machine.specs.Link.{Ends, HasSettled, HearsSettled, IsTeller, Stand}
+use Rattle.gptp_bmca_machine.specs.LinkStage.{FinalAnnounceStays, Wiring}
+use Rattle.gptp_bmca_machine.specs.Network.{IsSettlingNetwork, Network, network_setting, settled_from, since, wiring}
+use Rattle.gptp_bmca_machine.specs.Reacts.{IsOwn}
+use Rattle.gptp_bmca_machine.specs.SoundEverywhere.{IsSoundSent}
+use Rattle.gptp_bmca_machine.specs.SoundLaws.{AllAreNear}
+use Rattle.gptp_bmca_machine.specs.Station.{Disabled, HoldsAt, MachineState, Mine, Port, Reception, Station}
+use Rattle.gptp_bmca_machine.proofs.EndsLemmas.{AllChoose, capable_at, ends, is_station}
+use Rattle.gptp_bmca_machine.proofs.LevelLemmas.{places_of}
+use Rattle.gptp_bmca_machine.proofs.NearestLemmas.{equal_within}
+use Rattle.gptp_bmca_machine.proofs.PlaceLemmas.{same_there}
+use Rattle.gptp_bmca_machine.proofs.RestLemmas.{Chooses}
+use Rattle.gptp_bmca_machine.proofs.RestingLemmas.{all_choose, by_then_at, links_stay}
+use Rattle.gptp_bmca_machine.proofs.TraceLemmas.{whole_on, whole_own}
+use Rattle.gptp_settling_time.proofs.AtRestLemmas.{TellsSettled, at_rest, close_to, either, held_settled, leads_by}
+use Rattle.gptp_settling_time.proofs.FitsLemmas.{UnlinkedHoldNothing}
+use Rattle.gptp_settling_time.proofs.RightStageLemmas.{AllRight, HoldsRight, RightStage, right_over}
+use Rattle.gptp_settling_time.proofs.UnlinkedLemmas.{far_holds_none}
+
+-- a state of the network that has settled
+pub record IsSettledState (says : Spelling) (n : Network) (w : MachineState) : Type 0 where
+  pub calm : Calm n w
+  pub invariant : Invariant says n w
+  pub late : settled_from n ≤ w.time
+  pub none : UnlinkedHoldNothing n.graph w
+
+-- what is known of a link that leads farther, in such a state
+pub record LinkFacts (says : Spelling) (k : Wiring) (w : MachineState) (pv pu : Port) (l : Lane) : Type 0 where
+  pub is : Ends k w
+  pub from : k.from ≤ w.time
+  pub mine : pv.held ≡ Mine k.root k.steps
+  pub timer : (w.time ≤ pv.announce) × (pv.announce ≤ w.time + k.interval)
+  pub hears : HearsSettled k pu
+  pub stays : FinalAnnounceStays says k pv.announce pu.held l.frames
+
+-- ---- what is claimed
+
+-- from when on systems at a distance tell what is right
+abbrev pub tells_right_from : Network → ℕ → ℕ → ℕ
+tells_right_from n base d = base + d * (n.interval + n.most)
+
+-- an Announce of this port is right
+abbrev pub IsRightOf : Network → ℕ → ℕ → Announce → Type 0
+IsRightOf n v p a = IsSoundSent n.graph (port_of v (suc p)) a
+
+-- a link from a system at a distance is at its stage, from when on that tells what is right
+abbrev pub LinkTellsRight : Spelling → Network → ℕ → ℕ → System → ℕ → ℕ → ℕ → ℕ → MachineState → Type 0
+LinkTellsRight says n base d best v p u q w = tells_right_from n base d ≤ w.time → (pv pu : Port) (l : Lane)
+    → Stand (wiring n d best v p u q) w pv pu l
+    → RightStage says (IsRightOf n v p) (tells_right_from n base d + n.interval) (tells_right_from n base (suc d))
+    pv.announce pu.held l.frames
+
+-- each link that leads farther from there is
+abbrev pub LevelTellsRight : Spelling → Network → ℕ → MachineState → ℕ → Type 0
+LevelTellsRight says n base w d = (best : System) (v p u q : ℕ) → d < 255 → LeadsFarther n.graph d best v p u q
+    → LinkTellsRight says n base d best v p u q w
+
+module _ (says : Spelling) (n : Network) (net : IsSettlingNetwork n) (near : AllAreNear n.graph) where
+  abbrev g : Snapshot
+  g = n.graph
+
+  -- ---- a link in a state that has settled
+
+  module _ (w : MachineState) (x : IsSettledState says n w) (d : ℕ) (best : System) (v p u q : ℕ) (close : d < 255)
+      (leads : LeadsFarther g d best v p u q) where
+    known : In v (clocks g)
+    known = Joins-clock g (port_of v (suc p)) (port_of u (suc q)) net.graph leads.joins
+
+    -- it is not the last but one of a path
+    pub few : suc (suc d) ≤ n.reach
+    few = elim leads.farther [
+      | inl less ↦
+          let within : leads.far < n.reach = IsDistance-within g n.reach u leads.far net.paths leads.there in
+          omega (arith, less, within)
+      | inr (same, lower) ↦
+          equal_within g n.reach v u d net.graph net.paths (suc p, suc q, leads.joins)
+          (net.graph.apart (port_of v (suc p)) (port_of u (suc q)) leads.joins) leads.here
+          (subst (IsDistance g u) (sym same) leads.there)
+    ]
+
+    passed : since n (suc d) ≤ w.time
+    passed = by_then_at says n net w x.calm x.invariant x.late (suc d) few
+
+    choose : AllChoose n w d
+    choose =
+        all_choose says n net w x.calm x.invariant x.late d close
+        (by_then_at says n net w x.calm x.invariant x.late d (let less = few in omega (arith, less)))
+
+    claimed : n.claimed d (port_of v (suc p)) ≤ w.time
+    claimed =
+        let by = (net.timed d (port_of v (suc p)) (port_of u (suc q)) leads.joins).claimed in
+        let late = passed in
+        omega (arith, by, late)
+
+    module _ (pv pu : Port) (l : Lane) (stand : Stand (wiring n d best v p u q) w pv pu l) where
+      k_ends : Ends (wiring n d best v p u q) w
+      k_ends = ends n net w x.calm x.invariant.sound d best v p u q close leads (λ at. choose)
+
+      teller : IsTeller (wiring n d best v p u q) w.time stand.v pv
+      teller = k_ends.teller stand.v pv stand.teller stand.teller_port
+
+      on : pv.held ≢ Disabled
+      on =
+          capable_at n net w x.calm x.invariant.sound d best v p u q close leads (λ at. choose) v p (port_of u (suc q))
+          stand.v pv known leads.joins stand.teller stand.teller_port
+          (let ready = (net.timed d (port_of v (suc p)) (port_of u (suc q)) leads.joins).ready in
+          let late = passed in
+          omega (arith, ready, late))
+
+      has : HasSettled (wiring n d best v p u q) stand.v
+      has =
+          let chosen : Chooses stand.v best d = choose v best stand.v stand.teller leads.is_best leads.here in
+          (chosen.root, chosen.steps)
+
+      mine : pv.held ≡ Mine best.identity d
+      mine = (teller.settled claimed (has, on)).mine
+
+      pub link_facts : LinkFacts says (wiring n d best v p u q) w pv pu l
+      link_facts = record {
+        is = k_ends;
+        from = claimed;
+        mine = mine;
+        timer = teller.timer best.identity d mine;
+        hears = k_ends.hearer stand.u pu stand.hearer stand.hearer_port claimed;
+        stays = links_stay says n net w x.calm x.invariant x.late d best v p u q close leads pv pu l stand;
+      }
+
+  -- ---- levels
+
+  module _ (base : ℕ) where
+    abbrev right_from : ℕ → ℕ
+    right_from = tells_right_from n base
+
+    abbrev IsRightFrom : ℕ → ℕ → Announce → Type 0
+    IsRightFrom = IsRightOf n
+
+    abbrev LinkIsRight : ℕ → System → ℕ → ℕ → ℕ → ℕ → MachineState → Type 0
+    LinkIsRight = LinkTellsRight says n base
+
+    abbrev LevelIsRight : MachineState → ℕ → Type 0
+    LevelIsRight = LevelTellsRight says n base
+
+    -- before the first of these times nothing is claimed
+    pub right_begins : (w : MachineState) → w.time < base → (d : ℕ) → LevelIsRight w d
+    right_begins w early d best v p u q close leads late = absurd (omega (arith, early, late))
+
+    pub right_later : (d e : ℕ) → d ≤ e → right_from d ≤ right_from e
+    right_later d e less =
+        let more : d * (n.interval + n.most) ≤ e * (n.interval + n.most) =
+        mul-le-mul_right (n.interval + n.most) less in
+        omega (arith, more)
+
+    -- ---- what is held from a system that tells what is right
+
+    module _ (w : MachineState) (x : IsSettledState says n w) where
+      -- in the end a link holds what is right, and so is all that is on its way
+      pub link_right : (d : ℕ) (best : System) (v p u q : ℕ) → d < 255 → (leads : LeadsFarther g d best v p u q)
+          → LevelIsRight w d → right_from (suc d) ≤ w.time → (pv pu : Port) (l : Lane)
+          → Stand (wiring n d best v p u q) w pv pu l
+          → HoldsRight (IsRightFrom v p) pu.held × AllRight says (IsRightFrom v p) l.frames
+      link_right d best v p u q close leads level late pv pu l stand =
+          let facts = link_facts w x d best v p u q close leads pv pu l stand in
+          right_over says (IsRightFrom v p) (right_from d + n.interval) (right_from (suc d)) n.most w.time pv.announce
+          pu.held l.frames facts.timer.0 (λ f among. (facts.is.frames l f stand.lane among).left) (omega arith) late
+          (level best v p u q close leads (omega (arith, late)) pv pu l stand)
+
+      -- so is what a system received from who is so far
+      pub held_right : (i : ℕ) (s : Station) (place : ℕ) (r : Reception) → slice_get w.stations i ≡ Some s
+          → s.live ≡ true → HoldsAt s place r
+          → ((from : PortIdentity) (f : ℕ) → Joins g from (port_of s.clock (suc place))
+          → TellsSettled g from.clock f r.said
+          → suc (suc f) ≤ n.reach → (right_from (suc f) ≤ w.time) × LevelIsRight w f)
+          → CameSound g s.clock (suc place) r
+      held_right i s place r at live (q, there, holds) ready =
+          by (IsLinked-dec g to)
+        where
+          to : PortIdentity
+          to = port_of s.clock (suc place)
+
+          at_place : slice_get w.stations (n.place s.clock) ≡ Some s
+          at_place = subst (λ k. slice_get w.stations k ≡ Some s) (x.calm.placed i s at) at
+
+          over : (from : PortIdentity) → Joins g from to → ((f : ℕ) × TellsSettled g from.clock f r.said)
+              → ((b : ℕ) × IsDistance g s.clock b)
+              → ((p : ℕ) × (k : ℕ) × (from.port ≡ suc p) × (suc place ≡ suc k))
+              → CameSound g s.clock (suc place) r
+          over from joins (f, tells) (b, s_far) (p, k, is_p, is_k) =
+              elim (either says n net w x.calm x.invariant x.late near from to joins) [
+                | inl farther ↦
+                    absurd (far_holds_none says n net w x.calm x.invariant x.late i s place r from b f at live
+                    (q, there, holds) (Joins-sym g from to joins) s_far
+                    (close_to says n net w x.calm x.invariant x.late near s.clock b s_far) tells.here
+                    (farther f b tells.here s_far))
+                | inr nearer ↦
+                    let leads = leads_by says n net w x.calm x.invariant x.late near from to p place f b joins is_p refl
+                    tells.here s_far nearer in
+                    let close = close_to says n net w x.calm x.invariant x.late near from.clock f tells.here in
+                    let link = at_rest says n net w x.calm x.invariant x.late near f tells.here.best from.clock p
+                    s.clock
+                    place close leads in
+                    let (late, level) = ready from f joins tells
+                    (few w x f tells.here.best from.clock p s.clock place close leads) in
+                    let (right, all) = link_right f tells.here.best from.clock p s.clock place close leads level late
+                    link.pv link.pu link.lane link.stand in
+                    let one : link.stand.u ≡ s =
+                    same_there w.stations (n.place s.clock) link.stand.u s link.stand.hearer at_place in
+                    let port : link.pu ≡ q =
+                    same_there s.ports place link.pu q
+                    (subst (λ (z : Station). slice_get z.ports place ≡ Some link.pu) one link.stand.hearer_port)
+                    there in
+                    let is = right r (ap (λ (z : Port). z.held) port ∙ holds) in
+                    let from_is : port_of from.clock (suc p) ≡ from = λ j. port_of from.clock (sym is_p j) in
+                    record { from = from; joins = joins; source = is.source ∙ from_is; sound = is.sound }
+              ]
+
+          by : Dec (IsLinked g to) → CameSound g s.clock (suc place) r
+          by (no unlinked) = absurd (x.none i s place r at live unlinked (q, there, holds))
+          by (yes (from, joined)) =
+              let back = Joins-sym g to from joined in
+              over from back
+              (held_settled says n net w x.calm x.invariant x.late near i s place r from at live (q, there, holds) back)
+              (distance_exists g s.clock net.graph (Joins-clock g to from net.graph joined))
+              (places_of g from.clock from.port s.clock (suc place) net.graph back)
+
+      -- a system that is told what is right tells that
+      module _ (d : ℕ) (late : right_from d ≤ w.time) (levels : (e : ℕ) → e < d → LevelIsRight w e) (v : ℕ)
+          (best : System) (s : Station) (at : slice_get w.stations (n.place v) ≡ Some s) (is_best : IsBest g v best)
+          (here : IsDistance g v d) (close : d < 255) where
+        v_known : In v (clocks g)
+        v_known = is_best.reached.1.begins
+
+        lives : s.live ≡ true
+        lives = (is_station n net w x.calm x.invariant.sound v s v_known at).0
+
+        v_is : s.clock ≡ v
+        v_is = (is_station n net w x.calm x.invariant.sound v s v_known at).1
+
+        chosen : Chooses s best d
+        chosen =
+            all_choose says n net w x.calm x.invariant x.late d close
+            (by_then_at says n net w x.calm x.invariant x.late d (IsDistance-within g n.reach v d net.paths here)) v
+            best
+            s at is_best here
+
+        -- what it follows is right
+        followed_right : (port : FollowsPort s) → CameSound g s.clock (suc port.place) port.r
+        followed_right port =
+            held_right (n.place v) s port.place port.r at lives port.holds (λ from f joins tells less.
+            let told = tells.steps in
+            let more = port.steps in
+            let own = chosen.steps in
+            let below : f < d = omega (arith, told, more, own) in
+            let until = right_later (suc f) d (omega (arith, below)) in
+            (omega (arith, until, late), levels f below))
+
+        pub tells_right : (port : ℕ) (a : Announce) → IsOwn s port a → IsSoundSent g (port_of s.clock port) a
+        tells_right port a own = record {
+          sender = s_known;
+          source = own.source;
+          sound = elim state.follows [
+            | inl itself ↦ inr (whole_own g (station_system s) a state.known (own.root ∙ itself.root)
+                (own.steps ∙ itself.steps) (own.path ∙ itself.trace))
+            | inr follows ↦ on follows (followed_right follows)
+          ];
+        }
+          where
+            state : IsLiveStationState (network_setting n) w.time s
+            state = x.calm.facts.stations (n.place v) s at lives
+
+            s_known : In s.clock (clocks g)
+            s_known = In-clocks g (station_system s) state.known
+
+            on : (f : FollowsPort s) → CameSound g s.clock (suc f.place) f.r
+                → IsWorse g s.clock a ⊎ Whole g s.clock a
+            on f came =
+                let joined : Adjacent g s.clock came.from.clock =
+                (suc f.place, came.from.port, Joins-sym g came.from (port_of s.clock (suc f.place)) came.joins) in
+                elim came.sound [
+                  | inl worse ↦ inl (λ b of.
+                      subst (λ root. b.identity < root) (sym (own.root ∙ f.root))
+                      (worse b (IsBest-neighbour g s.clock came.from.clock b net.graph joined of)))
+                  | inr whole ↦ inr (whole_on g s.clock came.from.clock f.r.said a whole s_known joined
+                      (state.held f.place f.r f.holds).no_loop (own.root ∙ f.root) (own.steps ∙ f.steps)
+                      (own.path ∙ f.trace))
+                ]
