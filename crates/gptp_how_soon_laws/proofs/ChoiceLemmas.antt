@@ -22,7 +22,7 @@ use Rattle.gptp_how_soon.specs.declared.bounds.Settling.{Settling}
 use Rattle.gptp_how_soon.specs.declared.bounds.SettlingTime.{SettlingTime}
 use Rattle.gptp_settling_time.specs.HowSoon.{BoundsChoice, BoundsEvents, BoundsLoss, BoundsStart, IsChoiceBoundAfter, IsLossBoundAfter, IsRestBoundAfter, NoneBetween, RestsAfterLoss}
 use Rattle.gptp_settling_time.specs.InTurn.{FlightIsGone}
-use Rattle.gptp_settling_time.specs.Losses.{aging_span, silence_span}
+use Rattle.gptp_settling_time.specs.Losses.{aging_span}
 use Rattle.gptp_settling_time.proofs.MomentLemmas.{parted}
 use Rattle.gptp_settling_time.proofs.WellFormedLemmas.{after_well}
 use Rattle.gptp_how_soon_laws.specs.Choice.{SettlingsAreChoiceBounds}
@@ -31,6 +31,7 @@ use Rattle.gptp_how_soon_laws.proofs.RowLemmas.{HasComeToRest, failed, gained, h
 use Rattle.gptp_how_soon_laws.proofs.StartRowLemmas.{first_past, first_roles, first_sound, never_unchanged, started}
 use Rattle.gptp_how_soon_laws.proofs.UnmovedLemmas.{AreWell}
 use Rattle.gptp_how_soon_laws.proofs.TimesLemmas.{AreTimes, later_times, times_after, times_parts}
+use Rattle.gptp_invariants.specs.FailedUnanswered.{silence_span}
 
 -- the events up to time 0 are those at it
 begin_at : (events : List Timed) → events_by 0 events ≡ events_at 0 events

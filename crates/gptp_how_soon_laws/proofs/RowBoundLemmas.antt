@@ -20,8 +20,9 @@ use Rattle.gptp_how_soon.specs.declared.bounds.Row.{Row}
 use Rattle.gptp_how_soon.specs.declared.bounds.Row.TheVariants.{AnyPast, FailedEnd, FailedHeard, Gained, LostEnd, LostPower, Lowered, OneTurned, Unchanged}
 use Rattle.gptp_how_soon.specs.declared.bounds.Settling.{Settling}
 use Rattle.gptp_settling_time.specs.HowSoon.{BoundsChoice, way_span}
-use Rattle.gptp_settling_time.specs.Losses.{aging_span, silence_span}
+use Rattle.gptp_settling_time.specs.Losses.{aging_span}
 use Rattle.gptp_topology.proofs.RestLemmas.{calm_from}
+use Rattle.gptp_invariants.specs.FailedUnanswered.{silence_span}
 
 -- what bounds the choice where no loss has a bound of its own
 abbrev pub past_row : Row → Row

@@ -90,9 +90,9 @@ pub record IsLastAnswered (sent : ℕ) (at : LinkPlace) (w : WorldState) : Type 
       → IsLastReply (silent_setting at w link) sent (silent_view at w link).asker f.due
   pub inv : InvUnanswered (silent_setting at w link) sent (silent_view at w link)
 
--- How long a port beside a system that fails may stay capable. Its last request that is answered went before that. The
--- next goes a peer delay interval later. It is lost, as are those after it: each is given up an interval after it went,
--- until one more is lost than may be.
+-- How long a port beside a system that fails may stay capable. The last of its requests that is answered went before
+-- the failure. The next one goes a peer delay interval later, and is lost, as are those after it. Each is given up an
+-- interval after it went. The port isn't capable once one more is lost than may be.
 abbrev pub silence_span : SettlingParams → ℕ
 silence_span p = (p.params.lost + 2) * interval_of p.params.pdelay
 

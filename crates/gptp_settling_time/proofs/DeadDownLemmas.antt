@@ -132,10 +132,6 @@ module _ (p : SettlingParams) (before : Snapshot) (silent owner port : ℕ) (w :
       silent = silent_down p w is k.place k.channel k.is.here draws w' is' tells silent left.standing.silent;
     }
 
-    -- ports beside failed systems stay silent
-    pub silent_on : AreSilentBy p silent w → AreSilentBy p silent w'
-    silent_on = silent_down p w is k.place k.channel k.is.here draws w' is' tells silent
-
     -- ports at links have asked as they had
     pub asked_on : (since : ℕ) → HaveAskedBy since w → HaveAskedBy since w'
     asked_on since asked at s =

@@ -15,12 +15,13 @@ use Rattle.gptp_network.specs.Events.{AreInOrder}
 use Rattle.gptp_network.specs.Snapshot.{events_by}
 use Rattle.gptp_settling_time.specs.HowSoon.{AreGainEvents, AreHeardEvents, AreReadyAtStart, AreStartEvents, BoundsAging, BoundsEvents, BoundsLoss, BoundsStart, IsChoiceAloneBound, IsChoiceBound, IsChoiceBoundAfter, IsLossBoundAfter, IsRestBoundAfter, EachEvent, NoneBetween, OneEvent, RestsAfterLoss, events_at, way_span}
 use Rattle.gptp_settling_time.specs.InTurn.{Aging, AnyPast, AreCapableSoon, BeginsBy, ChoosesAfter, ChoosesByEvents, ComesByEvents, EventLeads, Gained, Heard, LeadOn, Left, Past, SettlesAfter, SettlesByEvents, Starting, StartsWith, TellsNothing, Turned, UsedVaryLittle}
-use Rattle.gptp_settling_time.specs.Losses.{FailsHeard, LowersLink, LowersUnused, TurnsLink, UpIsUsed, aging_span, silence_span}
+use Rattle.gptp_settling_time.specs.Losses.{FailsHeard, LowersLink, LowersUnused, TurnsLink, UpIsUsed, aging_span}
 use Rattle.gptp_settling_time.proofs.CalmLessLemmas.{failure_calm, fails_calm}
 use Rattle.gptp_settling_time.proofs.CutLemmas.{IsBy, all_by}
 use Rattle.gptp_settling_time.proofs.MomentLemmas.{all_at, last_by, parted}
 use Rattle.gptp_settling_time.proofs.LeadOnLemmas.{HasRested, HasSettled, IsLed, after_idle, any_leads, gains_led, heard_led, idle_led, leads_on, led_as, next, rested_so, settled_later, taken_later, wider_led}
 use Rattle.gptp_settling_time.proofs.LossLeadLemmas.{IsLeftBy, ages_leads, aging_lead, cleared_led, dead_lead, loss_leads, settles_chooses, turn_leads}
+use Rattle.gptp_invariants.specs.FailedUnanswered.{silence_span}
 
 -- ---- a document
 

@@ -595,10 +595,6 @@ module _ (p : SettlingParams) (next owner port : ℕ) (w : WorldState) (draws : 
         up_apart p w is at_link.place at_link.channel at_link.is.here draws w' is' ends at.link s.channel s.here s.up
         (sym same ∙ one)
 
-    -- ports beside failed systems stay silent
-    pub silent_on : AreSilentBy p next w → AreSilentBy p next w'
-    silent_on = silent_down p w is at_link.place at_link.channel at_link.is.here draws w' is' ends next
-
     -- ports at links that are left are ready as they were
     pub ready_on : AreReadyBy p next w → AreReadyBy p next w'
     ready_on ready at s =

@@ -27,14 +27,14 @@
 -- no link, the last where no path has more than 255 systems. At time 0 links may go down and come up, systems fail and
 -- a priority1 be set. Not followed are other delays that are set, and other events that take something away at a later
 -- time. There the span stands.
-use Rattle.std.specs.Prelude.{◌≡◌, ◌<◌, ◌≤◌, ◌⊎◌, ◌+◌, ◌*◌, ◌==◌, ℕ, ⊤, min, pred, suc, List, [], ◌∷◌, ◌++◌, filter}
+use Rattle.std.specs.Prelude.{◌≡◌, ◌<◌, ◌≤◌, ◌⊎◌, ◌+◌, ◌*◌, ◌==◌, ℕ, ⊤, max, min, pred, suc, List, [], ◌∷◌, ◌++◌, filter}
 use Rattle.gptp_lists.specs.Members.{In}
 use Rattle.gptp_setup.specs.Intervals.{interval_of}
 use Rattle.gptp_setup.specs.SettlingParams.{SettlingParams, largest_interval}
 use Rattle.gptp_scenario.specs.Calm.{IsCalm, NothingLapses}
 use Rattle.gptp_scenario.specs.Network.{NetworkState, pace_of}
 use Rattle.gptp_scenario.specs.SettlingAtOnce.{settling_span_at_once}
-use Rattle.gptp_scenario.specs.SettlingTime.{capability_span, settling_span_with}
+use Rattle.gptp_scenario.specs.SettlingTime.{settling_span_with}
 use Rattle.gptp_scenario.specs.SyncWait.{sync_paths}
 use Rattle.gptp_scenario.specs.declared.change.Act.{Act}
 use Rattle.gptp_scenario.specs.declared.change.Act.TheVariants.{Change as Changing}
@@ -46,7 +46,8 @@ use Rattle.gptp_network.specs.Document.{DocumentState}
 use Rattle.gptp_network.specs.Snapshot.{events_by}
 use Rattle.gptp_settling_time.specs.Gains.{ChangesNothing, EndHasFailed, LeavesCapable, TakesNothing}
 use Rattle.gptp_settling_time.specs.InTurn.{AddsHeard, BettersClock, FlightIsGone, MakesNothing, NoneUsed, TellsNothing, UsedVaryLittle, WidensLink, echo_span}
-use Rattle.gptp_settling_time.specs.Losses.{CutsFarEnd, FailsFarEnd, FailsHeard, LeavesChoice, LowersLink, LowersUnused, TurnsLink, UpIsUsed, aging_span, silence_span}
+use Rattle.gptp_settling_time.specs.Losses.{CutsFarEnd, FailsFarEnd, FailsHeard, LeavesChoice, LowersLink, LowersUnused, TurnsLink, UpIsUsed, aging_span}
+use Rattle.gptp_invariants.specs.FailedUnanswered.{silence_span}
 
 -- ---- times
 
@@ -271,14 +272,14 @@ LosesNext n events Then last time Asks =
 -- ---- rest
 
 -- How much later a network has come to rest after a loss. After the loss of a far end what was in flight has to be
--- gone. Where it fails and a link is up then that isn't in use, roles have to stand, and the greatest delay to pass for
--- each system of a path but one. After another link goes down that moves no system right traces have to be told first.
+-- gone. Where it fails and a link is up then that isn't in use, roles have to stand too. After another link goes down
+-- that moves no system right traces have to be told first.
 abbrev pub RestsAfterLoss : NetworkState → List Timed → List Timed → ℕ → Type 0
 RestsAfterLoss n made now rest =
     (CutsOneEnd n made now × FlightIsGone n made rest)
     ⊎ ((FailsEndFirst n made now
     × ((UpIsUsed n (made ++ now) × FlightIsGone n made rest)
-    ⊎ (rest ≡ capability_span (pace_of n) + way_span (sync_paths n (made ++ now)))))
+    ⊎ ((gone : ℕ) × FlightIsGone n made gone × (rest ≡ max (silence_span (pace_of n)) gone))))
     ⊎ (LowersOneLink n made now
     × ((gone : ℕ) × FlightIsGone n (made ++ now) gone × (rest ≡ echo_span n (made ++ now) + gone))))
 
