@@ -5,12 +5,11 @@ use Rattle.gptp_lists.proofs.PlaceLemmas.{get-set_other}
 use Rattle.gptp_vector.specs.declared.port.PortId.{PortId}
 use Rattle.gptp_links.specs.declared.link.Direction.{Direction}
 use Rattle.gptp_links.specs.Fate.{Draw}
-use Rattle.gptp_pdelay.specs.Peer.{reset_peer}
 use Rattle.gptp_setup.specs.SettlingParams.{SettlingParams}
 use Rattle.gptp_system.specs.declared.answer.Answer.{Answer}
-use Rattle.gptp_system.specs.Input.{Input, IsTimely, PortDown, PortUp}
-use Rattle.gptp_system.specs.Measures.{IsPartAfter, Part, measure_at, part_asked, part_down}
-use Rattle.gptp_system.specs.State.{SystemState, clock}
+use Rattle.gptp_system.specs.Input.{Input}
+use Rattle.gptp_system.specs.Measures.{measure_at}
+use Rattle.gptp_system.specs.State.{clock}
 use Rattle.gptp_system.specs.Steps.{HasPortNumber}
 use Rattle.gptp_model.specs.Act.{Calls}
 use Rattle.gptp_model.specs.Changing.{TellsEnds}
@@ -22,7 +21,6 @@ use Rattle.gptp_model.proofs.StayLemmas.{JoinTheSame, begins_same, join_on, send
 use Rattle.gptp_invariants.specs.ChoiceSettlesAsMachine.{IsWorld}
 use Rattle.gptp_invariants.specs.DelayLinkView.{IsLinkOf, LinkPlace, link_setting, other_direction}
 use Rattle.gptp_invariants.proofs.DelayElsewhereLemmas.{calls_orderly}
-use Rattle.gptp_invariants.proofs.DelayEndLemmas.{HearsWhatFits}
 use Rattle.gptp_invariants.proofs.PortInputLemmas.{IsOfPort}
 use Rattle.gptp_invariants.proofs.DelayLinkLemmas.{IsOrderly, LinkStep, link_called, net_orderly, sender_opposite, sound_orderly}
 

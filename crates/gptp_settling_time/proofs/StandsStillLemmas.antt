@@ -9,6 +9,7 @@ use Rattle.gptp_graph.specs.Snapshot.{PortIdentity}
 use Rattle.gptp_vector.specs.declared.port.PortId.{PortId}
 use Rattle.gptp_links.specs.declared.link.Direction.{Direction}
 use Rattle.gptp_pdelay.specs.Clock.{clock_stamp}
+use Rattle.gptp_pdelay.specs.Peer.{is_capable}
 use Rattle.gptp_roles.specs.Selection.{clock_of}
 use Rattle.gptp_scenario.specs.SyncWait.{sync_wait}
 use Rattle.gptp_setup.specs.declared.setup.Params.{Params}
@@ -23,7 +24,6 @@ use Rattle.gptp_model.specs.Changing.{with_setup, with_station}
 use Rattle.gptp_model.specs.declared.station.Station.{Station}
 use Rattle.gptp_model.specs.World.{Channel, WorldState, receiver, sender}
 use Rattle.gptp_pdelay_machine.specs.Setting.{Setting}
-use Rattle.gptp_pdelay_machine.specs.Silence.{InvUnanswered, Unanswered}
 use Rattle.gptp_bmca_machine.specs.Frame.{Lane}
 use Rattle.gptp_bmca_machine.specs.Network.{Network}
 use Rattle.gptp_bmca_machine.specs.SoundEverywhere.{IsSoundEverywhere}

@@ -23,7 +23,7 @@ use Rattle.gptp_scenario.specs.declared.change.Change.TheVariants.{LinkSet}
 use Rattle.gptp_setup.specs.declared.setup.Params.{Params}
 use Rattle.gptp_setup.specs.declared.setup.Setup.{Setup}
 use Rattle.gptp_setup.specs.Intervals.{interval_of}
-use Rattle.gptp_setup.specs.SettlingParams.{SettlingParams, largest_interval}
+use Rattle.gptp_setup.specs.SettlingParams.{SettlingParams}
 use Rattle.gptp_setup.specs.Stamping.{blur_of}
 use Rattle.gptp_system.specs.Measures.{Part, measure_at}
 use Rattle.gptp_model.specs.Acts.{Acts, set_to}
