@@ -151,7 +151,7 @@ module _ (n : NetworkState) (network : IsNetwork n) (paths : SyncPaths) (few : p
       by Unchanged = omega arith
       by Lowered = let e = echo in let g = gone in omega (arith, e, g)
       by LostEnd = let g = gone in omega (arith, g)
-      by FailedEnd = let w = way in let c = capable_most in omega (arith, w, c)
+      by FailedEnd = let s = silence_most in let g = gone in omega (arith, s, g)
       by LostPower = at_once
       by FailedHeard = at_once
       by OneTurned = at_once

@@ -6,7 +6,7 @@ use Rattle.gptp_setup.specs.SettlingParams.{largest_interval, longest_span}
 use Rattle.gptp_setup.specs.declared.setup.Params.{Params}
 use Rattle.gptp_scenario.specs.Network.{NetworkState, pace_of}
 use Rattle.gptp_scenario.specs.SettlingAtOnce.{settling_span_at_once}
-use Rattle.gptp_scenario.specs.SettlingTime.{capability_span, settling_span_with}
+use Rattle.gptp_scenario.specs.SettlingTime.{settling_span_with}
 use Rattle.gptp_scenario.specs.declared.sync_wait.SyncPaths.{SyncPaths}
 use Rattle.gptp_topology.specs.declared.course.Cable.{Cable}
 use Rattle.gptp_how_soon.specs.Kinds.{recovers}
@@ -115,15 +115,14 @@ echo_span n paths = pred paths.systems * (largest_interval (pace_of n) + paths.d
 
 -- By when all that is held and in flight is sound: as soon as the choice stands, but after a loss it may name what is
 -- gone. After a far end is cut off, or loses its power, only what was in flight does. Where a far end fails, and ports
--- beside it may still be capable, roles have to stand first, and then a way to pass. After a link goes down by which no
--- system is moved traces have to be told anew first. After other losses all is sound as soon as the choice stands from
--- any past.
+-- beside it may still be capable, roles have to stand too. After a link goes down by which no system is moved traces
+-- have to be told anew first. After other losses all is sound as soon as the choice stands from any past.
 abbrev pub sound_of_row : NetworkState → SyncPaths → Bool → Row → ℕ → ℕ
 sound_of_row n paths used_before AnyPast gained = settling_span_at_once (pace_of n) paths
 sound_of_row n paths used_before Unchanged gained = 0
 sound_of_row n paths used_before Lowered gained = echo_span n paths + gone_by n paths used_before
 sound_of_row n paths used_before LostEnd gained = gone_by n paths used_before
-sound_of_row n paths used_before FailedEnd gained = capability_span (pace_of n) + way_span paths
+sound_of_row n paths used_before FailedEnd gained = max (silence_span n.params) (gone_by n paths used_before)
 sound_of_row n paths used_before LostPower gained = settling_span_at_once (pace_of n) paths
 sound_of_row n paths used_before FailedHeard gained = settling_span_at_once (pace_of n) paths
 sound_of_row n paths used_before OneTurned gained = settling_span_at_once (pace_of n) paths

@@ -283,7 +283,7 @@ fn sound_by(network: &Network, paths: SyncPaths, used_before: bool, row: Row, ga
         Row::Unchanged => 0,
         Row::Lowered => echo_span(network, paths) + gone_by(network, paths, used_before),
         Row::LostEnd => gone_by(network, paths, used_before),
-        Row::FailedEnd => capability_span(network) + way_span(paths),
+        Row::FailedEnd => silence_span(network).max(gone_by(network, paths, used_before)),
         Row::Gained => gained,
     }
 }

@@ -189,8 +189,8 @@ module _ (d : DocumentState) (playable : IsPlayable d) where
               ],
             )
         by (inr (inl (row, is))) =
-            let (rest, fails) = failed n playable.network all b at late well row in
-            (rest, inr (inl (fails, inr (it.sound ∙ is))))
+            let (rest, fails, flight) = failed n playable.network all b at late well row in
+            (rest, inr (inl (fails, inr (gone_by n v.paths v.used_before, flight, it.sound ∙ is))))
         by (inr (inr (row, is))) =
             let (rest, lowers, flight) = lowered n playable.network all b at late well row in
             (rest, inr (inr (lowers, (gone_by n v.paths v.used_before, flight, it.sound ∙ is))))
@@ -261,7 +261,7 @@ module _ (d : DocumentState) (playable : IsPlayable d) where
             let (rest, fails, used) = lost_power n playable.network all b at late well row in
             (rest, inr (inr (fails, inl (used, it.choice ∙ none, it.roles ∙ roles))))
         by (inl (none, inr (row, is))) =
-            let (rest, fails) = failed n playable.network all b at late well row in
+            let (rest, fails, flight) = failed n playable.network all b at late well row in
             (rest, inl (it.choice ∙ none, inr (fails, inr (it.roles ∙ is))))
         by (inr (inl (row, is, same))) =
             let (rest, turns) = turned n playable.network all b at late well row in

@@ -8,7 +8,7 @@ use Rattle.gptp_setup.specs.SettlingParams.{largest_interval}
 use Rattle.gptp_scenario.specs.Calm.{NothingLapses}
 use Rattle.gptp_scenario.specs.Network.{NetworkState, pace_of}
 use Rattle.gptp_scenario.specs.SettlingAtOnce.{settling_span_at_once}
-use Rattle.gptp_scenario.specs.SettlingTime.{capability_span, settling_span_with, window_span}
+use Rattle.gptp_scenario.specs.SettlingTime.{settling_span_with, window_span}
 use Rattle.gptp_scenario.specs.SyncWait.{sync_paths}
 use Rattle.gptp_scenario.specs.declared.change.Timed.{Timed}
 use Rattle.gptp_scenario.specs.declared.sync_wait.SyncPaths.{SyncPaths}
@@ -115,7 +115,7 @@ choice_or_none n paths row gained = by (n.params.sync_timeout == 0) refl row
 abbrev pub IsSoundSooner : NetworkState → SyncPaths → Bool → Row → ℕ → Type 0
 IsSoundSooner n paths used_before row sound =
     ((row ≡ LostEnd) × (sound ≡ gone_by n paths used_before))
-    ⊎ (((row ≡ FailedEnd) × (sound ≡ capability_span (pace_of n) + way_span paths))
+    ⊎ (((row ≡ FailedEnd) × (sound ≡ max (silence_span (pace_of n)) (gone_by n paths used_before)))
     ⊎ ((row ≡ Lowered) × (sound ≡ echo_span n paths + gone_by n paths used_before)))
 
 pub sound_or_sooner : (n : NetworkState) (paths : SyncPaths) (used_before : Bool) (row : Row) (gained : ℕ)

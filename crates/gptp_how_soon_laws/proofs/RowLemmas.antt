@@ -546,7 +546,8 @@ module _ (n : NetworkState) (network : IsNetwork n) (events : List Timed) (b : S
       ((from_rest from).rested, turns_one_link n network made now well one delay paths few lowers)
 
   -- or a far end hangs
-  pub failed : AreWell n (made ++ now) → row_at v ≡ FailedEnd → HasComeToRest b at × FailsEndFirst n made now
+  pub failed : AreWell n (made ++ now) → row_at v ≡ FailedEnd
+      → HasComeToRest b at × FailsEndFirst n made now × FlightIsGone n made (gone_by n v.paths v.used_before)
   failed well row =
       let (from, fails, far) =
       failed_from (is_from_rest v.longest at v.paths_before v.paths v.told (Some b))
@@ -555,7 +556,7 @@ module _ (n : NetworkState) (network : IsNetwork n) (events : List Timed) (b : S
       (is_lowering_followed v.paths_before v.paths v.told && v.turned)
       (is_failing_followed v.paths_before v.paths v.told && not v.moved) v.far v.used (list_any is_loss v.told)
       row in
-      ((from_rest from).rested, failing_end well fails far)
+      ((from_rest from).rested, failing_end well fails far, flight_so (is_failing_so fails).delay)
 
   -- or a system that others heard
   pub heard : AreWell n (made ++ now) → row_at v ≡ FailedHeard
