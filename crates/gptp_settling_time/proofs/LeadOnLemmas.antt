@@ -92,7 +92,7 @@ taken_later n events past seen time later less (inr rests) = inr (by past seen r
           off = is.off;
           gone = omega (arith, gone, less);
           later = is.later;
-          unlinked = is.unlinked;
+          unlinked = elim is.unlinked [ inl past ↦ inl (omega (arith, past, less)) | inr used ↦ inr used ];
           over = omega (arith, over, less);
         }
     by (Cleared begun silent right old) (Left start) none = absurd none
@@ -154,9 +154,7 @@ rested_so n events past time off (seen, inr rests, is) = by past seen rests
     by (Cleared begun silent right old) AnyPast none = absurd none
     by (Cleared begun silent right old) Starting none = absurd none
     by (Cleared begun silent right old) (Gained start) none = absurd none
-    by (Cleared begun silent right old) (Heard start) rest =
-        let over = rest.over in
-        (off, elim rest.unlinked [ inl soon ↦ inl (omega (arith, over, soon)) | inr used ↦ inr used ])
+    by (Cleared begun silent right old) (Heard start) rest = (off, rest.unlinked)
     by (Cleared begun silent right old) (Left start) none = absurd none
     by (Cleared begun silent right old) (Turned start now) none = absurd none
     by (Cleared begun silent right old) (Cleared start dark clean last) none = absurd none
