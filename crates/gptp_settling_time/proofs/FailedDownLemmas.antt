@@ -201,7 +201,7 @@ module _ (p : SettlingParams) (start : ℕ) (w : WorldState) (news : IsNews p st
               let places = shown.places in
               let (q, there) = member_there station.system.ports i (omega arith) in
               let (h, holds) = member_there station.system.held i (omega (arith, most, places)) in
-              let off = silent_off p start w news.pace is news.silent late place_there (record {
+              let off = silent_off p start w is news.silent late place_there (record {
                 channel = channel;
                 here = here;
                 up = up;
