@@ -48,7 +48,6 @@ use Rattle.gptp_settling_time.proofs.AgingStillLemmas.{IsAgingSeen, aging_kept, 
 use Rattle.gptp_settling_time.proofs.AlwaysClaimedLemmas.{IsStanding, linked_on, start_calm, start_network}
 use Rattle.gptp_settling_time.proofs.FitsLemmas.{IsLeftUnmoved, UnlinkedHoldNothing}
 use Rattle.gptp_settling_time.proofs.HeardLemmas.{first_acted, first_later}
-use Rattle.gptp_settling_time.proofs.LastAnsweredLemmas.{silent_are_off}
 use Rattle.gptp_settling_time.proofs.LeftClaimedLemmas.{HaveAskedLong, asked_heard, asked_ready, left_calm, left_net, left_network, same_left, standing_acts, standing_later}
 use Rattle.gptp_settling_time.proofs.LinkStoodLemmas.{stood_in}
 use Rattle.gptp_settling_time.proofs.NewsMeasuredLemmas.{ready_measures}
@@ -242,7 +241,7 @@ aging_now p g aged silent w is none = record {
     pace = is.standing.pace;
     world = is.standing.world;
     measured = is.standing.measured;
-    off = silent_are_off p w.time w none;
+    silent = none;
   };
   asked = is.asked;
   well = is.well;

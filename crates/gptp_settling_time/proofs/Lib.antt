@@ -80,7 +80,6 @@ pub mod UnmovedLemmas
 pub mod BetterClockLemmas
 pub mod FitsLemmas
 pub mod UnlinkedLemmas
-pub mod LastAnsweredLemmas
 pub mod ReplyDueLemmas
 pub mod LeftClaimedLemmas
 pub mod GoesDownLemmas
@@ -136,7 +135,6 @@ pub mod LosesNothingLemmas
 pub mod LosesPriorityLemmas
 pub mod LostToLemmas
 pub mod LostMadeLemmas
-pub mod EndsToldLemmas
 pub mod LosesVainLemmas
 pub mod CalmStillLemmas
 pub mod LosesLeadLemmas

@@ -1,7 +1,9 @@
 -- Events of a time that take something away lead a network that has settled to one that has lost.
-use Rattle.std.proofs.Common.{List, [], arith, inl, inr, refl, subst, suc, sym, ℕ, ◌++◌, ◌+◌, ◌∷◌, ◌≡◌, ◌≤◌}
+use Rattle.std.proofs.Common.{List, [], arith, inl, inr, refl, subst, suc, sym, ℕ, ◌++◌, ◌+◌, ◌∷◌, ◌≡◌, ◌≤◌, ◌⊎◌}
 use Rattle.std.specs.List.{AllByRecursion}
+use Rattle.std.proofs.Math.Nat.{le-max_left, le-max_right}
 use Rattle.gptp_setup.specs.SettlingParams.{SettlingParams}
+use Rattle.gptp_invariants.specs.FailedUnanswered.{silence_span}
 use Rattle.gptp_scenario.specs.Calm.{IsCalm, IsLive, NothingLapses}
 use Rattle.gptp_scenario.specs.Network.{IsNetwork, NetworkState, pace_of}
 use Rattle.gptp_scenario.specs.SyncWait.{sync_paths}
@@ -10,11 +12,11 @@ use Rattle.gptp_scenario.specs.declared.change.Act.TheVariants.{Deliver, Expire,
 use Rattle.gptp_scenario.specs.declared.change.Change.TheVariants.{LinkDown, LinkUp, LinkSet, Fail, Recover, Priority1, Inject}
 use Rattle.gptp_scenario.specs.declared.change.Timed.{Timed}
 use Rattle.gptp_scenario.specs.declared.sync_wait.SyncPaths.{SyncPaths}
-use Rattle.gptp_settling_time.specs.HowSoon.{EachEvent, IsLossToo, LosesEvents, NoneFails}
+use Rattle.gptp_settling_time.specs.HowSoon.{BoundsAnyLoss, EachEvent, IsLossToo, LosesEvents, NoneFails, RestsAfterAnyLoss, RolesAfterLoss, delay_between}
 use Rattle.gptp_settling_time.specs.InTurn.{Heard, LeadOn, Lost, Past}
-use Rattle.gptp_settling_time.specs.Losses.{AreSilentAfter, LosesAny, silence_span}
+use Rattle.gptp_settling_time.specs.Losses.{AreSilentAfter, LosesAny, UpIsUsed, loss_span}
 use Rattle.gptp_settling_time.proofs.CalmStillLemmas.{idle_calm}
-use Rattle.gptp_settling_time.proofs.LeadOnLemmas.{HasSettled, idle_leads, idle_settled, makes_nothing, same_paths, since}
+use Rattle.gptp_settling_time.proofs.LeadOnLemmas.{HasSettled, IsLed, idle_leads, idle_settled, makes_nothing, same_paths, since}
 use Rattle.gptp_settling_time.proofs.LossLeadLemmas.{loses_leads}
 
 -- ---- from when on ports aren't capable beside what fails
@@ -155,9 +157,9 @@ pub record LosesBy (n : NetworkState) (time : ℕ) (made now : List Timed) (past
 
 module _ (n : NetworkState) (time : ℕ) (network : IsNetwork n) (off : NothingLapses n.params) (made now : List Timed)
     (past : Past) (at : AreNow n time now) (settled : HasSettled n made past time) (calm : IsCalm n made) where
-  pub any_leads : (choice roles : ℕ) → BoundsAnyLoss n made now choice roles
+  pub loses_by : (choice roles : ℕ) → BoundsAnyLoss n made now choice roles
       → LosesBy n time made now past choice roles
-  any_leads choice roles (any, is_choice, after) = by after
+  loses_by choice roles (any, is_choice, after) = by after
     where
       most : ℕ
       most = delay_between n made now
@@ -188,12 +190,10 @@ module _ (n : NetworkState) (time : ℕ) (network : IsNetwork n) (off : NothingL
 
   -- and then it has come to rest
   pub any_rests : (rest : ℕ) → RestsAfterAnyLoss n made now rest → IsLed n made now past (suc (time + rest))
-  any_rests rest (choice, roles, bounds, is) =
-      let x = any_leads choice roles bounds in
+  any_rests rest (choice, bounds) =
+      let x = loses_by choice rest bounds in
       let span = x.span in
       let more = x.more in
-      let roles_most = le-max_left roles (choice + (sync_paths n (made ++ now)).delay) in
-      let late : suc (time + roles) ≤ suc (time + rest) = omega (arith, is, roles_most) in
       record {
         last = Lost time x.most x.silent;
         lead = x.lead;
@@ -201,11 +201,11 @@ module _ (n : NetworkState) (time : ℕ) (network : IsNetwork n) (off : NothingL
           Heard time,
           inr (record {
             off = off;
-            told = omega (arith, span, more, late);
+            told = omega (arith, span, more);
             later = omega arith;
-            unlinked = elim x.quiet [ inl soon ↦ inl (omega (arith, soon, late)) | inr used ↦ inr used ];
-            over = omega (arith, span, more, late);
+            unlinked = x.quiet;
+            over = omega (arith, span, more);
           }),
-          omega (arith, span, more, late),
+          omega (arith, span, more),
         );
       }

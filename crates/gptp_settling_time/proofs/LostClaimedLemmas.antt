@@ -47,7 +47,6 @@ use Rattle.gptp_invariants.proofs.WorldOutlineLemmas.{acts_time}
 use Rattle.gptp_invariants.proofs.WorldStandsLemmas.{stands_well}
 use Rattle.gptp_settling_time.specs.ChoiceAlone.{ChoiceStands}
 use Rattle.gptp_settling_time.proofs.AlwaysClaimedLemmas.{AreHeard, IsClaimedAlways, IsStanding, linked_on, same_start, start_calm, start_network}
-use Rattle.gptp_settling_time.proofs.LastAnsweredLemmas.{silent_are_off}
 use Rattle.gptp_settling_time.proofs.LeftClaimedLemmas.{HaveAskedBy, asked_acts, asked_later, standing_acts, standing_later}
 use Rattle.gptp_settling_time.proofs.LiveTracesLemmas.{TellersLive, ToldIsClean, told_begins, told_kept, told_whole}
 use Rattle.gptp_settling_time.proofs.NewsMeasuredLemmas.{ready_measures}
@@ -352,7 +351,7 @@ lost_now p since most silent w is none = record {
     pace = is.standing.pace;
     world = is.standing.world;
     measured = is.standing.measured;
-    off = silent_are_off p w.time w none;
+    silent = none;
   };
   asked = is.asked;
   quiet = is.quiet;

@@ -17,14 +17,18 @@ use Rattle.gptp_network.specs.Document.{DocumentState}
 use Rattle.gptp_invariants.specs.ChoiceCalm.{sync_paths_of}
 use Rattle.gptp_invariants.specs.ChoiceSettled.{Settled}
 use Rattle.gptp_invariants.specs.WorldBounded.{IsBoundedWorld}
+use Rattle.gptp_invariants.specs.WorldNews.{AreSilentBy}
+use Rattle.gptp_invariants.proofs.WorldNewsLemmas.{silent_from_now}
 use Rattle.gptp_theorem.specs.PlayedLaws.{IsPlayable}
 use Rattle.gptp_theorem.proofs.PlayedLemmas.{no_change}
 use Rattle.gptp_theorem.proofs.SyncPathLemmas.{paths_stand}
 use Rattle.gptp_settling_time.specs.ChoiceAlone.{ChoiceStands}
+use Rattle.gptp_settling_time.specs.InTurn.{HasToldAll}
 use Rattle.gptp_settling_time.specs.Losses.{UpIsUsed, loss_span}
+use Rattle.gptp_settling_time.proofs.ClaimedToLemmas.{IsClaimedTo}
 use Rattle.gptp_settling_time.proofs.KeptToLemmas.{KeepsTo, keeps_act, keeps_later}
 use Rattle.gptp_settling_time.proofs.LeftToLemmas.{none_unanswered}
-use Rattle.gptp_settling_time.proofs.LostClaimedLemmas.{IsLostAlways, lost_acts, lost_chooses, lost_later, lost_now, lost_settles}
+use Rattle.gptp_settling_time.proofs.LostClaimedLemmas.{IsLostAlways, lost_acts, lost_chooses, lost_claimed, lost_later, lost_now, lost_settles}
 
 -- A world of a document after these events, the last of which came at that time and took something away.
 pub record IsLostTo (d : DocumentState) (events : List Timed) (since most silent : ℕ) (w : WorldState) : Type 0 where

@@ -92,7 +92,7 @@ module _ (d : DocumentState) (events : List Timed) (silent time : ℕ) where
         turned_claimed pace so.before silent time w so.since
         (quiet_stands d.network events w playable.network so.keeps.stands so.keeps.claim.world.sound
         rest.calm).links rest.off gone goes over start rest.later
-        (silent_by_later pace silent start w rest.unlinked so.since.silent_by)
+        (silent_by_later pace silent start w rest.unlinked so.since.moved.standing.silent)
 
     by_delay : time + turned_echo_span d.network events < w.time → told_anew pace time w + delay_in w < w.time
     by_delay told =

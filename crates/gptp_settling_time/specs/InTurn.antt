@@ -58,7 +58,8 @@ use Rattle.gptp_settling_time.specs.ChoiceAlone.{ChoiceStandsAs}
 use Rattle.gptp_settling_time.specs.Documents.{IsSettledAs}
 use Rattle.gptp_settling_time.specs.Exactly.{SettlesBy}
 use Rattle.gptp_settling_time.specs.Gains.{AreCapableAnyway, AreCapableNext, AreCapableStill, ChangesNothing, EndHasFailed, HasRested, IsDownAfter, IsNoWorse, JoinsLive, LeavesCapable, TakesNothing, UsesNoLink, exchanged_from}
-use Rattle.gptp_settling_time.specs.Losses.{AreSilentAfter, CutsFarEnd, FailsFarEnd, FailsHeard, LeavesChoice, LosesAny, LowersLink, LowersUnused, TurnsLink, UpIsUsed, aging_span, loss_span, silence_span}
+use Rattle.gptp_invariants.specs.FailedUnanswered.{silence_span}
+use Rattle.gptp_settling_time.specs.Losses.{AreSilentAfter, CutsFarEnd, FailsFarEnd, FailsHeard, LeavesChoice, LosesAny, LowersLink, LowersUnused, TurnsLink, UpIsUsed, aging_span, loss_span}
 
 -- What a network came from. The numbers are times, but for the second of a loss.
 pub data Past : Type 0 where
@@ -251,7 +252,7 @@ FlightIsGone n events gone =
 abbrev pub ClearsFarEnd : NetworkState → List Timed → Timed → ℕ → ℕ → ℕ → ℕ → Type 0
 ClearsFarEnd n before event start silent right old =
     ((CutsCalm n before event × (silent ≡ start))
-    ⊎ (FailsCalm n before event × (silent ≡ event.at + capability_span (pace_of n))))
+    ⊎ (FailsCalm n before event × (silent ≡ suc (event.at + silence_span (pace_of n)))))
     × (right ≡ 0)
     × ((gone : ℕ) × FlightIsGone n before gone × (old ≡ event.at + gone))
 
@@ -492,14 +493,14 @@ EventLeads n before past event (Lost since most silent) = LeadsToLost n before p
 -- ---- rest
 
 -- A cleared network has come to rest by a time, as one whose ports are capable from a start on. What was in flight is
--- gone. Ports without a link aren't capable from the start on, or no link is up that isn't in use. And the greatest
--- delay has passed for each system of a path but one.
+-- gone. Ports without a link aren't capable any more, or no link is up that isn't in use. And the greatest delay has
+-- passed since the start for each system of a path but one.
 pub record HasCleared (n : NetworkState) (events : List Timed) (since silent old start time : ℕ) : Type 0 where
   pub calm : IsCalm n events
   pub off : NothingLapses n.params
   pub gone : old < time
   pub later : since ≤ start
-  pub unlinked : (silent ≤ start) ⊎ UpIsUsed n events
+  pub unlinked : (silent ≤ time) ⊎ UpIsUsed n events
   pub over : HasSettledHeard n events start time
 
 -- So much later than a system turned traces are told anew: the network has settled within two ways, each the greatest
