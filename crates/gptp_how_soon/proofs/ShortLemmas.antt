@@ -37,7 +37,7 @@ use Rattle.gptp_how_soon.specs.Kinds.{sets_bounds, sets_link}
 use Rattle.gptp_how_soon.specs.Rest.{leaves_silent}
 use Rattle.gptp_how_soon.specs.Times.{IsWatchedShortly, View, events_at, events_before, gained_at, heard_at, last_set, row_at, settling_time, settling_times, settling_times_from, time_at, view_at}
 use Rattle.gptp_how_soon.specs.declared.bounds.Row.{Row}
-use Rattle.gptp_how_soon.specs.declared.bounds.Row.TheVariants.{AnyLosses, AnyPast, CutOff, FailedEnd, FailedHeard, Gained, LostEnd, LostPower, Lowered, OneTurned, Unchanged}
+use Rattle.gptp_how_soon.specs.declared.bounds.Row.TheVariants.{AnyLosses, AnyPast, CutOff, FailedEnd, FailedHeard, FailureCutsOff, Gained, LostEnd, LostPower, Lowered, OneTurned, PowerCutsOff, Unchanged}
 use Rattle.gptp_how_soon.specs.declared.bounds.SettlingTime.{SettlingTime}
 use Rattle.gptp_how_soon.specs.declared.kinds.Told.{Told}
 
@@ -134,7 +134,9 @@ module _ (n : NetworkState) (network : IsNetwork n) (paths : SyncPaths) (few : p
       by LostEnd = omega arith
       by LostPower = omega arith
       by FailedEnd = let most = silence_most in omega (arith, most)
+      by PowerCutsOff = let w = way in omega (arith, w)
       by FailedHeard = let most = silence_most in omega (arith, most)
+      by FailureCutsOff = let w = way in let most = silence_most in omega (arith, w, most)
       by OneTurned = let w = way in omega (arith, w)
       by AnyLosses = roles_lost before silent soon
       by Gained = early
@@ -165,7 +167,9 @@ module _ (n : NetworkState) (network : IsNetwork n) (paths : SyncPaths) (few : p
       by LostEnd = let g = gone in omega (arith, g)
       by FailedEnd = let s = silence_most in let g = gone in omega (arith, s, g)
       by LostPower = at_once
+      by PowerCutsOff = at_once
       by FailedHeard = at_once
+      by FailureCutsOff = at_once
       by OneTurned =
           let w = way in let e = echo in
           let u = unused in

@@ -13,7 +13,7 @@ use Rattle.gptp_how_soon.specs.Kinds.{sets_link}
 use Rattle.gptp_how_soon.specs.Rest.{leaves_silent}
 use Rattle.gptp_how_soon.specs.Times.{View, events_at, events_before, gained_at, row_at, settling_times, settling_times_from, time_at, view_at}
 use Rattle.gptp_how_soon.specs.declared.bounds.Row.{Row}
-use Rattle.gptp_how_soon.specs.declared.bounds.Row.TheVariants.{AnyLosses, AnyPast, CutOff, FailedEnd, FailedHeard, Gained, LostEnd, LostPower, Lowered, OneTurned, Unchanged}
+use Rattle.gptp_how_soon.specs.declared.bounds.Row.TheVariants.{AnyLosses, AnyPast, CutOff, FailedEnd, FailedHeard, FailureCutsOff, Gained, LostEnd, LostPower, Lowered, OneTurned, PowerCutsOff, Unchanged}
 use Rattle.gptp_how_soon.specs.declared.bounds.Settling.{Settling}
 use Rattle.gptp_how_soon.specs.declared.bounds.SettlingTime.{SettlingTime}
 
@@ -39,7 +39,9 @@ roles_later n before paths silent row gained = by (n.params.sync_timeout == 0) r
     by true LostEnd = omega arith
     by true LostPower = omega arith
     by true FailedEnd = omega arith
+    by true PowerCutsOff = omega arith
     by true FailedHeard = omega arith
+    by true FailureCutsOff = omega arith
     by true OneTurned = omega arith
     by true AnyLosses = lost silent
     by true Gained = omega arith

@@ -12,7 +12,7 @@ use Rattle.gptp_topology.specs.declared.course.Cable.{Cable}
 use Rattle.gptp_how_soon.specs.Kinds.{recovers}
 use Rattle.gptp_how_soon.specs.Links.{varies}
 use Rattle.gptp_how_soon.specs.declared.bounds.Row.{Row}
-use Rattle.gptp_how_soon.specs.declared.bounds.Row.TheVariants.{AnyLosses, AnyPast, CutOff, FailedEnd, FailedHeard, Gained, LostEnd, LostPower, Lowered, OneTurned, Unchanged}
+use Rattle.gptp_how_soon.specs.declared.bounds.Row.TheVariants.{AnyLosses, AnyPast, CutOff, FailedEnd, FailedHeard, FailureCutsOff, Gained, LostEnd, LostPower, Lowered, OneTurned, PowerCutsOff, Unchanged}
 use Rattle.gptp_how_soon.specs.declared.bounds.Settling.{Settling}
 use Rattle.gptp_how_soon.specs.declared.bounds.SettlingTime.{SettlingTime}
 use Rattle.gptp_how_soon.specs.declared.kinds.Told.{Told}
@@ -37,6 +37,10 @@ silence_span p = (p.lost + 2) * interval_of p.pdelay
 -- longest receipt timeout.
 abbrev pub aging_span : NetworkState → SyncPaths → ℕ
 aging_span n paths = longest_span (pace_of n) + paths.delay
+
+-- how long it counts: no longer than the ports beside that system stay capable
+abbrev pub held_span : NetworkState → SyncPaths → ℕ
+held_span n paths = min (aging_span n paths) (silence_span n.params)
 
 -- the greatest delay for each system of a path but one
 abbrev pub way_span : SyncPaths → ℕ
@@ -85,7 +89,9 @@ choice_of_row n before paths CutOff gained = 2 * way_span paths
 choice_of_row n before paths LostEnd gained = 0
 choice_of_row n before paths FailedEnd gained = 0
 choice_of_row n before paths LostPower gained = 0
-choice_of_row n before paths FailedHeard gained = min (aging_span n paths) (silence_span n.params)
+choice_of_row n before paths PowerCutsOff gained = 2 * way_span paths
+choice_of_row n before paths FailedHeard gained = held_span n paths
+choice_of_row n before paths FailureCutsOff gained = held_span n paths + 2 * way_span paths
 choice_of_row n before paths OneTurned gained = 2 * way_span paths
 choice_of_row n before paths AnyLosses gained = loss_span n before paths
 choice_of_row n before paths Gained gained = gained
@@ -111,7 +117,10 @@ roles_of_row n before paths silent CutOff gained = 2 * way_span paths
 roles_of_row n before paths silent LostEnd gained = 0
 roles_of_row n before paths silent FailedEnd gained = silence_span n.params
 roles_of_row n before paths silent LostPower gained = 0
+roles_of_row n before paths silent PowerCutsOff gained = choice_of_row n before paths PowerCutsOff gained
 roles_of_row n before paths silent FailedHeard gained = silence_span n.params
+roles_of_row n before paths silent FailureCutsOff gained =
+    max (choice_of_row n before paths FailureCutsOff gained) (silence_span n.params)
 roles_of_row n before paths silent OneTurned gained = choice_of_row n before paths OneTurned gained
 roles_of_row n before paths silent AnyLosses gained = roles_after_losses n before paths silent
 roles_of_row n before paths silent Gained gained = gained
@@ -143,13 +152,15 @@ unused_by n used_before = if used_before then 0 else largest_interval (pace_of n
 abbrev pub sound_of_row : NetworkState → SyncPaths → SyncPaths → Bool → Bool → Row → ℕ → ℕ
 sound_of_row n before paths silent used_before AnyPast gained = settling_span_at_once (pace_of n) paths
 sound_of_row n before paths silent used_before Unchanged gained = 0
-sound_of_row n before paths silent used_before Lowered gained = echo_span n paths + gone_by n paths used_before
+sound_of_row n before paths silent used_before Lowered gained = max (echo_span n paths) (gone_by n paths used_before)
 sound_of_row n before paths silent used_before CutOff gained = max (2 * way_span paths) (gone_by n paths used_before)
 sound_of_row n before paths silent used_before LostEnd gained = gone_by n paths used_before
 sound_of_row n before paths silent used_before FailedEnd gained =
     max (silence_span n.params) (gone_by n paths used_before)
 sound_of_row n before paths silent used_before LostPower gained = settling_span_at_once (pace_of n) paths
+sound_of_row n before paths silent used_before PowerCutsOff gained = settling_span_at_once (pace_of n) paths
 sound_of_row n before paths silent used_before FailedHeard gained = settling_span_at_once (pace_of n) paths
+sound_of_row n before paths silent used_before FailureCutsOff gained = settling_span_at_once (pace_of n) paths
 sound_of_row n before paths silent used_before OneTurned gained =
     2 * way_span paths + echo_span n paths + unused_by n used_before
 sound_of_row n before paths silent used_before AnyLosses gained = roles_after_losses n before paths silent

@@ -21,7 +21,7 @@ use Rattle.gptp_topology.specs.Times.{times_of}
 use Rattle.gptp_topology.specs.declared.course.Cable.{Cable}
 use Rattle.gptp_topology.specs.declared.course.Standing.{Standing}
 use Rattle.gptp_how_soon.specs.Bounds.{heard_by, ready, times_by, way_span}
-use Rattle.gptp_how_soon.specs.Chosen.{moves_counted}
+use Rattle.gptp_how_soon.specs.Chosen.{moves_counted, moves_some}
 use Rattle.gptp_how_soon.specs.Far.{are_far_after, cut_far_ends_after, up_is_used}
 use Rattle.gptp_how_soon.specs.Kinds.{sets_bounds, sets_link, takes_one, told_by}
 use Rattle.gptp_how_soon.specs.Links.{longest_delay, new_links}
@@ -46,6 +46,8 @@ pub record View : Type 0 where
   pub told : List Told
   -- whether they move a system, of which such as are cut off don't count where one link or one system is taken away
   pub moved : Bool
+  -- whether they move any system, also one that is cut off
+  pub moves_any : Bool
   -- whether each link that is lost cuts off a far end
   pub cut : Bool
   -- whether they move one system alone that turns
@@ -76,7 +78,7 @@ gained_at n v = ready_at n v + heard_at n v + way_span v.paths
 abbrev pub row_at : View → Row
 row_at v =
     row_of (is_from_rest v.longest v.at v.paths_before v.paths v.told v.before) (is_first v) v.paths_before v.paths
-    v.told v.moved v.cut v.turned v.far v.used
+    v.told v.moved v.moves_any v.cut v.turned v.far v.used
 
 abbrev pub settling_time : NetworkState → View → SettlingTime
 settling_time n v =
@@ -114,6 +116,7 @@ view_at n made now before at = record {
   new = new_links n made (made ++ now) (not (is_some before));
   told = told_of n made now;
   moved = moves_counted (takes_one (told_of n made now)) n made (made ++ now);
+  moves_any = moves_some n made (made ++ now);
   cut = cut_far_ends_after n made (made ++ now);
   turned = turns_one_after n made (made ++ now);
   far = are_far_after n made (told_of n made now);

@@ -8,7 +8,7 @@ use Rattle.gptp_topology.specs.After.{Stand}
 use Rattle.gptp_topology.specs.Course.{cable_is_used, named}
 use Rattle.gptp_topology.specs.Tables.{TablesActed, are_calm, cables_of, has_clock, link_named, marked_paths, neighbours_at, systems_in}
 use Rattle.gptp_topology.specs.declared.nodes.System.{System}
-use Rattle.gptp_how_soon.specs.Chosen.{any_counted, chosen_over, ends_among, ends_in_use}
+use Rattle.gptp_how_soon.specs.Chosen.{any_counted, any_moved, chosen_over, ends_among, ends_in_use}
 use Rattle.gptp_how_soon.specs.Far.{all_cut_far_ends, are_far, up_is_used}
 use Rattle.gptp_how_soon.specs.Kinds.{sets_bounds, takes_one, told_by}
 use Rattle.gptp_how_soon.specs.Links.{delay_set, longest_among, lost_among, new_among}
@@ -73,6 +73,12 @@ moves_seen w =
     (chosen_in w w.systems_before.items w.used_before.items)
     (chosen_in w (systems_in w.tables.nodes.items) (map cable_is_used w.tables.standings.items))
 
+-- whether one is, also such as is cut off
+abbrev pub moves_any_seen : Walk → Bool
+moves_any_seen w =
+    any_moved (systems_in w.tables.nodes.items) (chosen_in w w.systems_before.items w.used_before.items)
+    (chosen_in w (systems_in w.tables.nodes.items) (map cable_is_used w.tables.standings.items))
+
 -- whether each link that is lost cuts off a far end
 abbrev pub cuts_seen : Walk → Bool
 cuts_seen w =
@@ -111,6 +117,7 @@ view_seen n w at = record {
   new = new_among (not (is_some w.before)) w.tables.standings.items w.used_before.items;
   told = w.told.items;
   moved = moves_seen w;
+  moves_any = moves_any_seen w;
   cut = cuts_seen w;
   turned = turns_seen w;
   far = far_seen w;

@@ -6,7 +6,7 @@ ghost use Rattle.gptp_network.specs.declared.keys.TheConstants.{LATEST_EVENT};
 ghost use Rattle.gptp_scenario.specs.Network.{pace_of};
 ghost use Rattle.gptp_scenario.specs.SettlingAtOnce.{settling_span_at_once};
 ghost use Rattle.gptp_scenario.specs.SettlingTime.{capability_span};
-ghost use Rattle.gptp_how_soon.specs.Bounds.{aging_span, asked_again, choice_by, echo_span, exact_from, exact_span, gone_by, heard_by, is_again, is_hard_to_hear, loss_span, ready, roles_after_losses, roles_by, set_span, settled, silence_span, sound_by, times_by, two_exchanges, unused_by, watch, way_span};
+ghost use Rattle.gptp_how_soon.specs.Bounds.{aging_span, asked_again, choice_by, echo_span, exact_from, exact_span, gone_by, heard_by, held_span, is_again, is_hard_to_hear, loss_span, ready, roles_after_losses, roles_by, set_span, settled, silence_span, sound_by, times_by, two_exchanges, unused_by, watch, way_span};
 
 use crate::kinds::{Told, recovers};
 use crate::links::varies;
@@ -56,11 +56,15 @@ pub enum Row {
     LostEnd,
     /// A system fails that was the far end of its links. A link is up then that isn't in use.
     FailedEnd,
-    /// A system fails that others heard, and no system is moved but such as are cut off. Each link that is up then is
-    /// in use, as where it loses its power.
+    /// A system fails that others heard, and none is moved. Each link that is up then is in use, as where it loses its
+    /// power.
     LostPower,
-    /// A system fails that others heard, and none is moved but such as are cut off. A link is up that isn't in use.
+    /// So it is, but systems are moved, all of which are cut off.
+    PowerCutsOff,
+    /// A system fails that others heard, and none is moved. A link is up then that isn't in use.
     FailedHeard,
+    /// So it is, but systems are moved, all of which are cut off.
+    FailureCutsOff,
     /// By its one event a link goes down that moves one system alone. That keeps its root, and turns to others for it.
     OneTurned,
     /// Some of its events are losses, the others make nothing of what stands, and no other row of a loss is so.
@@ -186,6 +190,15 @@ fn aging_span(network: &Network, paths: SyncPaths) -> u64
     u64::from(network.params().timeout) * interval_of(network.largest()) + paths.delay
 }
 
+/// By how much later than a system fails what others heard of it doesn't count any more, in ns.
+fn held_span(network: &Network, paths: SyncPaths) -> u64
+    requires { paths.delay ≤ 16000000000 }
+    ensures is { result ≡ held_span network.now paths }
+    ensures bound { result ≤ 176000000000 }
+{
+    aging_span(network, paths).min(silence_span(network))
+}
+
 /// How long the network takes at most to settle from any past where nothing lapses for want of Sync, in ns.
 #[tactic(auto, using(gptp_scenario::proofs::SpanLemmas::few_spans, gptp_scenario::proofs::SpanLemmas::few_steps))]
 fn settling_span_at_once(network: &Network, paths: SyncPaths) -> u64
@@ -235,8 +248,9 @@ fn choice_by(network: &Network, before: SyncPaths, paths: SyncPaths, row: Row, g
     match row {
         Row::AnyPast => settling_span_at_once(network, paths),
         Row::Unchanged | Row::Lowered | Row::LostEnd | Row::FailedEnd | Row::LostPower => 0,
-        Row::FailedHeard => aging_span(network, paths).min(silence_span(network)),
-        Row::CutOff | Row::OneTurned => 2 * way_span(paths),
+        Row::FailedHeard => held_span(network, paths),
+        Row::FailureCutsOff => held_span(network, paths) + 2 * way_span(paths),
+        Row::CutOff | Row::PowerCutsOff | Row::OneTurned => 2 * way_span(paths),
         Row::AnyLosses => loss_span(network, before, paths),
         Row::Gained => gained,
     }
@@ -281,7 +295,10 @@ fn roles_by(
         Row::AnyPast => settling_span_at_once(network, paths),
         Row::Unchanged | Row::Lowered | Row::LostEnd | Row::LostPower => 0,
         Row::FailedEnd | Row::FailedHeard => silence_span(network),
-        Row::CutOff | Row::OneTurned => 2 * way_span(paths),
+        Row::FailureCutsOff => {
+            (held_span(network, paths) + 2 * way_span(paths)).max(silence_span(network))
+        }
+        Row::CutOff | Row::PowerCutsOff | Row::OneTurned => 2 * way_span(paths),
         Row::AnyLosses => roles_after_losses(network, before, paths, silent),
         Row::Gained => gained,
     }
@@ -346,9 +363,13 @@ fn sound_by(
         return network.settling_span_with(paths);
     }
     match row {
-        Row::AnyPast | Row::LostPower | Row::FailedHeard => settling_span_at_once(network, paths),
+        Row::AnyPast
+        | Row::LostPower
+        | Row::PowerCutsOff
+        | Row::FailedHeard
+        | Row::FailureCutsOff => settling_span_at_once(network, paths),
         Row::Unchanged => 0,
-        Row::Lowered => echo_span(network, paths) + gone_by(network, paths, used_before),
+        Row::Lowered => echo_span(network, paths).max(gone_by(network, paths, used_before)),
         Row::CutOff => (2 * way_span(paths)).max(gone_by(network, paths, used_before)),
         Row::LostEnd => gone_by(network, paths, used_before),
         Row::FailedEnd => silence_span(network).max(gone_by(network, paths, used_before)),

@@ -212,7 +212,7 @@ pub(crate) fn is_moved_at(
 }
 
 /// Whether one of these systems lives and has another choice.
-fn any_moved(systems: &[System], before: &[Chosen], now: &[Chosen]) -> bool
+pub(crate) fn any_moved(systems: &[System], before: &[Chosen], now: &[Chosen]) -> bool
     ensures { result ≡ any_moved systems.now before.now now.now }
 {
     (0..systems.len()).any(|place| is_moved_at(systems, before, now, place))

@@ -192,13 +192,19 @@ pub(crate) fn leaves_silent(used: bool, told: &[Told]) -> bool
     !used && any_failing(told)
 }
 
-/// What is known of a time at which a system fails and none is moved, by whether the one that fails was a far end, and
-/// whether each link that is up then is in use.
-fn failed_row(far: bool, used: bool) -> Row
-    ensures { result ≡ failed_row far used }
+/// What is known of a time at which a system fails and none is moved but such as are cut off, by whether the one that
+/// fails was a far end, whether another is cut off, and whether each link that is up then is in use.
+fn failed_row(far: bool, any: bool, used: bool) -> Row
+    ensures { result ≡ failed_row far any used }
 {
     if far {
         if used { Row::LostEnd } else { Row::FailedEnd }
+    } else if any {
+        if used {
+            Row::PowerCutsOff
+        } else {
+            Row::FailureCutsOff
+        }
     } else {
         if used {
             Row::LostPower
@@ -209,8 +215,8 @@ fn failed_row(far: bool, used: bool) -> Row
 }
 
 /// What is known of a time, by whether it is from rest, whether it is the first, and what its events do: whether they
-/// move a system, whether each link that is lost cuts off a far end, whether a system that they move alone turns,
-/// whether the one that fails was a far end, and whether each link that is up then is in use.
+/// move a system, and any that is cut off too, whether each link that is lost cuts off a far end, whether a system that
+/// they move alone turns, whether the one that fails was a far end, and whether each link that is up then is in use.
 pub(crate) fn row_of(
     from_rest: bool,
     first: bool,
@@ -218,12 +224,13 @@ pub(crate) fn row_of(
     paths: SyncPaths,
     told: &[Told],
     moved: bool,
+    any: bool,
     cut: bool,
     turned: bool,
     far: bool,
     used: bool,
 ) -> Row
-    ensures { result ≡ row_of from_rest first paths_before paths told.now moved cut turned far used }
+    ensures { result ≡ row_of from_rest first paths_before paths told.now moved any cut turned far used }
 {
     if !from_rest {
         Row::AnyPast
@@ -238,7 +245,7 @@ pub(crate) fn row_of(
     } else if is_lowering_followed(paths_before, paths, told) && turned {
         Row::OneTurned
     } else if is_failing_followed(paths_before, paths, told) && !moved {
-        failed_row(far, used)
+        failed_row(far, any, used)
     } else if any_loss(told) {
         if all_bring_nothing(told) {
             Row::AnyLosses

@@ -225,11 +225,11 @@ fn a_link_that_goes_down_and_moves_no_system_costs_nothing(rt: HostRuntime) -> R
             settling: Some(Settling {
                 choice: 0,
                 roles: 0,
-                sound: 3_000_001_640,
-                rest: 3_000_002_050,
+                sound: 3_000_001_230,
+                rest: 3_000_001_640,
                 exact_from: 30_000_007_200,
             }),
-            watch: 4_000_002_051,
+            watch: 4_000_001_641,
         })
     );
     assert_eq!(rt;
@@ -479,10 +479,22 @@ fn a_system_that_others_hear_costs_the_choice_what_they_hold_it_for(
     Ok(())
 }
 
+/// The bounds of the choice and of the roles at a time.
+fn bounds(times: &[SettlingTime], at: u64) -> Option<(u64, u64)>
+    requires { AreRising times.now }
+{
+    let settling = settling_at(times, at)?.settling?;
+    Some((settling.choice, settling.roles))
+}
+
 #[test]
-fn a_system_that_a_failure_cuts_off_does_not_count(rt: HostRuntime) -> Result<(), Fail> {
+fn a_system_that_a_failure_cuts_off_costs_two_ways(rt: HostRuntime) -> Result<(), Fail> {
     // c hears the root over b alone, and d has it from a. Where b and c go on to d another is moved that isn't cut off.
-    for (case, links, choice) in [
+    const HANGS: &str =
+        "[[event]]\nat = 30000000000\nkind = \"fail\"\nclock = \"000000000000000b\"\n";
+    const DOWN: &str =
+        "[[event]]\nat = 30000000000\nkind = \"link_down\"\nclock = \"000000000000000b\"\nport = ";
+    for (case, links, hang, power) in [
         (
             "one is cut off",
             &[
@@ -490,7 +502,8 @@ fn a_system_that_a_failure_cuts_off_does_not_count(rt: HostRuntime) -> Result<()
                 ("b", "2", "c", "1"),
                 ("a", "2", "d", "1"),
             ] as &[(&str, &str, &str, &str)],
-            3_000_000_410,
+            (3_000_001_230, 11_000_000_000),
+            (820, 820),
         ),
         (
             "one goes over another",
@@ -501,30 +514,19 @@ fn a_system_that_a_failure_cuts_off_does_not_count(rt: HostRuntime) -> Result<()
                 ("d", "2", "e", "1"),
                 ("e", "2", "c", "2"),
             ] as &[(&str, &str, &str, &str)],
-            13_000_002_870,
+            (13_000_002_870, 13_000_002_870),
+            (13_000_002_870, 13_000_002_870),
         ),
     ] {
-        let times = joined(
-            rt.alloc(),
-            &["a", "b", "c", "d", "e"],
-            links,
-            "[[event]]\nat = 30000000000\nkind = \"fail\"\nclock = \"000000000000000b\"\n",
-        )?;
-        assert_eq!(rt;
-            soon(&times, 30_000_000_000).map(|bound| bound.0),
-            Some(choice),
-            "{case}"
-        );
+        let clocks = &["a", "b", "c", "d", "e"];
+        let hangs = joined(rt.alloc(), clocks, links, HANGS)?;
+        assert_eq!(rt; bounds(&hangs, 30_000_000_000), Some(hang), "{case}");
+        let mut off = String::new(rt.alloc());
+        write!(off, "{HANGS}{DOWN}1\n{DOWN}2\n")?;
+        let loses = joined(rt.alloc(), clocks, links, off.as_str())?;
+        assert_eq!(rt; bounds(&loses, 30_000_000_000), Some(power), "{case}");
     }
     Ok(())
-}
-
-/// The bounds of the choice and of the roles at a time.
-fn bounds(times: &[SettlingTime], at: u64) -> Option<(u64, u64)>
-    requires { AreRising times.now }
-{
-    let settling = settling_at(times, at)?.settling?;
-    Some((settling.choice, settling.roles))
 }
 
 #[test]

@@ -4,10 +4,12 @@ ghost use Rattle.std.specs.Prelude.{◌≡◌, ◌≤◌, ◌&&◌, IfOk, OnOk};
 ghost use Rattle.gptp_network.specs.declared.keys.TheConstants.{LATEST_EVENT};
 ghost use Rattle.gptp_topology.specs.Tables.{AreMarked, marked_paths};
 ghost use Rattle.gptp_how_soon.specs.Times.{settling_time};
-ghost use Rattle.gptp_how_soon.specs.Walk.{IsFirstWalk, WalkGoesOn, WalkPasses, cuts_seen, far_seen, moves_seen, turns_seen, view_seen};
+ghost use Rattle.gptp_how_soon.specs.Walk.{IsFirstWalk, WalkGoesOn, WalkPasses, cuts_seen, far_seen, moves_any_seen, moves_seen, turns_seen, view_seen};
 
 use crate::bounds::{SettlingTime, heard, ready, times_by, way_span};
-use crate::chosen::{Chosen, Ends, any_counted, choose, copy_systems, ends_in_use, ends_of};
+use crate::chosen::{
+    Chosen, Ends, any_counted, any_moved, choose, copy_systems, ends_in_use, ends_of,
+};
 use crate::far::{all_cut_far_ends, are_far, up_is_used};
 use crate::kinds::{Told, sets_bounds, sets_link, takes_one, tell};
 use crate::links::{delay_set, longest_among, lost_among, mark_used, new_links};
@@ -46,6 +48,8 @@ pub(crate) struct Walk {
 struct Moves {
     /// Whether they move a system that counts.
     moved: bool,
+    /// Whether they move any, also one that is cut off.
+    any: bool,
     /// Whether each link that is lost cuts off a far end.
     cut: bool,
     /// Whether they move one alone, and that turns.
@@ -115,6 +119,7 @@ impl Walk {
     /// away.
     fn moves(&self, alloc: Global) -> Result<Moves, AllocError>
         ensures moved { IfOk result (λ moves. moves.moved ≡ moves_seen self.now) }
+        ensures any { IfOk result (λ moves. moves.any ≡ moves_any_seen self.now) }
         ensures cut { IfOk result (λ moves. moves.cut ≡ cuts_seen self.now) }
         ensures turned { IfOk result (λ moves. moves.turned ≡ turns_seen self.now) }
     {
@@ -131,6 +136,7 @@ impl Walk {
         let joined = takes_one(&self.told);
         Ok(Moves {
             moved: any_counted(joined, &systems, &links, &before, &now),
+            any: any_moved(&systems, &before, &now),
             cut: all_cut_far_ends(&systems, &before, &links_before, &links, &lost),
             turned: turns_one(alloc, &systems, &lost, &links_before, &links, &before, &now)?,
         })
@@ -139,6 +145,7 @@ impl Walk {
     /// Whom the events of this time move, where that is asked.
     fn moves_if(&self, alloc: Global, asked: bool) -> Result<Moves, AllocError>
         ensures moved { IfOk result (λ moves. moves.moved ≡ (asked && moves_seen self.now)) }
+        ensures any { IfOk result (λ moves. moves.any ≡ (asked && moves_any_seen self.now)) }
         ensures cut { IfOk result (λ moves. moves.cut ≡ (asked && cuts_seen self.now)) }
         ensures turned { IfOk result (λ moves. moves.turned ≡ (asked && turns_seen self.now)) }
     {
@@ -147,6 +154,7 @@ impl Walk {
         } else {
             Ok(Moves {
                 moved: false,
+                any: false,
                 cut: false,
                 turned: false,
             })
@@ -219,6 +227,7 @@ impl Walk {
                 paths,
                 told,
                 moves.moved,
+                moves.any,
                 moves.cut,
                 moves.turned,
                 far,

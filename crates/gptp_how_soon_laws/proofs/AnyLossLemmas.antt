@@ -1,6 +1,6 @@
 -- Events of a time that bring nothing, and of which some are losses, are such as are told.
-use Rattle.std.proofs.Common.{◌≡◌, inl, inr, ℕ, Bool, true, false, List, [], ◌∷◌, ◌++◌, Option, Some, None, refl, sym, subst, ◌∙◌}
-use Rattle.std.specs.Prelude.{◌&&◌, if◌then◌else◌}
+use Rattle.std.proofs.Common.{◌≡◌, inl, inr, ℕ, Bool, true, false, List, [], ◌∷◌, ◌++◌, refl, sym, subst, ◌∙◌}
+use Rattle.std.specs.Prelude.{◌&&◌}
 use Rattle.std.specs.List.{list_all, list_any}
 use Rattle.std.proofs.lemmas.Bool.{and_parts, or_cases, or_parts}
 use Rattle.gptp_scenario.specs.Calm.{IsLive}
@@ -9,38 +9,16 @@ use Rattle.gptp_scenario.specs.declared.change.Act.{Act}
 use Rattle.gptp_scenario.specs.declared.change.Act.TheVariants as acts
 use Rattle.gptp_scenario.specs.declared.change.Change.TheVariants as changes
 use Rattle.gptp_scenario.specs.declared.change.Timed.{Timed}
-use Rattle.gptp_topology.specs.declared.course.Standing.{Standing}
-use Rattle.gptp_topology.specs.declared.nodes.System.{System}
-use Rattle.gptp_how_soon.specs.Kinds.{brings_nothing, is_failing, is_idle, is_loss, is_unused, kind_of_link_up, kind_of_recovery, makes_nothing}
+use Rattle.gptp_how_soon.specs.Kinds.{brings_nothing, is_failing, is_idle, is_loss, is_unused, kind_of_link_set, kind_of_link_up, kind_of_recovery, makes_nothing}
 use Rattle.gptp_how_soon.specs.Times.{told_at, told_of}
-use Rattle.gptp_how_soon.specs.declared.kinds.Kind.TheVariants.{Gain, Idle, Unused}
 use Rattle.gptp_how_soon.specs.declared.kinds.Told.{Told}
 use Rattle.gptp_how_soon.specs.declared.kinds.What.TheVariants as whats
 use Rattle.gptp_settling_time.specs.HowSoon.{EachEvent, IsIdleEvent, IsLossToo, LosesEvents, NoneFails}
 use Rattle.gptp_settling_time.specs.Losses.{LosesAny}
-use Rattle.gptp_how_soon_laws.proofs.KindLemmas.{idle_changes, link_at, loss_fails, loss_lowers, loss_worsens, system_at, told, unused_turns, wider_or_other}
+use Rattle.gptp_how_soon_laws.proofs.KindLemmas.{IsRecovery, IsSet, IsUp, loss_found, recovery_found, set_found, up_found}
+use Rattle.gptp_how_soon_laws.proofs.ToldLemmas.{idle_changes, link_at, loss_fails, loss_lowers, loss_worsens, system_at, unused_turns}
 
 -- ---- one event
-
--- nothing is lost as a link comes up, nor as a system recovers
-module _ (clock : ℕ) where
-  never_up : (o : Option Standing) → is_loss (told clock whats.LinkUp (kind_of_link_up o)) ≡ true → ⊥
-  never_up None is = absurd cc
-  never_up (Some s) is = by s.cable.up (s.a_lives && s.b_lives) is
-    where
-      by : (up live : Bool)
-          → is_loss (told clock whats.LinkUp (if up then Idle else if live then Gain else Unused)) ≡ true → ⊥
-      by true live is = absurd cc
-      by false true is = absurd cc
-      by false false is = absurd cc
-
-  never_recovery : (o : Option System) → is_loss (told clock whats.Recover (kind_of_recovery o)) ≡ true → ⊥
-  never_recovery None is = absurd cc
-  never_recovery (Some x) is = by x.lives is
-    where
-      by : (live : Bool) → is_loss (told clock whats.Recover (if live then Idle else Gain)) ≡ true → ⊥
-      by true is = absurd cc
-      by false is = absurd cc
 
 module _ (n : NetworkState) (network : IsNetwork n) where
   module _ (made : List Timed) where
@@ -52,15 +30,20 @@ module _ (n : NetworkState) (network : IsNetwork n) where
         let w = loss_worsens n network made number value is in
         record { place = w.place; system = w.system; there = w.there; clock = w.clock; live = w.live }
     loses (acts.Change (changes.LinkUp clock port)) is =
-        absurd (never_up clock (link_at n network made (acts.Change (changes.LinkUp clock port))) is)
+        let found = link_at n network made (acts.Change (changes.LinkUp clock port)) in
+        let (s, found_is, none) = loss_found IsUp clock whats.LinkUp found (kind_of_link_up found) (up_found found) is
+        in
+        absurd none
     loses (acts.Change (changes.LinkSet clock port least greatest loss)) is =
-        let act = acts.Change (changes.LinkSet clock port least greatest loss) in
-        let no : true ≡ false =
-        sym is ∙ wider_or_other clock whats.LinkSet is_loss (λ by. refl) refl least greatest loss
-        (link_at n network made act) in
-        absurd cc
+        let found = link_at n network made (acts.Change (changes.LinkSet clock port least greatest loss)) in
+        let (s, found_is, none) = loss_found (IsSet least greatest loss) clock whats.LinkSet found
+        (kind_of_link_set least greatest loss found) (set_found least greatest loss found) is in
+        absurd none
     loses (acts.Change (changes.Recover number)) is =
-        absurd (never_recovery number (system_at n network made number) is)
+        let found = system_at n network made number in
+        let (x, found_is, none) = loss_found IsRecovery number whats.Recover found (kind_of_recovery found)
+        (recovery_found found) is in
+        absurd none
     loses (acts.Change (changes.Inject clock port octets)) is = absurd cc
     loses (acts.Deliver link direction) is = absurd cc
     loses (acts.Expire clock timer) is = absurd cc

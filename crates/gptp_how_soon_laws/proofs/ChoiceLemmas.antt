@@ -16,14 +16,14 @@ use Rattle.gptp_network.specs.Document.{DocumentState}
 use Rattle.gptp_network.specs.Snapshot.{events_by}
 use Rattle.gptp_network.proofs.SnapshotLemmas.{from_filter}
 use Rattle.gptp_theorem.specs.PlayedLaws.{IsPlayable}
-use Rattle.gptp_how_soon.specs.Bounds.{choice_by, choice_of_row, gone_by, loss_span, roles_of_row, sound_by}
+use Rattle.gptp_how_soon.specs.Bounds.{choice_by, choice_of_row, gone_by, held_span, loss_span, roles_of_row, sound_by}
 use Rattle.gptp_how_soon.specs.Rest.{leaves_silent}
 use Rattle.gptp_how_soon.specs.Times.{View, events_at, gained_at, last_set, ready_at, row_at, settling_time, settling_times, settling_times_from, time_at, view_at}
 use Rattle.gptp_how_soon.specs.declared.bounds.Row.{Row}
-use Rattle.gptp_how_soon.specs.declared.bounds.Row.TheVariants.{AnyLosses, AnyPast, CutOff, FailedEnd, FailedHeard, Gained, LostEnd, LostPower, Lowered, OneTurned, Unchanged}
+use Rattle.gptp_how_soon.specs.declared.bounds.Row.TheVariants.{AnyLosses, AnyPast, CutOff, FailedEnd, FailedHeard, FailureCutsOff, Gained, LostEnd, LostPower, Lowered, OneTurned, PowerCutsOff, Unchanged}
 use Rattle.gptp_how_soon.specs.declared.bounds.Settling.{Settling}
 use Rattle.gptp_how_soon.specs.declared.bounds.SettlingTime.{SettlingTime}
-use Rattle.gptp_settling_time.specs.HowSoon.{BoundsAnyLoss, BoundsChoice, BoundsEvents, BoundsLoss, BoundsStart, IsChoiceBoundAfter, IsLossBoundAfter, IsRestBoundAfter, NoneBetween, RestsAfterLoss}
+use Rattle.gptp_settling_time.specs.HowSoon.{BoundsAging, BoundsAnyLoss, BoundsChoice, BoundsEvents, BoundsLoss, BoundsStart, IsChoiceBoundAfter, IsLossBoundAfter, IsRestBoundAfter, NoneBetween, RestsAfterLoss}
 use Rattle.gptp_settling_time.specs.InTurn.{FlightIsGone}
 use Rattle.gptp_settling_time.specs.Losses.{aging_span}
 use Rattle.gptp_settling_time.proofs.MomentLemmas.{parted}
@@ -242,16 +242,28 @@ module _ (d : DocumentState) (playable : IsPlayable d) where
         let (bound, past) = sound_before rest in
         (late, between, settles.2.0, off, (rest.settling.sound, bound, past), loses)
 
+    -- what ages does no later than ports beside a failed system are off
+    ages_first : (aged quiet : ℕ) → BoundsAging n made now aged quiet → aged ≤ quiet
+    ages_first aged quiet (inl (used, none, no_roles)) = omega (arith, none)
+    ages_first aged quiet (inr (is, is_roles)) =
+        lesser aged quiet (aging_span (pace_of n) (sync_paths n made)) (silence_span (pace_of n)) is is_roles
+
     no_later : (choice roles : ℕ) → BoundsLoss n made now choice roles → choice ≤ roles
     no_later choice roles (inl (lowers, same, which)) = omega (arith, same)
     no_later choice roles (inr (inl (fails, none, which))) = omega (arith, none)
     no_later choice roles (inr (inr (inl (turns, is, same)))) = omega (arith, same)
-    no_later choice roles (inr (inr (inr (inl (fails, inl (used, none, no_roles)))))) = omega (arith, none)
-    no_later choice roles (inr (inr (inr (inl (fails, inr (is, is_roles)))))) =
-        lesser choice roles (aging_span (pace_of n) (sync_paths n made)) (silence_span (pace_of n)) is is_roles
+    no_later choice roles (inr (inr (inr (inl (fails, (aged, quiet, aging, inl (same, roles_same))))))) =
+        let first = ages_first aged quiet aging in omega (arith, same, roles_same, first)
+    no_later choice roles (inr (inr (inr (inl (fails, (aged, quiet, aging, inr (is, later))))))) =
+        greater choice roles quiet later
     no_later choice roles (inr (inr (inr (inr (loses, is, inl (quiet, same)))))) = omega (arith, same)
     no_later choice roles (inr (inr (inr (inr (loses, is, inr later))))) =
         greater choice roles (silence_span (pace_of n)) later
+
+    -- what is heard is held for as long by the delay of before
+    held_as : v.paths.delay ≡ (sync_paths n made).delay
+        → held_span n v.paths ≡ min (aging_span (pace_of n) (sync_paths n made)) (silence_span (pace_of n))
+    held_as delay = ap (λ d. min (longest_span (pace_of n) + d) (silence_span (pace_of n))) delay
 
     -- what is lost at this time asks for what its row says
     loses_by : (r : Row) → row_at v ≡ r → HasOwnBounds r
@@ -274,16 +286,30 @@ module _ (d : DocumentState) (playable : IsPlayable d) where
         let (rest, fails, flight) = failed n playable.network all b at late well row in
         (rest, inr (inl (fails, refl, inr refl)))
     loses_by LostPower row own =
-        let (rest, fails, used) = lost_power n playable.network all b at late well row in
-        (rest, inr (inr (inr (inl (fails, inl (used, refl, refl))))))
+        let (rest, fails, used) = lost_power n playable.network all b at late well (inl row) in
+        (rest, inr (inr (inr (inl (fails, (0, 0, inl (used, refl, refl), inl (refl, refl)))))))
+    loses_by PowerCutsOff row own =
+        let (rest, fails, used) = lost_power n playable.network all b at late well (inr row) in
+        (rest, inr (inr (inr (inl (fails, (0, 0, inl (used, refl, refl), inr (omega arith, omega arith)))))))
     loses_by OneTurned row own =
         let (rest, turns, unused) = turned n playable.network all b at late well row in
         (rest, inr (inr (inl (turns, refl, refl))))
     loses_by FailedHeard row own =
-        let (rest, fails, delay) = heard n playable.network all b at late well row in
-        let aging : aging_span (pace_of n) v.paths ≡ aging_span (pace_of n) (sync_paths n made) =
-        ap (λ d. longest_span (pace_of n) + d) delay in
-        (rest, inr (inr (inr (inl (fails, inr (ap (λ a. min a (silence_span (pace_of n))) aging, refl))))))
+        let (rest, fails, delay) = heard n playable.network all b at late well (inl row) in (
+          rest,
+          inr (inr (inr (inl (
+            fails,
+            (held_span n v.paths, silence_span (pace_of n), inr (held_as delay, refl), inl (refl, refl)),
+          )))),
+        )
+    loses_by FailureCutsOff row own =
+        let (rest, fails, delay) = heard n playable.network all b at late well (inr row) in (
+          rest,
+          inr (inr (inr (inl (
+            fails,
+            (held_span n v.paths, silence_span (pace_of n), inr (held_as delay, refl), inr (refl, refl)),
+          )))),
+        )
     loses_by AnyLosses row own =
         let (rest, loses, roles) = any_losses n playable.network all b at late row in
         (rest, inr (inr (inr (inr (loses, refl, roles (loss_span n v.paths_before v.paths))))))

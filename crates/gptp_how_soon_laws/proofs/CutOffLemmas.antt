@@ -24,7 +24,7 @@ use Rattle.gptp_how_soon.proofs.ChosenLemmas.{IsAt, at_clock, at_port, touched}
 use Rattle.gptp_settling_time.specs.HowSoon.{CutsOneEnd}
 use Rattle.gptp_settling_time.specs.Losses.{CutsFarEnd, IsCutOff, IsFarEnd, LowersLink}
 use Rattle.gptp_how_soon_laws.proofs.FailedLemmas.{each_is, far_at}
-use Rattle.gptp_how_soon_laws.proofs.KindLemmas.{loss_names}
+use Rattle.gptp_how_soon_laws.proofs.ToldLemmas.{loss_names}
 use Rattle.gptp_how_soon_laws.proofs.LoweredLemmas.{TakesDown, is_lost_there, joined_by, lowers_link}
 use Rattle.gptp_how_soon_laws.proofs.NamedLemmas.{at_end, end_first}
 use Rattle.gptp_how_soon_laws.proofs.UnmovedLemmas.{AreWell}

@@ -51,7 +51,8 @@ use Rattle.gptp_how_soon.specs.declared.kinds.Told.{Told}
 use Rattle.gptp_how_soon.specs.declared.kinds.What.{What}
 use Rattle.gptp_how_soon.specs.declared.kinds.What.TheVariants as whats
 use Rattle.gptp_settling_time.proofs.SamePathsLemmas.{is_end, lives_not, map_same, turned_paths}
-use Rattle.gptp_how_soon_laws.proofs.KindLemmas.{failure_is, loss_fails, told, unused_lowers}
+use Rattle.gptp_how_soon_laws.proofs.KindLemmas.{told}
+use Rattle.gptp_how_soon_laws.proofs.ToldLemmas.{failure_is, loss_fails, unused_lowers}
 use Rattle.gptp_how_soon_laws.proofs.LoweredLemmas.{joined_by}
 use Rattle.gptp_how_soon_laws.proofs.UnmovedLemmas.{AreWell, none_joined_there, unmoved_at}
 

@@ -40,7 +40,8 @@ use Rattle.gptp_settling_time.specs.InTurn.{AddsHeard, BettersClock, BringsUp, M
 use Rattle.gptp_settling_time.proofs.DelayWithinLemmas.{within_before}
 use Rattle.gptp_settling_time.proofs.SamePathsLemmas.{idle_paths, turned_paths}
 use Rattle.gptp_topology.proofs.RestLemmas.{lives_to, three_from, three_parts, used_cable}
-use Rattle.gptp_how_soon_laws.proofs.KindLemmas.{Gains, RaisesLink, gain_gains, gain_is_not_idle, idle_changes, nothing_or_gain, unused_turns, wider_widens}
+use Rattle.gptp_how_soon_laws.proofs.KindLemmas.{gain_is_not_idle, nothing_or_gain}
+use Rattle.gptp_how_soon_laws.proofs.ToldLemmas.{Gains, RaisesLink, gain_gains, idle_changes, unused_turns, wider_widens}
 use Rattle.gptp_how_soon_laws.proofs.MoreLemmas.{IsMore, Leaves, more_delay, more_live, more_lives, more_on, one_more, same_more}
 use Rattle.gptp_how_soon_laws.proofs.NamedLemmas.{end_first}
 

@@ -1,6 +1,7 @@
 mod TimesLemmas
 mod NamedLemmas
 mod KindLemmas
+mod ToldLemmas
 mod MoreLemmas
 mod GainedLemmas
 mod UnmovedLemmas

@@ -32,7 +32,7 @@ use Rattle.gptp_how_soon.specs.Times.{told_at, told_of}
 use Rattle.gptp_settling_time.specs.HowSoon.{LowersOneLink, TurnsOneLink}
 use Rattle.gptp_settling_time.specs.Losses.{IsCutOff, IsUnmoved, IsUnmovedOrCutOff, LowersLink, MovesNoneJoined, UpIsUsed}
 use Rattle.gptp_settling_time.proofs.EventStillLemmas.{at_end}
-use Rattle.gptp_how_soon_laws.proofs.KindLemmas.{link_down_is, loss_lowers}
+use Rattle.gptp_how_soon_laws.proofs.ToldLemmas.{link_down_is, loss_lowers}
 use Rattle.gptp_how_soon_laws.proofs.UnmovedLemmas.{AreWell, clock_over, none_joined_there, unmoved_at}
 
 -- a link that touches a place ends there

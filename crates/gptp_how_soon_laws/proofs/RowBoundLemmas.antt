@@ -18,7 +18,7 @@ use Rattle.gptp_how_soon.specs.Kinds.{sets_link}
 use Rattle.gptp_how_soon.specs.Rest.{leaves_silent}
 use Rattle.gptp_how_soon.specs.Times.{View, gained_at, row_at, settling_time}
 use Rattle.gptp_how_soon.specs.declared.bounds.Row.{Row}
-use Rattle.gptp_how_soon.specs.declared.bounds.Row.TheVariants.{AnyLosses, AnyPast, CutOff, FailedEnd, FailedHeard, Gained, LostEnd, LostPower, Lowered, OneTurned, Unchanged}
+use Rattle.gptp_how_soon.specs.declared.bounds.Row.TheVariants.{AnyLosses, AnyPast, CutOff, FailedEnd, FailedHeard, FailureCutsOff, Gained, LostEnd, LostPower, Lowered, OneTurned, PowerCutsOff, Unchanged}
 use Rattle.gptp_how_soon.specs.declared.bounds.Settling.{Settling}
 use Rattle.gptp_settling_time.specs.HowSoon.{BoundsChoice, way_span}
 use Rattle.gptp_topology.proofs.RestLemmas.{calm_from}
@@ -34,6 +34,8 @@ past_row LostEnd = AnyPast
 past_row LostPower = AnyPast
 past_row FailedEnd = AnyPast
 past_row FailedHeard = AnyPast
+past_row PowerCutsOff = AnyPast
+past_row FailureCutsOff = AnyPast
 past_row OneTurned = AnyPast
 past_row AnyLosses = AnyPast
 past_row Gained = Gained
@@ -63,6 +65,8 @@ bounds_choice n Sharp before events row gained calm unchanged is_gained =
     by_row off LostPower is = inl refl
     by_row off FailedEnd is = inl refl
     by_row off FailedHeard is = inl refl
+    by_row off PowerCutsOff is = inl refl
+    by_row off FailureCutsOff is = inl refl
     by_row off OneTurned is = inl refl
     by_row off AnyLosses is = inl refl
     by_row off Unchanged is = inr (unchanged is)
@@ -114,6 +118,8 @@ choice_or_own n before paths silent row gained = by (n.params.sync_timeout == 0)
     by true is LostPower = inr (eqb-true n.params.sync_timeout 0 is, tt, refl, refl)
     by true is FailedEnd = inr (eqb-true n.params.sync_timeout 0 is, tt, refl, refl)
     by true is FailedHeard = inr (eqb-true n.params.sync_timeout 0 is, tt, refl, refl)
+    by true is PowerCutsOff = inr (eqb-true n.params.sync_timeout 0 is, tt, refl, refl)
+    by true is FailureCutsOff = inr (eqb-true n.params.sync_timeout 0 is, tt, refl, refl)
     by true is OneTurned = inr (eqb-true n.params.sync_timeout 0 is, tt, refl, refl)
     by true is AnyLosses = inr (eqb-true n.params.sync_timeout 0 is, tt, refl, refl)
 
@@ -122,7 +128,7 @@ abbrev pub IsSoundSooner : NetworkState → SyncPaths → SyncPaths → Bool →
 IsSoundSooner n before paths silent used_before row sound =
     ((row ≡ LostEnd) × (sound ≡ gone_by n paths used_before))
     ⊎ (((row ≡ FailedEnd) × (sound ≡ max (silence_span (pace_of n)) (gone_by n paths used_before)))
-    ⊎ (((row ≡ Lowered) × (sound ≡ echo_span n paths + gone_by n paths used_before))
+    ⊎ (((row ≡ Lowered) × (sound ≡ max (echo_span n paths) (gone_by n paths used_before)))
     ⊎ (((row ≡ CutOff) × (sound ≡ max (2 * way_span paths) (gone_by n paths used_before)))
     ⊎ (((row ≡ OneTurned) × (sound ≡ 2 * way_span paths + echo_span n paths + unused_by n used_before))
     ⊎ ((row ≡ AnyLosses) × (sound ≡ roles_after_losses n before paths silent))))))
@@ -146,6 +152,8 @@ sound_or_sooner n before paths silent used_before row gained = by (n.params.sync
     by true is Unchanged = inl refl
     by true is Gained = inl refl
     by true is FailedHeard = inl refl
+    by true is PowerCutsOff = inl refl
+    by true is FailureCutsOff = inl refl
     by true is LostPower = inl refl
     by true is LostEnd = inr (eqb-true n.params.sync_timeout 0 is, inl (refl, refl))
     by true is FailedEnd = inr (eqb-true n.params.sync_timeout 0 is, inr (inl (refl, refl)))

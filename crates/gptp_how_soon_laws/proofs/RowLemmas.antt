@@ -26,7 +26,7 @@ use Rattle.gptp_how_soon.specs.Links.{delay_set, longest_among, longest_delay, l
 use Rattle.gptp_how_soon.specs.Rest.{are_events_followed, are_losses_followed, are_recoveries_followed, are_turns_followed, heard_at_once, is_failing_followed, is_from_rest, is_lowering_followed, keeps_paths, leaves_silent, rested, rested_by, is_wider_followed, settles_wider_by}
 use Rattle.gptp_how_soon.specs.Times.{View, events_at, gained_at, ready_at, row_at, view_at}
 use Rattle.gptp_how_soon.specs.declared.bounds.Row.{Row}
-use Rattle.gptp_how_soon.specs.declared.bounds.Row.TheVariants.{AnyLosses, CutOff, FailedEnd, FailedHeard, Gained, LostEnd, LostPower, Lowered, OneTurned, Unchanged}
+use Rattle.gptp_how_soon.specs.declared.bounds.Row.TheVariants.{AnyLosses, CutOff, FailedEnd, FailedHeard, FailureCutsOff, Gained, LostEnd, LostPower, Lowered, OneTurned, PowerCutsOff, Unchanged}
 use Rattle.gptp_how_soon.specs.declared.bounds.Settling.{Settling}
 use Rattle.gptp_how_soon.specs.declared.bounds.SettlingTime.{SettlingTime}
 use Rattle.gptp_how_soon.specs.declared.kinds.Kind.{Kind}
@@ -76,47 +76,31 @@ failing_takes es is = ap (λ test. lowers_one es || test) is ∙ or_true (lowers
     or_true false = refl
 
 -- a system whose priority1 gets worse takes nothing away
-leaves_not_down : (clock : ℕ) (what : What) (kind : Kind) → leaves_links (told clock what kind) ≡ true
-    → is_lowering (told clock what kind) ≡ false
-leaves_not_down clock whats.Priority1 Loss is = refl
-leaves_not_down clock whats.Fail Loss is = absurd cc
-leaves_not_down clock whats.LinkDown Loss is = absurd cc
-leaves_not_down clock whats.LinkUp Loss is = absurd cc
-leaves_not_down clock whats.LinkSet Loss is = absurd cc
-leaves_not_down clock whats.Recover Loss is = absurd cc
-leaves_not_down clock whats.Inject Loss is = absurd cc
-leaves_not_down clock whats.NoChange Loss is = absurd cc
-leaves_not_down clock what Idle is = refl
-leaves_not_down clock what Unused is = refl
-leaves_not_down clock what Gain is = refl
-leaves_not_down clock what (Wider by) is = refl
-leaves_not_down clock what Other is = refl
-
-leaves_not_failing : (clock : ℕ) (what : What) (kind : Kind) → leaves_links (told clock what kind) ≡ true
-    → is_failing (told clock what kind) ≡ false
-leaves_not_failing clock whats.Priority1 Loss is = refl
-leaves_not_failing clock whats.Fail Loss is = absurd cc
-leaves_not_failing clock whats.LinkDown Loss is = absurd cc
-leaves_not_failing clock whats.LinkUp Loss is = absurd cc
-leaves_not_failing clock whats.LinkSet Loss is = absurd cc
-leaves_not_failing clock whats.Recover Loss is = absurd cc
-leaves_not_failing clock whats.Inject Loss is = absurd cc
-leaves_not_failing clock whats.NoChange Loss is = absurd cc
-leaves_not_failing clock what Idle is = refl
-leaves_not_failing clock what Unused is = refl
-leaves_not_failing clock what Gain is = refl
-leaves_not_failing clock what (Wider by) is = refl
-leaves_not_failing clock what Other is = refl
+takes_no_link : (clock : ℕ) (what : What) (kind : Kind) → leaves_links (told clock what kind) ≡ true
+    → (is_lowering (told clock what kind) ≡ false) × (is_failing (told clock what kind) ≡ false)
+takes_no_link clock whats.Priority1 Loss is = (refl, refl)
+takes_no_link clock whats.Fail Loss is = absurd cc
+takes_no_link clock whats.LinkDown Loss is = absurd cc
+takes_no_link clock whats.LinkUp Loss is = absurd cc
+takes_no_link clock whats.LinkSet Loss is = absurd cc
+takes_no_link clock whats.Recover Loss is = absurd cc
+takes_no_link clock whats.Inject Loss is = absurd cc
+takes_no_link clock whats.NoChange Loss is = absurd cc
+takes_no_link clock what Idle is = (refl, refl)
+takes_no_link clock what Unused is = (refl, refl)
+takes_no_link clock what Gain is = (refl, refl)
+takes_no_link clock what (Wider by) is = (refl, refl)
+takes_no_link clock what Other is = (refl, refl)
 
 leaves_all : (es : List Told) → list_all leaves_links es ≡ true → takes_one es ≡ false
 leaves_all [] all = refl
 leaves_all (e ∷ []) all =
     let first = (and_parts (leaves_links e) (list_all leaves_links []) all).0 in
-    or_from (is_lowering e) (is_failing e && true) (leaves_not_down e.clock e.what e.kind first)
-    (ap (λ test. test && true) (leaves_not_failing e.clock e.what e.kind first))
+    let (lowers, fails) = takes_no_link e.clock e.what e.kind first in
+    or_from (is_lowering e) (is_failing e && true) lowers (ap (λ test. test && true) fails)
 leaves_all (e ∷ f ∷ es) all =
     let first = (and_parts (leaves_links e) (list_all leaves_links (f ∷ es)) all).0 in
-    ap (λ test. test && list_all lowers_unused (f ∷ es)) (leaves_not_failing e.clock e.what e.kind first)
+    ap (λ test. test && list_all lowers_unused (f ∷ es)) (takes_no_link e.clock e.what e.kind first).1
 
 -- ---- rest and delays
 
@@ -200,8 +184,8 @@ module _ (n : NetworkState) (network : IsNetwork n) (events : List Timed) (b : S
       (list_all makes_nothing v.told || begins_wider v.told) (are_losses_followed v.paths_before v.told && not v.moved)
       (is_lowering_followed v.paths_before v.paths v.told && not v.moved) v.cut
       (is_lowering_followed v.paths_before v.paths v.told && v.turned)
-      (is_failing_followed v.paths_before v.paths v.told && not v.moved) v.far v.used (list_any is_loss v.told)
-      (list_all brings_nothing v.told)
+      (is_failing_followed v.paths_before v.paths v.told && not v.moved) v.far v.moves_any v.used
+      (list_any is_loss v.told) (list_all brings_nothing v.told)
 
   why : (row : Row) → row_at v ≡ row → Why row
   why row is =
@@ -209,8 +193,8 @@ module _ (n : NetworkState) (network : IsNetwork n) (events : List Timed) (b : S
       (list_all makes_nothing v.told || begins_wider v.told) (are_losses_followed v.paths_before v.told && not v.moved)
       (is_lowering_followed v.paths_before v.paths v.told && not v.moved) v.cut
       (is_lowering_followed v.paths_before v.paths v.told && v.turned)
-      (is_failing_followed v.paths_before v.paths v.told && not v.moved) v.far v.used (list_any is_loss v.told)
-      (list_all brings_nothing v.told) row is
+      (is_failing_followed v.paths_before v.paths v.told && not v.moved) v.far v.moves_any v.used
+      (list_any is_loss v.told) (list_all brings_nothing v.told) row is
 
   -- it is from rest
   record IsFromRest : Type 0 where
@@ -384,87 +368,76 @@ module _ (n : NetworkState) (network : IsNetwork n) (events : List Timed) (b : S
         refl,
       )
 
-  -- what the test of paths says
-  keeps_so : keeps_paths v.paths_before v.paths ≡ true
-      → ((sync_paths n (made ++ now)).delay ≡ (sync_paths n made).delay)
-      × ((sync_paths n (made ++ now)).systems ≤ (sync_paths n made).systems)
-      × ((sync_paths n made).systems ≤ 255)
+  -- the greatest delay of a link in use stays, no path gets longer, and none had more than 255 systems
+  record KeepsPaths : Type 0 where
+    pub delay : (sync_paths n (made ++ now)).delay ≡ (sync_paths n made).delay
+    pub paths : (sync_paths n (made ++ now)).systems ≤ (sync_paths n made).systems
+    pub few : (sync_paths n made).systems ≤ 255
+
+  keeps_so : keeps_paths v.paths_before v.paths ≡ true → KeepsPaths
   keeps_so keeps =
       let few_test : Bool = nat_le v.paths_before.systems 255 in
       let delay_test : Bool = v.paths.delay == v.paths_before.delay in
       let paths_test : Bool = nat_le v.paths.systems v.paths_before.systems in
       let (two, paths) = and_parts (few_test && delay_test) paths_test keeps in
-      let (few, delay) = and_parts few_test delay_test two in (
-        eqb-true v.paths.delay v.paths_before.delay delay,
-        at_most v.paths.systems v.paths_before.systems paths,
-        at_most v.paths_before.systems 255 few,
-      )
-
-  -- a system fails by the first event, and no system is moved but such as are cut off
-  record IsFailing : Type 0 where
-    pub first : fails_first v.told ≡ true
-    pub unmoved : moves_joined n made (made ++ now) ≡ false
-    pub delay : (sync_paths n (made ++ now)).delay ≡ (sync_paths n made).delay
-    pub paths : (sync_paths n (made ++ now)).systems ≤ (sync_paths n made).systems
-    pub few : (sync_paths n made).systems ≤ 255
-
-  is_failing_so : (is_failing_followed v.paths_before v.paths v.told && not v.moved) ≡ true → IsFailing
-  is_failing_so fails =
-      let (followed, none) = and_parts (is_failing_followed v.paths_before v.paths v.told) (not v.moved) fails in
-      let (keeps, first) = and_parts (keeps_paths v.paths_before v.paths) (fails_first v.told) followed in
-      let (delay, paths, few) = keeps_so keeps in
+      let (few, delay) = and_parts few_test delay_test two in
       record {
-        first = first;
-        unmoved = counts_joined (takes_one v.told) n made (made ++ now) (failing_takes v.told first)
-            (not-true v.moved none);
-        delay = delay;
-        paths = paths;
-        few = few;
+        delay = eqb-true v.paths.delay v.paths_before.delay delay;
+        paths = at_most v.paths.systems v.paths_before.systems paths;
+        few = at_most v.paths_before.systems 255 few;
       }
+
+  -- a loss of this kind comes, by which no system is moved but such as are cut off
+  record TakesOne (kind : List Told → Bool) : Type 0 where
+    pub one : kind v.told ≡ true
+    pub unmoved : moves_joined n made (made ++ now) ≡ false
+    pub keeps : KeepsPaths
+
+  takes_so : (kind : List Told → Bool) → ((es : List Told) → kind es ≡ true → takes_one es ≡ true)
+      → (keeps_paths v.paths_before v.paths && kind v.told && not v.moved) ≡ true → TakesOne kind
+  takes_so kind takes is =
+      let (followed, none) = and_parts (keeps_paths v.paths_before v.paths && kind v.told) (not v.moved) is in
+      let (keeps, one) = and_parts (keeps_paths v.paths_before v.paths) (kind v.told) followed in
+      record {
+        one = one;
+        unmoved = counts_joined (takes_one v.told) n made (made ++ now) (takes v.told one) (not-true v.moved none);
+        keeps = keeps_so keeps;
+      }
+
+  -- a system fails by the first event
+  fails_so : (is_failing_followed v.paths_before v.paths v.told && not v.moved) ≡ true → TakesOne fails_first
+  fails_so = takes_so fails_first failing_takes
 
   failing_heard : AreWell n (made ++ now)
       → (is_failing_followed v.paths_before v.paths v.told && not v.moved) ≡ true → FailsHeardFirst n made now
   failing_heard well fails =
-      let x = is_failing_so fails in
-      fails_heard_first n network made now well x.unmoved x.delay x.paths x.few x.first
+      let x = fails_so fails in
+      fails_heard_first n network made now well x.unmoved x.keeps.delay x.keeps.paths x.keeps.few x.one
 
   -- which is a far end
   failing_end : AreWell n (made ++ now)
       → (is_failing_followed v.paths_before v.paths v.told && not v.moved) ≡ true → v.far ≡ true
       → FailsEndFirst n made now
   failing_end well fails far =
-      let x = is_failing_so fails in
-      fails_end_first n network made now well x.unmoved x.delay x.paths x.few x.first far
+      let x = fails_so fails in
+      fails_end_first n network made now well x.unmoved x.keeps.delay x.keeps.paths x.keeps.few x.one far
 
-  -- a link goes down by the one event, and no system is moved
+  -- a link goes down by the one event
+  goes_down : (is_lowering_followed v.paths_before v.paths v.told && not v.moved) ≡ true → TakesOne lowers_one
+  goes_down = takes_so lowers_one lowering_takes
+
   lowers_so : AreWell n (made ++ now) → (is_lowering_followed v.paths_before v.paths v.told && not v.moved) ≡ true
       → LowersOneLink n made now
   lowers_so well lowers =
-      let (followed, none) = and_parts (is_lowering_followed v.paths_before v.paths v.told) (not v.moved) lowers in
-      let (keeps, one) = and_parts (keeps_paths v.paths_before v.paths) (lowers_one v.told) followed in
-      let (delay, paths, few) = keeps_so keeps in
-      lowers_one_link n network made now well
-      (counts_joined (takes_one v.told) n made (made ++ now) (lowering_takes v.told one) (not-true v.moved none)) delay
-      paths few one
+      let x = goes_down lowers in
+      lowers_one_link n network made now well x.unmoved x.keeps.delay x.keeps.paths x.keeps.few x.one
 
   -- and it cuts off a far end
   cuts_so : AreWell n (made ++ now) → (is_lowering_followed v.paths_before v.paths v.told && not v.moved) ≡ true
       → v.cut ≡ true → CutsOneEnd n made now
   cuts_so well lowers cut =
-      let (followed, none) = and_parts (is_lowering_followed v.paths_before v.paths v.told) (not v.moved) lowers in
-      let (keeps, one) = and_parts (keeps_paths v.paths_before v.paths) (lowers_one v.told) followed in
-      let (delay, paths, few) = keeps_so keeps in
-      cuts_one_end n network made now well
-      (counts_joined (takes_one v.told) n made (made ++ now) (lowering_takes v.told one) (not-true v.moved none)) cut
-      delay paths few one
-
-  -- the greatest delay of a link in use stays where such a loss is followed
-  lowering_keeps : (is_lowering_followed v.paths_before v.paths v.told && not v.moved) ≡ true
-      → (sync_paths n (made ++ now)).delay ≡ (sync_paths n made).delay
-  lowering_keeps lowers =
-      let (followed, none) = and_parts (is_lowering_followed v.paths_before v.paths v.told) (not v.moved) lowers in
-      let (keeps, one) = and_parts (keeps_paths v.paths_before v.paths) (lowers_one v.told) followed in
-      (keeps_so keeps).0
+      let x = goes_down lowers in
+      cuts_one_end n network made now well x.unmoved cut x.keeps.delay x.keeps.paths x.keeps.few x.one
 
   -- what was in flight is gone by then
   flight_so : (sync_paths n (made ++ now)).delay ≡ (sync_paths n made).delay
@@ -492,11 +465,15 @@ module _ (n : NetworkState) (network : IsNetwork n) (events : List Timed) (b : S
       ((from_rest from).rested, one, flight_on one)
 
   -- or a system loses its power that others heard
-  pub lost_power : AreWell n (made ++ now) → row_at v ≡ LostPower
+  pub lost_power : AreWell n (made ++ now) → (row_at v ≡ LostPower) ⊎ (row_at v ≡ PowerCutsOff)
       → HasComeToRest b at × FailsHeardFirst n made now × UpIsUsed n (made ++ now)
-  lost_power well row =
-      let (from, fails, used) = why LostPower row in
+  lost_power well which =
+      let (from, fails, used) = by which in
       ((from_rest from).rested, failing_heard well fails, used_up n network (made ++ now) used)
+    where
+      by : (row_at v ≡ LostPower) ⊎ (row_at v ≡ PowerCutsOff) → Why LostPower
+      by (inl row) = why LostPower row
+      by (inr row) = why PowerCutsOff row
 
   -- or it cuts off its far end
   pub record CutsEnd : Type 0 where
@@ -511,7 +488,7 @@ module _ (n : NetworkState) (network : IsNetwork n) (events : List Timed) (b : S
         rested = (from_rest from).rested;
         cuts = cuts_so well lowers cut;
         lowers = lowers_so well lowers;
-        flight = flight_so (lowering_keeps lowers);
+        flight = flight_so (goes_down lowers).keeps.delay;
       }
 
   -- or a far end loses its power
@@ -527,7 +504,7 @@ module _ (n : NetworkState) (network : IsNetwork n) (events : List Timed) (b : S
         rested = (from_rest from).rested;
         fails = failing_end well fails far;
         used = used_up n network (made ++ now) used;
-        flight = flight_so (is_failing_so fails).delay;
+        flight = flight_so (fails_so fails).keeps.delay;
       }
 
   -- what was in flight on links that aren't in use is gone so much later than elsewhere
@@ -545,8 +522,8 @@ module _ (n : NetworkState) (network : IsNetwork n) (events : List Timed) (b : S
       let (from, turns) = why OneTurned row in
       let (followed, one) = and_parts (is_lowering_followed v.paths_before v.paths v.told) v.turned turns in
       let (keeps, lowers) = and_parts (keeps_paths v.paths_before v.paths) (lowers_one v.told) followed in
-      let (delay, paths, few) = keeps_so keeps in
-      let turns = turns_one_link n network made now well one delay paths few lowers in
+      let x = keeps_so keeps in
+      let turns = turns_one_link n network made now well one x.delay x.paths x.few lowers in
       ((from_rest from).rested, turns, unused_so turns)
 
   -- or a far end hangs
@@ -557,15 +534,19 @@ module _ (n : NetworkState) (network : IsNetwork n) (events : List Timed) (b : S
       ((from_rest from).rested, failing_end well fails far, flight_so (is_failing_so fails).delay)
 
   -- or a system that others heard
-  pub heard : AreWell n (made ++ now) → row_at v ≡ FailedHeard
+  pub heard : AreWell n (made ++ now) → (row_at v ≡ FailedHeard) ⊎ (row_at v ≡ FailureCutsOff)
       → HasComeToRest b at × FailsHeardFirst n made now
       × ((sync_paths n (made ++ now)).delay ≡ (sync_paths n made).delay)
-  heard well row =
-      let (from, fails) = why FailedHeard row in
-      ((from_rest from).rested, failing_heard well fails, (is_failing_so fails).delay)
+  heard well which =
+      let (from, fails) = by which in
+      ((from_rest from).rested, failing_heard well fails, (fails_so fails).keeps.delay)
+    where
+      by : (row_at v ≡ FailedHeard) ⊎ (row_at v ≡ FailureCutsOff) → Why FailedHeard
+      by (inl row) = why FailedHeard row
+      by (inr row) = why FailureCutsOff row
 
-  -- Or there is any loss, and nothing is brought. Then roles stand with the choice; or also once no port is left capable
-  -- beside a system that fails.
+  -- Or there are losses, and nothing is brought. Then roles stand with the choice; or no sooner than no port beside a
+  -- system that fails is left capable.
   pub any_losses : row_at v ≡ AnyLosses
       → HasComeToRest b at × LosesEvents n made now
       × ((choice : ℕ) → RolesAfterLoss n made now choice

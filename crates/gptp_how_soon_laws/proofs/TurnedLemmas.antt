@@ -45,7 +45,7 @@ use Rattle.gptp_how_soon.proofs.RoundsLemmas.{Has}
 use Rattle.gptp_settling_time.specs.HowSoon.{TurnsOneLink}
 use Rattle.gptp_settling_time.specs.Losses.{IsFarEnd, IsTurned, IsUnmoved, TurnsLink, TurnsSystem}
 use Rattle.gptp_how_soon_laws.proofs.FailedLemmas.{each_is, far_at}
-use Rattle.gptp_how_soon_laws.proofs.KindLemmas.{loss_lowers}
+use Rattle.gptp_how_soon_laws.proofs.ToldLemmas.{loss_lowers}
 use Rattle.gptp_how_soon_laws.proofs.LoweredLemmas.{TakesDown, is_lost_there, lives_still, takes_down}
 use Rattle.gptp_how_soon_laws.proofs.UnmovedLemmas.{AreWell, asked_of, clock_over, same_system, unmoved_at}
 

@@ -46,7 +46,7 @@ use Rattle.gptp_settling_time.specs.Losses.{IsUnmoved, MovesNone}
 use Rattle.gptp_settling_time.proofs.SameBestLemmas.{HaveSameBests, distance_over, route_over}
 use Rattle.gptp_settling_time.proofs.SamePathsLemmas.{StandAlike, idle_alike, lives_same, paths_same, priority_alike, turned_alike}
 use Rattle.gptp_how_soon_laws.proofs.GainedLemmas.{none_any}
-use Rattle.gptp_how_soon_laws.proofs.KindLemmas.{Worsens, idle_changes, loss_worsens, unused_turns}
+use Rattle.gptp_how_soon_laws.proofs.ToldLemmas.{Worsens, idle_changes, loss_worsens, unused_turns}
 
 -- ---- systems that get worse alone
 

@@ -165,7 +165,7 @@ lost = (
   record { links = links_rest; lapses = inl refl },
   refl,
   (1000003050, (refl, ring_begun), omega arith),
-  inr (inr (inr (inl ((fails, tt), inr (ages, span))))),
+  inr (inr (inr (inl ((fails, tt), (3000000410, 11000000000, inr (ages, span), inl (refl, refl)))))),
 )
   where
     span : 11000000000 ≡ silence_span (pace_of ring_network)

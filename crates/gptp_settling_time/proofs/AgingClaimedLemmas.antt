@@ -36,7 +36,6 @@ use Rattle.gptp_invariants.proofs.ChoicePlaceLemmas.{station_from, station_there
 use Rattle.gptp_invariants.proofs.ChoicePortLemmas.{held_from}
 use Rattle.gptp_invariants.proofs.ChoiceSeenActLemmas.{acts_seen}
 use Rattle.gptp_invariants.proofs.ChoiceSettlesAsMachineLemmas.{kept_back}
-use Rattle.gptp_invariants.proofs.DelayCapableKeptLemmas.{stood}
 use Rattle.gptp_invariants.proofs.WorldBoundedLemmas.{bounded_by}
 use Rattle.gptp_invariants.proofs.WorldNewsCourseLemmas.{later_keeps}
 use Rattle.gptp_invariants.proofs.WorldOutlineLemmas.{acts_time}
@@ -45,11 +44,9 @@ use Rattle.gptp_invariants.proofs.WorldStandsLemmas.{stands_well}
 use Rattle.gptp_settling_time.specs.ChoiceAlone.{ChoiceStands}
 use Rattle.gptp_settling_time.proofs.AgingLemmas.{StaysAsNamed, UnlinkedAge, aged_gone, ages_kept}
 use Rattle.gptp_settling_time.proofs.AgingStillLemmas.{IsAgingSeen, aging_kept, aging_over}
-use Rattle.gptp_settling_time.proofs.AlwaysClaimedLemmas.{IsStanding, linked_on, start_calm, start_network}
+use Rattle.gptp_settling_time.proofs.AlwaysClaimedLemmas.{IsStanding, start_calm, start_network}
 use Rattle.gptp_settling_time.proofs.FitsLemmas.{IsLeftUnmoved, UnlinkedHoldNothing}
-use Rattle.gptp_settling_time.proofs.HeardLemmas.{first_acted, first_later}
-use Rattle.gptp_settling_time.proofs.LeftClaimedLemmas.{HaveAskedLong, asked_heard, asked_ready, left_calm, left_net, left_network, same_left, standing_acts, standing_later}
-use Rattle.gptp_settling_time.proofs.LinkStoodLemmas.{stood_in}
+use Rattle.gptp_settling_time.proofs.LeftClaimedLemmas.{HaveAskedBy, HaveAskedLong, asked_acts, asked_heard, asked_later, asked_ready, bare_calm, left_calm, left_net, left_network, same_left, standing_acts, standing_later, way_later}
 use Rattle.gptp_settling_time.proofs.NewsMeasuredLemmas.{ready_measures}
 use Rattle.gptp_settling_time.proofs.SeenSettledLemmas.{seen_chooses, seen_settles}
 use Rattle.gptp_settling_time.proofs.UnlinkedLemmas.{IsLeftSeen}
@@ -91,38 +88,10 @@ module _ (p : SettlingParams) (aged silent : ℕ) (w : WorldState) (standing : I
 
   module _ (ages : UnlinkedAge says_announce n_of.graph (stay_of p) aged (view w)) where
     aging_calm : Calm n_of (view w)
-    aging_calm = record {
-      facts = started.facts;
-      stations = λ i s there lives.
-          let x = started.stations i s there lives in
-          record {
-            at_rest = x.at_rest;
-            ports = λ place q at.
-                let y = x.ports place q at in
-                record {
-                  log = y.log;
-                  interval = y.interval;
-                  timer = y.timer;
-                  capable = λ now linked.
-                      linked_on p 0 w standing.world (asked_heard p 0 w asked) quiet (omega arith) i s place q there at
-                      linked;
-                  bare = λ now unlinked r holds.
-                      aged_gone says_announce (network_setting n_of) (stay_of p) aged (view w) aging_facts ages now i s
-                      place r there lives unlinked (q, at, holds);
-                  unlinked = y.unlinked;
-                  long = y.long;
-                };
-          };
-      placed = started.placed;
-      there = λ s member.
-          let x = started.there s member in
-          record { station = x.station; there = x.there; live = x.live; is = x.is };
-      lanes = λ from to joins.
-          let x = started.lanes from to joins in
-          record { lane = x.lane; there = x.there; from = x.from; to = x.to; loss = x.loss; is_up = x.is_up };
-      apart = started.apart;
-      left = started.left;
-    }
+    aging_calm =
+        bare_calm p aged silent w standing asked quiet (λ now i s place r there lives unlinked holds.
+        aged_gone says_announce (network_setting n_of) (stay_of p) aged (view w) aging_facts ages now i s place r
+        there lives unlinked holds)
 
     pub aging_after : NothingLapses p.params → delay_in w ≤ w.time → IsAfterLoss n_of (view w)
     aging_after off late = record {
@@ -157,12 +126,6 @@ module _ (p : SettlingParams) (g : Snapshot) (aged silent : ℕ) (w w' : WorldSt
     (keeps : KeepsNetwork w w') (step : MachineSteps says_announce (view w) (view w')) (on : w.time ≤ w'.time) where
   same_snap : snapshot_of w' ≡ snapshot_of w
   same_snap = same_snapshot w w' keeps
-
-  way_then : pred (path_bound (snapshot_of w')) * delay_in w' ≤ w'.time
-  way_then =
-      let way = is.way in
-      subst (λ delay. pred (path_bound (snapshot_of w')) * delay ≤ w'.time) (sym (delay_kept w w' keeps))
-      (subst (λ h. pred (path_bound h) * delay_in w ≤ w'.time) (sym same_snap) (omega (arith, way, on)))
 
   late_then : delay_in w' ≤ w'.time
   late_then =
@@ -201,7 +164,7 @@ module _ (p : SettlingParams) (g : Snapshot) (aged silent : ℕ) (w w' : WorldSt
     well = is.well;
     left = subst (IsLeftUnmoved g) (sym same_snap) is.left;
     near = subst AllAreNear (sym same_snap) is.near;
-    way = way_then;
+    way = way_later w w' keeps on is.way;
     late = late_then;
     seen = seen_then;
   }
@@ -211,8 +174,7 @@ pub aging_later : (p : SettlingParams) (g : Snapshot) (aged silent time : ℕ) (
     → IsAgingAlways p g aged silent (at_time time w)
 aging_later p g aged silent time w later first is =
     aging_step p g aged silent w (at_time time w) is (standing_later p silent time w later first is.standing)
-    (λ at stands. let (one, by, before, x) = is.asked at (stood_in at (at_time time w) w stands refl stands.here) in
-    (one, by, before, first_later p one by at time w is.standing.world later first x)) (later_keeps time w)
+    (asked_later p w.last_change time w is.standing.world later first is.asked) (later_keeps time w)
     (inl (record { time = time; later = later; is = refl })) later
 
 pub aging_acts : (p : SettlingParams) (g : Snapshot) (aged silent : ℕ) (act : Act) (w : WorldState)
@@ -224,13 +186,8 @@ aging_acts p g aged silent act w draws done w' none octet acts is =
     let keeps = acts_keep act w draws done w' none acts in
     let time = acts_time act w draws done w' acts in
     aging_step p g aged silent w w' is standing'
-    (λ at stands. let (one, by, before, x) = is.asked at (stood p w w' world standing'.world keeps at stands) in
-    let change = keeps.change in (
-      one,
-      by,
-      omega (arith, before, change),
-      first_acted p silent act w draws done w' none acts world standing'.world is.standing.measured at one by x,
-    )) keeps
+    (subst (λ t. HaveAskedBy t w') (sym keeps.change)
+    (asked_acts p w.last_change silent act w draws done w' none acts is.standing standing'.world is.asked)) keeps
     (inr (acts_seen act w draws done w' none world.sound world.encodable acts)) (omega (arith, time))
 
 -- where no port is unanswered, ports without a link aren't capable from now on

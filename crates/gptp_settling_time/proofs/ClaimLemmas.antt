@@ -1,6 +1,6 @@
 -- What is so of each Announce that is held, and of each in flight to a live system, every step keeps so, where it is so
 -- of what a system says that holds only such, and of what in flight is taken.
-use Rattle.std.proofs.Common.{◌≡◌, ◌⊎◌, ℕ, suc, true, List, Some, slice_get, refl, sym, ap, subst, ◌∙◌, inl, inr}
+use Rattle.std.proofs.Common.{◌≡◌, ℕ, suc, true, List, Some, slice_get, refl, sym, subst, ◌∙◌, inl, inr}
 use Rattle.gptp_lists.specs.Members.{In}
 use Rattle.gptp_lists.proofs.SystemSpecLemmas.{In-parts}
 use Rattle.gptp_graph.specs.Snapshot.{PortIdentity, clocks, port_of}
@@ -11,9 +11,9 @@ use Rattle.gptp_bmca_machine.specs.Facts.{station_system}
 use Rattle.gptp_bmca_machine.specs.Frame.{Announce, AnnounceFrame, Lane, Spelling}
 use Rattle.gptp_bmca_machine.specs.Network.{Network}
 use Rattle.gptp_bmca_machine.specs.Reacts.{IsMasterAt, IsOwn, PortStep}
-use Rattle.gptp_bmca_machine.specs.Station.{Aged, Disabled, Held, HoldsAt, MachineState, Mine, Port, Received, Reception, Station}
-use Rattle.gptp_bmca_machine.specs.Touch.{Disable, Enable, Grow, Hear, HeldInTouch, IsUsable, Other, Replaces, StationTouch, Tick}
-use Rattle.gptp_bmca_machine.proofs.PlaceLemmas.{received_injective}
+use Rattle.gptp_bmca_machine.specs.Station.{HoldsAt, MachineState, Mine, Port, Received, Reception, Station}
+use Rattle.gptp_bmca_machine.specs.Touch.{Hear, IsUsable, Replaces, StationTouch}
+use Rattle.gptp_settling_time.proofs.TouchedLemmas.{mid_heard}
 
 -- so it is of what a station holds
 abbrev pub HoldsOnly : (Announce → Type 0) → Station → Type 0
@@ -25,28 +25,6 @@ pub record EachAnnounce (says : Spelling) (n : Network) (Q : PortIdentity → Po
   pub lanes : (j : ℕ) (l : Lane) (f : AnnounceFrame) (a : Announce) → slice_get w.lanes j ≡ Some l → In f l.frames
       → says f.octets a → In l.to.clock (clocks n.graph) → Q l.from l.to a
   pub stations : (i : ℕ) (s : Station) → slice_get w.stations i ≡ Some s → s.live ≡ true → HoldsOnly P s
-
--- what a port received after a touch it had received before, or it just heard it, could use it, and it replaced what
--- the port held
-mid_heard : (c n now : ℕ) (touch : StationTouch) (held mid : Held) (r : Reception) → HeldInTouch c n touch now held mid
-    → mid ≡ Received r
-    → (held ≡ Received r)
-    ⊎ ((a : Announce) × (touch ≡ Hear n a) × IsUsable c a × Replaces c n a held × (r.said ≡ a))
-mid_heard c n now (Hear m a) held mid r (inl (same, on, inl takes)) e =
-    let one = received_injective r (record { said = a; at = now; span = takes.span }) (sym e ∙ takes.is) in
-    inr (a, (λ i. Hear (sym same i) a), takes.qualified, takes.replaces, ap (λ (z : Reception). z.said) one)
-mid_heard c n now (Hear m a) held mid r (inl (same, on, inr refuses)) e = inl (sym refuses.is ∙ e)
-mid_heard c n now (Hear m a) held mid r (inr (other, is)) e = inl (sym is ∙ e)
-mid_heard c n now (Tick m) held mid r is e = inl (sym is ∙ e)
-mid_heard c n now (Grow m) held mid r (inl (same, is)) e = absurd (let x : Aged ≡ Received r = sym is ∙ e in cc)
-mid_heard c n now (Grow m) held mid r (inr (other, is)) e = inl (sym is ∙ e)
-mid_heard c n now (Enable m) held mid r (inl (same, off, is)) e =
-    absurd (let x : Aged ≡ Received r = sym is ∙ e in cc)
-mid_heard c n now (Enable m) held mid r (inr (other, is)) e = inl (sym is ∙ e)
-mid_heard c n now (Disable m) held mid r (inl (same, is)) e =
-    absurd (let x : Disabled ≡ Received r = sym is ∙ e in cc)
-mid_heard c n now (Disable m) held mid r (inr (other, is)) e = inl (sym is ∙ e)
-mid_heard c n now Other held mid r is e = inl (sym is ∙ e)
 
 module _ (says : Spelling) (n : Network) (Q : PortIdentity → PortIdentity → Announce → Type 0)
     (P : Announce → Type 0) (weaker : (from to : PortIdentity) (a : Announce) → P a → Q from to a)
@@ -79,8 +57,7 @@ module _ (says : Spelling) (n : Network) (Q : PortIdentity → PortIdentity → 
             | inl (kept, keeps) ↦ elim (mid_heard call.s.clock (suc place) mid.time touch q.held step.mid r step.before
                 (sym kept ∙ holds)) [
                   | inl before ↦ all.stations call.place call.s call.here call.live place r (q, stood, before)
-                  | inr (a, touched, usable, replaces, said) ↦
-                      subst P (sym said) (heard place q a touched stood usable replaces)
+                  | inr (touched, usable, replaces) ↦ heard place q r.said touched stood usable replaces
                 ]
           ]
 

@@ -33,7 +33,7 @@ use Rattle.gptp_settling_time.proofs.FitsLemmas.{UnlinkedHoldNothing}
 use Rattle.gptp_settling_time.proofs.LeftClaimedLemmas.{HaveAskedBy, IsLeftAlways, asked_acts, asked_heard, asked_later, left_acts, left_calm, left_later, left_net, left_network, left_seen, same_left}
 use Rattle.gptp_settling_time.proofs.RightKeptLemmas.{right_kept}
 use Rattle.gptp_settling_time.proofs.RightLemmas.{all_right}
-use Rattle.gptp_settling_time.proofs.TellsRightLemmas.{IsSettledState, LevelTellsRight, tells_right_from}
+use Rattle.gptp_settling_time.proofs.TellsRightLemmas.{IsSettledState, LevelTellsRight, RightTimes}
 use Rattle.gptp_settling_time.proofs.DueLemmas.{AreDueBy, UpIsInUse, due_by_delay, due_by_interval, use_kept}
 use Rattle.gptp_settling_time.proofs.UnlinkedLemmas.{IsLeftSeen}
 use native.Mathlib.Decide.{dec_le}
@@ -47,10 +47,11 @@ abbrev pub GoesBy : SettlingParams → ℕ → WorldState → Type 0
 GoesBy p gone w = (UpIsInUse w × (gone ≡ delay_in w)) ⊎ (gone ≡ largest_interval p)
 
 -- links tell right traces by distance, and what they told before is gone by a time
-pub record IsBecomingRight (p : SettlingParams) (n : Network) (right base gone old : ℕ) (w : WorldState) : Type 0 where
+pub record IsBecomingRight (p : SettlingParams) (n : Network) (right gone old : ℕ) (w : WorldState) : Type 0 where
+  pub times : RightTimes n
   pub goes : GoesBy p gone w
-  pub levels : (d : ℕ) → LevelTellsRight says_announce n base (view w) d
-  pub is : tells_right_from n base (pred n.reach) ≡ right
+  pub levels : (d : ℕ) → LevelTellsRight says_announce n times (view w) d
+  pub is : times.from (pred n.reach) ≤ right
   pub early : w.time < right
   pub by : right + gone ≤ suc old
 
@@ -58,7 +59,7 @@ pub record IsBecomingRight (p : SettlingParams) (n : Network) (right base gone o
 abbrev pub BecomesSound : SettlingParams → ℕ → ℕ → ℕ → WorldState → Type 0
 BecomesSound p silent right old w =
     IsSoundButOld says_announce (snapshot_of w) old (view w)
-    ⊎ ((base : ℕ) × (gone : ℕ) × IsBecomingRight p (left_network p silent w) right base gone old w)
+    ⊎ ((gone : ℕ) × IsBecomingRight p (left_network p silent w) right gone old w)
 
 -- What is claimed of a world since such a loss: it is left, ports at links are capable since a time, ports beside
 -- failed systems are silent by another, and all is sound in what is left but for what is old, or becomes so.
@@ -120,7 +121,7 @@ module _ (p : SettlingParams) (g : Snapshot) (since silent right old : ℕ) (w w
         seen.fits old sound (view w') calm' none' step
 
     -- links go on to tell right traces
-    module _ (base gone : ℕ) (becomes : IsBecomingRight p n right base gone old w) where
+    module _ (gone : ℕ) (becomes : IsBecomingRight p n right gone old w) where
       x : IsSettledState says_announce n (view w)
       x = record { calm = calm; invariant = seen.invariant; late = late; none = seen.unlinked }
 
@@ -134,9 +135,9 @@ module _ (p : SettlingParams) (g : Snapshot) (since silent right old : ℕ) (w w
         none = none';
       }
 
-      levels' : (d : ℕ) → LevelTellsRight says_announce n base (view w') d
+      levels' : (d : ℕ) → LevelTellsRight says_announce n becomes.times (view w') d
       levels' =
-          right_kept says_announce n net is.left.near base (view w) (view w') x x'
+          right_kept says_announce n net is.left.near becomes.times (view w) (view w') x x'
           (λ port linked.
           linked_interval p w is.left.standing.world.sound is.left.standing.world.known port linked) step becomes.levels
 
@@ -160,7 +161,7 @@ module _ (p : SettlingParams) (g : Snapshot) (since silent right old : ℕ) (w w
           → IsSoundButOld says_announce n.graph old (view w')
       all_by_now by_now =
           let is_right = becomes.is in
-          all_right says_announce n net is.left.near base (view w') x' levels' (omega (arith, is_right, by_now)) old
+          all_right says_announce n net is.left.near becomes.times (view w') x' levels' (omega (arith, is_right, by_now)) old
           (by step)
         where
           by : MachineSteps says_announce (view w) (view w') → AreDueBy old w'
@@ -179,9 +180,9 @@ module _ (p : SettlingParams) (g : Snapshot) (since silent right old : ℕ) (w w
       right_then = elim (dec_le right w'.time) [
         | yes by_now ↦ inl (subst (λ h. IsSoundButOld says_announce h old (view w')) (sym snapshot) (all_by_now by_now))
         | no not ↦ inr (
-          base,
           gone,
-          subst (λ y. IsBecomingRight p y right base gone old w') (sym same) (record {
+          subst (λ y. IsBecomingRight p y right gone old w') (sym same) (record {
+            times = becomes.times;
             goes = goes';
             levels = levels';
             is = becomes.is;
@@ -194,7 +195,7 @@ module _ (p : SettlingParams) (g : Snapshot) (since silent right old : ℕ) (w w
     sound_then : BecomesSound p silent right old w'
     sound_then = elim (is.sound quiet off) [
       | inl sound ↦ inl (subst (λ h. IsSoundButOld says_announce h old (view w')) (sym snapshot) (stays_so sound))
-      | inr (base, gone, becomes) ↦ right_then base gone becomes
+      | inr (gone, becomes) ↦ right_then gone becomes
     ]
 
   pub cleared_step : IsCleared p g since silent right old w'
@@ -232,7 +233,7 @@ module _ (p : SettlingParams) (g : Snapshot) (since silent right old : ℕ) (w :
             let seen = is.left.seen quiet off in
             old_are_gone says_announce (left_network p silent w) old (view w)
             (left_calm p silent w is.left.standing is.left.asked quiet seen.unlinked) gone sound
-        | inr (base, span, becomes) ↦
+        | inr (span, becomes) ↦
             let early = becomes.early in
             let by = becomes.by in
             absurd (omega (arith, gone, early, by))

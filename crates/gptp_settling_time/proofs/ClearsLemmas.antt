@@ -1,6 +1,6 @@
 -- A world in which a far end of its links is lost: what is held is sound in what is left, and what is in flight is so
 -- but for what is due soon.
-use Rattle.std.proofs.Common.{List, Some, ap, arith, inl, inr, pred, slice_get, subst, suc, sym, ℕ, ◌*◌, ◌+◌, ◌∙◌, ◌≡◌, ◌≢◌, ◌≤◌, ◌⊎◌, refl}
+use Rattle.std.proofs.Common.{List, Some, ap, arith, inl, inr, pred, slice_get, subst, suc, sym, ℕ, ◌*◌, ◌+◌, ◌∙◌, ◌≡◌, ◌≢◌, ◌≤◌, ◌⊎◌}
 use Rattle.gptp_lists.specs.Members.{In}
 use Rattle.gptp_graph.specs.Snapshot.{Joins, PortIdentity, Snapshot}
 use Rattle.gptp_links.specs.declared.link.Direction.{Direction}
@@ -20,14 +20,16 @@ use Rattle.gptp_invariants.specs.WorldSound.{IsSoundWorld}
 use Rattle.gptp_invariants.specs.WorldStanding.{snapshot_of}
 use Rattle.gptp_invariants.proofs.WorldStandsLemmas.{stands_well}
 use Rattle.gptp_settling_time.specs.Losses.{IsCutOff, IsFarEnd}
-use Rattle.gptp_settling_time.proofs.ClearedLemmas.{GoesBy, IsCleared}
+use Rattle.gptp_settling_time.proofs.ClearedLemmas.{GoesBy, IsBecomingRight, IsCleared}
 use Rattle.gptp_settling_time.proofs.FarEndLemmas.{HasAllBut}
 use Rattle.gptp_settling_time.proofs.FitsLemmas.{IsLeftUnmoved}
-use Rattle.gptp_settling_time.proofs.LeftClaimedLemmas.{HaveAskedBy, IsLeftAlways, left_net, left_network}
+use Rattle.gptp_settling_time.proofs.LeftClaimedLemmas.{HaveAskedBy, IsLeftAlways, left_calm, left_net, left_network}
 use Rattle.gptp_settling_time.proofs.LostEndLemmas.{but_old_reduced, lost_end_sound}
 use Rattle.gptp_settling_time.proofs.LoweredLemmas.{still_joins}
 use Rattle.gptp_settling_time.proofs.ReducedLemmas.{IsReduced}
-use Rattle.gptp_settling_time.proofs.TellsRightLemmas.{right_begins}
+use Rattle.gptp_settling_time.proofs.RightBeginLemmas.{right_begins, root_right}
+use Rattle.gptp_settling_time.proofs.TellsRightLemmas.{told_last, told_times}
+use Rattle.gptp_settling_time.proofs.UnlinkedLemmas.{IsLeftSeen}
 use Rattle.gptp_graph.specs.PathBound.{path_bound}
 use Rattle.gptp_settling_time.proofs.SettledSeenLemmas.{IsSettledSeen}
 use Rattle.gptp_settling_time.proofs.SoundButOldLemmas.{IsSoundButOld}
@@ -79,34 +81,49 @@ cleared_reduced p g since silent right old w w' same less quiet late left asked 
     | inl sound ↦
         inl (but_old_reduced says_announce (snapshot_of w') old (view w) (view w') less
         (subst (λ h. IsSoundButOld says_announce h old (view w)) (sym same) sound))
-    | inr (base, gone, becomes) ↦ let early = becomes.early in absurd (omega (arith, late, early))
+    | inr (gone, becomes) ↦ let early = becomes.early in absurd (omega (arith, late, early))
   ];
 }
 
 -- ---- another link goes down
 
--- links begin to tell right traces
+-- The best tells what is right, and so do its neighbours at once: so much later all do, an announce interval and the
+-- greatest delay for each system of a path but two.
+abbrev pub nearer_echo : SettlingParams → WorldState → ℕ
+nearer_echo p w = pred (pred (path_bound (snapshot_of w))) * (largest_interval p + delay_in w)
+
+-- links begin to tell right traces, where all that is held was sound before
 pub rights : (p : SettlingParams) (g : Snapshot) (since silent gone : ℕ) (w : WorldState) → IsLeftAlways p g silent w
-    → HaveAskedBy since w → GoesBy p gone w
-    → IsCleared p g since silent
-    (suc w.time + pred (path_bound (snapshot_of w)) * (largest_interval p + delay_in w))
-    (w.time + pred (path_bound (snapshot_of w)) * (largest_interval p + delay_in w) + gone) w
-rights p g since silent gone w left asked goes = record {
+    → HaveAskedBy since w → GoesBy p gone w → IsSoundEverywhere says_announce g (view w)
+    → IsCleared p g since silent (suc (w.time + nearer_echo p w)) (w.time + nearer_echo p w + gone) w
+rights p g since silent gone w left asked goes sound = record {
   left = left;
   asked = asked;
-  sound = λ quiet off. inr (
-    suc w.time,
-    gone,
-    record {
-      goes = goes;
-      levels = right_begins says_announce (left_network p silent w) (left_net p silent w left.standing.world) left.near
-          (suc w.time) (view w) (omega arith);
-      is = refl;
-      early = omega arith;
-      by = omega arith;
-    },
-  );
+  sound = λ quiet off. inr (gone, becomes (left.seen quiet off) quiet);
 }
+  where
+    becomes : IsLeftSeen says_announce g (left_network p silent w) (view w) → HaveQuietLinks p.params w
+        → IsBecomingRight p (left_network p silent w) (suc (w.time + nearer_echo p w)) gone
+        (w.time + nearer_echo p w + gone) w
+    becomes seen quiet =
+        let n = left_network p silent w in
+        let by = told_last n (suc w.time) (pred (path_bound (snapshot_of w))) in
+        record {
+          times = told_times n (suc w.time);
+          goes = goes;
+          levels = right_begins says_announce n (suc w.time) (view w) (omega arith)
+              (root_right says_announce g n left.well (left_net p silent w left.standing.world) left.near left.left
+              (view w)
+              (record {
+                calm = left_calm p silent w left.standing left.asked quiet seen.unlinked;
+                invariant = seen.invariant;
+                late = let past = left.late in omega (arith, past);
+                none = seen.unlinked;
+              }) sound (told_times n (suc w.time)));
+          is = omega (arith, by);
+          early = omega arith;
+          by = omega arith;
+        }
 
 -- ---- a link goes down, and cuts a far end off
 

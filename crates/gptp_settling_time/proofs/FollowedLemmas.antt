@@ -341,9 +341,10 @@ module _ (d : DocumentState) (network : IsNetwork d.network) (order : AreInOrder
             }
 
         -- by the first a system fails that others hear, and what they hold of it ages on
-        heard : FailsHeard n earlier event → EachEvent (LowersUnused n) (earlier ++ event ∷ []) now
-            → BoundsAging n earlier (event ∷ now) choice roles → IsLost
-        heard fails others bounds =
+        heard : (held quiet : ℕ) → held ≤ choice → quiet ≤ roles → FailsHeard n earlier event
+            → EachEvent (LowersUnused n) (earlier ++ event ∷ []) now → BoundsAging n earlier (event ∷ now) held quiet
+            → IsLost
+        heard held quiet less quiet_less fails others bounds =
             let p = pace_of n in
             let span : ℕ = aging_span p (sync_paths n earlier) in
             let aged : ℕ = suc (event.at + span) in
@@ -365,24 +366,24 @@ module _ (d : DocumentState) (network : IsNetwork d.network) (order : AreInOrder
             used_so : UpIsUsed n (earlier ++ event ∷ now) → UpIsUsed n (events_by time d.events)
             used_so = subst (UpIsUsed n) (sym parts)
 
-            settles : BoundsAging n earlier (event ∷ now) choice roles → (settled : ℕ) → time + roles < settled
+            settles : BoundsAging n earlier (event ∷ now) held quiet → (settled : ℕ) → time + roles < settled
                 → (suc (event.at + silence_span (pace_of n)) ≤ settled) ⊎ UpIsUsed n (events_by time d.events)
             settles (inl (used, is_choice, is_roles)) settled late = inr (used_so used)
-            settles (inr (is_choice, is_roles)) settled late = inl (omega (arith, here, is_roles, late))
+            settles (inr (is_choice, is_roles)) settled late = inl (omega (arith, here, is_roles, late, quiet_less))
 
-            chooses : BoundsAging n earlier (event ∷ now) choice roles → (settled : ℕ) → time + choice < settled
+            chooses : BoundsAging n earlier (event ∷ now) held quiet → (settled : ℕ) → time + choice < settled
                 → (suc (event.at + aging_span (pace_of n) (sync_paths n earlier)) ≤ settled)
                 ⊎ ((suc (event.at + silence_span (pace_of n)) ≤ settled) ⊎ UpIsUsed n (events_by time d.events))
             chooses (inl (used, is_choice, is_roles)) settled late = inr (inr (used_so used))
             chooses (inr (is_choice, is_roles)) settled late =
                 lesser (aging_span (pace_of n) (sync_paths n earlier)) (silence_span (pace_of n)) is_choice
               where
-                lesser : (a b : ℕ) → choice ≡ min a b
+                lesser : (a b : ℕ) → held ≡ min a b
                     → (suc (event.at + a) ≤ settled)
                     ⊎ ((suc (event.at + b) ≤ settled) ⊎ UpIsUsed n (events_by time d.events))
                 lesser a b is = elim (dec_le a b) [
-                  | yes less ↦ inl (omega (arith, here, is, late, less))
-                  | no over ↦ inr (inl (omega (arith, here, is, late, over)))
+                  | yes first ↦ inl (omega (arith, here, is, late, less, first))
+                  | no over ↦ inr (inl (omega (arith, here, is, late, less, over)))
                 ]
 
         -- whatever is taken away
@@ -435,7 +436,11 @@ module _ (d : DocumentState) (network : IsNetwork d.network) (order : AreInOrder
               ],
             ))
         by (inr (inr (inl (turns, is_choice, same)))) = turned now refl turns is_choice same
-        by (inr (inr (inr (inl ((fails, others), bounds))))) = heard fails others bounds
+        by (inr (inr (inr (inl ((fails, others), (held, quiet, bounds, inl (same, roles_same))))))) =
+            heard held quiet (omega (arith, same)) (omega (arith, roles_same)) fails others bounds
+        by (inr (inr (inr (inl ((fails, others), (held, quiet, bounds, inr (is_later, roles_later))))))) =
+            let more = le-max_right choice quiet in
+            heard held quiet (omega (arith, is_later)) (omega (arith, roles_later, more)) fails others bounds
         by (inr (inr (inr (inr any)))) = any_lost any
 
     lost_after : (earlier : List ℕ) → IsLossBoundAfter d.network d.events earlier time choice roles → IsLost

@@ -155,11 +155,11 @@ pub record IsLeftAlways (p : SettlingParams) (g : Snapshot) (silent : ℕ) (w : 
   pub seen : HaveQuietLinks p.params w → NothingLapses p.params
       → IsLeftSeen says_announce g (left_network p silent w) (view w)
 
--- so the world is calm
-pub left_calm : (p : SettlingParams) (silent : ℕ) (w : WorldState) → IsStanding p silent w → HaveAskedLong w
-    → HaveQuietLinks p.params w → UnlinkedHoldNothing (snapshot_of w) (view w)
-    → Calm (left_network p silent w) (view w)
-left_calm p silent w standing asked quiet none =
+-- The world is calm whose ports without a link hold nothing from a time on.
+pub bare_calm : (p : SettlingParams) (bare silent : ℕ) (w : WorldState) → IsStanding p silent w → HaveAskedLong w
+    → HaveQuietLinks p.params w → (bare ≤ w.time → UnlinkedHoldNothing (snapshot_of w) (view w))
+    → Calm (record (left_network p silent w) { bare = bare }) (view w)
+bare_calm p bare silent w standing asked quiet none =
     let c : Calm (start_network p (path_bound (snapshot_of w)) silent w) (view w) =
     start_calm p silent w standing (asked_heard p silent w asked) quiet (path_bound (snapshot_of w)) in
     record {
@@ -177,7 +177,7 @@ left_calm p silent w standing asked quiet none =
                   capable = λ now linked.
                       linked_on p 0 w standing.world (asked_heard p 0 w asked) quiet (omega arith) i s place q there at
                       linked;
-                  bare = λ now unlinked r holds. none i s place r there lives unlinked (q, at, holds);
+                  bare = λ now unlinked r holds. none now i s place r there lives unlinked (q, at, holds);
                   unlinked = y.unlinked;
                   long = y.long;
                 };
@@ -193,17 +193,24 @@ left_calm p silent w standing asked quiet none =
       left = c.left;
     }
 
+pub left_calm : (p : SettlingParams) (silent : ℕ) (w : WorldState) → IsStanding p silent w → HaveAskedLong w
+    → HaveQuietLinks p.params w → UnlinkedHoldNothing (snapshot_of w) (view w)
+    → Calm (left_network p silent w) (view w)
+left_calm p silent w standing asked quiet none = bare_calm p 0 silent w standing asked quiet (λ now. none)
+
+-- the greatest delay for each system of a path but one has passed, and so it has later
+pub way_later : (w w' : WorldState) → KeepsNetwork w w' → w.time ≤ w'.time
+    → pred (path_bound (snapshot_of w)) * delay_in w ≤ w.time
+    → pred (path_bound (snapshot_of w')) * delay_in w' ≤ w'.time
+way_later w w' keeps on way =
+    subst (λ delay. pred (path_bound (snapshot_of w')) * delay ≤ w'.time) (sym (delay_kept w w' keeps))
+    (subst (λ h. pred (path_bound h) * delay_in w ≤ w'.time) (sym (same_snapshot w w' keeps)) (omega (arith, way, on)))
+
 module _ (p : SettlingParams) (g : Snapshot) (silent : ℕ) (w w' : WorldState) (is : IsLeftAlways p g silent w)
     (standing' : IsStanding p silent w') (asked' : HaveAskedLong w') (keeps : KeepsNetwork w w')
     (step : MachineSteps says_announce (view w) (view w')) (on : w.time ≤ w'.time) where
   same_snap : snapshot_of w' ≡ snapshot_of w
   same_snap = same_snapshot w w' keeps
-
-  late_then : pred (path_bound (snapshot_of w')) * delay_in w' ≤ w'.time
-  late_then =
-      let late = is.late in
-      subst (λ delay. pred (path_bound (snapshot_of w')) * delay ≤ w'.time) (sym (delay_kept w w' keeps))
-      (subst (λ h. pred (path_bound h) * delay_in w ≤ w'.time) (sym same_snap) (omega (arith, late, on)))
 
   seen_then : HaveQuietLinks p.params w' → NothingLapses p.params
       → IsLeftSeen says_announce g (left_network p silent w') (view w')
@@ -233,7 +240,7 @@ module _ (p : SettlingParams) (g : Snapshot) (silent : ℕ) (w w' : WorldState) 
     left = subst (IsLeftUnmoved g) (sym same_snap) is.left;
     near = subst AllAreNear (sym same_snap) is.near;
     farther = subst (LostAreFarther g) (sym same_snap) is.farther;
-    late = late_then;
+    late = way_later w w' keeps on is.late;
     seen = seen_then;
   }
 

@@ -79,6 +79,8 @@ pub mod ReselectsLemmas
 pub mod UnmovedLemmas
 pub mod BetterClockLemmas
 pub mod FitsLemmas
+pub mod TouchedLemmas
+pub mod NotTakenLemmas
 pub mod UnlinkedLemmas
 pub mod ReplyDueLemmas
 pub mod LeftClaimedLemmas

@@ -19,13 +19,14 @@ use Rattle.gptp_invariants.specs.ChoiceSettlesAsMachine.{IsWorld}
 use Rattle.gptp_invariants.specs.DelayMeasured.{LinkIsMeasured}
 use Rattle.gptp_invariants.specs.WorldNews.{AreReadyBy, AreSilentBy}
 use Rattle.gptp_invariants.specs.WorldStanding.{channel_is_used, live_stations, snapshot_of, stations_have_clock}
+use Rattle.gptp_invariants.proofs.WorldNewsLemmas.{ready_goes_through}
 use Rattle.gptp_invariants.proofs.WorldStandsLemmas.{sender_lives, used_up}
 use Rattle.gptp_invariants.proofs.WorldSystemLemmas.{clock_from, clock_there}
 use Rattle.gptp_settling_time.specs.Idle.{Lives}
 use Rattle.gptp_settling_time.proofs.DeadLanesLemmas.{HasLess, called_less}
 use Rattle.gptp_settling_time.proofs.FailedAloneLemmas.{used_between}
 use Rattle.gptp_settling_time.proofs.LosingLemmas.{HadFlight, TakesAway, WasUsed}
-use Rattle.gptp_settling_time.proofs.PriorityNewsLemmas.{priority_ready, priority_silent}
+use Rattle.gptp_settling_time.proofs.PriorityNewsLemmas.{priority_silent, stood}
 use Rattle.gptp_settling_time.proofs.ReactsLemmas.{Reacts, reacts}
 use Rattle.gptp_settling_time.proofs.StandsStillLemmas.{StandsStill, set_still, snapshot_still}
 
@@ -112,7 +113,9 @@ module _ (p : SettlingParams) (owner value : ℕ) (w : WorldState) (draws : List
     world = is';
     measured = measured';
     quiet = priority_silent p silent owner value w draws done w' is is' measured live silent_by octet acts;
-    ready = priority_ready p since owner value w draws done w' is is' measured live silent_by octet acts ready;
+    ready = λ at stands.
+        ready_goes_through p since at (Changing (Priority1 owner value)) w w' draws done is.sound measured tt acts
+        (ready at (stood w w' r p is is' at stands));
     lived = lived;
     used = was_used;
     flight = had_flight;

@@ -1,8 +1,8 @@
 -- A loss leads a network that has settled to what is left, or in which a system turns, or that is cleared.
-use Rattle.std.proofs.Common.{List, [], ap, append-nil, append_assoc, arith, inl, inr, max, refl, subst, suc, sym, ℕ, ◌*◌, ◌++◌, ◌+◌, ◌∙◌, ◌∷◌, ◌≡◌, ◌≤◌, ◌⊎◌}
+use Rattle.std.proofs.Common.{List, [], ap, append-nil, append_assoc, arith, inl, inr, max, pred, refl, subst, suc, sym, zero, ℕ, ◌*◌, ◌++◌, ◌+◌, ◌∙◌, ◌∷◌, ◌≡◌, ◌≤◌, ◌⊎◌}
 use Rattle.std.specs.List.{AllByRecursion}
-use Rattle.std.proofs.Math.Nat.{le-max_left, le-max_right}
-use Rattle.gptp_setup.specs.SettlingParams.{largest_interval, longest_span}
+use Rattle.std.proofs.Math.Nat.{le-max_left, le-max_right, mul-le-mul_right}
+use Rattle.gptp_setup.specs.SettlingParams.{SettlingParams, largest_interval, longest_span}
 use Rattle.gptp_scenario.specs.Calm.{IsCalm, NothingLapses, last_change}
 use Rattle.gptp_scenario.specs.Network.{NetworkState, pace_of}
 use Rattle.gptp_scenario.specs.SettlingTime.{capability_span}
@@ -10,7 +10,7 @@ use Rattle.gptp_scenario.specs.SyncWait.{sync_paths}
 use Rattle.gptp_scenario.specs.declared.change.Timed.{Timed}
 use Rattle.gptp_scenario.specs.declared.sync_wait.SyncPaths.{SyncPaths}
 use Rattle.gptp_settling_time.specs.HowSoon.{CutsOneEnd, EachEvent, FailsEndFirst, LowersOneLink, RestsAfterOneLoss, TurnsOneLink, TurnsUnused, way_span}
-use Rattle.gptp_settling_time.specs.InTurn.{Aging, AnyPast, ChoosesAfter, Cleared, CutsCalm, EventLeads, FailsCalm, FailsNow, FlightIsGone, Gained, Heard, LeadOn, Left, LosesNow, Lost, LowersCalm, Past, SettlesAfter, Starting, Turned, TurnsCalm, echo_span, turned_echo_span}
+use Rattle.gptp_settling_time.specs.InTurn.{Aging, AnyPast, ChoosesAfter, Cleared, CutsCalm, EventLeads, FailsCalm, FailsNow, FlightIsGone, Gained, Heard, LeadOn, Left, LosesNow, Lost, LowersCalm, Past, SettlesAfter, Starting, Turned, TurnsCalm, echo_span, nearer_echo_span, turned_echo_span}
 use Rattle.gptp_settling_time.specs.Losses.{CutsFarEnd, FailsFarEnd, LowersLink, LowersUnused, TurnsLink, UpIsUsed}
 use Rattle.gptp_settling_time.proofs.CalmLessLemmas.{fails_calm, lowers_calm}
 use Rattle.gptp_settling_time.proofs.SamePathsLemmas.{turned_paths}
@@ -262,7 +262,7 @@ module _ (n : NetworkState) (made : List Timed) (event : Timed) (gone : ℕ) (fl
 module _ (n : NetworkState) (made : List Timed) (event : Timed) (gone : ℕ)
     (flight : FlightIsGone n (made ++ event ∷ []) gone) where
   abbrev echo : ℕ
-  echo = echo_span n (made ++ event ∷ [])
+  echo = nearer_echo_span n (made ++ event ∷ [])
 
   record IsRightedBy (past : Past) : Type 0 where
     since : ℕ
@@ -295,6 +295,13 @@ module _ (n : NetworkState) (made : List Timed) (event : Timed) (gone : ℕ)
   right_leads (Cleared begun silent right last) settled lowers = absurd settled
   right_leads (Aging aged silent) settled lowers = absurd settled
   right_leads (Lost since most silent) settled lowers = absurd settled
+
+-- What was in flight as all but the neighbours of the best tell what is right is gone once they do too.
+nearer_within : (systems hop gone : ℕ) → gone ≤ hop → pred (pred systems) * hop + gone ≤ max (pred systems * hop) gone
+nearer_within zero hop gone soon = let least = le-max_right (0 * hop) gone in omega (arith, least)
+nearer_within (suc zero) hop gone soon = let least = le-max_right (0 * hop) gone in omega (arith, least)
+nearer_within (suc (suc k)) hop gone soon =
+    let most = le-max_left (suc k * hop) gone in omega (arith, most, soon)
 
 -- it has come to rest by so much later
 module _ (n : NetworkState) (off : NothingLapses n.params) (time : ℕ) (made now : List Timed) (past : Past) (rest : ℕ)
@@ -364,7 +371,7 @@ module _ (n : NetworkState) (off : NothingLapses n.params) (time : ℕ) (made no
 
     -- another such link goes down
     right_led : LowersLink n made event → others ≡ [] → (gone : ℕ) → FlightIsGone n (made ++ now) gone
-        → rest ≡ echo_span n (made ++ now) + gone → IsLed n made now past (suc (time + rest))
+        → rest ≡ max (echo_span n (made ++ now)) gone → IsLed n made now past (suc (time + rest))
     right_led lowers alone gone flight is =
         let one : made ++ now ≡ made ++ event ∷ [] =
         ap (λ es. made ++ es) (same ∙ ap (λ es. event ∷ es) alone) in
@@ -372,17 +379,24 @@ module _ (n : NetworkState) (off : NothingLapses n.params) (time : ℕ) (made no
         (record { lowers = lowers; calm = calm_then; off = off }) in
         let less = way_then (subst (EachEvent (LowersUnused n) (made ++ event ∷ [])) (sym alone) tt) lowers.delay
         lowers.paths in
-        let echo_is : echo_span n (made ++ now) ≡ echo_span n (made ++ event ∷ []) = ap (echo_span n) one in
+        let last : Past = Cleared x.since x.since (event.at + 1 + nearer_echo_span n (made ++ event ∷ []))
+        (event.at + nearer_echo_span n (made ++ event ∷ []) + gone) in
+        let within : nearer_echo_span n (made ++ event ∷ []) + gone ≤ max (echo_span n (made ++ now)) gone =
+        subst (λ es. nearer_echo_span n es + gone ≤ max (echo_span n (made ++ now)) gone) one
+        (nearer_within (sync_paths n (made ++ now)).systems
+        (largest_interval (pace_of n) + (sync_paths n (made ++ now)).delay) gone (gone_soon flight)) in
         let before = here in
         let early = x.early in
-        led x.since x.since (event.at + 1 + echo_span n (made ++ event ∷ []))
-        (event.at + echo_span n (made ++ event ∷ []) + gone) x.leads
-        (subst (λ es. LeadOn n (made ++ event ∷ []) (Cleared x.since x.since
-        (event.at + 1 + echo_span n (made ++ event ∷ [])) (event.at + echo_span n (made ++ event ∷ []) + gone)) es
-        (Cleared x.since x.since (event.at + 1 + echo_span n (made ++ event ∷ []))
-        (event.at + echo_span n (made ++ event ∷ []) + gone))) (sym alone) refl)
-        (omega (arith, before, is, echo_is)) (inl (omega (arith, early, before)))
+        led x.since x.since (event.at + 1 + nearer_echo_span n (made ++ event ∷ []))
+        (event.at + nearer_echo_span n (made ++ event ∷ []) + gone) x.leads
+        (subst (λ es. LeadOn n (made ++ event ∷ []) last es last) (sym alone) refl)
+        (omega (arith, before, is, within)) (inl (omega (arith, early, before)))
         (omega (arith, early, before, less))
+      where
+        gone_soon : FlightIsGone n (made ++ now) gone
+            → gone ≤ largest_interval (pace_of n) + (sync_paths n (made ++ now)).delay
+        gone_soon (inl (used, delay)) = omega (arith, delay)
+        gone_soon (inr interval) = omega (arith, interval)
 
     fail_led : FailsFarEnd n made event → EachEvent (LowersUnused n) (made ++ event ∷ []) others
         → (UpIsUsed n (made ++ now) × FlightIsGone n made rest)
@@ -455,7 +469,7 @@ module _ (n : NetworkState) (off : NothingLapses n.params) (time : ℕ) (made no
       × ((UpIsUsed n (made ++ now) × FlightIsGone n made rest)
       ⊎ ((gone : ℕ) × FlightIsGone n made gone × (rest ≡ max (silence_span (pace_of n)) gone))))
       ⊎ ((LowersOneLink n made es
-      × ((gone : ℕ) × FlightIsGone n (made ++ now) gone × (rest ≡ echo_span n (made ++ now) + gone)))
+      × ((gone : ℕ) × FlightIsGone n (made ++ now) gone × (rest ≡ max (echo_span n (made ++ now)) gone)))
       ⊎ (TurnsOneLink n made es
       × ((UpIsUsed n (made ++ now) × (rest ≡ turned_echo_span n (made ++ now)))
       ⊎ (rest ≡ turned_echo_span n (made ++ now) + largest_interval (pace_of n))))))

@@ -30,13 +30,14 @@ use Rattle.gptp_theorem.specs.PlayedLaws.{IsPlayable}
 use Rattle.gptp_theorem.specs.Reached.{channel_wire}
 use Rattle.gptp_theorem.proofs.CalmLemmas.{quiet_stands}
 use Rattle.gptp_theorem.proofs.SyncPathLemmas.{paths_stand}
-use Rattle.gptp_settling_time.specs.InTurn.{ClearsBy, CutsCalm, FailsCalm, FailsNow, FlightIsGone, LeavesStanding, LowersCalm, TurnsCalm, TurnsNow, echo_span}
+use Rattle.gptp_settling_time.specs.InTurn.{ClearsBy, CutsCalm, FailsCalm, FailsNow, FlightIsGone, LeavesStanding, LowersCalm, TurnsCalm, TurnsNow, nearer_echo_span}
 use Rattle.gptp_settling_time.proofs.GainLemmas.{lives_so, up_so}
 use Rattle.gptp_settling_time.proofs.FailedAloneLemmas.{all_but, failed_left, less as failed_reduced, none_joined, ready_on as failed_ready}
 use Rattle.gptp_settling_time.proofs.AgingToLemmas.{IsAgingTo}
 use Rattle.gptp_settling_time.proofs.FailedHeardLemmas.{failed_aging}
 use Rattle.gptp_settling_time.proofs.KeptToLemmas.{KeepsTo}
 use Rattle.gptp_settling_time.proofs.LeftToLemmas.{IsLeftTo, less_way, up_in_use}
+use Rattle.gptp_settling_time.proofs.LostEndLemmas.{sound_reduced}
 use Rattle.gptp_settling_time.proofs.LoweredLemmas.{act_left, ends, less as lowered_reduced, ready_on as lowered_ready, stay}
 use Rattle.gptp_settling_time.proofs.SettledSeenLemmas.{HasSettledSeen, IsSettledSeen}
 use Rattle.gptp_settling_time.proofs.TakenDownLemmas.{told_lives}
@@ -45,12 +46,12 @@ use Rattle.gptp_settling_time.proofs.TurnedToLemmas.{IsTurnedTo}
 use Rattle.gptp_settling_time.proofs.TurnsBeginLemmas.{act_turned}
 use Rattle.gptp_settling_time.proofs.WorldMovesLemmas.{cut_off_so, far_end_so, near_so, stays_joined, turns_so}
 use Rattle.gptp_bmca_machine.specs.SoundLaws.{AllAreNear}
-use Rattle.gptp_invariants.specs.ChoiceView.{view}
+use Rattle.gptp_invariants.specs.ChoiceView.{says_announce, view}
 use Rattle.gptp_invariants.specs.FailedUnanswered.{silence_span}
 use Rattle.gptp_settling_time.specs.Losses.{FailsFarEnd, IsCutOff, IsFarEnd, LowersLink}
 use Rattle.gptp_settling_time.proofs.ClearedLemmas.{GoesBy, IsCleared}
 use Rattle.gptp_settling_time.proofs.ClearedToLemmas.{IsClearedTo}
-use Rattle.gptp_settling_time.proofs.ClearsLemmas.{all_but_cut, clears, cut_joins_none, ready_asked, rights}
+use Rattle.gptp_settling_time.proofs.ClearsLemmas.{all_but_cut, clears, cut_joins_none, nearer_echo, ready_asked, rights}
 use Rattle.gptp_settling_time.proofs.DueLemmas.{AreDueBy, due_by_delay, due_by_interval}
 use Rattle.gptp_settling_time.proofs.LeftClaimedLemmas.{HaveAskedBy, IsLeftAlways}
 use Rattle.gptp_settling_time.proofs.ReducedLemmas.{IsReduced}
@@ -265,22 +266,21 @@ module _ (d : DocumentState) (playable : IsPlayable d) (made : List Timed) (even
     goes_by gone (inr is) = inr is
 
     -- links begin to tell right traces
-    rights_to : (right gone old : ℕ) → LowersCalm n made event → right ≡ event.at + 1 + echo_span n more
-        → FlightIsGone n more gone → old ≡ event.at + echo_span n more + gone
+    rights_to : (right gone old : ℕ) → LowersCalm n made event → right ≡ event.at + 1 + nearer_echo_span n more
+        → FlightIsGone n more gone → old ≡ event.at + nearer_echo_span n more + gone
         → IsClearedTo d more start start right old w'
     rights_to right gone old lowers right_is flight old_is =
-        let echo : echo_span n more ≡ pred (path_bound (snapshot_of w')) * (largest_interval p + delay_in w') =
-        ap (λ (u : SyncPaths). pred u.systems * (largest_interval p + u.delay)) paths_after in
+        let echo : nearer_echo_span n more ≡ nearer_echo p w' =
+        ap (λ (u : SyncPaths). pred (pred u.systems) * (largest_interval p + u.delay)) paths_after in
         subst (λ t. IsClearedTo d more start start t old w') (sym (right_is ∙ omega (arith, echo, time)))
-        (subst
-        (λ t. IsClearedTo d more start start
-        (suc w'.time + pred (path_bound (snapshot_of w')) * (largest_interval p + delay_in w')) t w')
+        (subst (λ t. IsClearedTo d more start start (suc (w'.time + nearer_echo p w')) t w')
         (sym (old_is ∙ omega (arith, echo, time)))
         (record {
           keeps = after;
           before = snapshot_of then;
           is = rights p (snapshot_of then) start start gone w' (lowered_since lowers) (lowered_asked lowers)
-              (goes_by gone flight);
+              (goes_by gone flight)
+              (sound_reduced says_announce (snapshot_of then) (view then) (view w') (lowered_less lowers) rest.sound);
         }))
 
     pub cleared_to : (since silent right old : ℕ) → ClearsBy n made event start since silent right old

@@ -144,3 +144,17 @@ but_old_reduced says g old w w' less is = record {
           (is.stations i old_s stood (sym same.live ∙ live) place r (q, before, holds))
       | inr off ↦ absurd (let no : Received r ≡ Disabled = sym holds ∙ off in cc)
     ]
+
+-- so it is of what is sound all over
+pub sound_reduced : (says : Spelling) (g : Snapshot) (w w' : MachineState) → IsReduced w w'
+    → IsSoundEverywhere says g w → IsSoundEverywhere says g w'
+sound_reduced says g w w' less is = record {
+  lanes = λ j l at f a among said. elim (less.lanes j l at) [
+    | inl stood ↦ is.lanes j l stood f a among said
+    | inr (empty, down) ↦ absurd (subst (In f) empty among)
+  ];
+  stations = (but_old_reduced says g 0 w w' less (record {
+    lanes = λ j l f a at among said. inl (is.lanes j l at f a among said);
+    stations = is.stations;
+  })).stations;
+}

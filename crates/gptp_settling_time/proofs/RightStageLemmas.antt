@@ -80,11 +80,13 @@ module _ (says : Spelling) (Right : Announce → Type 0) where
   -- the timer runs out, and starts again: right frames enter the lane, one of which says an Announce
   pub right_tells : (until before most now announce announce' : ℕ) (held : Held) (fs news : List AnnounceFrame)
       (f : AnnounceFrame) → AllRight says Right news → In f news → FrameSaysAnnounce says f → f.due ≤ now + most
-      → now ≤ announce → until + most ≤ before → RightStage says Right until before announce held fs
+      → now ≤ announce → (announce < until → until + most ≤ before)
+      → RightStage says Right until before announce held fs
       → RightStage says Right until before announce' held (fs ++ news)
   right_tells until before most now announce announce' held fs news f new at said due timer in_time (inl waits) =
+      let fits = in_time waits in
       inr (inl (right_tail_behind before fs news
-      (right_tail_at before news f at said (omega (arith, due, timer, in_time, waits)) new)))
+      (right_tail_at before news f at said (omega (arith, due, timer, fits, waits)) new)))
   right_tells until before most now announce announce' held fs news f new at said due timer in_time (inr (inl tail)) =
       inr (inl (right_tail_on before fs news tail new))
   right_tells until before most now announce announce' held fs news f new at said due timer in_time
@@ -114,10 +116,10 @@ module _ (says : Spelling) (Right : Announce → Type 0) where
 
   -- in the end it is held
   pub right_over : (until before most now announce : ℕ) (held : Held) (fs : List AnnounceFrame) → now ≤ announce
-      → ((f : AnnounceFrame) → In f fs → now ≤ f.due) → until + most ≤ before → before ≤ now
+      → ((f : AnnounceFrame) → In f fs → now ≤ f.due) → (announce < until → until + most ≤ before) → before ≤ now
       → RightStage says Right until before announce held fs → HoldsRight Right held × AllRight says Right fs
   right_over until before most now announce held fs timer left in_time late (inl waits) =
-      absurd (omega (arith, timer, in_time, late, waits))
+      let fits = in_time waits in absurd (omega (arith, timer, fits, late, waits))
   right_over until before most now announce held fs timer left in_time late (inr (inl tail)) =
       absurd (right_tail_over before now fs tail late left)
   right_over until before most now announce held fs timer left in_time late (inr (inr is)) = is

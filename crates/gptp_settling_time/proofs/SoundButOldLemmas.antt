@@ -1,11 +1,10 @@
 -- What is held is sound, and so is what is in flight, but for what is old: that is due by a time, and comes from who is
 -- farther from the best, so that nobody takes it. So it is after a loss of which nothing tells that is taken.
-use Rattle.std.proofs.Common.{◌≡◌, ◌⊎◌, ◌<◌, ◌≤◌, ℕ, suc, true, List, [], ◌∷◌, Some, slice_get, refl, sym, ap, subst, ◌∙◌, inl, inr, arith}
+use Rattle.std.proofs.Common.{◌≡◌, ◌⊎◌, ◌<◌, ◌≤◌, ℕ, suc, true, List, Some, slice_get, refl, sym, ap, subst, ◌∙◌, inl, inr, arith}
 use Rattle.gptp_lists.specs.Members.{In}
 use Rattle.gptp_lists.proofs.SystemSpecLemmas.{In-parts}
 use Rattle.gptp_graph.specs.Best.{IsBest}
 use Rattle.gptp_graph.specs.Distance.{IsDistance}
-use Rattle.gptp_graph.specs.Order.{IsLower}
 use Rattle.gptp_graph.specs.Snapshot.{Adjacent, IsLinked, IsWellFormed, Joins, PortIdentity, Snapshot, System, clocks, port_of}
 use Rattle.gptp_graph.proofs.BestLemmas.{IsBest-neighbour}
 use Rattle.gptp_graph.proofs.ExistenceLemmas.{distance_exists}
@@ -13,7 +12,6 @@ use Rattle.gptp_graph.proofs.LinkDecisions.{IsLinked-dec}
 use Rattle.gptp_graph.proofs.LinkLemmas.{Joins-clock, Joins-sym}
 use Rattle.gptp_graph.proofs.SystemLemmas.{In-clocks}
 use Rattle.gptp_bmca_machine.specs.Acts.{Arrives, LaneStep, MachineSteps, Pops, StationAnswers}
-use Rattle.gptp_bmca_machine.specs.AtRest.{StationIsAtRest}
 use Rattle.gptp_bmca_machine.specs.Calm.{Calm, HasLane}
 use Rattle.gptp_bmca_machine.specs.Clean.{CameSound, IsWorse, Whole}
 use Rattle.gptp_bmca_machine.specs.Facts.{FollowsPort, station_system}
@@ -24,15 +22,15 @@ use Rattle.gptp_bmca_machine.specs.Network.{IsSettlingNetwork, Network, network_
 use Rattle.gptp_bmca_machine.specs.Reacts.{IsOwn, PortStep}
 use Rattle.gptp_bmca_machine.specs.SoundEverywhere.{IsSoundEverywhere, IsSoundSent, MaySay, StationIsSound}
 use Rattle.gptp_bmca_machine.specs.SoundLaws.{AllAreNear}
-use Rattle.gptp_bmca_machine.specs.Station.{Aged, Disabled, Held, MachineState, Mine, Port, Received, Reception, Station}
-use Rattle.gptp_bmca_machine.specs.Touch.{Disable, Enable, Grow, Hear, HeldInTouch, Other, Replaces, StationTouch, Tick}
-use Rattle.gptp_bmca_machine.specs.Vectors.{master, message}
-use Rattle.gptp_bmca_machine.proofs.PlaceLemmas.{received_injective, same_there}
-use Rattle.gptp_bmca_machine.proofs.SettledLemmas.{network_settles}
+use Rattle.gptp_bmca_machine.specs.Station.{MachineState, Mine, Port, Received, Reception, Station}
+use Rattle.gptp_bmca_machine.specs.Touch.{Hear, IsUsable, Replaces, StationTouch}
+use Rattle.gptp_bmca_machine.proofs.PlaceLemmas.{same_there}
 use Rattle.gptp_bmca_machine.proofs.SoundEverywhereLemmas.{may_say}
 use Rattle.gptp_bmca_machine.proofs.TraceLemmas.{whole_on, whole_own}
 use Rattle.gptp_settling_time.specs.Losses.{IsUnmoved}
-use Rattle.gptp_settling_time.proofs.FitsLemmas.{IsLeftUnmoved, UnlinkedHoldNothing, best_before, distance_before, joined_stays}
+use Rattle.gptp_settling_time.proofs.FitsLemmas.{IsLeftUnmoved, UnlinkedHoldNothing, distance_before, joined_stays}
+use Rattle.gptp_settling_time.proofs.NotTakenLemmas.{farther_not_taken}
+use Rattle.gptp_settling_time.proofs.TouchedLemmas.{mid_heard}
 use Rattle.gptp_settling_time.proofs.UnlinkedLemmas.{IsFarther, far_holds_none}
 
 -- ---- what a live system says
@@ -64,27 +62,6 @@ says_sound g s n a well is sound own = record {
           | inr whole ↦ inr (whole_on g s.clock came.from.clock p.r.said a whole here joined
               (is.no_loop p.place p.r p.holds) (own.root ∙ p.root) (own.steps ∙ p.steps) (own.path ∙ p.trace))
         ]
-
--- what a port received after a touch it had received before, or it just heard it in place of what it held
-pub mid_heard : (c n now : ℕ) (touch : StationTouch) (held mid : Held) (r : Reception)
-    → HeldInTouch c n touch now held mid
-    → mid ≡ Received r → (held ≡ Received r) ⊎ ((touch ≡ Hear n r.said) × Replaces c n r.said held)
-mid_heard c n now (Hear m a) held mid r (inl (same, on, inl takes)) e =
-    let taken : Reception = record { said = a; at = now; span = takes.span } in
-    let said : a ≡ r.said = ap (λ (x : Reception). x.said) (received_injective taken r (sym takes.is ∙ e)) in
-    inr ((λ i. Hear (sym same i) (said i)), subst (λ b. Replaces c n b held) said takes.replaces)
-mid_heard c n now (Hear m a) held mid r (inl (same, on, inr refuses)) e = inl (sym refuses.is ∙ e)
-mid_heard c n now (Hear m a) held mid r (inr (other, is)) e = inl (sym is ∙ e)
-mid_heard c n now (Tick m) held mid r is e = inl (sym is ∙ e)
-mid_heard c n now (Grow m) held mid r (inl (same, is)) e = absurd (let x : Aged ≡ Received r = sym is ∙ e in cc)
-mid_heard c n now (Grow m) held mid r (inr (other, is)) e = inl (sym is ∙ e)
-mid_heard c n now (Enable m) held mid r (inl (same, off, is)) e =
-    absurd (let x : Aged ≡ Received r = sym is ∙ e in cc)
-mid_heard c n now (Enable m) held mid r (inr (other, is)) e = inl (sym is ∙ e)
-mid_heard c n now (Disable m) held mid r (inl (same, is)) e =
-    absurd (let x : Disabled ≡ Received r = sym is ∙ e in cc)
-mid_heard c n now (Disable m) held mid r (inr (other, is)) e = inl (sym is ∙ e)
-mid_heard c n now Other held mid r is e = inl (sym is ∙ e)
 
 -- ---- what is claimed
 
@@ -141,50 +118,6 @@ module _ (says : Spelling) (g : Snapshot) (n : Network) (well : IsWellFormed g) 
     stays_from : IsUnmoved g n.graph from.clock
     stays_from = joined_stays g n.graph well net.graph left from to joins
 
-    not_lower : IsLower (message a (suc place)) (master s.root s.steps s.clock (suc place)) → ⊥
-    not_lower lower =
-        let (has, follows, roles) = network_settles says n w i s net calm invariant here live (near s.clock known)
-        late in
-        by has.root (distance_exists n.graph from.clock net.graph (Joins-clock n.graph from to net.graph joins))
-        has.steps lower
-      where
-        by : ((best : System) × IsBest n.graph s.clock best × (s.root ≡ best.identity))
-            → ((far : ℕ) × IsDistance n.graph from.clock far) → IsDistance n.graph s.clock s.steps
-            → IsLower (message a (suc place)) (master s.root s.steps s.clock (suc place)) → ⊥
-        by (best, is_best, root) (far, from_far) steps (inl less) =
-            let least = above best (best_before g n.graph well net.graph left s.clock best stays is_best) in
-            omega (arith, least, root, less)
-        by (best, is_best, root) (far, from_far) steps (inr (same_root, rest)) = go rest
-          where
-            was : IsBest g s.clock best
-            was = best_before g n.graph well net.graph left s.clock best stays is_best
-
-            reaches : far ≤ a.steps
-            reaches =
-                sender best far was (same_root ∙ root)
-                (distance_before g n.graph well net.graph left from.clock far stays_from from_far)
-
-            beyond : (s.steps < far) ⊎ ((s.steps ≡ far) × (s.clock < from.clock))
-            beyond = farther far s.steps from_far steps
-
-            clock_is : a.source.clock ≡ from.clock
-            clock_is = ap (λ (p : PortIdentity). p.clock) source
-
-            go : (a.steps < s.steps) ⊎ ((a.steps ≡ s.steps)
-                × ((a.source.clock < s.clock) ⊎ ((a.source.clock ≡ s.clock)
-                × IsLower (a.source.port ∷ suc place ∷ []) (suc place ∷ suc place ∷ [])))) → ⊥
-            go (inl fewer) = elim beyond [
-              | inl less ↦ omega (arith, reaches, fewer, less)
-              | inr (same, lower) ↦ omega (arith, reaches, fewer, same)
-            ]
-            go (inr (same_steps, rest)) = elim beyond [
-              | inl less ↦ omega (arith, reaches, same_steps, less)
-              | inr (same, lower) ↦ elim rest [
-                | inl below ↦ omega (arith, below, lower, clock_is)
-                | inr (equal, ports) ↦ omega (arith, equal, lower, clock_is)
-              ]
-            ]
-
     -- the port received nothing over the link
     none_held : (r : Reception) → q.held ≡ Received r → ⊥
     none_held r holds =
@@ -198,20 +131,14 @@ module _ (says : Spelling) (g : Snapshot) (n : Network) (well : IsWellFormed g) 
             s_far close from_far (farther far d from_far s_far)
 
     pub not_taken : Replaces s.clock (suc place) a q.held → ⊥
-    not_taken = by q.held refl
+    not_taken = by (distance_exists n.graph from.clock net.graph (Joins-clock n.graph from to net.graph joins))
       where
-        rest : StationIsAtRest s
-        rest = (calm.stations i s here live).at_rest
-
-        by : (held : Held) → q.held ≡ held → Replaces s.clock (suc place) a held → ⊥
-        by Disabled is taken = taken
-        by Aged is taken = rest.fresh place q there is
-        by (Mine root steps) is taken =
-            let (own_root, own_steps) = rest.mine place q root steps there is in
-            not_lower
-            (subst (λ t. IsLower (message a (suc place)) (master s.root t s.clock (suc place))) own_steps
-            (subst (λ r. IsLower (message a (suc place)) (master r steps s.clock (suc place))) own_root taken))
-        by (Received r) is taken = none_held r is
+        by : ((far : ℕ) × IsDistance n.graph from.clock far) → Replaces s.clock (suc place) a q.held → ⊥
+        by (far, from_far) =
+            farther_not_taken says g n well net left near w calm invariant late i s here live stays place q there
+            from.clock far a (ap (λ (p : PortIdentity). p.clock) source) (λ d s_far. farther far d from_far s_far)
+            (λ best is_best root. sender best far is_best root
+            (distance_before g n.graph well net.graph left from.clock far stays_from from_far)) above none_held
 
   module _ (old : ℕ) (sound : IsSoundButOld says n.graph old w) (w' : MachineState) (calm' : Calm n w')
       (none' : UnlinkedHoldNothing n.graph w') where
@@ -298,12 +225,13 @@ module _ (says : Spelling) (g : Snapshot) (n : Network) (well : IsWellFormed g) 
           ]
 
           came : (q : Port) → slice_get call.s.ports place ≡ Some q
-              → (q.held ≡ Received r) ⊎ ((touch ≡ Hear (suc place) r.said)
+              → (q.held ≡ Received r)
+              ⊎ ((touch ≡ Hear (suc place) r.said) × IsUsable call.s.clock r.said
               × Replaces call.s.clock (suc place) r.said q.held) → CameSound n.graph call.s.clock (suc place) r
           came q there (inl before) =
               sound.stations call.place call.s (stood call.place call.s call.here) call.live place r
               (q, there, before)
-          came q there (inr (hears, taken)) =
+          came q there (inr (hears, usable, taken)) =
               let (from, joins) = over in
               let back = Joins-sym n.graph (port_of call.s.clock (suc place)) from joins in
               let is = heard place q r.said hears there taken from back in

@@ -46,7 +46,7 @@ use Rattle.gptp_settling_time.proofs.MovedFlightLemmas.{FlightsFit, fits_then, f
 use Rattle.gptp_settling_time.proofs.RightBeginLemmas.{right_enters}
 use Rattle.gptp_settling_time.proofs.RightLemmas.{all_right}
 use Rattle.gptp_settling_time.proofs.SettledSeenLemmas.{IsSettledSeen, stage_settled}
-use Rattle.gptp_settling_time.proofs.TellsRightLemmas.{IsSettledState, LevelTellsRight}
+use Rattle.gptp_settling_time.proofs.TellsRightLemmas.{IsSettledState, LevelTellsRight, echo_from, echo_times}
 use Rattle.gptp_settling_time.proofs.TurnLemmas.{starts_far}
 use Rattle.gptp_settling_time.proofs.UnlinkedLemmas.{IsLeftSeen}
 
@@ -251,11 +251,17 @@ module _ (p : SettlingParams) (g : Snapshot) (silent start : ℕ) (w w' : WorldS
             let same = same_told in
             omega (arith, soon, early, same)
 
-        levels : (d : ℕ) → LevelTellsRight says_announce n' (suc (start + way_in w')) (view w') d
+        abbrev base : ℕ
+        base = suc (start + way_in w')
+
+        from : (echo_times n' base).from (pred n'.reach) ≡ base + pred n'.reach * (n'.interval + n'.most)
+        from = echo_from n' base (pred n'.reach)
+
+        levels : (d : ℕ) → LevelTellsRight says_announce n' (echo_times n' base) (view w') d
         levels =
             let same = same_way in
-            right_enters says_announce n' (left_net p silent w' moved'.standing.world) left'.near
-            (suc (start + way_in w')) wait.time (view w) (view w')
+            right_enters says_announce n' (left_net p silent w' moved'.standing.world) left'.near base wait.time (view w)
+            (view w')
             (subst (λ z. Calm z (view w)) (sym (same_left p silent w w' keeps)) calm_then)
             (omega (arith, early, same)) wait.is x'
             (λ port linked.
@@ -264,15 +270,16 @@ module _ (p : SettlingParams) (g : Snapshot) (silent start : ℕ) (w w' : WorldS
         enters : BecomesSound p silent (suc (told_anew p start w')) (told_anew p start w' + gone) w'
         enters = elim (dec_le (suc (told_anew p start w')) w'.time) [
           | yes by_now ↦
+              let last = from in
               inl (all_right says_announce n' (left_net p silent w' moved'.standing.world) left'.near
-              (suc (start + way_in w')) (view w') x' levels (omega (arith, by_now)) (told_anew p start w' + gone) due')
+              (echo_times n' base) (view w') x' levels (omega (arith, by_now, last)) (told_anew p start w' + gone) due')
           | no not ↦ inr (
-            suc (start + way_in w'),
             gone,
             record {
+              times = echo_times n' base;
               goes = goes';
               levels = levels;
-              is = omega arith;
+              is = let last = from in omega (arith, last);
               early = omega (arith, not);
               by = omega arith;
             },

@@ -21,7 +21,7 @@ use Rattle.gptp_bmca_machine.proofs.PlaceLemmas.{same_there}
 use Rattle.gptp_settling_time.proofs.BesideLemmas.{IsFresh, IsMoving, above, neighbour_at, chooses_y, fresh_worse, here_x, here_y, hears_new, late, on_x, on_y, tells_new, towards}
 use Rattle.gptp_bmca_machine.proofs.StillLemmas.{stands}
 use Rattle.gptp_settling_time.proofs.TurnLemmas.{IsBeside, TurnsOne}
-use Rattle.gptp_settling_time.proofs.UnlinkedLemmas.{mid_taken}
+use Rattle.gptp_settling_time.proofs.TouchedLemmas.{mid_heard}
 use Rattle.gptp_graph.proofs.LinkLemmas as graph_links
 
 -- each Announce of the frames is fresh
@@ -240,10 +240,11 @@ module _ (says : Spelling) (g : Snapshot) (n : Network) (x d e : ℕ) (best : Sy
             ]
               where
                 received : (r : Reception) → answer.mid ≡ Received r → ⊥
-                received r mid_is = elim (mid_taken y (suc q) mid.time touch then.pu.held answer.mid r answer.before
+                received r mid_is = elim (mid_heard y (suc q) mid.time touch then.pu.held answer.mid r answer.before
                     mid_is) [
                       | inl held ↦ absurd (let both : Mine root steps ≡ Received r = sym was ∙ held in cc)
-                      | inr (a, touched, replaces) ↦
+                      | inr (touched, usable, replaces) ↦
+                          let a : Announce = r.said in
                           let (live, clock) = here_y says g n x d e best t p y q joins w m then.s then.at in
                           let rest = (m.kept.calm.stations (n.place y) then.s then.at live).at_rest in
                           let (own_root, own_steps) = rest.mine q then.pu root steps then.there was in

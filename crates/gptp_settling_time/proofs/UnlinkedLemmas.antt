@@ -1,17 +1,15 @@
 -- What a system had sent that fails, and was the far end of each of its links, is taken by nobody: at a port that no
 -- link is at any more nothing is received.
-use Rattle.std.proofs.Common.{◌≡◌, ◌⊎◌, ◌<◌, ◌≤◌, ℕ, suc, true, [], ◌∷◌, Some, slice_get, refl, sym, ap, subst, ◌∙◌, inl, inr, arith}
+use Rattle.std.proofs.Common.{◌≡◌, ◌⊎◌, ◌<◌, ◌≤◌, ℕ, suc, true, Some, slice_get, refl, sym, ap, subst, ◌∙◌, inl, inr, arith}
 use Rattle.gptp_lists.specs.Members.{In}
 use Rattle.gptp_graph.specs.Best.{IsBest}
 use Rattle.gptp_graph.specs.Distance.{IsDistance}
-use Rattle.gptp_graph.specs.Order.{IsLower}
 use Rattle.gptp_graph.specs.Snapshot.{IsLinked, IsWellFormed, Joins, PortIdentity, Snapshot, System, clocks, port_of}
 use Rattle.gptp_graph.proofs.ExistenceLemmas.{distance_exists}
 use Rattle.gptp_graph.proofs.LinkLemmas.{Joins-clock, Joins-sym}
 use Rattle.gptp_graph.proofs.PathBoundLemmas.{IsDistance-within}
 use Rattle.gptp_graph.proofs.SystemLemmas.{In-clocks}
 use Rattle.gptp_bmca_machine.specs.Acts.{Arrives, MachineSteps, StationAnswers}
-use Rattle.gptp_bmca_machine.specs.AtRest.{StationIsAtRest}
 use Rattle.gptp_bmca_machine.specs.Calm.{Calm}
 use Rattle.gptp_bmca_machine.specs.EarlyPorts.{EarlyPortsHear}
 use Rattle.gptp_bmca_machine.specs.Facts.{station_system}
@@ -22,17 +20,17 @@ use Rattle.gptp_bmca_machine.specs.LossLaws.{EverythingFits, FlightFits}
 use Rattle.gptp_bmca_machine.specs.Network.{IsSettlingNetwork, Network, settled_from}
 use Rattle.gptp_bmca_machine.specs.Reacts.{PortStep}
 use Rattle.gptp_bmca_machine.specs.SoundLaws.{AllAreNear}
-use Rattle.gptp_bmca_machine.specs.Station.{Aged, Disabled, Held, HoldsAt, MachineState, Mine, Port, Received, Reception, Station}
-use Rattle.gptp_bmca_machine.specs.Touch.{Disable, Enable, Grow, Hear, HeldInTouch, Other, Replaces, StationTouch, Tick}
-use Rattle.gptp_bmca_machine.specs.Vectors.{master, message}
+use Rattle.gptp_bmca_machine.specs.Station.{Disabled, HoldsAt, MachineState, Mine, Port, Received, Reception, Station}
+use Rattle.gptp_bmca_machine.specs.Touch.{Hear, Replaces, StationTouch}
 use Rattle.gptp_bmca_machine.proofs.EndsLemmas.{clear_at}
 use Rattle.gptp_bmca_machine.proofs.LevelLemmas.{invariant_kept}
 use Rattle.gptp_bmca_machine.proofs.LossLemmas.{fits_kept}
 use Rattle.gptp_bmca_machine.proofs.RestLemmas.{is_master}
 use Rattle.gptp_bmca_machine.proofs.RestingLemmas.{all_choose, by_then_at}
-use Rattle.gptp_bmca_machine.proofs.SettledLemmas.{network_settles}
 use Rattle.gptp_settling_time.specs.Losses.{IsUnmoved}
-use Rattle.gptp_settling_time.proofs.FitsLemmas.{IsLeftUnmoved, UnlinkedHoldNothing, best_before, distance_before, received_still}
+use Rattle.gptp_settling_time.proofs.FitsLemmas.{IsLeftUnmoved, UnlinkedHoldNothing, distance_before, received_still}
+use Rattle.gptp_settling_time.proofs.NotTakenLemmas.{farther_not_taken}
+use Rattle.gptp_settling_time.proofs.TouchedLemmas.{mid_heard}
 
 -- the first port is one of a system that is farther from the best, or as far with the higher clock
 abbrev pub IsFarther : Snapshot → PortIdentity → PortIdentity → Type 0
@@ -43,25 +41,6 @@ IsFarther g p q = (far near : ℕ) → IsDistance g p.clock far → IsDistance g
 abbrev pub LostAreFarther : Snapshot → Snapshot → Type 0
 LostAreFarther g g' = (p q : PortIdentity) → Joins g p q → In q.clock (clocks g') → (In p.clock (clocks g') → ⊥)
     → IsUnmoved g g' q.clock × IsFarther g p q
-
--- what a port received after a touch it had received before, or it just heard an Announce that replaces what it held
-pub mid_taken : (c n now : ℕ) (touch : StationTouch) (held mid : Held) (r : Reception)
-    → HeldInTouch c n touch now held mid → mid ≡ Received r
-    → (held ≡ Received r) ⊎ ((a : Announce) × (touch ≡ Hear n a) × Replaces c n a held)
-mid_taken c n now (Hear m a) held mid r (inl (same, on, inl takes)) e =
-    inr (a, (λ i. Hear (sym same i) a), takes.replaces)
-mid_taken c n now (Hear m a) held mid r (inl (same, on, inr refuses)) e = inl (sym refuses.is ∙ e)
-mid_taken c n now (Hear m a) held mid r (inr (other, is)) e = inl (sym is ∙ e)
-mid_taken c n now (Tick m) held mid r is e = inl (sym is ∙ e)
-mid_taken c n now (Grow m) held mid r (inl (same, is)) e = absurd (let x : Aged ≡ Received r = sym is ∙ e in cc)
-mid_taken c n now (Grow m) held mid r (inr (other, is)) e = inl (sym is ∙ e)
-mid_taken c n now (Enable m) held mid r (inl (same, off, is)) e =
-    absurd (let x : Aged ≡ Received r = sym is ∙ e in cc)
-mid_taken c n now (Enable m) held mid r (inr (other, is)) e = inl (sym is ∙ e)
-mid_taken c n now (Disable m) held mid r (inl (same, is)) e =
-    absurd (let x : Disabled ≡ Received r = sym is ∙ e in cc)
-mid_taken c n now (Disable m) held mid r (inr (other, is)) e = inl (sym is ∙ e)
-mid_taken c n now Other held mid r is e = inl (sym is ∙ e)
 
 module _ (says : Spelling) (g : Snapshot) (n : Network) (well : IsWellFormed g) (net : IsSettlingNetwork n)
     (left : IsLeftUnmoved g n.graph) (near : AllAreNear n.graph) (farther : LostAreFarther g n.graph)
@@ -85,66 +64,18 @@ module _ (says : Spelling) (g : Snapshot) (n : Network) (well : IsWellFormed g) 
       stays : IsUnmoved g n.graph s.clock
       stays = away.0
 
-      not_lower : IsLower (message a (suc place)) (master s.root s.steps s.clock (suc place)) → ⊥
-      not_lower lower =
-          let (has, follows, roles) = network_settles says n w i s net calm invariant here live (near s.clock known)
-          late in
-          by has.root (distance_exists g from.clock well (Joins-clock g from (port_of s.clock (suc place)) well joins))
-          has.steps lower
-        where
-          by : ((best : System) × IsBest n.graph s.clock best × (s.root ≡ best.identity))
-              → ((far : ℕ) × IsDistance g from.clock far) → IsDistance n.graph s.clock s.steps
-              → IsLower (message a (suc place)) (master s.root s.steps s.clock (suc place)) → ⊥
-          by (best, is_best, root) (far, from_far) steps (inl less) =
-              let least = above best (best_before g n.graph well net.graph left s.clock best stays is_best) in
-              omega (arith, least, root, less)
-          by (best, is_best, root) (far, from_far) steps (inr (same_root, rest)) = go rest
-            where
-              was : IsBest g s.clock best
-              was = best_before g n.graph well net.graph left s.clock best stays is_best
-
-              reaches : far ≤ a.steps
-              reaches = sender best far was (same_root ∙ root) from_far
-
-              beyond : (s.steps < far) ⊎ ((s.steps ≡ far) × (s.clock < from.clock))
-              beyond =
-                  away.1 far s.steps from_far
-                  (distance_before g n.graph well net.graph left s.clock s.steps stays steps)
-
-              clock_is : a.source.clock ≡ from.clock
-              clock_is = ap (λ (p : PortIdentity). p.clock) source
-
-              go : (a.steps < s.steps) ⊎ ((a.steps ≡ s.steps)
-                  × ((a.source.clock < s.clock) ⊎ ((a.source.clock ≡ s.clock)
-                  × IsLower (a.source.port ∷ suc place ∷ []) (suc place ∷ suc place ∷ [])))) → ⊥
-              go (inl fewer) = elim beyond [
-                | inl less ↦ omega (arith, reaches, fewer, less)
-                | inr (same, lower) ↦ omega (arith, reaches, fewer, same)
-              ]
-              go (inr (same_steps, rest)) = elim beyond [
-                | inl less ↦ omega (arith, reaches, same_steps, less)
-                | inr (same, lower) ↦ elim rest [
-                  | inl below ↦ omega (arith, below, lower, clock_is)
-                  | inr (equal, ports) ↦ omega (arith, equal, lower, clock_is)
-                ]
-              ]
-
       -- so nothing that it may hold is replaced
       not_replaced : Replaces s.clock (suc place) a q.held → ⊥
-      not_replaced = by q.held refl
+      not_replaced =
+          by (distance_exists g from.clock well (Joins-clock g from (port_of s.clock (suc place)) well joins))
         where
-          rest : StationIsAtRest s
-          rest = (calm.stations i s here live).at_rest
-
-          by : (held : Held) → q.held ≡ held → Replaces s.clock (suc place) a held → ⊥
-          by Disabled is taken = taken
-          by Aged is taken = rest.fresh place q there is
-          by (Mine root steps) is taken =
-              let (own_root, own_steps) = rest.mine place q root steps there is in
-              not_lower
-              (subst (λ t. IsLower (message a (suc place)) (master s.root t s.clock (suc place))) own_steps
-              (subst (λ r. IsLower (message a (suc place)) (master r steps s.clock (suc place))) own_root taken))
-          by (Received r) is taken = none i s place r here live unlinked (q, there, is)
+          by : ((far : ℕ) × IsDistance g from.clock far) → Replaces s.clock (suc place) a q.held → ⊥
+          by (far, from_far) =
+              farther_not_taken says g n well net left near w calm invariant late i s here live stays place q there
+              from.clock far a (ap (λ (p : PortIdentity). p.clock) source)
+              (λ d s_far. away.1 far d from_far (distance_before g n.graph well net.graph left s.clock d stays s_far))
+              (λ best is_best root. sender best far is_best root from_far) above
+              (λ r holds. none i s place r here live unlinked (q, there, holds))
 
   -- where a system answers, what it hears is refused there
   module _ (touch : StationTouch) (mid w' : MachineState) (stood : (i : ℕ) (s : Station)
@@ -159,12 +90,12 @@ module _ (says : Spelling) (g : Snapshot) (n : Network) (well : IsWellFormed g) 
         go : ((q : Port) × (slice_get call.s.ports place ≡ Some q)
             × PortStep says call.s.clock (suc place) mid.time touch call.s'.root call.s'.steps q q' call.sends) → ⊥
         go (q, there, step) = elim step.after [
-          | inl (kept, is_kept) ↦ elim (mid_taken call.s.clock (suc place) mid.time touch q.held step.mid r step.before
+          | inl (kept, is_kept) ↦ elim (mid_heard call.s.clock (suc place) mid.time touch q.held step.mid r step.before
               (sym kept ∙ holds)) [
                 | inl before ↦
                     none call.place call.s place r (stood call.place call.s call.here) call.live unlinked
                     (q, there, before)
-                | inr (a, hears, taken) ↦ refused place q a hears there unlinked taken
+                | inr (hears, usable, taken) ↦ refused place q r.said hears there unlinked taken
               ]
           | inr master_is ↦
               absurd (let x : Mine call.s'.root call.s'.steps ≡ Received r = sym master_is.mine ∙ holds in cc)

@@ -299,9 +299,14 @@ abbrev pub BoundsTurned : NetworkState → List Timed → List Timed → ℕ →
 BoundsTurned n made now choice roles =
     TurnsOneLink n made now × (choice ≡ 2 * way_span (sync_paths n (made ++ now))) × (roles ≡ choice)
 
--- Where a system fails that others hear, and none is moved, the choice asks for what they hold of it to age.
+-- Where a system fails that others hear, and none is moved but such as are cut off, the choice asks for what they hold
+-- of it to age. It may ask for two ways more, as where one system is moved.
 abbrev pub BoundsHeard : NetworkState → List Timed → List Timed → ℕ → ℕ → Type 0
-BoundsHeard n made now choice roles = FailsHeardFirst n made now × BoundsAging n made now choice roles
+BoundsHeard n made now choice roles =
+    FailsHeardFirst n made now
+    × ((aged : ℕ) × (silent : ℕ) × BoundsAging n made now aged silent
+    × (((choice ≡ aged) × (roles ≡ silent))
+    ⊎ ((choice ≡ aged + 2 * way_span (sync_paths n (made ++ now))) × (roles ≡ max choice silent))))
 
 -- Whatever is taken away, and whatever is moved, the choice asks for all that is held to be told anew.
 abbrev pub BoundsAnyLoss : NetworkState → List Timed → List Timed → ℕ → ℕ → Type 0
@@ -344,7 +349,7 @@ RestsAfterOneLoss n made now rest =
     × ((UpIsUsed n (made ++ now) × FlightIsGone n made rest)
     ⊎ ((gone : ℕ) × FlightIsGone n made gone × (rest ≡ max (silence_span (pace_of n)) gone))))
     ⊎ ((LowersOneLink n made now
-    × ((gone : ℕ) × FlightIsGone n (made ++ now) gone × (rest ≡ echo_span n (made ++ now) + gone)))
+    × ((gone : ℕ) × FlightIsGone n (made ++ now) gone × (rest ≡ max (echo_span n (made ++ now)) gone)))
     ⊎ (TurnsOneLink n made now
     × ((UpIsUsed n (made ++ now) × (rest ≡ turned_echo_span n (made ++ now)))
     ⊎ (rest ≡ turned_echo_span n (made ++ now) + largest_interval (pace_of n))))))

@@ -262,14 +262,19 @@ abbrev pub echo_span : NetworkState → List Timed → ℕ
 echo_span n events =
     pred (sync_paths n events).systems * (largest_interval (pace_of n) + (sync_paths n events).delay)
 
--- After another link goes down, by which no system is moved, traces may name it until right ones have been told.
+-- The best always tells a right trace, so that its neighbours do at once. All others do so much later.
+abbrev pub nearer_echo_span : NetworkState → List Timed → ℕ
+nearer_echo_span n events =
+    pred (pred (sync_paths n events).systems) * (largest_interval (pace_of n) + (sync_paths n events).delay)
+
+-- After such a link goes down traces may name it until then.
 abbrev pub ClearsTraces : NetworkState → List Timed → Timed → ℕ → ℕ → ℕ → ℕ → Type 0
 ClearsTraces n before event start silent right old =
     LowersCalm n before event
     × (silent ≡ start)
-    × (right ≡ event.at + 1 + echo_span n (before ++ event ∷ []))
+    × (right ≡ event.at + 1 + nearer_echo_span n (before ++ event ∷ []))
     × ((gone : ℕ) × FlightIsGone n (before ++ event ∷ []) gone
-    × (old ≡ event.at + echo_span n (before ++ event ∷ []) + gone))
+    × (old ≡ event.at + nearer_echo_span n (before ++ event ∷ []) + gone))
 
 abbrev pub ClearsBy : NetworkState → List Timed → Timed → ℕ → ℕ → ℕ → ℕ → ℕ → Type 0
 ClearsBy n before event start since silent right old =
