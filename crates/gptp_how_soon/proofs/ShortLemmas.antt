@@ -113,18 +113,19 @@ module _ (n : NetworkState) (network : IsNetwork n) (paths : SyncPaths) (few : p
       (omega (arith, turn, short, soon)) in
       omega (arith, l, w, turns)
 
+  roles_lost : (before : SyncPaths) (silent : Bool) → before.delay ≤ 16000000000
+      → roles_after_losses n before paths silent ≤ 195000000000000
+  roles_lost before silent soon =
+      let l = losses before soon in let most = silence_most in
+      either_most silent (max (loss_span n before paths) (silence_span n.params)) (loss_span n before paths)
+      195000000000000 (omega (arith, l, most)) (omega (arith, l))
+
   roles_most : (before : SyncPaths) (silent : Bool) (row : Row) (gained : ℕ) → before.delay ≤ 16000000000
       → gained ≤ 195000000000000
       → roles_by n before paths silent row gained ≤ 195000000000000
   roles_most before silent row gained soon early =
       either_most (not (n.params.sync_timeout == 0)) _ _ 195000000000000 span (by row)
     where
-      lost : roles_after_losses n before paths silent ≤ 195000000000000
-      lost =
-          let l = losses before soon in let most = silence_most in
-          either_most silent (max (loss_span n before paths) (silence_span n.params)) (loss_span n before paths)
-          195000000000000 (omega (arith, l, most)) (omega (arith, l))
-
       by : (r : Row) → roles_of_row n before paths silent r gained ≤ 195000000000000
       by AnyPast = at_once
       by Unchanged = omega arith
@@ -137,12 +138,13 @@ module _ (n : NetworkState) (network : IsNetwork n) (paths : SyncPaths) (few : p
       by FailedHeard = let most = silence_most in omega (arith, most)
       by FailureCutsOff = let w = way in let most = silence_most in omega (arith, w, most)
       by OneTurned = let w = way in omega (arith, w)
-      by AnyLosses = lost
+      by AnyLosses = roles_lost before silent soon
       by Gained = early
 
-  sound_most : (used : Bool) (row : Row) (gained : ℕ) → gained ≤ 195000000000000
-      → sound_by n paths used row gained ≤ 195000000000000
-  sound_most used row gained early =
+  sound_most : (before : SyncPaths) (silent used : Bool) (row : Row) (gained : ℕ) → before.delay ≤ 16000000000
+      → gained ≤ 195000000000000
+      → sound_by n before paths silent used row gained ≤ 195000000000000
+  sound_most before silent used row gained soon early =
       either_most (not (n.params.sync_timeout == 0)) _ _ 195000000000000 span (by row)
     where
       gone : gone_by n paths used ≤ 16000000000
@@ -154,19 +156,19 @@ module _ (n : NetworkState) (network : IsNetwork n) (paths : SyncPaths) (few : p
           mul-le (pred paths.systems) (largest_interval (pace_of n) + paths.delay) 512 32000000000
           (pred_few paths.systems 512 few) (omega (arith, l, short))
 
-      by : (r : Row) → sound_of_row n paths used r gained ≤ 195000000000000
+      by : (r : Row) → sound_of_row n before paths silent used r gained ≤ 195000000000000
       by AnyPast = at_once
       by Unchanged = omega arith
       by Lowered = let e = echo in let g = gone in omega (arith, e, g)
       by CutOff = let w = way in let g = gone in omega (arith, w, g)
       by LostEnd = let g = gone in omega (arith, g)
-      by FailedEnd = let w = way in let c = capable_most in omega (arith, w, c)
+      by FailedEnd = let s = silence_most in let g = gone in omega (arith, s, g)
       by LostPower = let e = echo in omega (arith, e, short)
       by PowerCutsOff = let w = way in let e = echo in omega (arith, w, e, short)
       by FailedHeard = at_once
       by FailureCutsOff = at_once
       by OneTurned = let w = way in let e = echo in omega (arith, w, e)
-      by AnyLosses = at_once
+      by AnyLosses = roles_lost before silent soon
       by Gained = early
 
   set_most : (sets : Bool) → set_span n.params paths sets ≤ 65000000000
@@ -190,7 +192,7 @@ module _ (n : NetworkState) (network : IsNetwork n) (paths : SyncPaths) (few : p
     needed_most false = let s = span in let e = exact_most in omega (arith, s, e)
     needed_most true =
         let r = roles_most before silent row gained short_before early in
-        let h = sound_most used_before row gained early in
+        let h = sound_most before silent used_before row gained short_before early in
         let s = set_most sets in let l = largest in let e = exact_most in omega (arith, soon, r, h, s, l, e, short)
 
     watch_most : (calm : Bool)

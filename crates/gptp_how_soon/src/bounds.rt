@@ -330,28 +330,38 @@ fn gone_by(network: &Network, paths: SyncPaths, used_before: bool) -> u64
 }
 
 /// The bound of what is held and in flight, in ns.
-fn sound_by(network: &Network, paths: SyncPaths, used_before: bool, row: Row, gained: u64) -> u64
+fn sound_by(
+    network: &Network,
+    before: SyncPaths,
+    paths: SyncPaths,
+    silent: bool,
+    used_before: bool,
+    row: Row,
+    gained: u64,
+) -> u64
     requires few { paths.systems ≤ 512 }
     requires short { paths.delay ≤ 16000000000 }
+    requires short_before { before.delay ≤ 16000000000 }
     requires gained { gained ≤ 195000000000000 }
-    ensures is { result ≡ sound_by network.now paths used_before row gained }
+    ensures is { result ≡ sound_by network.now before paths silent used_before row gained }
     ensures bound { result ≤ 195000000000000 }
 {
     if network.params().sync_timeout != 0 {
         return network.settling_span_with(paths);
     }
     match row {
-        Row::AnyPast | Row::FailedHeard | Row::FailureCutsOff | Row::AnyLosses => {
+        Row::AnyPast | Row::FailedHeard | Row::FailureCutsOff => {
             settling_span_at_once(network, paths)
         }
         Row::Unchanged => 0,
         Row::Lowered => echo_span(network, paths).max(gone_by(network, paths, used_before)),
         Row::CutOff => (2 * way_span(paths)).max(gone_by(network, paths, used_before)),
         Row::LostEnd => gone_by(network, paths, used_before),
-        Row::FailedEnd => capability_span(network) + way_span(paths),
+        Row::FailedEnd => silence_span(network).max(gone_by(network, paths, used_before)),
         Row::LostPower => echo_span(network, paths).max(paths.delay),
         Row::PowerCutsOff => (2 * way_span(paths)).max(echo_span(network, paths).max(paths.delay)),
         Row::OneTurned => 2 * way_span(paths) + echo_span(network, paths),
+        Row::AnyLosses => roles_after_losses(network, before, paths, silent),
         Row::Gained => gained,
     }
 }
@@ -453,7 +463,7 @@ pub(crate) fn times_by(
     let settling = if calm {
         let choice = choice_by(network, before, paths, row, gained);
         let roles = roles_by(network, before, paths, silent, row, gained);
-        let sound = sound_by(network, paths, used_before, row, gained);
+        let sound = sound_by(network, before, paths, silent, used_before, row, gained);
         Some(settled(network, at, last_set, paths, sets, choice, roles, sound))
     } else {
         None

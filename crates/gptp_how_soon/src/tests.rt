@@ -437,11 +437,11 @@ fn a_far_end_that_fails_costs_the_choice_nothing(rt: HostRuntime) -> Result<(), 
             settling: Some(Settling {
                 choice: 0,
                 roles: 11_000_000_000,
-                sound: 14_000_000_820,
-                rest: 14_000_001_230,
+                sound: 11_000_000_000,
+                rest: 11_000_000_410,
                 exact_from: 41_000_005_400,
             }),
-            watch: 15_000_001_231,
+            watch: 12_000_005_400,
         })
     );
     Ok(())
@@ -662,9 +662,9 @@ fn events_come_from_rest_soon_after_a_far_end_is_lost(rt: HostRuntime) -> Result
         ),
         (
             "b hangs",
-            "[[event]]\nat = 100000000000\nkind = \"fail\"\nclock = \"000000000000000b\"\n[[event]]\nat = 114500000000\nkind = \"recover\"\nclock = \"000000000000000b\"\n",
-            14_000_001_230,
-            114_500_000_000,
+            "[[event]]\nat = 100000000000\nkind = \"fail\"\nclock = \"000000000000000b\"\n[[event]]\nat = 111500000000\nkind = \"recover\"\nclock = \"000000000000000b\"\n",
+            11_000_000_410,
+            111_500_000_000,
             3_000_003_050,
         ),
         (

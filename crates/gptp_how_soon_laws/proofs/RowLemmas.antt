@@ -37,7 +37,8 @@ use Rattle.gptp_how_soon.specs.declared.kinds.What.TheVariants as whats
 use Rattle.gptp_settling_time.specs.Gains.{HasDelaysWithin}
 use Rattle.gptp_settling_time.specs.HowSoon.{AreWiderEvents, BoundsGains, CutsOneEnd, EachEvent, FailsEndFirst, FailsHeardFirst, IsStillEvent, LosesEvents, LowersOneLink, RolesAfterLoss, TurnsOneLink, way_span}
 use Rattle.gptp_settling_time.specs.InTurn.{FlightIsGone}
-use Rattle.gptp_settling_time.specs.Losses.{UpIsUsed, silence_span}
+use Rattle.gptp_invariants.specs.FailedUnanswered.{silence_span}
+use Rattle.gptp_settling_time.specs.Losses.{UpIsUsed}
 use Rattle.gptp_settling_time.proofs.CutLemmas.{IsBy, all_by}
 use Rattle.gptp_settling_time.proofs.LeadOnLemmas.{all_still}
 use Rattle.gptp_settling_time.proofs.MomentLemmas.{all_at}
@@ -513,10 +514,11 @@ module _ (n : NetworkState) (network : IsNetwork n) (events : List Timed) (b : S
       ((from_rest from).rested, turns_one_link n network made now well one x.delay x.paths x.few lowers)
 
   -- or a far end hangs
-  pub failed : AreWell n (made ++ now) → row_at v ≡ FailedEnd → HasComeToRest b at × FailsEndFirst n made now
+  pub failed : AreWell n (made ++ now) → row_at v ≡ FailedEnd
+      → HasComeToRest b at × FailsEndFirst n made now × FlightIsGone n made (gone_by n v.paths v.used_before)
   failed well row =
       let (from, fails, far) = why FailedEnd row in
-      ((from_rest from).rested, failing_end well fails far)
+      ((from_rest from).rested, failing_end well fails far, flight_so (is_failing_so fails).delay)
 
   -- or a system that others heard
   pub heard : AreWell n (made ++ now) → (row_at v ≡ FailedHeard) ⊎ (row_at v ≡ FailureCutsOff)

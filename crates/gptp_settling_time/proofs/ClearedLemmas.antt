@@ -40,7 +40,6 @@ use native.Mathlib.Decide.{dec_le}
 use Rattle.gptp_settling_time.proofs.SettledSeenLemmas.{IsSettledSeen, always_seen, news_seen}
 use Rattle.gptp_settling_time.proofs.SoundButOldLemmas.{IsSoundButOld, but_old_kept, old_are_gone}
 use Rattle.gptp_settling_time.proofs.StandsLikeLemmas.{none_short}
-use Rattle.gptp_invariants.proofs.WorldNewsLemmas.{acts_silent, silent_later}
 
 -- What is in flight is gone so much later: by the greatest delay of a link in use, where each link that is up is in
 -- use; else by an announce interval.
@@ -67,7 +66,6 @@ BecomesSound p silent right old w =
 pub record IsCleared (p : SettlingParams) (g : Snapshot) (since silent right old : ℕ) (w : WorldState) : Type 0 where
   pub left : IsLeftAlways p g silent w
   pub asked : HaveAskedBy since w
-  pub silent_by : AreSilentBy p silent w
   pub sound : HaveQuietLinks p.params w → NothingLapses p.params → BecomesSound p silent right old w
 
 -- ---- it goes on
@@ -80,7 +78,7 @@ same_time says w w' (inr (inr act)) = act.call.time
 
 module _ (p : SettlingParams) (g : Snapshot) (since silent right old : ℕ) (w w' : WorldState)
     (is : IsCleared p g since silent right old w) (left' : IsLeftAlways p g silent w') (asked' : HaveAskedBy since w')
-    (silent_by' : AreSilentBy p silent w') (keeps : KeepsNetwork w w')
+    (keeps : KeepsNetwork w w')
     (step : MachineSteps says_announce (view w) (view w')) where
   abbrev n : Network
   n = left_network p silent w
@@ -201,14 +199,14 @@ module _ (p : SettlingParams) (g : Snapshot) (since silent right old : ℕ) (w w
     ]
 
   pub cleared_step : IsCleared p g since silent right old w'
-  cleared_step = record { left = left'; asked = asked'; silent_by = silent_by'; sound = sound_then }
+  cleared_step = record { left = left'; asked = asked'; sound = sound_then }
 
 pub cleared_later : (p : SettlingParams) (g : Snapshot) (since silent right old time : ℕ) (w : WorldState)
     → w.time ≤ time → NothingBefore time w.net.pending → IsCleared p g since silent right old w
     → IsCleared p g since silent right old (at_time time w)
 cleared_later p g since silent right old time w later first is =
     cleared_step p g since silent right old w (at_time time w) is (left_later p g silent time w later first is.left)
-    (asked_later p since time w is.left.standing.world later first is.asked) (silent_later p silent time w is.silent_by)
+    (asked_later p since time w is.left.standing.world later first is.asked)
     (later_keeps time w) (inl (record { time = time; later = later; is = refl }))
 
 pub cleared_acts : (p : SettlingParams) (g : Snapshot) (since silent right old : ℕ) (act : Act) (w : WorldState)
@@ -219,7 +217,6 @@ cleared_acts p g since silent right old act w draws done w' none octet acts is =
     let left' = left_acts p g silent act w draws done w' none octet acts is.left in
     cleared_step p g since silent right old w w' is left'
     (asked_acts p since silent act w draws done w' none acts is.left.standing left'.standing.world is.asked)
-    (acts_silent p silent act w draws done w' none acts world is.left.standing.measured is.silent_by)
     (acts_keep act w draws done w' none acts)
     (inr (acts_seen act w draws done w' none world.sound world.encodable acts))
 
@@ -248,7 +245,7 @@ module _ (p : SettlingParams) (g : Snapshot) (since silent right old : ℕ) (w :
   -- So claims are made of all links always, from each time on by which ports at links are capable, and those without
   -- one aren't.
   pub cleared_claimed : (start : ℕ) → since ≤ start → AreSilentBy p start w → IsClaimedAlways p start w
-  cleared_claimed start past silent_by = record {
+  cleared_claimed start past silent_from = record {
     news = news;
     heard = asked_heard p start w is.left.asked;
     settling = λ m bounded quiet off.
@@ -260,7 +257,7 @@ module _ (p : SettlingParams) (g : Snapshot) (since silent right old : ℕ) (w :
         pace = is.left.standing.pace;
         world = is.left.standing.world;
         measured = is.left.standing.measured;
-        silent = silent_by;
+        silent = silent_from;
         sound = cleared_sound;
         ready = λ at stands.
             let (first, by, before, x) = is.asked at stands in

@@ -18,7 +18,7 @@ use Rattle.gptp_bmca_machine.specs.SoundLaws.{AllAreNear}
 use Rattle.gptp_invariants.specs.ChoiceCalm.{HaveQuietLinks, delay_in}
 use Rattle.gptp_invariants.specs.ChoiceSettlesAsMachine.{IsWorld}
 use Rattle.gptp_invariants.specs.ChoiceView.{says_announce, view}
-use Rattle.gptp_invariants.specs.WorldNews.{AreReadyBy, AreSilentBy}
+use Rattle.gptp_invariants.specs.WorldNews.{AreReadyBy}
 use Rattle.gptp_invariants.specs.WorldSound.{IsSoundWorld}
 use Rattle.gptp_invariants.specs.WorldStanding.{snapshot_of}
 use Rattle.gptp_invariants.proofs.WorldStandsLemmas.{stands_well}
@@ -53,14 +53,13 @@ module _ (p : SettlingParams) (since silent old : ℕ) (w w' : WorldState) (is' 
     (seen : IsSettledSeen p w)
     (near : AllAreNear (snapshot_of w)) (sound : IsSoundWorld w) (less : IsReduced (view w) (view w'))
     (left : IsLeftAlways p (snapshot_of w) silent w') (asked : HaveAskedBy since w')
-    (silent_by : AreSilentBy p silent w') (x : ℕ) (far : IsFarEnd (snapshot_of w) x)
+    (x : ℕ) (far : IsFarEnd (snapshot_of w) x)
     (has : HasAllBut (snapshot_of w) (snapshot_of w') x)
     (gone : (a b : PortIdentity) → Joins (snapshot_of w') a b → a.clock ≢ x) (due : AreDueBy old w) where
   pub clears : IsCleared p (snapshot_of w) since silent 0 old w'
   clears = record {
     left = left;
     asked = asked;
-    silent_by = silent_by;
     sound = λ quiet off.
         inl (lost_end_sound says_announce seen.n seen.net (view w) seen.calm seen.invariant seen.late
         (subst AllAreNear same near) (subst (λ h. IsSoundEverywhere says_announce h (view w)) same sound)
@@ -76,13 +75,11 @@ module _ (p : SettlingParams) (since silent old : ℕ) (w w' : WorldState) (is' 
 -- what is cleared stays so where ports are disabled and links go down, and what is in use stays
 pub cleared_reduced : (p : SettlingParams) (g : Snapshot) (since silent right old : ℕ) (w w' : WorldState)
     → snapshot_of w' ≡ snapshot_of w → IsReduced (view w) (view w') → HaveQuietLinks p.params w → right ≤ w.time
-    → IsLeftAlways p g silent w' → HaveAskedBy since w' → AreSilentBy p silent w'
-    → IsCleared p g since silent right old w
+    → IsLeftAlways p g silent w' → HaveAskedBy since w' → IsCleared p g since silent right old w
     → IsCleared p g since silent right old w'
-cleared_reduced p g since silent right old w w' same less quiet late left asked silent_by is = record {
+cleared_reduced p g since silent right old w w' same less quiet late left asked is = record {
   left = left;
   asked = asked;
-  silent_by = silent_by;
   sound = λ quiet' off. elim (is.sound quiet off) [
     | inl sound ↦
         inl (but_old_reduced says_announce (snapshot_of w') old (view w) (view w') less
@@ -100,7 +97,7 @@ nearer_echo p w = pred (pred (path_bound (snapshot_of w))) * (largest_interval p
 
 -- links begin to tell right traces, where what names the best in no steps names it alone
 module _ (p : SettlingParams) (g : Snapshot) (since silent gone : ℕ) (w : WorldState)
-    (left : IsLeftAlways p g silent w) (asked : HaveAskedBy since w) (silent_by : AreSilentBy p silent w)
+    (left : IsLeftAlways p g silent w) (asked : HaveAskedBy since w)
     (goes : GoesBy p gone w) (before : Snapshot)
     (was : (v u : ℕ) (best : System) → Adjacent (snapshot_of w) v u → IsBest (snapshot_of w) v best
     → IsDistance (snapshot_of w) v 0 → IsBest before v best)
@@ -133,7 +130,6 @@ module _ (p : SettlingParams) (g : Snapshot) (since silent gone : ℕ) (w : Worl
   rights = record {
     left = left;
     asked = asked;
-    silent_by = silent_by;
     sound = λ quiet off. inr (gone, becomes quiet off);
   }
 

@@ -32,10 +32,11 @@ use Rattle.gptp_invariants.specs.DelayMeasured.{LinkIsMeasured}
 use Rattle.gptp_invariants.specs.WorldNews.{AreReadyBy, AreSilentBy}
 use Rattle.gptp_invariants.specs.WorldSound.{IsSoundWorld}
 use Rattle.gptp_invariants.specs.WorldStanding.{channel_is_used, live_stations, snapshot_of}
+use Rattle.gptp_invariants.specs.FailedUnanswered.{silence_span}
 use Rattle.gptp_invariants.proofs.ChoiceSettlesAsMachineLemmas.{paths_bound}
 use Rattle.gptp_invariants.proofs.WorldStandsLemmas.{stands_well}
 use Rattle.gptp_invariants.proofs.WorldWayLemmas.{used_joins}
-use Rattle.gptp_settling_time.specs.Losses.{IsUnmovedOrCutOff, silence_span}
+use Rattle.gptp_settling_time.specs.Losses.{IsUnmovedOrCutOff}
 use Rattle.gptp_settling_time.proofs.AgingLemmas.{UnlinkedAge}
 use Rattle.gptp_settling_time.proofs.AgingClaimedLemmas.{IsAgingAlways, aging_after, aging_network, named_in, stay_of}
 use Rattle.gptp_settling_time.proofs.AgingStillLemmas.{IsEmptied, ages_begin, still_emptied, still_settled}

@@ -39,7 +39,7 @@ use Rattle.gptp_settling_time.proofs.AlwaysClaimedLemmas.{IsClaimedAlways, since
 use Rattle.gptp_settling_time.proofs.BegunLemmas.{rested_sound}
 use Rattle.gptp_settling_time.proofs.ClaimedToLemmas.{IsClaimedTo}
 use Rattle.gptp_settling_time.proofs.GainLemmas.{better_lives, down_so, few_so, gain_so, lives_so, unused_so, up_so, used_so, within_so}
-use Rattle.gptp_settling_time.proofs.DeadDownLemmas.{asked_on, dead_left, reduced as dead_reduced, silent_on, snapshot_now}
+use Rattle.gptp_settling_time.proofs.DeadDownLemmas.{asked_on, dead_left, reduced as dead_reduced, snapshot_now}
 use Rattle.gptp_settling_time.proofs.FailedDownLemmas.{lowered_claimed, lowered_news}
 use Rattle.gptp_settling_time.proofs.FailedUpLemmas.{raised_claimed, raised_from}
 use Rattle.gptp_settling_time.proofs.HeardLemmas.{heard_on}
@@ -504,10 +504,6 @@ module _ {F : Type 0} (answers : Bounds → ℕ → F → Option ℕ → F → T
           (asked_on p before silent x.clock x.port then k.draws done w' after.claim.world after.claim.measured fell left
           quiet falls.off was_there
           (unused_so n made then keeps_then.stands keeps_then.claim.world.sound end x.failed) since is.asked)
-          (silent_on p before silent x.clock x.port then k.draws done w' after.claim.world after.claim.measured fell
-          left
-          quiet falls.off was_there
-          (unused_so n made then keeps_then.stands keeps_then.claim.world.sound end x.failed) is.silent_by)
           is
 
     leads_to_left : (past : Past) (next : ℕ) → EventLeads n made past event (Left next) → IsAfter d made past w

@@ -44,11 +44,11 @@ use Rattle.gptp_invariants.proofs.WorldNewsCourseLemmas.{later_keeps}
 use Rattle.gptp_invariants.proofs.WorldOutlineLemmas.{acts_time}
 use Rattle.gptp_invariants.proofs.WorldSettledLemmas.{still_acts_stay, time_stays}
 use Rattle.gptp_invariants.proofs.WorldStandsLemmas.{stands_well}
+use Rattle.gptp_invariants.proofs.WorldNewsLemmas.{acts_silent, silent_later}
 use Rattle.gptp_settling_time.specs.ChoiceAlone.{ChoiceStands}
 use Rattle.gptp_settling_time.proofs.AlwaysClaimedLemmas.{AreHeard, IsStanding, linked_on, same_start, start_calm, start_network}
 use Rattle.gptp_settling_time.proofs.FitsLemmas.{IsLeftUnmoved, UnlinkedHoldNothing}
 use Rattle.gptp_settling_time.proofs.HeardLemmas.{IsFirstLong, first_acted, first_later}
-use Rattle.gptp_settling_time.proofs.LastAnsweredLemmas.{acts_off, off_later, silent_are_off}
 use Rattle.gptp_settling_time.proofs.LinkStoodLemmas.{stood_in}
 use Rattle.gptp_settling_time.proofs.NewsMeasuredLemmas.{ready_measures}
 use Rattle.gptp_settling_time.proofs.SeenSettledLemmas.{seen_chooses, seen_settles}
@@ -63,7 +63,7 @@ standing_later p start time w later first is = record {
   pace = is.pace;
   world = time_stays p w time later (later_sound w time w.last_change is.world.sound first) is.world;
   measured = later_measured time w later is.measured;
-  off = off_later p start time w is.off;
+  silent = silent_later p start time w is.silent;
 }
 
 pub standing_acts : (p : SettlingParams) (start : ℕ) (act : Act) (w : WorldState) (draws : List Draw) (done : Done)
@@ -74,7 +74,7 @@ standing_acts p start act w draws done w' none octet k is =
       pace = is.pace;
       world = still_acts_stay p act w draws done w' none k is.world;
       measured = acts_measured act w w' draws done is.world.sound is.measured octet k;
-      off = acts_off p start act w draws done w' none k is.world is.measured is.off;
+      silent = acts_silent p start act w draws done w' none k is.world is.measured is.silent;
     }
 
 -- each port at a link first asked long enough before a time
@@ -297,7 +297,7 @@ left_now p g silent w is none = record {
     pace = is.standing.pace;
     world = is.standing.world;
     measured = is.standing.measured;
-    off = silent_are_off p w.time w none;
+    silent = none;
   };
   asked = is.asked;
   well = is.well;

@@ -82,7 +82,6 @@ pub mod FitsLemmas
 pub mod TouchedLemmas
 pub mod NotTakenLemmas
 pub mod UnlinkedLemmas
-pub mod LastAnsweredLemmas
 pub mod ReplyDueLemmas
 pub mod LeftClaimedLemmas
 pub mod GoesDownLemmas
@@ -139,7 +138,6 @@ pub mod LosesNothingLemmas
 pub mod LosesPriorityLemmas
 pub mod LostToLemmas
 pub mod LostMadeLemmas
-pub mod EndsToldLemmas
 pub mod LosesVainLemmas
 pub mod CalmStillLemmas
 pub mod LosesLeadLemmas

@@ -1,7 +1,7 @@
 -- A loss leads a network that has settled to what is left, or in which a system turns, or that is cleared.
 use Rattle.std.proofs.Common.{List, [], ap, append-nil, append_assoc, arith, inl, inr, max, pred, refl, subst, suc, sym, zero, ℕ, ◌*◌, ◌++◌, ◌+◌, ◌∙◌, ◌∷◌, ◌≡◌, ◌≤◌, ◌⊎◌}
 use Rattle.std.specs.List.{AllByRecursion}
-use Rattle.std.proofs.Math.Nat.{le-max_left, le-max_right, mul-le-mul_left, mul-le-mul_right}
+use Rattle.std.proofs.Math.Nat.{le-max_left, le-max_right, mul-le-mul_left}
 use Rattle.gptp_setup.specs.SettlingParams.{SettlingParams, largest_interval, longest_span}
 use Rattle.gptp_scenario.specs.Calm.{IsCalm, NothingLapses, last_change}
 use Rattle.gptp_scenario.specs.Network.{NetworkState, pace_of}
@@ -9,13 +9,14 @@ use Rattle.gptp_scenario.specs.SettlingTime.{capability_span}
 use Rattle.gptp_scenario.specs.SyncWait.{sync_paths}
 use Rattle.gptp_scenario.specs.declared.change.Timed.{Timed}
 use Rattle.gptp_scenario.specs.declared.sync_wait.SyncPaths.{SyncPaths}
-use Rattle.gptp_settling_time.specs.HowSoon.{CutsOneEnd, EachEvent, FailsEndFirst, FailsHeardFirst, LowersOneLink, RestsAfterLoss, TurnsOneLink, TurnsUnused, way_span}
+use Rattle.gptp_settling_time.specs.HowSoon.{CutsOneEnd, EachEvent, FailsEndFirst, FailsHeardFirst, LowersOneLink, RestsAfterOneLoss, TurnsOneLink, TurnsUnused, way_span}
 use Rattle.gptp_settling_time.specs.InTurn.{Aging, AnyPast, ChoosesAfter, Cleared, CutsCalm, EventLeads, FailsCalm, FailsNow, FlightIsGone, Gained, Heard, LeadOn, Left, LosesNow, Lost, LowersCalm, Past, SettlesAfter, Starting, Turned, TurnsCalm, echo_span, nearer_echo_span, turned_echo_span}
-use Rattle.gptp_settling_time.specs.Losses.{CutsFarEnd, FailsFarEnd, FailsHeard, LowersLink, LowersUnused, TurnsLink, UpIsUsed, aging_span, silence_span}
+use Rattle.gptp_settling_time.specs.Losses.{CutsFarEnd, FailsFarEnd, FailsHeard, LowersLink, LowersUnused, TurnsLink, UpIsUsed, aging_span}
 use Rattle.gptp_settling_time.proofs.CalmLessLemmas.{failure_calm, fails_calm, lowers_calm}
 use Rattle.gptp_settling_time.proofs.SamePathsLemmas.{turned_paths}
 use Rattle.gptp_settling_time.proofs.LeftToLemmas.{less_way}
 use Rattle.gptp_settling_time.proofs.LeadOnLemmas.{HasSettled, IsLed}
+use Rattle.gptp_invariants.specs.FailedUnanswered.{silence_span}
 
 module _ (n : NetworkState) (made : List Timed) (event : Timed) (roles : ℕ) where
   -- after a loss by which no system is moved the network is left so that its choice stands
@@ -180,16 +181,16 @@ aging_lead n made (event ∷ now) aged silent off calm (lowers, others) = (
 
 -- after the loss of a far end it is cleared
 module _ (n : NetworkState) (made : List Timed) (event : Timed) (gone : ℕ) (flight : FlightIsGone n made gone) where
-  record IsClearedBy (past : Past) (by : ℕ → ℕ) : Type 0 where
+  record IsClearedBy (past : Past) (by : ℕ) : Type 0 where
     since : ℕ
     silent : ℕ
     leads : EventLeads n made past event (Cleared since silent 0 (event.at + gone))
     early : since + way_span (sync_paths n made) ≤ event.at
-    over : silent ≤ by since
+    over : silent ≤ by
 
   -- by a link that cuts it off, as ports without a link were off
   cut_leads : (past : Past) → HasSettled n made past event.at → CutsCalm n made event
-      → IsClearedBy past (λ since. since)
+      → IsClearedBy past event.at
   cut_leads AnyPast settled cuts =
       let passed = settled.passed in
       let over = le-max_left (capability_span (pace_of n)) (2 * largest_interval (pace_of n)
@@ -199,7 +200,7 @@ module _ (n : NetworkState) (made : List Timed) (event : Timed) (gone : ℕ) (fl
         silent = last_change made + capability_span (pace_of n);
         leads = (settled, inl (refl, inl (inl (cuts, refl), refl, (gone, flight, refl))));
         early = omega (arith, passed, over);
-        over = omega arith;
+        over = omega (arith, passed, over);
       }
   cut_leads Starting settled cuts = absurd settled
   cut_leads (Gained start) settled cuts = record {
@@ -207,14 +208,14 @@ module _ (n : NetworkState) (made : List Timed) (event : Timed) (gone : ℕ) (fl
     silent = start;
     leads = (settled, inl (refl, inl (inl (cuts, refl), refl, (gone, flight, refl))));
     early = omega (arith, settled);
-    over = omega arith;
+    over = omega (arith, settled);
   }
   cut_leads (Heard start) settled cuts = record {
     since = start;
     silent = start;
     leads = (settled, inl (refl, inl (inl (cuts, refl), refl, (gone, flight, refl))));
     early = omega (arith, settled);
-    over = omega arith;
+    over = omega (arith, settled);
   }
   cut_leads (Left silent) settled cuts = absurd settled
   cut_leads (Turned silent now) settled cuts = absurd settled
@@ -224,14 +225,14 @@ module _ (n : NetworkState) (made : List Timed) (event : Timed) (gone : ℕ) (fl
 
   -- or as it fails, once the ports beside it have been unanswered for long enough
   fail_leads : (past : Past) → HasSettled n made past event.at → FailsCalm n made event
-      → IsClearedBy past (λ since. event.at + capability_span (pace_of n))
+      → IsClearedBy past (suc (event.at + silence_span (pace_of n)))
   fail_leads AnyPast settled fails =
       let passed = settled.passed in
       let over = le-max_left (capability_span (pace_of n)) (2 * largest_interval (pace_of n)
       + (sync_paths n made).systems * (longest_span (pace_of n) + (sync_paths n made).delay)) in
       record {
         since = last_change made + capability_span (pace_of n);
-        silent = event.at + capability_span (pace_of n);
+        silent = suc (event.at + silence_span (pace_of n));
         leads = (settled, inl (refl, inl (inr (fails, refl), refl, (gone, flight, refl))));
         early = omega (arith, passed, over);
         over = omega arith;
@@ -239,14 +240,14 @@ module _ (n : NetworkState) (made : List Timed) (event : Timed) (gone : ℕ) (fl
   fail_leads Starting settled fails = absurd settled
   fail_leads (Gained start) settled fails = record {
     since = start;
-    silent = event.at + capability_span (pace_of n);
+    silent = suc (event.at + silence_span (pace_of n));
     leads = (settled, inl (refl, inl (inr (fails, refl), refl, (gone, flight, refl))));
     early = omega (arith, settled);
     over = omega arith;
   }
   fail_leads (Heard start) settled fails = record {
     since = start;
-    silent = event.at + capability_span (pace_of n);
+    silent = suc (event.at + silence_span (pace_of n));
     leads = (settled, inl (refl, inl (inr (fails, refl), refl, (gone, flight, refl))));
     early = omega (arith, settled);
     over = omega arith;
@@ -353,13 +354,6 @@ power_lead n made (event ∷ now) other time aged silent off calm (at, later) (l
           (lowers_calm n made other off calm lowers) later others (subst (UpIsUsed n) (sym all) used)),
     )
 
--- an announce interval is over by when ports beside a system that failed aren't capable
-interval_span : (p : SettlingParams) → largest_interval p ≤ capability_span p
-interval_span p =
-    let more : 1 * largest_interval p ≤ (p.params.lost + 5) * largest_interval p =
-    mul-le-mul_right (largest_interval p) (omega arith) in
-    omega (arith, more)
-
 -- What was in flight as all but the neighbours of the best tell what is right is gone once they do too.
 nearer_within : (systems hop gone : ℕ) → gone ≤ hop → pred (pred systems) * hop + gone ≤ max (pred systems * hop) gone
 nearer_within zero hop gone soon = let least = le-max_right (0 * hop) gone in omega (arith, least)
@@ -379,23 +373,23 @@ module _ (n : NetworkState) (off : NothingLapses n.params) (time : ℕ) (made no
     settled_then : HasSettled n made past event.at
     settled_then = subst (HasSettled n made past) (sym here) settled
 
-    -- it is cleared, and taken as heard from this start on
-    led : (since silent right old start : ℕ) → EventLeads n made past event (Cleared since silent right old)
+    -- it is cleared, and taken as heard from when its ports were capable
+    led : (since silent right old : ℕ) → EventLeads n made past event (Cleared since silent right old)
         → LeadOn n (made ++ event ∷ []) (Cleared since silent right old) others (Cleared since silent right old)
-        → old ≤ time + rest → since ≤ start → (silent ≤ start) ⊎ UpIsUsed n (made ++ now)
-        → start + way_span (sync_paths n (made ++ now)) ≤ suc (time + rest)
+        → old ≤ time + rest → (silent ≤ suc (time + rest)) ⊎ UpIsUsed n (made ++ now)
+        → since + way_span (sync_paths n (made ++ now)) ≤ suc (time + rest)
         → IsLed n made now past (suc (time + rest))
-    led since silent right old start leads lead less later unlinked over = record {
+    led since silent right old leads lead less unlinked over = record {
       last = Cleared since silent right old;
       lead = subst (λ es. LeadOn n made past es (Cleared since silent right old)) (sym same)
           (past, inl refl, Cleared since silent right old, leads, lead);
       settles = (
-        Heard start,
+        Heard since,
         inr (record {
           calm = calm;
           off = off;
           gone = omega (arith, less);
-          later = later;
+          later = omega arith;
           unlinked = unlinked;
           over = over;
         }),
@@ -426,10 +420,12 @@ module _ (n : NetworkState) (off : NothingLapses n.params) (time : ℕ) (made no
         let less = way_then (subst (EachEvent (LowersUnused n) (made ++ event ∷ [])) (sym alone) tt) l.delay l.paths in
         let before = here in
         let early = x.early in
-        led x.since x.silent 0 (event.at + gone) x.since x.leads
+        let over = x.over in
+        let gone_most = le-max_right (2 * way_span (sync_paths n (made ++ now))) gone in
+        led x.since x.silent 0 (event.at + gone) x.leads
         (subst (λ es. LeadOn n (made ++ event ∷ []) (Cleared x.since x.silent 0 (event.at + gone)) es
-        (Cleared x.since x.silent 0 (event.at + gone))) (sym alone) refl) (omega (arith, before, is)) (omega arith)
-        (inl x.over) (omega (arith, early, before, less))
+        (Cleared x.since x.silent 0 (event.at + gone))) (sym alone) refl) (omega (arith, before, is, gone_most))
+        (inl (omega (arith, over, before))) (omega (arith, early, before, less))
 
     -- another such link goes down
     right_led : LowersLink n made event → others ≡ [] → (gone : ℕ) → FlightIsGone n (made ++ now) gone
@@ -450,9 +446,9 @@ module _ (n : NetworkState) (off : NothingLapses n.params) (time : ℕ) (made no
         let before = here in
         let early = x.early in
         led x.since x.since (event.at + 1 + nearer_echo_span n (made ++ event ∷ []))
-        (event.at + nearer_echo_span n (made ++ event ∷ []) + gone) x.since x.leads
+        (event.at + nearer_echo_span n (made ++ event ∷ []) + gone) x.leads
         (subst (λ es. LeadOn n (made ++ event ∷ []) last es last) (sym alone) refl)
-        (omega (arith, before, is, within)) (omega arith) (inl (omega arith))
+        (omega (arith, before, is, within)) (inl (omega (arith, early, before)))
         (omega (arith, early, before, less))
       where
         gone_soon : FlightIsGone n (made ++ now) gone
@@ -462,7 +458,7 @@ module _ (n : NetworkState) (off : NothingLapses n.params) (time : ℕ) (made no
 
     fail_led : FailsFarEnd n made event → EachEvent (LowersUnused n) (made ++ event ∷ []) others
         → (UpIsUsed n (made ++ now) × FlightIsGone n made rest)
-        ⊎ (rest ≡ capability_span (pace_of n) + way_span (sync_paths n (made ++ now)))
+        ⊎ ((gone : ℕ) × FlightIsGone n made gone × (rest ≡ max (silence_span (pace_of n)) gone))
         → IsLed n made now past (suc (time + rest))
     fail_led fails lowers (inl (used, flight)) =
         let x = fail_leads n made event rest flight past settled_then
@@ -470,22 +466,23 @@ module _ (n : NetworkState) (off : NothingLapses n.params) (time : ℕ) (made no
         let less = way_then lowers fails.delay fails.paths in
         let before = here in
         let early = x.early in
-        led x.since x.silent 0 (event.at + rest) x.since x.leads
+        led x.since x.silent 0 (event.at + rest) x.leads
         (dead_clear n (made ++ event ∷ []) others x.since x.silent (event.at + rest) off
-        (fails_calm n made event off calm_then fails) lowers) (omega (arith, before)) (omega arith) (inr used)
+        (fails_calm n made event off calm_then fails) lowers) (omega (arith, before)) (inr used)
         (omega (arith, early, before, less))
-    fail_led fails lowers (inr is) =
-        let gone = largest_interval (pace_of n) in
-        let x = fail_leads n made event gone (inr refl) past settled_then
+    fail_led fails lowers (inr (gone, flight, is)) =
+        let x = fail_leads n made event gone flight past settled_then
         (record { fails = fails; calm = calm_then; off = off }) in
+        let less = way_then lowers fails.delay fails.paths in
         let before = here in
         let early = x.early in
         let over = x.over in
-        let short = interval_span (pace_of n) in
-        led x.since x.silent 0 (event.at + gone) (time + capability_span (pace_of n)) x.leads
+        let silent_most = le-max_left (silence_span (pace_of n)) gone in
+        let gone_most = le-max_right (silence_span (pace_of n)) gone in
+        led x.since x.silent 0 (event.at + gone) x.leads
         (dead_clear n (made ++ event ∷ []) others x.since x.silent (event.at + gone) off
-        (fails_calm n made event off calm_then fails) lowers) (omega (arith, is, short, before))
-        (omega (arith, early, before)) (inl (omega (arith, over, before))) (omega (arith, is))
+        (fails_calm n made event off calm_then fails) lowers) (omega (arith, is, gone_most, before))
+        (inl (omega (arith, over, before, is, silent_most))) (omega (arith, early, before, less))
 
     -- one system turns, and it is taken as heard from now on
     turned_led : TurnsLink n made event → others ≡ [] → rest ≡ turned_echo_span n (made ++ now)
@@ -609,7 +606,7 @@ module _ (n : NetworkState) (off : NothingLapses n.params) (time : ℕ) (made no
       × ((gone : ℕ) × FlightIsGone n made gone × (rest ≡ max (2 * way_span (sync_paths n (made ++ now))) gone)))
       ⊎ ((FailsEndFirst n made es
       × ((UpIsUsed n (made ++ now) × FlightIsGone n made rest)
-      ⊎ (rest ≡ capability_span (pace_of n) + way_span (sync_paths n (made ++ now)))))
+      ⊎ ((gone : ℕ) × FlightIsGone n made gone × (rest ≡ max (silence_span (pace_of n)) gone))))
       ⊎ ((LowersOneLink n made es
       × ((gone : ℕ) × FlightIsGone n (made ++ now) gone × (rest ≡ max (echo_span n (made ++ now)) gone)))
       ⊎ ((TurnsOneLink n made es × (rest ≡ turned_echo_span n (made ++ now)))
@@ -632,5 +629,5 @@ module _ (n : NetworkState) (off : NothingLapses n.params) (time : ℕ) (made no
   lost_led (event ∷ others) same (inr (inr (inr (inr ((fails, lowers), used, long))))) =
       power_led event others same fails lowers used long
 
-  pub cleared_led : RestsAfterLoss n made now rest → IsLed n made now past (suc (time + rest))
+  pub cleared_led : RestsAfterOneLoss n made now rest → IsLed n made now past (suc (time + rest))
   cleared_led loses = lost_led now refl loses

@@ -27,7 +27,7 @@ use Rattle.gptp_settling_time.proofs.DueLemmas.{UpIsInUse, in_use_joins}
 use Rattle.gptp_settling_time.proofs.FitsLemmas.{flight_still}
 use Rattle.gptp_settling_time.proofs.KeptToLemmas.{KeepsTo}
 use Rattle.gptp_settling_time.proofs.LeftClaimedLemmas.{HaveAskedBy, IsLeftAlways, left_itself, left_network}
-use Rattle.gptp_settling_time.proofs.LeftToLemmas.{answered_in_use, none_unanswered, up_in_use}
+use Rattle.gptp_settling_time.proofs.LeftToLemmas.{answered_in_use, up_in_use}
 use Rattle.gptp_settling_time.proofs.UnlinkedLemmas.{IsLeftSeen}
 
 module _ (p : SettlingParams) (g : Snapshot) (aged silent : ℕ) (w : WorldState)
@@ -75,7 +75,7 @@ aging_cleared d events aged silent w so used now =
       keeps = so.keeps;
       before = snapshot_of w;
       is = rights p (snapshot_of w) w.time silent (delay_in w) w (lost_left p so.before aged silent w is in_use)
-          (subst (λ t. HaveAskedBy t w) now is.asked) (none_unanswered d events w so.keeps silent used)
+          (subst (λ t. HaveAskedBy t w) now is.asked)
           (inl (in_use, refl)) so.before
           (was_best so.before (snapshot_of w) is.well (well' p so.before aged silent w is in_use) is.left)
           (λ quiet off. let itself = (is.seen quiet off).itself in

@@ -35,7 +35,6 @@ use Rattle.gptp_invariants.proofs.ChoiceCalmLemmas.{linked_interval}
 use Rattle.gptp_invariants.proofs.ChoiceSeenActLemmas.{acts_seen}
 use Rattle.gptp_invariants.proofs.ChoiceSettlesAsMachineLemmas.{kept_back, paths_bound}
 use Rattle.gptp_invariants.proofs.WorldNewsCourseLemmas.{later_keeps}
-use Rattle.gptp_invariants.proofs.WorldNewsLemmas.{acts_silent, silent_later}
 use Rattle.gptp_settling_time.proofs.AlwaysClaimedLemmas.{IsClaimedAlways}
 use Rattle.gptp_settling_time.proofs.ClearedLemmas.{BecomesSound, IsCleared, cleared_claimed, cleared_step, same_time}
 use Rattle.gptp_settling_time.proofs.ClearsLemmas.{nearer_echo}
@@ -64,7 +63,6 @@ told_anew p start w = start + way_in w + nearer_echo p w
 pub record IsTurnedAlways (p : SettlingParams) (g : Snapshot) (silent start : ℕ) (w : WorldState) : Type 0 where
   pub moved : IsMovedAlways p g silent start w
   pub asked : HaveAskedBy start w
-  pub silent_by : AreSilentBy p silent w
   pub flights : HaveQuietLinks p.params w → NothingLapses p.params
       → FlightsFit says_announce (left_network p silent w) (start + way_in w) (view w)
   pub sound : HaveQuietLinks p.params w → NothingLapses p.params → start + way_in w < w.time
@@ -146,7 +144,7 @@ module _ (p : SettlingParams) (g : Snapshot) (silent start : ℕ) (w : WorldStat
 
 module _ (p : SettlingParams) (g : Snapshot) (silent start : ℕ) (w w' : WorldState)
     (is : IsTurnedAlways p g silent start w) (moved' : IsMovedAlways p g silent start w')
-    (asked' : HaveAskedBy start w') (silent_by' : AreSilentBy p silent w') (keeps : KeepsNetwork w w')
+    (asked' : HaveAskedBy start w') (keeps : KeepsNetwork w w')
     (step : MachineSteps says_announce (view w) (view w')) where
   abbrev n' : Network
   n' = left_network p silent w'
@@ -196,12 +194,11 @@ module _ (p : SettlingParams) (g : Snapshot) (silent start : ℕ) (w w' : WorldS
           record {
             left = moved_left p g silent start w is.moved late is.flights;
             asked = is.asked;
-            silent_by = is.silent_by;
             sound = λ links none. is.sound links none late;
           } in
           let then = cleared_step p (snapshot_of w) start silent (suc (told_anew p start w))
           (told_anew p start w + gone) w w' cleared
-          (subst (λ h. IsLeftAlways p h silent w') (same_snapshot w w' keeps) left') asked' silent_by' keeps step in
+          (subst (λ h. IsLeftAlways p h silent w') (same_snapshot w w' keeps) left') asked' keeps step in
           subst (λ told. BecomesSound p silent (suc told) (told + gone) w') (sym same_told) (then.sound quiet' off)
 
       -- a moment comes by which it has settled
@@ -299,7 +296,6 @@ module _ (p : SettlingParams) (g : Snapshot) (silent start : ℕ) (w w' : WorldS
   turned_step = record {
     moved = moved';
     asked = asked';
-    silent_by = silent_by';
     flights = flights_then;
     sound = sound_then;
   }
@@ -309,8 +305,7 @@ pub turned_later : (p : SettlingParams) (g : Snapshot) (silent start time : ℕ)
     → IsTurnedAlways p g silent start (at_time time w)
 turned_later p g silent start time w later first is =
     turned_step p g silent start w (at_time time w) is (moved_later p g silent start time w later first is.moved)
-    (asked_later p start time w is.moved.standing.world later first is.asked)
-    (silent_later p silent time w is.silent_by) (later_keeps time w)
+    (asked_later p start time w is.moved.standing.world later first is.asked) (later_keeps time w)
     (inl (record { time = time; later = later; is = refl }))
 
 pub turned_acts : (p : SettlingParams) (g : Snapshot) (silent start : ℕ) (act : Act) (w : WorldState)
@@ -321,7 +316,6 @@ turned_acts p g silent start act w draws done w' none octet acts is =
     let moved' = moved_acts p g silent start act w draws done w' none octet acts is.moved in
     turned_step p g silent start w w' is moved'
     (asked_acts p start silent act w draws done w' none acts is.moved.standing moved'.standing.world is.asked)
-    (acts_silent p silent act w draws done w' none acts world is.moved.standing.measured is.silent_by)
     (acts_keep act w draws done w' none acts)
     (inr (acts_seen act w draws done w' none world.sound world.encodable acts))
 
@@ -329,12 +323,11 @@ turned_acts p g silent start act w draws done w' none octet acts is =
 
 -- as a link goes down by which no system is lost
 pub anew_begins : (p : SettlingParams) (g : Snapshot) (silent start : ℕ) (w : WorldState)
-    → IsMovedAlways p g silent start w → w.time ≡ start → w.last_change ≡ start → AreSilentBy p silent w
+    → IsMovedAlways p g silent start w → w.time ≡ start → w.last_change ≡ start
     → ((v : ℕ) → In v (clocks g) → In v (clocks (snapshot_of w))) → IsTurnedAlways p g silent start w
-anew_begins p g silent start w moved now last silent_by stays = record {
+anew_begins p g silent start w moved now last stays = record {
   moved = moved;
   asked = subst (λ t. HaveAskedBy t w) last moved.asked;
-  silent_by = silent_by;
   flights = λ quiet off.
       let (m, each) = moved.seen quiet off in
       let two = two_delays p g silent start w moved in
@@ -377,6 +370,5 @@ module _ (p : SettlingParams) (g : Snapshot) (silent start : ℕ) (w : WorldStat
       (record {
         left = moved_left p g silent start w is.moved late is.flights;
         asked = is.asked;
-        silent_by = is.silent_by;
         sound = λ links none. is.sound links none late;
       }) quiet off (omega (arith, over, less)) begin later silent_by

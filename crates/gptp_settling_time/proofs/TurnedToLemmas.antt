@@ -97,5 +97,5 @@ module _ (d : DocumentState) (events : List Timed) (silent time : ℕ) where
       since = turned_claimed pace so.before silent time w so.since
           (quiet_stands d.network events w playable.network so.keeps.stands so.keeps.claim.world.sound
           rest.calm).links rest.off over start rest.later
-          (silent_by_later pace silent start w rest.unlinked so.since.silent_by);
+          (silent_by_later pace silent start w rest.unlinked so.since.moved.standing.silent);
     }

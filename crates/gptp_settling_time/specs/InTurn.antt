@@ -16,7 +16,7 @@
 --   all had been heard.
 -- - Aging: a system failed that others heard. What they hold of it ages, and the choice stands once that is gone.
 -- - Lost: anything was taken away at one time, whatever was moved. The network settles as one that has gained, once all
---   that is held is told by live systems over links in use.
+--   that is held is told by live systems over links in use. It has come to rest then, as if all had been heard.
 --
 -- An event leads from one past to another (`EventLeads`). It may always lead to any past. At time 0, as the network
 -- starts, it may take something away, since nothing is told yet. To a gain it leads where it takes nothing away, or
@@ -59,7 +59,8 @@ use Rattle.gptp_settling_time.specs.ChoiceAlone.{ChoiceStandsAs}
 use Rattle.gptp_settling_time.specs.Documents.{IsSettledAs}
 use Rattle.gptp_settling_time.specs.Exactly.{SettlesBy}
 use Rattle.gptp_settling_time.specs.Gains.{AreCapableAnyway, AreCapableNext, AreCapableStill, ChangesNothing, EndHasFailed, HasRested, IsDownAfter, IsNoWorse, JoinsLive, LeavesCapable, TakesNothing, UsesNoLink, exchanged_from}
-use Rattle.gptp_settling_time.specs.Losses.{AreSilentAfter, CutsFarEnd, FailsFarEnd, FailsHeard, LeavesChoice, LosesAny, LowersLink, LowersUnused, TurnsLink, UpIsUsed, aging_span, loss_span, silence_span}
+use Rattle.gptp_invariants.specs.FailedUnanswered.{silence_span}
+use Rattle.gptp_settling_time.specs.Losses.{AreSilentAfter, CutsFarEnd, FailsFarEnd, FailsHeard, LeavesChoice, LosesAny, LowersLink, LowersUnused, TurnsLink, UpIsUsed, aging_span, loss_span}
 
 -- What a network came from. The numbers are times, but for the second of a loss.
 pub data Past : Type 0 where
@@ -252,7 +253,7 @@ FlightIsGone n events gone =
 abbrev pub ClearsFarEnd : NetworkState → List Timed → Timed → ℕ → ℕ → ℕ → ℕ → Type 0
 ClearsFarEnd n before event start silent right old =
     ((CutsCalm n before event × (silent ≡ start))
-    ⊎ (FailsCalm n before event × (silent ≡ event.at + capability_span (pace_of n))))
+    ⊎ (FailsCalm n before event × (silent ≡ suc (event.at + silence_span (pace_of n)))))
     × (right ≡ 0)
     × ((gone : ℕ) × FlightIsGone n before gone × (old ≡ event.at + gone))
 
@@ -510,14 +511,14 @@ EventLeads n before past event (Lost since most silent) = LeadsToLost n before p
 -- ---- rest
 
 -- A cleared network has come to rest by a time, as one whose ports are capable from a start on. What was in flight is
--- gone. Ports without a link aren't capable from the start on, or no link is up that isn't in use. And the greatest
--- delay has passed for each system of a path but one.
+-- gone. Ports without a link aren't capable any more, or no link is up that isn't in use. And the greatest delay has
+-- passed since the start for each system of a path but one.
 pub record HasCleared (n : NetworkState) (events : List Timed) (since silent old start time : ℕ) : Type 0 where
   pub calm : IsCalm n events
   pub off : NothingLapses n.params
   pub gone : old < time
   pub later : since ≤ start
-  pub unlinked : (silent ≤ start) ⊎ UpIsUsed n events
+  pub unlinked : (silent ≤ time) ⊎ UpIsUsed n events
   pub over : HasSettledHeard n events start time
 
 -- So much later than a system turned traces are told anew: the network has settled within two ways, each the greatest
@@ -537,10 +538,21 @@ pub record HasToldAnew (n : NetworkState) (events : List Timed) (silent turned s
   pub unlinked : silent ≤ start
   pub over : HasSettledHeard n events start time
 
+-- A network that has lost at a time has come to rest by another, as one whose ports are capable from a start on: its
+-- choice stands. Ports without a link aren't capable then, or no link is up that isn't in use. And the greatest delay has
+-- passed for each system of a path but one.
+pub record HasToldAll (n : NetworkState) (events : List Timed) (since most silent start time : ℕ) : Type 0 where
+  pub off : NothingLapses n.params
+  pub told : suc (since + loss_span (pace_of n) (sync_paths n events) most) ≤ time
+  pub later : since ≤ start
+  pub unlinked : (silent ≤ time) ⊎ UpIsUsed n events
+  pub over : HasSettledHeard n events start time
+
 -- then it is as if all had been heard from that start on
 abbrev pub RestsAs : NetworkState → List Timed → Past → ℕ → Past → Type 0
 RestsAs n events (Turned silent turned) time (Heard start) = HasToldAnew n events silent turned start time
 RestsAs n events (Cleared since silent right old) time (Heard start) = HasCleared n events since silent old start time
+RestsAs n events (Lost since most silent) time (Heard start) = HasToldAll n events since most silent start time
 RestsAs n events past time seen = ⊥
 
 -- what the network is taken to come from as an event comes at this time
