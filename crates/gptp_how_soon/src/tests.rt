@@ -532,47 +532,35 @@ fn a_system_that_a_failure_cuts_off_costs_two_ways(rt: HostRuntime) -> Result<()
 #[test]
 fn other_losses_cost_a_turn_for_each_system_of_a_path(rt: HostRuntime) -> Result<(), Fail> {
     // Three announce intervals and a delay for each, an interval, and a way. The link from a to b is wider first.
-    const EVENT: &str = "[[event]]\nat = 60000000000\nkind = ";
     for (case, events, bound) in [
         (
             "the root hangs",
-            &["\"fail\"\nclock = \"000000000000000a\""] as &[&str],
+            "[[event]]\nat = 60000000000\nkind = \"fail\"\nclock = \"000000000000000a\"\n",
             (10_000_002_320, 11_000_000_000),
         ),
         (
             "the root loses its power",
-            &[
-                "\"fail\"\nclock = \"000000000000000a\"",
-                "\"link_down\"\nclock = \"000000000000000a\"\nport = 1",
-                "\"link_down\"\nclock = \"000000000000000a\"\nport = 2",
-            ] as &[&str],
+            "[[event]]\nat = 60000000000\nkind = \"fail\"\nclock = \"000000000000000a\"\n[[event]]\nat = 60000000000\nkind = \"link_down\"\nclock = \"000000000000000a\"\nport = 1\n[[event]]\nat = 60000000000\nkind = \"link_down\"\nclock = \"000000000000000a\"\nport = 2\n",
             (10_000_002_320, 10_000_002_320),
         ),
         (
             "the root gets worse",
-            &["\"priority1\"\nclock = \"000000000000000a\"\nvalue = 250"] as &[&str],
+            "[[event]]\nat = 60000000000\nkind = \"priority1\"\nclock = \"000000000000000a\"\nvalue = 250\n",
             (13_000_003_500, 13_000_003_500),
         ),
         (
             "the widest link goes down",
-            &["\"link_down\"\nclock = \"000000000000000a\"\nport = 1"] as &[&str],
+            "[[event]]\nat = 60000000000\nkind = \"link_down\"\nclock = \"000000000000000a\"\nport = 1\n",
             (13_000_003_230, 13_000_003_230),
         ),
         (
             "two links go down, and one that is down",
-            &[
-                "\"link_down\"\nclock = \"000000000000000a\"\nport = 1",
-                "\"link_down\"\nclock = \"000000000000000c\"\nport = 2",
-                "\"link_down\"\nclock = \"000000000000000a\"\nport = 1",
-            ] as &[&str],
+            "[[event]]\nat = 60000000000\nkind = \"link_down\"\nclock = \"000000000000000a\"\nport = 1\n[[event]]\nat = 60000000000\nkind = \"link_down\"\nclock = \"000000000000000c\"\nport = 2\n[[event]]\nat = 60000000000\nkind = \"link_down\"\nclock = \"000000000000000a\"\nport = 1\n",
             (7_000_001_410, 7_000_001_410),
         ),
         (
             "the root gets worse, and another better",
-            &[
-                "\"priority1\"\nclock = \"000000000000000a\"\nvalue = 250",
-                "\"priority1\"\nclock = \"000000000000000c\"\nvalue = 1",
-            ] as &[&str],
+            "[[event]]\nat = 60000000000\nkind = \"priority1\"\nclock = \"000000000000000a\"\nvalue = 250\n[[event]]\nat = 60000000000\nkind = \"priority1\"\nclock = \"000000000000000c\"\nvalue = 1\n",
             (15_000_003_500, 15_000_003_500),
         ),
     ] {
@@ -580,9 +568,7 @@ fn other_losses_cost_a_turn_for_each_system_of_a_path(rt: HostRuntime) -> Result
         text.push_str(
             "[[event]]\nat = 30000000000\nkind = \"link_set\"\nclock = \"000000000000000a\"\nport = 1\nmin = 380\nmax = 500\nloss = 0\n",
         )?;
-        for event in events {
-            writeln!(text, "{EVENT}{event}")?;
-        }
+        text.push_str(events)?;
         let times = ring(rt.alloc(), text.as_str())?;
         assert_eq!(rt; bounds(&times, 60_000_000_000), Some(bound), "{case}");
     }
