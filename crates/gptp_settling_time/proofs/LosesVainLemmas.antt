@@ -1,5 +1,5 @@
 -- A link of which an end has failed comes up, among events that take something away: it takes nothing away.
-use Rattle.std.proofs.Common.{◌≡◌, ◌≢◌, ◌⊎◌, ◌+◌, ℕ, true, false, List, [], Some, slice_get, refl, sym, ap, subst, ◌∙◌, inl, inr}
+use Rattle.std.proofs.Common.{◌≡◌, ◌≢◌, ◌⊎◌, ℕ, true, false, List, [], Some, slice_get, refl, sym, ap, subst, ◌∙◌, inl, inr}
 use Rattle.std.proofs.lemmas.Option.{same_Some}
 use Rattle.gptp_lists.specs.Members.{In}
 use Rattle.gptp_lists.proofs.MappedLemmas.{alike, same_there}
@@ -9,21 +9,18 @@ use Rattle.gptp_links.specs.Fate.{Draw}
 use Rattle.gptp_links.specs.Queue.{Frame}
 use Rattle.gptp_links.specs.declared.link.Direction.{Direction}
 use Rattle.gptp_links.specs.declared.link.Direction.TheVariants.{FromA, FromB}
-use Rattle.gptp_setup.specs.SettlingParams.{SettlingParams, largest_interval}
+use Rattle.gptp_setup.specs.SettlingParams.{SettlingParams}
 use Rattle.gptp_system.specs.Input.{PortUp}
 use Rattle.gptp_model.specs.Changing.{TellsEnds, brought_up}
 use Rattle.gptp_model.specs.World.{Channel, WorldState, sender, world_queue}
-use Rattle.gptp_model.proofs.ActsByLemmas.{ends_told}
 use Rattle.gptp_model.proofs.BareLemmas.{bare}
 use Rattle.gptp_invariants.specs.ChoiceSettlesAsMachine.{IsWorld}
-use Rattle.gptp_invariants.specs.DelayLinkView.{LinkPlace}
 use Rattle.gptp_invariants.specs.DelayMeasured.{LinkIsMeasured}
-use Rattle.gptp_invariants.specs.FailedUnanswered.{FailedNeighboursAreSilent, StandsUnanswered}
+use Rattle.gptp_invariants.specs.FailedUnanswered.{FailedNeighboursAreSilent}
 use Rattle.gptp_invariants.specs.WorldNews.{AreReadyBy, AreSilentBy}
 use Rattle.gptp_invariants.specs.WorldStanding.{channel_is_used, live_stations, snapshot_of}
 use Rattle.gptp_invariants.proofs.ChoiceCalmKeptLemmas.{KeepsNetwork}
 use Rattle.gptp_invariants.proofs.DelayFirstUpLemmas.{queue_up}
-use Rattle.gptp_invariants.proofs.FailedSilentElsewhereLemmas.{stood_up}
 use Rattle.gptp_invariants.proofs.WorldSoundCallLemmas.{tells_keep}
 use Rattle.gptp_settling_time.proofs.DeadLanesLemmas.{HasLess, told_less}
 use Rattle.gptp_settling_time.proofs.FailedUpLemmas.{up_like, up_silent}
