@@ -339,8 +339,8 @@ LosesNext n events Then last time Asks =
 -- How much later a network has come to rest after a loss by which one system is moved at most. After the loss of a far
 -- end what was in flight has to be gone. Where it fails and a link is up then that isn't in use, roles have to stand
 -- too. After another link goes down that moves no system right traces have to be told first. Where it so moves one
--- system the network settles before. It has within two ways, and where each link that is up is in use what was in flight
--- is gone in that time too.
+-- system the network settles before. It has within two ways, and where each link that is up is in use what was in
+-- flight is gone in that time too.
 abbrev pub RestsAfterOneLoss : NetworkState → List Timed → List Timed → ℕ → Type 0
 RestsAfterOneLoss n made now rest =
     (CutsOneEnd n made now
