@@ -1,5 +1,5 @@
 -- Events of a time that take something away lead a network that has settled to one that has lost.
-use Rattle.std.proofs.Common.{List, [], arith, inl, inr, refl, subst, suc, sym, ℕ, ◌++◌, ◌+◌, ◌∷◌, ◌≡◌, ◌<◌, ◌≤◌, ◌⊎◌}
+use Rattle.std.proofs.Common.{List, [], arith, inl, inr, refl, subst, suc, sym, ℕ, ◌++◌, ◌+◌, ◌∷◌, ◌≡◌, ◌≤◌, ◌⊎◌}
 use Rattle.std.specs.List.{AllByRecursion}
 use Rattle.std.proofs.Math.Nat.{le-max_left, le-max_right}
 use Rattle.gptp_setup.specs.SettlingParams.{SettlingParams}
@@ -144,8 +144,8 @@ module _ (n : NetworkState) (time : ℕ) where
 
 -- ---- what the events ask for
 
--- By them the network has lost. Its choice stands after the span of a loss, and roles do once ports without a link aren't
--- capable.
+-- By them the network has lost. Its choice stands after the span of a loss, and roles do once ports without a link
+-- aren't capable.
 pub record LosesBy (n : NetworkState) (time : ℕ) (made now : List Timed) (past : Past) (choice roles : ℕ) : Type 0
   where
     pub most : ℕ
