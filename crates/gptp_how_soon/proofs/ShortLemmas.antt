@@ -32,7 +32,7 @@ use Rattle.gptp_setup.specs.SettlingParams.{largest_interval, longest_span}
 use Rattle.gptp_setup.proofs.IntervalLemmas.{interval_most}
 use Rattle.gptp_topology.specs.Times.{times_from, times_of}
 use Rattle.gptp_topology.specs.declared.course.Cable.{Cable}
-use Rattle.gptp_how_soon.specs.Bounds.{asked_again, echo_span, exact_span, gone_by, is_again, loss_span, needed_watch, ready, roles_after_losses, roles_by, roles_of_row, set_span, settling_by, silence_span, sound_by, sound_of_row, two_exchanges, unused_by, watch, way_span}
+use Rattle.gptp_how_soon.specs.Bounds.{asked_again, echo_span, exact_span, gone_by, is_again, loss_span, needed_watch, ready, roles_after_losses, roles_by, roles_of_row, set_span, settling_by, silence_span, sound_by, sound_of_row, two_exchanges, watch, way_span}
 use Rattle.gptp_how_soon.specs.Kinds.{sets_bounds, sets_link}
 use Rattle.gptp_how_soon.specs.Rest.{leaves_silent}
 use Rattle.gptp_how_soon.specs.Times.{IsWatchedShortly, View, events_at, events_before, gained_at, heard_at, last_set, row_at, settling_time, settling_times, settling_times_from, time_at, view_at}
@@ -113,18 +113,19 @@ module _ (n : NetworkState) (network : IsNetwork n) (paths : SyncPaths) (few : p
       (omega (arith, turn, short, soon)) in
       omega (arith, l, w, turns)
 
+  roles_lost : (before : SyncPaths) (silent : Bool) → before.delay ≤ 16000000000
+      → roles_after_losses n before paths silent ≤ 195000000000000
+  roles_lost before silent soon =
+      let l = losses before soon in let most = silence_most in
+      either_most silent (max (loss_span n before paths) (silence_span n.params)) (loss_span n before paths)
+      195000000000000 (omega (arith, l, most)) (omega (arith, l))
+
   roles_most : (before : SyncPaths) (silent : Bool) (row : Row) (gained : ℕ) → before.delay ≤ 16000000000
       → gained ≤ 195000000000000
       → roles_by n before paths silent row gained ≤ 195000000000000
   roles_most before silent row gained soon early =
       either_most (not (n.params.sync_timeout == 0)) _ _ 195000000000000 span (by row)
     where
-      lost : roles_after_losses n before paths silent ≤ 195000000000000
-      lost =
-          let l = losses before soon in let most = silence_most in
-          either_most silent (max (loss_span n before paths) (silence_span n.params)) (loss_span n before paths)
-          195000000000000 (omega (arith, l, most)) (omega (arith, l))
-
       by : (r : Row) → roles_of_row n before paths silent r gained ≤ 195000000000000
       by AnyPast = at_once
       by Unchanged = omega arith
@@ -137,20 +138,17 @@ module _ (n : NetworkState) (network : IsNetwork n) (paths : SyncPaths) (few : p
       by FailedHeard = let most = silence_most in omega (arith, most)
       by FailureCutsOff = let w = way in let most = silence_most in omega (arith, w, most)
       by OneTurned = let w = way in omega (arith, w)
-      by AnyLosses = lost
+      by AnyLosses = roles_lost before silent soon
       by Gained = early
 
-  sound_most : (before : SyncPaths) (used : Bool) (row : Row) (gained : ℕ) → before.delay ≤ 16000000000
+  sound_most : (before : SyncPaths) (silent used : Bool) (row : Row) (gained : ℕ) → before.delay ≤ 16000000000
       → gained ≤ 195000000000000
-      → sound_by n before paths used row gained ≤ 195000000000000
-  sound_most before used row gained soon early =
+      → sound_by n before paths silent used row gained ≤ 195000000000000
+  sound_most before silent used row gained soon early =
       either_most (not (n.params.sync_timeout == 0)) _ _ 195000000000000 span (by row)
     where
       gone : (x : SyncPaths) → x.delay ≤ 16000000000 → gone_by n x used ≤ 16000000000
       gone x most = either_most used x.delay (largest_interval (pace_of n)) 16000000000 most largest
-
-      unused : unused_by n used ≤ 16000000000
-      unused = either_most used 0 (largest_interval (pace_of n)) 16000000000 (omega arith) largest
 
       echo : echo_span n paths ≤ 16384000000000
       echo =
@@ -158,22 +156,19 @@ module _ (n : NetworkState) (network : IsNetwork n) (paths : SyncPaths) (few : p
           mul-le (pred paths.systems) (largest_interval (pace_of n) + paths.delay) 512 32000000000
           (pred_few paths.systems 512 few) (omega (arith, l, short))
 
-      by : (r : Row) → sound_of_row n before paths used r gained ≤ 195000000000000
+      by : (r : Row) → sound_of_row n before paths silent used r gained ≤ 195000000000000
       by AnyPast = at_once
       by Unchanged = omega arith
       by Lowered = let e = echo in let g = gone paths short in omega (arith, e, g)
       by CutOff = let w = way in let g = gone paths short in omega (arith, w, g)
       by LostEnd = let g = gone before soon in omega (arith, g)
-      by FailedEnd = let w = way in let c = capable_most in omega (arith, w, c)
-      by LostPower = at_once
-      by PowerCutsOff = at_once
+      by FailedEnd = let s = silence_most in let g = gone before soon in omega (arith, s, g)
+      by LostPower = let e = echo in omega (arith, e, short)
+      by PowerCutsOff = let w = way in let e = echo in omega (arith, w, e, short)
       by FailedHeard = at_once
       by FailureCutsOff = at_once
-      by OneTurned =
-          let w = way in let e = echo in
-          let u = unused in
-          omega (arith, w, e, u)
-      by AnyLosses = at_once
+      by OneTurned = let w = way in let e = echo in omega (arith, w, e)
+      by AnyLosses = roles_lost before silent soon
       by Gained = early
 
   set_most : (sets : Bool) → set_span n.params paths sets ≤ 65000000000
@@ -197,7 +192,7 @@ module _ (n : NetworkState) (network : IsNetwork n) (paths : SyncPaths) (few : p
     needed_most false = let s = span in let e = exact_most in omega (arith, s, e)
     needed_most true =
         let r = roles_most before silent row gained short_before early in
-        let h = sound_most before used_before row gained short_before early in
+        let h = sound_most before silent used_before row gained short_before early in
         let s = set_most sets in let l = largest in let e = exact_most in omega (arith, soon, r, h, s, l, e, short)
 
     watch_most : (calm : Bool)

@@ -56,7 +56,7 @@ watched_longer n network at last_set before paths true sets used_before silent r
     let some = interval_positive n.params.sync network.params.ranges.params.sync in
     let told : Settling =
     settled n at last_set paths sets (choice_by n before paths row gained) (roles_by n before paths silent row gained)
-    (sound_by n before paths used_before row gained) in
+    (sound_by n before paths silent used_before row gained) in
     let same : told ≡ s = same_Some told s is in
     subst (λ (x : Settling). x.choice < watch n at paths (Some told)) same (omega (arith, later, some))
 

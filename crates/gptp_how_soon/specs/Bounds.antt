@@ -6,7 +6,7 @@ use Rattle.gptp_setup.specs.SettlingParams.{largest_interval, longest_span}
 use Rattle.gptp_setup.specs.declared.setup.Params.{Params}
 use Rattle.gptp_scenario.specs.Network.{NetworkState, pace_of}
 use Rattle.gptp_scenario.specs.SettlingAtOnce.{settling_span_at_once}
-use Rattle.gptp_scenario.specs.SettlingTime.{capability_span, settling_span_with}
+use Rattle.gptp_scenario.specs.SettlingTime.{settling_span_with}
 use Rattle.gptp_scenario.specs.declared.sync_wait.SyncPaths.{SyncPaths}
 use Rattle.gptp_topology.specs.declared.course.Cable.{Cable}
 use Rattle.gptp_how_soon.specs.Kinds.{recovers}
@@ -140,36 +140,33 @@ gone_by n paths used_before = if used_before then paths.delay else largest_inter
 abbrev pub echo_span : NetworkState → SyncPaths → ℕ
 echo_span n paths = pred paths.systems * (largest_interval (pace_of n) + paths.delay)
 
--- Where a link was up that isn't in use what was in flight on it may be gone an announce interval later than elsewhere.
-abbrev pub unused_by : NetworkState → Bool → ℕ
-unused_by n used_before = if used_before then 0 else largest_interval (pace_of n)
-
 -- By when all that is held and in flight is sound: as soon as the choice stands, but after a loss it may name what is
--- gone. After a far end is cut off, or loses its power, only what was in flight does. Of one that loses its power that
--- came by its own links too. Where a far end fails, and ports
--- beside it may still be capable, roles have to stand first, and then a way to pass. After a link goes down by which no
--- system is moved traces have to be told anew first, and so they do where one system turns, once the choice stands.
--- After other losses all is sound as soon as the choice stands from any past.
-abbrev pub sound_of_row : NetworkState → SyncPaths → SyncPaths → Bool → Row → ℕ → ℕ
-sound_of_row n before paths used_before AnyPast gained = settling_span_at_once (pace_of n) paths
-sound_of_row n before paths used_before Unchanged gained = 0
-sound_of_row n before paths used_before Lowered gained = max (echo_span n paths) (gone_by n paths used_before)
-sound_of_row n before paths used_before CutOff gained = max (2 * way_span paths) (gone_by n paths used_before)
-sound_of_row n before paths used_before LostEnd gained = gone_by n before used_before
-sound_of_row n before paths used_before FailedEnd gained = capability_span (pace_of n) + way_span paths
-sound_of_row n before paths used_before LostPower gained = settling_span_at_once (pace_of n) paths
-sound_of_row n before paths used_before PowerCutsOff gained = settling_span_at_once (pace_of n) paths
-sound_of_row n before paths used_before FailedHeard gained = settling_span_at_once (pace_of n) paths
-sound_of_row n before paths used_before FailureCutsOff gained = settling_span_at_once (pace_of n) paths
-sound_of_row n before paths used_before OneTurned gained =
-    2 * way_span paths + echo_span n paths + unused_by n used_before
-sound_of_row n before paths used_before AnyLosses gained = settling_span_at_once (pace_of n) paths
-sound_of_row n before paths used_before Gained gained = gained
+-- gone. After a far end is cut off, or fails, only what was in flight does: of one that fails by the links of before too.
+-- Where ports beside it may still be capable, roles have to stand too. After a link goes down by which no system is moved, or a
+-- system that others heard loses its power, traces have to be told anew first. So they do where one system turns, once
+-- the choice stands. After losses without a row of their own all is sound once roles stand. After others it is as soon
+-- as the choice stands from any past.
+abbrev pub sound_of_row : NetworkState → SyncPaths → SyncPaths → Bool → Bool → Row → ℕ → ℕ
+sound_of_row n before paths silent used_before AnyPast gained = settling_span_at_once (pace_of n) paths
+sound_of_row n before paths silent used_before Unchanged gained = 0
+sound_of_row n before paths silent used_before Lowered gained = max (echo_span n paths) (gone_by n paths used_before)
+sound_of_row n before paths silent used_before CutOff gained = max (2 * way_span paths) (gone_by n paths used_before)
+sound_of_row n before paths silent used_before LostEnd gained = gone_by n before used_before
+sound_of_row n before paths silent used_before FailedEnd gained =
+    max (silence_span n.params) (gone_by n before used_before)
+sound_of_row n before paths silent used_before LostPower gained = max (echo_span n paths) paths.delay
+sound_of_row n before paths silent used_before PowerCutsOff gained =
+    max (2 * way_span paths) (max (echo_span n paths) paths.delay)
+sound_of_row n before paths silent used_before FailedHeard gained = settling_span_at_once (pace_of n) paths
+sound_of_row n before paths silent used_before FailureCutsOff gained = settling_span_at_once (pace_of n) paths
+sound_of_row n before paths silent used_before OneTurned gained = 2 * way_span paths + echo_span n paths
+sound_of_row n before paths silent used_before AnyLosses gained = roles_after_losses n before paths silent
+sound_of_row n before paths silent used_before Gained gained = gained
 
-abbrev pub sound_by : NetworkState → SyncPaths → SyncPaths → Bool → Row → ℕ → ℕ
-sound_by n before paths used_before row gained =
+abbrev pub sound_by : NetworkState → SyncPaths → SyncPaths → Bool → Bool → Row → ℕ → ℕ
+sound_by n before paths silent used_before row gained =
     if not (n.params.sync_timeout == 0) then settling_span_with (pace_of n) paths paths.systems
-    else sound_of_row n before paths used_before row gained
+    else sound_of_row n before paths silent used_before row gained
 
 -- a port at a link whose bounds are set measures it anew
 abbrev pub set_span : Params → SyncPaths → Bool → ℕ
@@ -216,7 +213,7 @@ abbrev pub settling_by : NetworkState → ℕ → ℕ → SyncPaths → SyncPath
 settling_by n at last_set before paths calm sets used_before silent row gained =
     if calm
     then Some (settled n at last_set paths sets (choice_by n before paths row gained)
-    (roles_by n before paths silent row gained) (sound_by n before paths used_before row gained))
+    (roles_by n before paths silent row gained) (sound_by n before paths silent used_before row gained))
     else None
 
 abbrev pub times_by : NetworkState → ℕ → ℕ → SyncPaths → SyncPaths → Bool → Bool → Bool → Bool → Row → ℕ

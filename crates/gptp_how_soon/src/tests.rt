@@ -437,11 +437,11 @@ fn a_far_end_that_fails_costs_the_choice_nothing(rt: HostRuntime) -> Result<(), 
             settling: Some(Settling {
                 choice: 0,
                 roles: 11_000_000_000,
-                sound: 14_000_000_820,
-                rest: 14_000_001_230,
+                sound: 11_000_000_000,
+                rest: 11_000_000_410,
                 exact_from: 41_000_005_400,
             }),
-            watch: 15_000_001_231,
+            watch: 12_000_005_400,
         })
     );
     Ok(())
@@ -532,42 +532,30 @@ fn a_system_that_a_failure_cuts_off_costs_two_ways(rt: HostRuntime) -> Result<()
 #[test]
 fn other_losses_cost_a_turn_for_each_system_of_a_path(rt: HostRuntime) -> Result<(), Fail> {
     // Three announce intervals and a delay for each, an interval, and a way. The link from a to b is wider first.
-    const EVENT: &str = "[[event]]\nat = 60000000000\nkind = ";
     for (case, events, bound) in [
         (
             "the root hangs",
-            &["\"fail\"\nclock = \"000000000000000a\""] as &[&str],
+            "[[event]]\nat = 60000000000\nkind = \"fail\"\nclock = \"000000000000000a\"\n",
             (10_000_002_320, 11_000_000_000),
         ),
         (
             "the root loses its power",
-            &[
-                "\"fail\"\nclock = \"000000000000000a\"",
-                "\"link_down\"\nclock = \"000000000000000a\"\nport = 1",
-                "\"link_down\"\nclock = \"000000000000000a\"\nport = 2",
-            ] as &[&str],
+            "[[event]]\nat = 60000000000\nkind = \"fail\"\nclock = \"000000000000000a\"\n[[event]]\nat = 60000000000\nkind = \"link_down\"\nclock = \"000000000000000a\"\nport = 1\n[[event]]\nat = 60000000000\nkind = \"link_down\"\nclock = \"000000000000000a\"\nport = 2\n",
             (10_000_002_320, 10_000_002_320),
         ),
         (
             "the root gets worse",
-            &["\"priority1\"\nclock = \"000000000000000a\"\nvalue = 250"] as &[&str],
+            "[[event]]\nat = 60000000000\nkind = \"priority1\"\nclock = \"000000000000000a\"\nvalue = 250\n",
             (13_000_003_500, 13_000_003_500),
         ),
         (
             "two links go down, and one that is down",
-            &[
-                "\"link_down\"\nclock = \"000000000000000a\"\nport = 1",
-                "\"link_down\"\nclock = \"000000000000000c\"\nport = 2",
-                "\"link_down\"\nclock = \"000000000000000a\"\nport = 1",
-            ] as &[&str],
+            "[[event]]\nat = 60000000000\nkind = \"link_down\"\nclock = \"000000000000000a\"\nport = 1\n[[event]]\nat = 60000000000\nkind = \"link_down\"\nclock = \"000000000000000c\"\nport = 2\n[[event]]\nat = 60000000000\nkind = \"link_down\"\nclock = \"000000000000000a\"\nport = 1\n",
             (7_000_001_410, 7_000_001_410),
         ),
         (
             "the root gets worse, and another better",
-            &[
-                "\"priority1\"\nclock = \"000000000000000a\"\nvalue = 250",
-                "\"priority1\"\nclock = \"000000000000000c\"\nvalue = 1",
-            ] as &[&str],
+            "[[event]]\nat = 60000000000\nkind = \"priority1\"\nclock = \"000000000000000a\"\nvalue = 250\n[[event]]\nat = 60000000000\nkind = \"priority1\"\nclock = \"000000000000000c\"\nvalue = 1\n",
             (15_000_003_500, 15_000_003_500),
         ),
     ] {
@@ -575,9 +563,7 @@ fn other_losses_cost_a_turn_for_each_system_of_a_path(rt: HostRuntime) -> Result
         text.push_str(
             "[[event]]\nat = 30000000000\nkind = \"link_set\"\nclock = \"000000000000000a\"\nport = 1\nmin = 380\nmax = 500\nloss = 0\n",
         )?;
-        for event in events {
-            writeln!(text, "{EVENT}{event}")?;
-        }
+        text.push_str(events)?;
         let times = ring(rt.alloc(), text.as_str())?;
         assert_eq!(rt; bounds(&times, 60_000_000_000), Some(bound), "{case}");
     }
@@ -605,27 +591,37 @@ fn the_slowest_link_may_go_down(rt: HostRuntime) -> Result<(), Fail> {
 #[test]
 fn an_end_station_may_be_left_without_a_link(rt: HostRuntime) -> Result<(), Fail> {
     // No link is left, so nothing has a way to go. What b heard of a ages.
-    const EVENT: &str = "[[event]]\nat = 30000000000\nkind = ";
-    const DOWN: &str = "\"link_down\"\nclock = \"000000000000000a\"\nport = 1";
-    const LOST: &str = "\"fail\"\nclock = \"000000000000000a\"";
-    const FAR: &str = "\"fail\"\nclock = \"000000000000000b\"";
     for (case, events, bound) in [
-        ("the link goes down", &[DOWN] as &[&str], (0, 0)),
-        ("b loses its power", &[FAR, DOWN] as &[&str], (0, 0)),
-        ("b hangs", &[FAR] as &[&str], (0, 11_000_000_000)),
-        ("a loses its power", &[LOST, DOWN] as &[&str], (0, 0)),
+        (
+            "the link goes down",
+            "[[event]]\nat = 30000000000\nkind = \"link_down\"\nclock = \"000000000000000a\"\nport = 1\n",
+            (0, 0),
+        ),
+        (
+            "b loses its power",
+            "[[event]]\nat = 30000000000\nkind = \"fail\"\nclock = \"000000000000000b\"\n[[event]]\nat = 30000000000\nkind = \"link_down\"\nclock = \"000000000000000a\"\nport = 1\n",
+            (0, 0),
+        ),
+        (
+            "b hangs",
+            "[[event]]\nat = 30000000000\nkind = \"fail\"\nclock = \"000000000000000b\"\n",
+            (0, 11_000_000_000),
+        ),
+        (
+            "a loses its power",
+            "[[event]]\nat = 30000000000\nkind = \"fail\"\nclock = \"000000000000000a\"\n[[event]]\nat = 30000000000\nkind = \"link_down\"\nclock = \"000000000000000a\"\nport = 1\n",
+            (0, 0),
+        ),
         (
             "a hangs",
-            &[LOST] as &[&str],
+            "[[event]]\nat = 30000000000\nkind = \"fail\"\nclock = \"000000000000000a\"\n",
             (3_000_000_500, 11_000_000_000),
         ),
     ] {
         let mut text = String::new(rt.alloc());
         text.push_str(PAIR)?;
         text.push_str("min = 500\nmax = 500\n")?;
-        for event in events {
-            writeln!(text, "{EVENT}{event}")?;
-        }
+        text.push_str(events)?;
         let times = times_of(rt.alloc(), text.as_str())?;
         assert_eq!(rt; bounds(&times, 30_000_000_000), Some(bound), "{case}");
     }
@@ -679,7 +675,7 @@ fn rests(times: &[SettlingTime], at: u64, next: u64) -> Option<(u64, u64)>
 }
 
 #[test]
-fn events_come_from_rest_soon_after_a_far_end_is_lost(rt: HostRuntime) -> Result<(), Fail> {
+fn events_come_from_rest_soon_after_a_loss(rt: HostRuntime) -> Result<(), Fail> {
     // The link from b to c goes down first; then b is the far end of its own link, and a of none.
     for (case, events, rest, next, choice) in [
         (
@@ -697,18 +693,32 @@ fn events_come_from_rest_soon_after_a_far_end_is_lost(rt: HostRuntime) -> Result
             820,
         ),
         (
+            "d loses its power, and cuts c off",
+            "[[event]]\nat = 100000000000\nkind = \"fail\"\nclock = \"000000000000000d\"\n[[event]]\nat = 100000000000\nkind = \"link_down\"\nclock = \"000000000000000d\"\nport = 1\n[[event]]\nat = 100000000000\nkind = \"link_down\"\nclock = \"000000000000000d\"\nport = 2\n[[event]]\nat = 102000000000\nkind = \"recover\"\nclock = \"000000000000000d\"\n",
+            1_000_000_820,
+            102_000_000_000,
+            410,
+        ),
+        (
             "b hangs",
-            "[[event]]\nat = 100000000000\nkind = \"fail\"\nclock = \"000000000000000b\"\n[[event]]\nat = 114500000000\nkind = \"recover\"\nclock = \"000000000000000b\"\n",
-            14_000_001_230,
-            114_500_000_000,
+            "[[event]]\nat = 100000000000\nkind = \"fail\"\nclock = \"000000000000000b\"\n[[event]]\nat = 111500000000\nkind = \"recover\"\nclock = \"000000000000000b\"\n",
+            11_000_000_410,
+            111_500_000_000,
             3_000_003_050,
         ),
         (
             "d is left behind its link, which was nearer",
             "[[event]]\nat = 100000000000\nkind = \"link_down\"\nclock = \"000000000000000d\"\nport = 2\n[[event]]\nat = 101000000000\nkind = \"link_up\"\nclock = \"000000000000000d\"\nport = 2\n",
-            15_000_000_820,
+            7_000_001_640,
             101_000_000_000,
             15_000_002_870,
+        ),
+        (
+            "d is left behind its link, and then comes back",
+            "[[event]]\nat = 100000000000\nkind = \"link_down\"\nclock = \"000000000000000d\"\nport = 2\n[[event]]\nat = 107000001641\nkind = \"link_up\"\nclock = \"000000000000000d\"\nport = 2\n",
+            7_000_001_640,
+            107_000_001_641,
+            1_000_003_050,
         ),
     ] {
         let mut text = String::new(rt.alloc());
@@ -723,6 +733,19 @@ fn events_come_from_rest_soon_after_a_far_end_is_lost(rt: HostRuntime) -> Result
             "{case}"
         );
     }
+    Ok(())
+}
+
+#[test]
+fn events_come_from_rest_soon_after_lost_power(rt: HostRuntime) -> Result<(), Fail> {
+    let times = ring(
+        rt.alloc(),
+        "[[event]]\nat = 30000000000\nkind = \"fail\"\nclock = \"000000000000000d\"\n[[event]]\nat = 30000000000\nkind = \"link_down\"\nclock = \"000000000000000d\"\nport = 1\n[[event]]\nat = 30000000000\nkind = \"link_down\"\nclock = \"000000000000000d\"\nport = 2\n[[event]]\nat = 33000000000\nkind = \"recover\"\nclock = \"000000000000000d\"\n",
+    )?;
+    assert_eq!(rt;
+        rests(&times, 30_000_000_000, 33_000_000_000),
+        Some((2_000_001_230, 820))
+    );
     Ok(())
 }
 

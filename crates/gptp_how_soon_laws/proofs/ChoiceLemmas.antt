@@ -16,16 +16,16 @@ use Rattle.gptp_network.specs.Document.{DocumentState}
 use Rattle.gptp_network.specs.Snapshot.{events_by}
 use Rattle.gptp_network.proofs.SnapshotLemmas.{from_filter}
 use Rattle.gptp_theorem.specs.PlayedLaws.{IsPlayable}
-use Rattle.gptp_how_soon.specs.Bounds.{choice_by, choice_of_row, gone_by, held_span, loss_span, roles_of_row, sound_by}
+use Rattle.gptp_how_soon.specs.Bounds.{choice_by, choice_of_row, echo_span, gone_by, held_span, loss_span, roles_of_row, sound_by}
 use Rattle.gptp_how_soon.specs.Rest.{leaves_silent}
 use Rattle.gptp_how_soon.specs.Times.{View, events_at, gained_at, last_set, ready_at, row_at, settling_time, settling_times, settling_times_from, time_at, view_at}
 use Rattle.gptp_how_soon.specs.declared.bounds.Row.{Row}
 use Rattle.gptp_how_soon.specs.declared.bounds.Row.TheVariants.{AnyLosses, AnyPast, CutOff, FailedEnd, FailedHeard, FailureCutsOff, Gained, LostEnd, LostPower, Lowered, OneTurned, PowerCutsOff, Unchanged}
 use Rattle.gptp_how_soon.specs.declared.bounds.Settling.{Settling}
 use Rattle.gptp_how_soon.specs.declared.bounds.SettlingTime.{SettlingTime}
-use Rattle.gptp_settling_time.specs.HowSoon.{BoundsAging, BoundsChoice, BoundsEvents, BoundsLoss, BoundsStart, IsChoiceBoundAfter, IsLossBoundAfter, IsRestBoundAfter, NoneBetween, RestsAfterLoss}
+use Rattle.gptp_settling_time.specs.HowSoon.{BoundsAging, BoundsAnyLoss, BoundsChoice, BoundsEvents, BoundsLoss, BoundsStart, IsChoiceBoundAfter, IsLossBoundAfter, IsRestBoundAfter, NoneBetween, RestsAfterLoss}
 use Rattle.gptp_settling_time.specs.InTurn.{FlightIsGone}
-use Rattle.gptp_settling_time.specs.Losses.{aging_span, silence_span}
+use Rattle.gptp_settling_time.specs.Losses.{aging_span}
 use Rattle.gptp_settling_time.proofs.MomentLemmas.{parted}
 use Rattle.gptp_settling_time.proofs.WellFormedLemmas.{after_well}
 use Rattle.gptp_how_soon_laws.specs.Choice.{SettlingsAreChoiceBounds}
@@ -34,6 +34,7 @@ use Rattle.gptp_how_soon_laws.proofs.RowLemmas.{HasComeToRest, any_losses, cut_o
 use Rattle.gptp_how_soon_laws.proofs.StartRowLemmas.{first_past, first_roles, first_sound, never_unchanged, started}
 use Rattle.gptp_how_soon_laws.proofs.UnmovedLemmas.{AreWell}
 use Rattle.gptp_how_soon_laws.proofs.TimesLemmas.{AreTimes, later_times, times_after, times_parts}
+use Rattle.gptp_invariants.specs.FailedUnanswered.{silence_span}
 
 -- the events up to time 0 are those at it
 begin_at : (events : List Timed) → events_by 0 events ≡ events_at 0 events
@@ -99,7 +100,8 @@ module _ (d : DocumentState) (playable : IsPlayable d) where
             (subst (λ choice. BoundsChoice n (BoundsStart n now choice) now choice) (sym same) bound),
       ) in
       let sound_same : s.choice ≡ s.sound =
-      it.choice ∙ sym (first_sound n now v.paths_before v.paths v.used_before (gained_at n v)) ∙ sym it.sound in
+      it.choice ∙ sym (first_sound n now v.paths_before v.paths (leaves_silent v.used v.told) v.used_before
+      (gained_at n v)) ∙ sym it.sound in
       let roles_same : s.choice ≡ s.roles =
       it.choice ∙ sym (first_roles n now v.paths_before v.paths (leaves_silent v.used v.told) (gained_at n v))
       ∙ sym it.roles in
@@ -124,6 +126,9 @@ module _ (d : DocumentState) (playable : IsPlayable d) where
 
     abbrev v : View
     v = view_at n made now (Some b) at
+
+    abbrev silent : Bool
+    silent = leaves_silent v.used v.told
 
     abbrev Sharp : ℕ → Type 0
     Sharp choice = (choice_then : ℕ) × IsRestBoundAfter n all earlier b.at choice_then × (b.at + choice_then < at)
@@ -177,40 +182,47 @@ module _ (d : DocumentState) (playable : IsPlayable d) where
     -- it has come to rest by that, or sooner after a loss by which no system is moved
     rest_so : (s : Settling) → IsTelling n v s → IsChoiceBoundAfter n all (b.at ∷ earlier) at settled_by
         → IsRestBoundAfter n all (b.at ∷ earlier) at s.sound
-    rest_so s it settles = elim (sound_or_sooner n v.paths_before v.paths v.used_before (row_at v) (gained_at n v)) [
-      | inl same ↦ inl (subst (IsChoiceBoundAfter n all (b.at ∷ earlier) at) (sym (it.sound ∙ same)) settles)
-      | inr (off, which) ↦
-          let (rest, loses) = by which in
-          let (bound, past) = sound_before rest in
-          inr (late, between, settles.2.0, off, (rest.settling.sound, bound, past), loses)
-    ]
+    rest_so s it settles =
+        elim (sound_or_sooner n v.paths_before v.paths silent v.used_before (row_at v) (gained_at n v)) [
+          | inl same ↦ inl (subst (IsChoiceBoundAfter n all (b.at ∷ earlier) at) (sym (it.sound ∙ same)) settles)
+          | inr (off, which) ↦
+              let (rest, loses) = by which in
+              let (bound, past) = sound_before rest in
+              inr (late, between, settles.2.0, off, (rest.settling.sound, bound, past), loses)
+        ]
       where
-        by : IsSoundSooner n v.paths_before v.paths v.used_before (row_at v)
-            (sound_by n v.paths_before v.paths v.used_before (row_at v) (gained_at n v))
+        by : IsSoundSooner n v.paths_before v.paths silent v.used_before (row_at v)
+            (sound_by n v.paths_before v.paths silent v.used_before (row_at v) (gained_at n v))
             → HasComeToRest b at × RestsAfterLoss n made now s.sound
         by (inl (row, is)) =
             let x = lost_end n playable.network all b at late well row in
             let flight = subst (FlightIsGone n made) (sym (it.sound ∙ is)) x.flight in
-            (x.rested, inr (inl (x.fails, inl (x.used, flight))))
+            (x.rested, inl (inr (inl (x.fails, inl (x.used, flight)))))
         by (inr (inl (row, is))) =
-            let (rest, fails) = failed n playable.network all b at late well row in
-            (rest, inr (inl (fails, inr (it.sound ∙ is))))
+            let (rest, fails, flight) = failed n playable.network all b at late well row in
+            (rest, inl (inr (inl (fails, inr (gone_by n v.paths_before v.used_before, flight, it.sound ∙ is)))))
         by (inr (inr (inl (row, is)))) =
             let (rest, lowers, flight) = lowered n playable.network all b at late well row in
-            (rest, inr (inr (inl (lowers, (gone_by n v.paths v.used_before, flight, it.sound ∙ is)))))
+            (rest, inl (inr (inr (inl (lowers, (gone_by n v.paths v.used_before, flight, it.sound ∙ is))))))
         by (inr (inr (inr (inl (row, is))))) =
             let x = cut_off n playable.network all b at late well row in
-            (x.rested, inl (x.cuts, (gone_by n v.paths v.used_before, x.flight, it.sound ∙ is)))
-        by (inr (inr (inr (inr (row, is))))) =
-            let (rest, turns, unused) = turned n playable.network all b at late well row in (
+            (x.rested, inl (inl (x.cuts, (gone_by n v.paths v.used_before, x.flight, it.sound ∙ is))))
+        by (inr (inr (inr (inr (inl (row, is)))))) =
+            let (rest, turns) = turned n playable.network all b at late well row in
+            (rest, inl (inr (inr (inr (inl (turns, it.sound ∙ is))))))
+        by (inr (inr (inr (inr (inr (inl (row, long))))))) =
+            let (rest, fails, used) = lost_power n playable.network all b at late well row in
+            let late : max (echo_span n v.paths) v.paths.delay ≤ s.sound =
+            subst (λ t. max (echo_span n v.paths) v.paths.delay ≤ t) (sym it.sound) long in
+            (rest, inl (inr (inr (inr (inr (fails, used, late))))))
+        by (inr (inr (inr (inr (inr (inr (row, is))))))) =
+            let (rest, loses, roles) = any_losses n playable.network all b at late row in (
               rest,
-              inr (inr (inr (
-                turns,
-                elim unused [
-                  | inl (used, none) ↦ let same = it.sound in inl (used, omega (arith, same, is, none))
-                  | inr later ↦ let same = it.sound in inr (omega (arith, same, is, later))
-                ],
-              ))),
+              inr (
+                loss_span n v.paths_before v.paths,
+                subst (λ t. BoundsAnyLoss n made now (loss_span n v.paths_before v.paths) t) (sym (it.sound ∙ is))
+                    (loses, refl, roles (loss_span n v.paths_before v.paths)),
+              ),
             )
 
     -- the choice and the roles stand by then, or sooner after a loss
@@ -246,9 +258,6 @@ module _ (d : DocumentState) (playable : IsPlayable d) where
     no_later choice roles (inr (inr (inr (inr (loses, is, inr later))))) =
         greater choice roles (silence_span (pace_of n)) later
 
-    abbrev silent : Bool
-    silent = leaves_silent v.used v.told
-
     -- what is lost at this time asks for what its row says
     loses_by : (r : Row) → row_at v ≡ r → HasOwnBounds r
         → HasComeToRest b at
@@ -267,7 +276,7 @@ module _ (d : DocumentState) (playable : IsPlayable d) where
         let x = lost_end n playable.network all b at late well row in
         (x.rested, inr (inl (x.fails, refl, inl (x.used, refl))))
     loses_by FailedEnd row own =
-        let (rest, fails) = failed n playable.network all b at late well row in
+        let (rest, fails, flight) = failed n playable.network all b at late well row in
         (rest, inr (inl (fails, refl, inr refl)))
     loses_by LostPower row own =
         let (rest, fails, used) = lost_power n playable.network all b at late well (inl row) in
@@ -276,7 +285,7 @@ module _ (d : DocumentState) (playable : IsPlayable d) where
         let (rest, fails, used) = lost_power n playable.network all b at late well (inr row) in
         (rest, inr (inr (inr (inl (fails, (0, 0, inl (used, refl, refl), inr (omega arith, omega arith)))))))
     loses_by OneTurned row own =
-        let (rest, turns, unused) = turned n playable.network all b at late well row in
+        let (rest, turns) = turned n playable.network all b at late well row in
         (rest, inr (inr (inl (turns, refl, refl))))
     loses_by FailedHeard row own =
         let (rest, fails) = heard n playable.network all b at late well (inl row) in (

@@ -8,12 +8,12 @@ use Rattle.gptp_setup.specs.SettlingParams.{largest_interval}
 use Rattle.gptp_scenario.specs.Calm.{NothingLapses}
 use Rattle.gptp_scenario.specs.Network.{NetworkState, pace_of}
 use Rattle.gptp_scenario.specs.SettlingAtOnce.{settling_span_at_once}
-use Rattle.gptp_scenario.specs.SettlingTime.{capability_span, settling_span_with, window_span}
+use Rattle.gptp_scenario.specs.SettlingTime.{settling_span_with, window_span}
 use Rattle.gptp_scenario.specs.SyncWait.{sync_paths}
 use Rattle.gptp_scenario.specs.declared.change.Timed.{Timed}
 use Rattle.gptp_scenario.specs.declared.sync_wait.SyncPaths.{SyncPaths}
 use Rattle.gptp_topology.specs.After.{is_calm}
-use Rattle.gptp_how_soon.specs.Bounds.{choice_by, choice_of_row, echo_span, gone_by, roles_by, roles_of_row, settled, sound_by, sound_of_row, unused_by}
+use Rattle.gptp_how_soon.specs.Bounds.{choice_by, choice_of_row, echo_span, gone_by, roles_after_losses, roles_by, roles_of_row, settled, sound_by, sound_of_row}
 use Rattle.gptp_how_soon.specs.Kinds.{sets_link}
 use Rattle.gptp_how_soon.specs.Rest.{leaves_silent}
 use Rattle.gptp_how_soon.specs.Times.{View, gained_at, row_at, settling_time}
@@ -22,6 +22,7 @@ use Rattle.gptp_how_soon.specs.declared.bounds.Row.TheVariants.{AnyLosses, AnyPa
 use Rattle.gptp_how_soon.specs.declared.bounds.Settling.{Settling}
 use Rattle.gptp_settling_time.specs.HowSoon.{BoundsChoice, way_span}
 use Rattle.gptp_topology.proofs.RestLemmas.{calm_from}
+use Rattle.gptp_invariants.specs.FailedUnanswered.{silence_span}
 
 -- what bounds the choice where no loss has a bound of its own
 abbrev pub past_row : Row → Row
@@ -122,51 +123,56 @@ choice_or_own n before paths silent row gained = by (n.params.sync_timeout == 0)
     by true is OneTurned = inr (eqb-true n.params.sync_timeout 0 is, tt, refl, refl)
     by true is AnyLosses = inr (eqb-true n.params.sync_timeout 0 is, tt, refl, refl)
 
--- All is sound by that bound. Or nothing lapses, and it is sooner after a loss by which no system is moved, or one
--- turns.
-abbrev pub IsSoundSooner : NetworkState → SyncPaths → SyncPaths → Bool → Row → ℕ → Type 0
-IsSoundSooner n before paths used_before row sound =
+-- All is sound by that bound. Or nothing lapses, and it is sooner after a loss.
+abbrev pub IsSoundSooner : NetworkState → SyncPaths → SyncPaths → Bool → Bool → Row → ℕ → Type 0
+IsSoundSooner n before paths silent used_before row sound =
     ((row ≡ LostEnd) × (sound ≡ gone_by n before used_before))
-    ⊎ (((row ≡ FailedEnd) × (sound ≡ capability_span (pace_of n) + way_span paths))
+    ⊎ (((row ≡ FailedEnd) × (sound ≡ max (silence_span (pace_of n)) (gone_by n before used_before)))
     ⊎ (((row ≡ Lowered) × (sound ≡ max (echo_span n paths) (gone_by n paths used_before)))
     ⊎ (((row ≡ CutOff) × (sound ≡ max (2 * way_span paths) (gone_by n paths used_before)))
-    ⊎ ((row ≡ OneTurned) × (sound ≡ 2 * way_span paths + echo_span n paths + unused_by n used_before)))))
+    ⊎ (((row ≡ OneTurned) × (sound ≡ 2 * way_span paths + echo_span n paths))
+    ⊎ ((((row ≡ LostPower) ⊎ (row ≡ PowerCutsOff)) × (max (echo_span n paths) paths.delay ≤ sound))
+    ⊎ ((row ≡ AnyLosses) × (sound ≡ roles_after_losses n before paths silent)))))))
 
-pub sound_or_sooner : (n : NetworkState) (before paths : SyncPaths) (used_before : Bool) (row : Row) (gained : ℕ)
-    → (sound_by n before paths used_before row gained ≡ choice_by n before paths (past_row row) gained)
+pub sound_or_sooner : (n : NetworkState) (before paths : SyncPaths) (silent used_before : Bool) (row : Row)
+    (gained : ℕ)
+    → (sound_by n before paths silent used_before row gained ≡ choice_by n before paths (past_row row) gained)
     ⊎ (NothingLapses n.params
-    × IsSoundSooner n before paths used_before row (sound_by n before paths used_before row gained))
-sound_or_sooner n before paths used_before row gained = by (n.params.sync_timeout == 0) refl row
+    × IsSoundSooner n before paths silent used_before row (sound_by n before paths silent used_before row gained))
+sound_or_sooner n before paths silent used_before row gained = by (n.params.sync_timeout == 0) refl row
   where
     span : ℕ
     span = settling_span_with (pace_of n) paths paths.systems
 
     by : (off : Bool) → (n.params.sync_timeout == 0) ≡ off → (r : Row)
-        → (cond (not off) span (sound_of_row n before paths used_before r gained)
+        → (cond (not off) span (sound_of_row n before paths silent used_before r gained)
         ≡ cond (not off) span (choice_of_row n before paths (past_row r) gained))
         ⊎ (NothingLapses n.params
-        × IsSoundSooner n before paths used_before r
-        (cond (not off) span (sound_of_row n before paths used_before r gained)))
+        × IsSoundSooner n before paths silent used_before r
+        (cond (not off) span (sound_of_row n before paths silent used_before r gained)))
     by false is r = inl refl
     by true is AnyPast = inl refl
     by true is Unchanged = inl refl
     by true is Gained = inl refl
     by true is FailedHeard = inl refl
-    by true is PowerCutsOff = inl refl
     by true is FailureCutsOff = inl refl
-    by true is LostPower = inl refl
-    by true is AnyLosses = inl refl
     by true is LostEnd = inr (eqb-true n.params.sync_timeout 0 is, inl (refl, refl))
     by true is FailedEnd = inr (eqb-true n.params.sync_timeout 0 is, inr (inl (refl, refl)))
     by true is Lowered = inr (eqb-true n.params.sync_timeout 0 is, inr (inr (inl (refl, refl))))
     by true is CutOff = inr (eqb-true n.params.sync_timeout 0 is, inr (inr (inr (inl (refl, refl)))))
-    by true is OneTurned = inr (eqb-true n.params.sync_timeout 0 is, inr (inr (inr (inr (refl, refl)))))
+    by true is OneTurned = inr (eqb-true n.params.sync_timeout 0 is, inr (inr (inr (inr (inl (refl, refl))))))
+    by true is LostPower =
+        inr (eqb-true n.params.sync_timeout 0 is, inr (inr (inr (inr (inr (inl (inl refl, omega arith)))))))
+    by true is PowerCutsOff =
+        inr (eqb-true n.params.sync_timeout 0 is, inr (inr (inr (inr (inr (inl (inr refl, omega arith)))))))
+    by true is AnyLosses = inr (eqb-true n.params.sync_timeout 0 is, inr (inr (inr (inr (inr (inr (refl, refl)))))))
 
 -- what is told of a calm network
 pub record IsTelling (n : NetworkState) (v : View) (s : Settling) : Type 0 where
   pub calm : v.calm ≡ true
   pub choice : s.choice ≡ choice_by n v.paths_before v.paths (row_at v) (gained_at n v)
-  pub sound : s.sound ≡ sound_by n v.paths_before v.paths v.used_before (row_at v) (gained_at n v)
+  pub sound : s.sound
+      ≡ sound_by n v.paths_before v.paths (leaves_silent v.used v.told) v.used_before (row_at v) (gained_at n v)
   pub roles : s.roles ≡ roles_by n v.paths_before v.paths (leaves_silent v.used v.told) (row_at v) (gained_at n v)
   pub rest : s.sound ≤ s.rest
   pub exact : max (v.at + s.roles) (v.last_set + largest_interval (pace_of n)) + window_span n.params
@@ -181,7 +187,7 @@ tells n v s is = by v.calm refl is
         settled n v.at v.last_set v.paths (sets_link v.told)
         (choice_by n v.paths_before v.paths (row_at v) (gained_at n v))
         (roles_by n v.paths_before v.paths (leaves_silent v.used v.told) (row_at v) (gained_at n v))
-        (sound_by n v.paths_before v.paths v.used_before (row_at v) (gained_at n v))
+        (sound_by n v.paths_before v.paths (leaves_silent v.used v.told) v.used_before (row_at v) (gained_at n v))
 
     by : (calm : Bool) → v.calm ≡ calm → (if calm then Some it else None) ≡ Some s → IsTelling n v s
     by true calm told =

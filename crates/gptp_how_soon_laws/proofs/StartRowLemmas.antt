@@ -187,18 +187,19 @@ first_past n now =
     begun_past (is_from_rest v.longest v.at v.paths_before v.paths v.told v.before)
 
 -- all is sound as soon as the choice stands
-begun_sound : (n : NetworkState) (before paths : SyncPaths) (used_before : Bool) (gained : ℕ) (rest : Bool)
-    → sound_by n paths used_before (if not rest then AnyPast else Gained) gained
+begun_sound : (n : NetworkState) (before paths : SyncPaths) (silent used_before : Bool) (gained : ℕ) (rest : Bool)
+    → sound_by n before paths silent used_before (if not rest then AnyPast else Gained) gained
     ≡ choice_by n before paths (if not rest then AnyPast else Gained) gained
-begun_sound n before paths used_before gained true = refl
-begun_sound n before paths used_before gained false = refl
+begun_sound n before paths silent used_before gained true = refl
+begun_sound n before paths silent used_before gained false = refl
 
-pub first_sound : (n : NetworkState) (now : List Timed) (before paths : SyncPaths) (used_before : Bool) (gained : ℕ)
-    → sound_by n paths used_before (row_at (view_at n [] now None 0)) gained
+pub first_sound : (n : NetworkState) (now : List Timed) (before paths : SyncPaths) (silent used_before : Bool)
+    (gained : ℕ)
+    → sound_by n before paths silent used_before (row_at (view_at n [] now None 0)) gained
     ≡ choice_by n before paths (row_at (view_at n [] now None 0)) gained
-first_sound n now before paths used_before gained =
+first_sound n now before paths silent used_before gained =
     let v = view_at n [] now None 0 in
-    begun_sound n before paths used_before gained
+    begun_sound n before paths silent used_before gained
     (is_from_rest v.longest v.at v.paths_before v.paths v.told v.before)
 
 -- and roles do then

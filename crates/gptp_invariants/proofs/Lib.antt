@@ -95,7 +95,9 @@ pub mod UnmeasuredLemmas
 pub mod FailedUnansweredCallLemmas
 pub mod FailedUnansweredExpiryLemmas
 pub mod FailedUnansweredDeliveryLemmas
-pub mod FailedNeverAnsweredLemmas
+pub mod FailedOffLemmas
+pub mod PortInputLemmas
+pub mod FailedLastAnsweredLemmas
 pub mod FailedUnansweredActLemmas
 pub mod FailedSilentLemmas
 pub mod WorldBeforeLemmas

@@ -8,6 +8,8 @@ use Rattle.gptp_links.specs.declared.bounds.Bounds.{Bounds}
 use Rattle.gptp_links.specs.Fate.{Draw}
 use Rattle.gptp_scenario.specs.declared.change.Act.TheVariants.{Change as Changing}
 use Rattle.gptp_scenario.specs.declared.change.Change.TheVariants.{Priority1}
+use Rattle.gptp_scenario.specs.Params.{KeepPace}
+use Rattle.gptp_scenario.specs.SettlingTime.{capability_span}
 use Rattle.gptp_setup.specs.SettlingParams.{SettlingParams, largest_interval}
 use Rattle.gptp_system.specs.Input.{Priority}
 use Rattle.gptp_model.specs.declared.done.Done.{Done}
@@ -20,12 +22,15 @@ use Rattle.gptp_model.proofs.StayLemmas.{Stays, acts_stay}
 use Rattle.gptp_invariants.specs.ChoiceSettlesAsMachine.{IsWorld}
 use Rattle.gptp_invariants.proofs.WorldOutlineLemmas.{change_is_last}
 use Rattle.gptp_setup.proofs.IntervalLemmas.{interval_positive}
+use Rattle.std.proofs.Math.Nat.{add-mul, mul-le-mul_left}
 use Rattle.gptp_invariants.specs.DelayLinkView.{LinkPlace}
 use Rattle.gptp_invariants.specs.DelayMeasured.{StationIsLiveAt, LinkIsMeasured, LinkStandsAt}
+use Rattle.gptp_invariants.specs.FailedUnanswered.{silence_span}
 use Rattle.gptp_invariants.specs.WorldNews.{AllLive, AreReadyBy, AreSilentBy, IsReadyBy}
 use Rattle.gptp_invariants.specs.WorldNewsLaws.{GainIsNews, NewsAreDone, PriorityIsNews, ReadyIsReadyLater, UnansweredIsSilent, WatchedIsReady}
 use Rattle.gptp_invariants.proofs.DelayCapableKeptLemmas.{HaveParams, known_params, same_receiver, same_sender}
 use Rattle.gptp_invariants.proofs.DelayChangeKeptLemmas.{acts_measured}
+use Rattle.gptp_invariants.proofs.FailedLastAnsweredLemmas.{silent_last}
 use Rattle.gptp_invariants.proofs.WorldNewsLemmas.{called_live, news_are_kept, news_begin, news_go_on, none_silent, ready_goes_through}
 use Rattle.gptp_invariants.proofs.WorldSoundLemmas.{sound_gains}
 
@@ -46,8 +51,8 @@ later_ready p start later at w more (inr (gone, since, l, past, by)) =
 pub silent_by_later : (p : SettlingParams) (start later : ℕ) (w : WorldState) → start ≤ later → AreSilentBy p start w
     → AreSilentBy p later w
 silent_by_later p start later w more silent at s = elim (silent at s) [
-  | inl never ↦ inl never
-  | inr (change, one, soon) ↦ inr (change, one, omega (arith, soon, more))
+  | inl off ↦ inl off
+  | inr (sent, last, soon) ↦ inr (sent, last, omega (arith, soon, more))
 ]
 
 pub ready_later : ReadyIsReadyLater
@@ -56,8 +61,21 @@ ready_later p start later w more ready silent = (
   silent_by_later p start later w more silent,
 )
 
+-- a port that is unanswered for as long as links take to become capable, or not, is silent
+silence_short : (p : SettlingParams) → KeepPace p → largest_interval p + silence_span p < capability_span p
+silence_short p pace =
+    let periods : silence_span p ≤ (p.params.lost + 2) * largest_interval p =
+    mul-le-mul_left (p.params.lost + 2) pace.requests in
+    let two : (p.params.lost + 2) * largest_interval p ≡ p.params.lost * largest_interval p + 2 * largest_interval p =
+    add-mul p.params.lost 2 (largest_interval p) in
+    let five : (p.params.lost + 5) * largest_interval p ≡ p.params.lost * largest_interval p + 5 * largest_interval p =
+    add-mul p.params.lost 5 (largest_interval p) in
+    omega (arith, periods, two, five, interval_positive p.largest pace.largest)
+
 pub unanswered_silent : UnansweredIsSilent
-unanswered_silent p start w silent soon at s = inr (w.last_change, silent at s, soon)
+unanswered_silent p start w pace silent soon at s =
+    let gone = w.last_change + largest_interval p in
+    inr (gone, silent_last gone at w (silent at s), omega (arith, soon, silence_short p pace))
 
 -- an act at its time
 pub news_done : {F : Type 0} (answers : Bounds → ℕ → F → Option ℕ → F → Type 0) → NewsAreDone answers

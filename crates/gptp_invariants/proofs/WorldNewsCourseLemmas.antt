@@ -125,7 +125,7 @@ link_up_settles answers p number port time fate drawn fate_after until m told do
     let requests = claim.pace.requests in
     let news = link_up_news p start number port then k.draws done between claim.pace claim_then.world claimed.world
     claim_then.measured
-    (unanswered_silent p start then claim_then.silent (omega (arith, rest)))
+    (unanswered_silent p start then claim.pace claim_then.silent (omega (arith, rest)))
     (sound_later w time sound)
     (watched_ready p start then claim_then.watched (omega (arith, rest)) (omega (arith, rest, requests)))
     other (omega arith) k.acts in
@@ -154,7 +154,7 @@ gain_settles answers p change time start fate drawn fate_after until m told done
     begins (inl is) =
         let last = change_is_last change (at_time time w) k.draws done between k.acts in
         let requests = claim.pace.requests in (
-          unanswered_silent p start between claimed.silent (omega (arith, is, last, same)),
+          unanswered_silent p start between claim.pace claimed.silent (omega (arith, is, last, same)),
           omega (arith, is, same, requests),
         )
     begins (inr (live, is)) = (none_silent p start between live, omega (arith, is, same))

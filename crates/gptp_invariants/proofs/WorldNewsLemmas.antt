@@ -11,7 +11,6 @@ use Rattle.gptp_vector.specs.declared.port.PortId.{PortId}
 use Rattle.gptp_links.specs.Fate.{Draw}
 use Rattle.gptp_pdelay.specs.Peer.{is_capable}
 use Rattle.gptp_scenario.specs.Calm.{NothingLapses}
-use Rattle.gptp_scenario.specs.Params.{KeepPace}
 use Rattle.gptp_scenario.specs.declared.change.Act.{Act}
 use Rattle.gptp_scenario.specs.declared.change.Act.TheVariants.{Deliver, Expire, Change as Changing}
 use Rattle.gptp_setup.specs.Intervals.{interval_of}
@@ -71,9 +70,9 @@ use Rattle.gptp_invariants.proofs.ChoiceCalmLemmas.{calm, linked_interval, nothi
 use Rattle.gptp_invariants.proofs.DelayCapableKeptLemmas.{no_change, stood}
 use Rattle.gptp_invariants.proofs.WorldBeforeLemmas.{none_anew, stood_earlier}
 use Rattle.gptp_invariants.proofs.DelayClaimedCapableLemmas.{clock_has, linked_or_off, used_if}
-use Rattle.gptp_invariants.proofs.FailedSilentLemmas.{become_incapable, silence_goes_on, silence_kept}
-use Rattle.gptp_invariants.specs.FailedUnanswered.{IsUnansweredAt, StandsUnanswered}
-use Rattle.gptp_invariants.proofs.FailedNeverAnsweredLemmas.{never_acts, never_capable, never_later}
+use Rattle.gptp_invariants.proofs.FailedLastAnsweredLemmas.{last_acts, last_later, last_off}
+use Rattle.gptp_invariants.specs.FailedUnanswered.{IsOff, IsUnansweredAt, StandsUnanswered}
+use Rattle.gptp_invariants.proofs.FailedOffLemmas.{off_acts, off_later}
 use Rattle.gptp_invariants.specs.WorldStanding.{live_stations}
 use Rattle.gptp_invariants.proofs.DelayChangeKeptLemmas.{acts_measured, later_measured}
 use Rattle.gptp_invariants.proofs.WorldGreatestDelayLemmas.{delay_of_used, delay_short}
@@ -227,17 +226,27 @@ link_used at w l =
     (clock_has w.stations at.asking l.asking.station _ l.asking.here l.asking.live l.asking.named)
     (clock_has w.stations at.answering l.answering.station _ l.answering.here l.answering.live l.answering.named)
 
--- the port that is unanswered isn't capable
-pub silent_off : (p : SettlingParams) (start : ℕ) (w : WorldState) → KeepPace p → IsWorld p w → AreSilentBy p start w
+-- the port that is silent by now is off
+off_now : (p : SettlingParams) (start : ℕ) (w : WorldState) → IsWorld p w → AreSilentBy p start w → start ≤ w.time
+    → (at : LinkPlace) → StandsUnanswered at w → IsOff at w
+off_now p start w is silent late at s = elim (silent at s) [
+  | inl off ↦ off
+  | inr (sent, last, soon) ↦ last_off sent at p w is last (omega (arith, soon, late))
+]
+
+-- so it is silent from whatever time on
+pub silent_from_now : (p : SettlingParams) (start now : ℕ) (w : WorldState) → IsWorld p w → AreSilentBy p now w
+    → now ≤ w.time → AreSilentBy p start w
+silent_from_now p start now w is silent late at s = inl (off_now p now w is silent late at s)
+
+-- and isn't capable
+pub silent_off : (p : SettlingParams) (start : ℕ) (w : WorldState) → IsWorld p w → AreSilentBy p start w
     → start ≤ w.time
     → (at : LinkPlace) (s : StandsUnanswered at w) (q : Port)
     → number s.asking.station.system.ports (sender at.direction s.channel).port ≡ Some q → is_capable q.peer ≡ false
-silent_off p start w pace is silent late at s q there = elim (silent at s) [
-  | inl never ↦ same_port never.link (never_capable at w never)
-  | inr (change, one, soon) ↦
-      same_port one.link
-      (become_incapable at p change w is.sound is.known pace.requests one (omega (arith, soon, late)))
-]
+silent_off p start w is silent late at s q there =
+    let off = off_now p start w is silent late at s in
+    same_port off.link off.off
   where
     same_port : (l : IsUnansweredAt at w) → is_capable l.asking.state.peer ≡ false → is_capable q.peer ≡ false
     same_port l incapable =
@@ -256,7 +265,7 @@ none_silent p start w live at s =
     let both = sym lives ∙ s.answering.failed in
     absurd cc
 
-module _ (p : SettlingParams) (start : ℕ) (w : WorldState) (pace : KeepPace p) (is : IsWorld p w)
+module _ (p : SettlingParams) (start : ℕ) (w : WorldState) (is : IsWorld p w)
     (silent : AreSilentBy p start w) (ready : AreReadyBy p start w) (quiet : HaveQuietLinks p.params w) where
   linked_capable : start ≤ w.time → (place : ℕ) (station : Station) → slice_get w.stations place ≡ Some station
       → (i : ℕ) (q : Port) (to : PortIdentity) → slice_get station.system.ports i ≡ Some q
@@ -295,7 +304,7 @@ module _ (p : SettlingParams) (start : ℕ) (w : WorldState) (pace : KeepPace p)
             (shown.each i h q stands there).on
             (linked_capable late place station here i q to there joins
             (way_of w (link_identity (own station.system (suc i))) to joins));
-        unlinked = λ none. elim (linked_or_off p w is (silent_off p start w pace is silent late) place station here
+        unlinked = λ none. elim (linked_or_off p w is (silent_off p start w is silent late) place station here
             lives
             i q there) [
               | inl linked ↦ absurd (none linked)
@@ -400,12 +409,12 @@ news_begin p start w pace is measured silent sound ready early = record {
   ready = ready;
   settling = λ m bounded quiet off.
       invariant_begins says_announce (news_network p m start w)
-      (news_net p start w pace is silent ready quiet m bounded)
+      (news_net p start w is silent ready quiet m bounded)
       (view w)
       (omega (arith, early));
   in_turn = λ m bounded quiet short. record {
     invariant = invariant_begins says_announce (turn_network p m start w)
-        (turn_net p start w pace is silent ready quiet m bounded) (view w) (omega (arith, early));
+        (turn_net p start w is silent ready quiet m bounded) (view w) (omega (arith, early));
     expected = expected_begins says_sync (turn_network p m start w) (view w) (omega (arith, early));
   };
 }
@@ -434,11 +443,11 @@ module _ (p : SettlingParams) (start : ℕ) (w w' : WorldState) (news : IsNews p
       let bounded : BoundsPaths (snapshot_of w) m =
       subst (λ (x : Network). BoundsPaths x.graph m) (same m) bounded' in
       let quiet = back quiet' in
-      let net = news_net p start w news.pace is news.silent news.ready quiet m bounded in
-      let before = news_calm p start w news.pace is news.silent news.ready quiet m (at_news p w) refl in
+      let net = news_net p start w is news.silent news.ready quiet m bounded in
+      let before = news_calm p start w is news.silent news.ready quiet m (at_news p w) refl in
       let after : Calm n (view w') =
       subst (λ x. Calm x (view w')) (same m)
-      (news_calm p start w' news.pace is' silent' ready' quiet' m (at_news p w') refl) in
+      (news_calm p start w' is' silent' ready' quiet' m (at_news p w') refl) in
       let all = subst (λ (x : Network). IsSoundOnLinks says_announce x.graph (view w')) (same m)
       (on_links says_announce (snapshot_of w') (view w') sound') in
       subst (λ x. Invariant says_announce x (view w')) (sym (same m))
@@ -459,12 +468,12 @@ module _ (p : SettlingParams) (start : ℕ) (w w' : WorldState) (news : IsNews p
       in
       let quiet = back quiet' in
       let was = news.in_turn m bounded quiet short in
-      let net = turn_net p start w news.pace is news.silent news.ready quiet m bounded in
+      let net = turn_net p start w is news.silent news.ready quiet m bounded in
       let times = news_in_turn p (paths_with m w) in
-      let before = news_calm p start w news.pace is news.silent news.ready quiet m times refl in
+      let before = news_calm p start w is news.silent news.ready quiet m times refl in
       let after : Calm n (view w') =
       subst (λ x. Calm x (view w')) (same_turn m)
-      (news_calm p start w' news.pace is' silent' ready' quiet' m (news_in_turn p (paths_with m w')) refl) in
+      (news_calm p start w' is' silent' ready' quiet' m (news_in_turn p (paths_with m w')) refl) in
       let all = subst (λ (x : Network). IsSoundOnLinks says_announce x.graph (view w')) (same m)
       (on_links says_announce (snapshot_of w') (view w') sound') in
       let waits : n.sync_wait ≡ sync_wait p.params (paths_with m w) = wait_is p.params (paths_with m w) short in
@@ -506,20 +515,16 @@ pub acts_silent : (p : SettlingParams) (start : ℕ) (act : Act) (w : WorldState
 acts_silent p start act w draws done w' none k is measured silent at s =
     let calm = no_change act none in
     elim (silent at (none_anew at act w w' draws done calm k s)) [
-      | inl never ↦ inl (never_acts at act w draws done w' none k is.sound measured never)
-      | inr (change, one, soon) ↦ inr (
-        change,
-        silence_kept at (change + largest_interval p) p act w w' draws done is.sound measured is.known calm k one,
-        soon,
-      )
+      | inl off ↦ inl (off_acts at act w draws done w' none k is.sound measured off)
+      | inr (sent, last, soon) ↦ inr (sent, last_acts p sent at act w draws done w' none k is measured last, soon)
     ]
 
 -- it is so still as time passes
 pub silent_later : (p : SettlingParams) (start time : ℕ) (w : WorldState) → AreSilentBy p start w
     → AreSilentBy p start (at_time time w)
 silent_later p start time w silent at s = elim (silent at (stood_earlier at time w s)) [
-  | inl never ↦ inl (never_later at time w never)
-  | inr (change, one, soon) ↦ inr (change, silence_goes_on at (change + largest_interval p) time w one, soon)
+  | inl off ↦ inl (off_later at time w off)
+  | inr (sent, last, soon) ↦ inr (sent, last_later sent at time w last, soon)
 ]
 
 pub news_are_kept : NewsAreKept
@@ -631,8 +636,8 @@ news_go_on p start time w later first news =
 pub news_worlds_settle : NewsWorldsSettle
 news_worlds_settle p start m w news off quiet bounded late =
     settles_so p m start (at_news p w) w news.world
-    (news_net p start w news.pace news.world news.silent news.ready quiet m bounded)
-    (news_calm p start w news.pace news.world news.silent news.ready quiet m (at_news p w) refl)
+    (news_net p start w news.world news.silent news.ready quiet m bounded)
+    (news_calm p start w news.world news.silent news.ready quiet m (at_news p w) refl)
     (news.settling m bounded quiet off)
     (omega (arith, late))
 
@@ -640,8 +645,8 @@ pub news_worlds_settle_in_turn : NewsWorldsSettleInTurn
 news_worlds_settle_in_turn p start m w news short quiet bounded late =
     let times = news_in_turn p (paths_with m w) in
     settles_so p m start times w news.world
-    (turn_net p start w news.pace news.world news.silent news.ready quiet m bounded)
-    (news_calm p start w news.pace news.world news.silent news.ready quiet m times refl)
+    (turn_net p start w news.world news.silent news.ready quiet m bounded)
+    (news_calm p start w news.world news.silent news.ready quiet m times refl)
     (news.in_turn m bounded quiet short).invariant
     (omega (arith, late))
 
@@ -650,8 +655,8 @@ pub news_above : (p : SettlingParams) (start m : ℕ) (w : WorldState) → IsNew
     → HaveQuietLinks p.params w → BoundsPaths (snapshot_of w) m → start ≤ w.time → AreAbove w
 news_above p start m w news off quiet bounded late =
     are_above p m start (at_news p w) w
-    (news_net p start w news.pace news.world news.silent news.ready quiet m bounded)
-    (news_calm p start w news.pace news.world news.silent news.ready quiet m (at_news p w) refl)
+    (news_net p start w news.world news.silent news.ready quiet m bounded)
+    (news_calm p start w news.world news.silent news.ready quiet m (at_news p w) refl)
     (news.settling m bounded quiet off) (omega (arith, late))
 
 pub news_above_in_turn : (p : SettlingParams) (start m : ℕ) (w : WorldState) → IsNews p start w
@@ -659,6 +664,6 @@ pub news_above_in_turn : (p : SettlingParams) (start m : ℕ) (w : WorldState) �
     → BoundsPaths (snapshot_of w) m → start ≤ w.time → AreAbove w
 news_above_in_turn p start m w news short quiet bounded late =
     let times = news_in_turn p (paths_with m w) in
-    are_above p m start times w (turn_net p start w news.pace news.world news.silent news.ready quiet m bounded)
-    (news_calm p start w news.pace news.world news.silent news.ready quiet m times refl)
+    are_above p m start times w (turn_net p start w news.world news.silent news.ready quiet m bounded)
+    (news_calm p start w news.world news.silent news.ready quiet m times refl)
     (news.in_turn m bounded quiet short).invariant (omega (arith, late))

@@ -1,8 +1,8 @@
 -- A world as the machine of gptp_pdelay_machine sees a port of a live station on a link whose other end has failed.
-use Rattle.std.specs.Prelude.{◌≡◌, ◌≤◌, ◌+◌, ℕ, Bool, true, false, List, Some, None, slice_get}
+use Rattle.std.specs.Prelude.{◌≡◌, ◌⊎◌, ◌<◌, ◌≤◌, ◌+◌, ◌*◌, ℕ, Bool, true, false, List, Some, None, slice_get}
 use Rattle.gptp_lists.specs.Members.{In}
 use Rattle.gptp_links.specs.Queue.{Frame}
-use Rattle.gptp_pdelay.specs.Peer.{PeerState}
+use Rattle.gptp_pdelay.specs.Peer.{PeerState, is_capable}
 use Rattle.gptp_pdelay.specs.declared.progress.Progress.{Progress}
 use Rattle.gptp_pdelay.specs.declared.progress.Progress.TheVariants.{Closed, Sent, Answered}
 use Rattle.gptp_setup.specs.Intervals.{interval_of}
@@ -11,6 +11,7 @@ use Rattle.gptp_system.specs.Measures.{measure_at}
 use Rattle.gptp_system.specs.State.{clock}
 use Rattle.gptp_model.specs.declared.station.Station.{Station}
 use Rattle.gptp_model.specs.World.{Channel, WorldState, world_queue, receiver, sender}
+use Rattle.gptp_pdelay_machine.specs.Asker.{Asker}
 use Rattle.gptp_pdelay_machine.specs.Messages.{Reply}
 use Rattle.gptp_pdelay_machine.specs.Setting.{Setting}
 use Rattle.gptp_pdelay_machine.specs.Silence.{InvUnanswered, Unanswered}
@@ -75,12 +76,32 @@ pub record IsSilent (gone : ℕ) (at : LinkPlace) (w : WorldState) : Type 0 wher
   pub old : IsOldBy gone at w link
   pub inv : InvUnanswered (silent_setting at w link) gone (silent_view at w link)
 
--- The port there has never been answered: it has measured nothing, and no reply to it is in flight.
-pub record IsNeverAnswered (at : LinkPlace) (w : WorldState) : Type 0 where
+-- A reply to a port whose last request is known comes by this time, or before the next request goes where that one went
+-- by then.
+abbrev pub IsLastReply : Setting → ℕ → Asker → ℕ → Type 0
+IsLastReply k sent a due = (due ≤ sent) ⊎ ((a.asked ≤ sent) × (due < a.asked + k.period))
+
+-- The last request of the port there that is answered went by this time. Replies that are in flight are to such a
+-- request, and those that go later are lost.
+pub record IsLastAnswered (sent : ℕ) (at : LinkPlace) (w : WorldState) : Type 0 where
+  pub link : IsUnansweredAt at w
+  pub replies : (f : Frame) → In f (world_queue (other_direction at.direction) link.channel) → (r : Reply)
+      → reads_as_reply f.octets r
+      → IsLastReply (silent_setting at w link) sent (silent_view at w link).asker f.due
+  pub inv : InvUnanswered (silent_setting at w link) sent (silent_view at w link)
+
+-- How long a port beside a system that fails may stay capable. The last of its requests that is answered went before
+-- the failure. The next one goes a peer delay interval later, and is lost, as are those after it. Each is given up an
+-- interval after it went. The port isn't capable once one more is lost than may be.
+abbrev pub silence_span : SettlingParams → ℕ
+silence_span p = (p.params.lost + 2) * interval_of p.params.pdelay
+
+-- The port there isn't capable, and stays so: no reply to it is in flight.
+pub record IsOff (at : LinkPlace) (w : WorldState) : Type 0 where
   pub link : IsUnansweredAt at w
   pub mute : (f : Frame) → In f (world_queue (other_direction at.direction) link.channel) → (r : Reply)
       → reads_as_reply f.octets r → ⊥
-  pub unmeasured : IsUnmeasured link.asking.state.peer
+  pub off : is_capable link.asking.state.peer ≡ false
 
 -- wherever all stands so, old frames are gone the largest announce interval after the last change
 abbrev pub FailedNeighboursAreSilent : SettlingParams → WorldState → Type 0

@@ -19,8 +19,7 @@ use Rattle.gptp_invariants.specs.ChoiceSettlesAsMachine.{IsWorld}
 use Rattle.gptp_invariants.specs.DelayLinkView.{LinkPlace}
 use Rattle.gptp_invariants.specs.DelayMeasured.{LinkIsMeasured, LinkStandsAt}
 use Rattle.gptp_invariants.specs.WorldSound.{IsSoundWorld}
-use Rattle.gptp_invariants.specs.FailedUnanswered.{IsNeverAnswered, IsSilent, StandsUnanswered}
-use Rattle.gptp_scenario.specs.SettlingTime.{capability_span}
+use Rattle.gptp_invariants.specs.FailedUnanswered.{IsLastAnswered, IsOff, StandsUnanswered, silence_span}
 use Rattle.gptp_invariants.specs.WorldStanding.{snapshot_of}
 use Rattle.gptp_invariants.specs.ChoiceView.{says_announce, says_sync, view}
 use Rattle.gptp_invariants.specs.DelayWatched.{IsWatched}
@@ -38,12 +37,11 @@ IsReadyBy p start at w =
 abbrev pub AreReadyBy : SettlingParams → ℕ → WorldState → Type 0
 AreReadyBy p start w = (at : LinkPlace) → LinkStandsAt at w → IsReadyBy p start at w
 
--- The port of a live system whose link leads to one that has failed isn't capable from this time on: it has never been
--- answered, or been unanswered for long enough.
+-- The port of a live system whose link leads to one that has failed isn't capable from this time on: it is off, or its
+-- last request that is answered went long enough before.
 abbrev pub IsSilentBy : SettlingParams → ℕ → LinkPlace → WorldState → Type 0
 IsSilentBy p start at w =
-    IsNeverAnswered at w
-    ⊎ ((change : ℕ) × IsSilent (change + largest_interval p) at w × (change + capability_span p ≤ start))
+    IsOff at w ⊎ ((sent : ℕ) × IsLastAnswered sent at w × (sent + silence_span p < start))
 
 abbrev pub AreSilentBy : SettlingParams → ℕ → WorldState → Type 0
 AreSilentBy p start w = (at : LinkPlace) → StandsUnanswered at w → IsSilentBy p start at w

@@ -33,9 +33,10 @@ use Rattle.gptp_scenario.specs.declared.sync_wait.SyncPaths.{SyncPaths}
 use Rattle.gptp_network.specs.Snapshot.{StandsAfter}
 use Rattle.gptp_network.proofs.LawLemmas.{one_snapshot}
 use Rattle.gptp_invariants.specs.WorldEncodableLaws.{SetsAnOctet}
+use Rattle.gptp_invariants.specs.FailedUnanswered.{silence_span}
 use Rattle.gptp_theorem.specs.PlayedLaws.{IsPlayable}
 use Rattle.gptp_settling_time.specs.HowSoon.{IsChoiceAloneBound, IsChoiceBound, IsLossBoundAfter, NoneBetween}
-use Rattle.gptp_settling_time.specs.Losses.{FailsFarEnd, IsFarEnd, IsUnmoved, MovesNone, silence_span}
+use Rattle.gptp_settling_time.specs.Losses.{FailsFarEnd, IsFarEnd, IsUnmoved, MovesNone}
 use Rattle.gptp_network_tests.specs.Ring.{bridge, far_document, ring_network}
 use Rattle.gptp_network_tests.proofs.RingLemmas.{pace_is, paths_are, ring_begun}
 

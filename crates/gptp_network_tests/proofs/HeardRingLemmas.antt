@@ -1,7 +1,7 @@
 -- The bridge of the ring fails that the farthest one hears. That one has the other way, which is as long, so no system
 -- is moved. The choice stands once it doesn't hold any more what it heard, and the roles once the ports beside aren't
 -- capable.
-use Rattle.std.proofs.Common.{◌≡◌, ◌≤◌, ℕ, zero, suc, List, [], ◌∷◌, None, Some, slice_get, refl, sym, subst, ◌∙◌, inl, inr, arith}
+use Rattle.std.proofs.Common.{◌≡◌, ◌≤◌, ℕ, zero, suc, List, [], ◌∷◌, None, Some, slice_get, refl, sym, subst, inl, inr, arith}
 use Rattle.std.specs.Prelude.{min}
 use Rattle.std.proofs.lemmas.List.Sorted.{IsPermutation-refl}
 use Rattle.std.proofs.lemmas.Option.{none-some, same_Some}
@@ -28,9 +28,10 @@ use Rattle.gptp_scenario.specs.declared.sync_wait.SyncPaths.{SyncPaths}
 use Rattle.gptp_network.specs.Snapshot.{StandsAfter}
 use Rattle.gptp_network.proofs.LawLemmas.{one_snapshot}
 use Rattle.gptp_invariants.specs.WorldEncodableLaws.{SetsAnOctet}
+use Rattle.gptp_invariants.specs.FailedUnanswered.{silence_span}
 use Rattle.gptp_theorem.specs.PlayedLaws.{IsPlayable}
 use Rattle.gptp_settling_time.specs.HowSoon.{IsChoiceAloneBound, IsChoiceBound, IsLossBoundAfter, NoneBetween}
-use Rattle.gptp_settling_time.specs.Losses.{FailsHeard, IsUnmoved, MovesNone, aging_span, silence_span}
+use Rattle.gptp_settling_time.specs.Losses.{FailsHeard, IsUnmoved, MovesNone, aging_span}
 use Rattle.gptp_network_tests.specs.Ring.{bridge, heard_document, ring_network, ring_paths}
 use Rattle.gptp_network_tests.proofs.FarLemmas.{below_all, cable, first, fourth, fourth_line, parent, ring, ring_choice, ring_stands, second, states, third, third_line, unmoved_by}
 use Rattle.gptp_network_tests.proofs.RingLemmas.{pace_is, paths_are, ring_begun}

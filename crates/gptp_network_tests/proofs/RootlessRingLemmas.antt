@@ -14,7 +14,8 @@ use Rattle.gptp_scenario.specs.declared.sync_wait.SyncPaths.{SyncPaths}
 use Rattle.gptp_invariants.specs.WorldEncodableLaws.{SetsAnOctet}
 use Rattle.gptp_theorem.specs.PlayedLaws.{IsPlayable}
 use Rattle.gptp_settling_time.specs.HowSoon.{IsChoiceAloneBound, IsChoiceBound, IsLossBoundAfter, NoneBetween, delay_between}
-use Rattle.gptp_settling_time.specs.Losses.{loss_span, silence_span}
+use Rattle.gptp_settling_time.specs.Losses.{loss_span}
+use Rattle.gptp_invariants.specs.FailedUnanswered.{silence_span}
 use Rattle.gptp_network_tests.specs.Ring.{bridge, ring_network, ring_paths, rootless_document}
 use Rattle.gptp_network_tests.proofs.RingLemmas.{pace_is, paths_are, ring_begun}
 

@@ -39,7 +39,7 @@ use Rattle.gptp_settling_time.proofs.ClaimedToLemmas.{IsClaimedTo, claimed_act, 
 use Rattle.gptp_settling_time.proofs.ClearedToLemmas.{IsClearedTo, cleared_left, cleared_to_act, cleared_to_claimed, cleared_to_later}
 use Rattle.gptp_settling_time.proofs.KeptToLemmas.{IsNewsTo, KeepsTo, keeps_act, keeps_later, news_act_to, news_later_to}
 use Rattle.gptp_settling_time.proofs.LeftToLemmas.{IsLeftTo, left_to_act, left_to_chooses, left_to_later, left_to_settled}
-use Rattle.gptp_settling_time.proofs.LostToLemmas.{IsLostTo, lost_to_act, lost_to_chooses, lost_to_later, lost_to_settled}
+use Rattle.gptp_settling_time.proofs.LostToLemmas.{IsLostTo, lost_to_act, lost_to_chooses, lost_to_claimed, lost_to_later, lost_to_settled}
 use Rattle.gptp_settling_time.proofs.TurnedToLemmas.{IsTurnedTo, turned_to_act, turned_to_claimed, turned_to_later, turned_to_settled}
 use Rattle.gptp_settling_time.proofs.StartEventLemmas.{IsStartingTo, begun_soon_claimed, begun_soon_news, starting_act, starting_begins, starting_later}
 use Rattle.gptp_settling_time.proofs.TimedNewsLemmas.{CanSettle, has_settled}
@@ -134,7 +134,16 @@ module _ (d : DocumentState) (playable : IsPlayable d) (events : List Timed) (w 
   rests_as (Cleared since silent right old) (Aging gone start) none so = absurd none
   rests_as (Cleared since silent right old) (Lost begun most start) none so = absurd none
   rests_as (Aging aged silent) seen none so = absurd none
-  rests_as (Lost since most silent) seen none so = absurd none
+  rests_as (Lost since most silent) AnyPast none so = absurd none
+  rests_as (Lost since most silent) Starting none so = absurd none
+  rests_as (Lost since most silent) (Gained start) none so = absurd none
+  rests_as (Lost since most silent) (Heard start) rest so =
+      lost_to_claimed d events since most silent w start so playable rest
+  rests_as (Lost since most silent) (Left start) none so = absurd none
+  rests_as (Lost since most silent) (Turned start now) none so = absurd none
+  rests_as (Lost since most silent) (Cleared start dark clean last) none so = absurd none
+  rests_as (Lost since most silent) (Aging gone start) none so = absurd none
+  rests_as (Lost since most silent) (Lost begun more start) none so = absurd none
 
   pub taken_as : (past seen : Past) → IsTakenAs d.network events past w.time seen → IsAfter d events past w
       → IsAfter d events seen w

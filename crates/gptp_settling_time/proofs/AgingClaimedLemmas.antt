@@ -46,7 +46,6 @@ use Rattle.gptp_settling_time.proofs.AgingLemmas.{StaysAsNamed, UnlinkedAge, age
 use Rattle.gptp_settling_time.proofs.AgingStillLemmas.{IsAgingSeen, aging_kept, aging_over}
 use Rattle.gptp_settling_time.proofs.AlwaysClaimedLemmas.{IsStanding, start_calm, start_network}
 use Rattle.gptp_settling_time.proofs.FitsLemmas.{IsLeftUnmoved, UnlinkedHoldNothing}
-use Rattle.gptp_settling_time.proofs.LastAnsweredLemmas.{silent_are_off}
 use Rattle.gptp_settling_time.proofs.LeftClaimedLemmas.{HaveAskedBy, HaveAskedLong, asked_acts, asked_heard, asked_later, asked_ready, bare_calm, left_calm, left_net, left_network, same_left, standing_acts, standing_later, way_later}
 use Rattle.gptp_settling_time.proofs.NewsMeasuredLemmas.{ready_measures}
 use Rattle.gptp_settling_time.proofs.SeenSettledLemmas.{seen_chooses, seen_settles}
@@ -199,7 +198,7 @@ aging_now p g aged silent w is none = record {
     pace = is.standing.pace;
     world = is.standing.world;
     measured = is.standing.measured;
-    off = silent_are_off p w.time w none;
+    silent = none;
   };
   asked = is.asked;
   well = is.well;
@@ -221,6 +220,7 @@ aging_now p g aged silent w is none = record {
           there = on.there;
           farther = on.farther;
         });
+        itself = record { lanes = seen.itself.lanes; stations = seen.itself.stations };
       };
 }
 
@@ -254,8 +254,8 @@ module _ (p : SettlingParams) (g : Snapshot) (aged silent : ℕ) (w : WorldState
   net : IsSettlingNetwork left_n
   net = left_net p silent w world
 
-  claims : IsLeftSeen says_announce g left_n (view w)
-  claims =
+  pub aging_left : IsLeftSeen says_announce g left_n (view w)
+  aging_left =
       aging_over says_announce g (aging_network p aged silent w) is.well
       (stands_well w world.sound world.between world.encodable) is.left (view w) after seen.fits seen.still none
 
@@ -268,16 +268,16 @@ module _ (p : SettlingParams) (g : Snapshot) (aged silent : ℕ) (w : WorldState
   -- its choice stands
   pub aging_chooses : ChoiceStands w
   aging_chooses =
-      seen_chooses p left_n w world refl net calm claims.invariant settled_by_now (omega arith) (omega arith)
+      seen_chooses p left_n w world refl net calm aging_left.invariant settled_by_now (omega arith) (omega arith)
 
   -- it has settled once ports without a link aren't capable
   pub aging_settles : silent ≤ w.time → Settled w × IsBoundedWorld w
   aging_settles late =
       let settled : Settled w =
-      seen_settles p left_n w world refl net calm claims.invariant settled_by_now (omega arith) (omega arith) late in (
+      seen_settles p left_n w world refl net calm aging_left.invariant settled_by_now (omega arith) (omega arith) late in (
         settled,
         bounded_by p w world settled (λ place station here live best is_best.
-            systems_bounded says_announce left_n (view w) place (station_view station) best net calm claims.invariant
+            systems_bounded says_announce left_n (view w) place (station_view station) best net calm aging_left.invariant
             (station_there w.stations place station here) live is_best (omega arith)),
       )
 

@@ -65,7 +65,7 @@ use Rattle.gptp_settling_time.proofs.LeftClaimedLemmas.{HaveAskedLong}
 use Rattle.gptp_settling_time.proofs.LinkUpLemmas.{lane_set}
 use Rattle.gptp_settling_time.proofs.LoweredLemmas.{other}
 use Rattle.gptp_settling_time.proofs.ReactsLemmas.{lives_as}
-use Rattle.gptp_settling_time.proofs.TakenDownLemmas.{if_live_stand, off_down, stood_down, told_keeps}
+use Rattle.gptp_settling_time.proofs.TakenDownLemmas.{if_live_stand, silent_down, stood_down, told_keeps}
 use Rattle.gptp_settling_time.proofs.WidenedLemmas.{ready_first}
 
 module _ (p : SettlingParams) (before : Snapshot) (aged silent owner port : ℕ) (w : WorldState) (draws : List Draw)
@@ -142,7 +142,7 @@ module _ (p : SettlingParams) (before : Snapshot) (aged silent owner port : ℕ)
       pace = aging.standing.pace;
       world = is';
       measured = measured';
-      off = off_down p w is k.place k.channel k.is.here draws w' is' tells silent aging.standing.off;
+      silent = silent_down p w is k.place k.channel k.is.here draws w' is' tells silent aging.standing.silent;
     }
 
     asked' : HaveAskedLong w'
@@ -303,6 +303,14 @@ module _ (p : SettlingParams) (before : Snapshot) (aged silent owner port : ℕ)
       still = still_emptied says_announce before n n' well' alike.wiring
           (λ a b joins. subst (λ h. Joins h a b) snapshot_now joins) same_unmoved less (view w) (view taken) is_emptied
           aging.late after_taken fits_taken claims.still;
+      itself = record {
+        lanes = λ j l f a there flies said known. elim (is_emptied.lanes j l there) [
+          | inl stood ↦
+              claims.itself.lanes j l f a stood flies said (subst (λ h. In l.to.clock (clocks h)) snapshot_now known)
+          | inr (none, down) ↦ absurd (subst (In f) none flies)
+        ];
+        stations = claims.itself.stations;
+      };
     }
 
     -- ---- the end that lives answers

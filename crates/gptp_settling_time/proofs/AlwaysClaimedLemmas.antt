@@ -44,7 +44,7 @@ use Rattle.gptp_invariants.specs.ChoiceView.{lane_place, frame_view, held_view, 
 use Rattle.gptp_invariants.specs.DelayLinkView.{IsLinkOf, LinkPlace, link_frame_view, other_direction, pair}
 use Rattle.gptp_invariants.specs.DelayMeasured.{LinkIsMeasured, LinkStandsAt}
 use Rattle.gptp_invariants.specs.WorldEncodableLaws.{SetsAnOctet}
-use Rattle.gptp_invariants.specs.WorldNews.{IsNews, at_news, news_network}
+use Rattle.gptp_invariants.specs.WorldNews.{AreSilentBy, IsNews, at_news, news_network}
 use Rattle.gptp_invariants.specs.WorldStanding.{channel_is_used, live_stations, snapshot_of}
 use Rattle.gptp_invariants.proofs.ChoiceCalmKeptLemmas.{KeepsNetwork, acts_keep, delay_kept, links_quiet, same_network_with}
 use Rattle.gptp_invariants.proofs.ChoiceCalmLemmas.{calm, nothing_lapses}
@@ -56,7 +56,7 @@ use Rattle.gptp_invariants.proofs.ChoiceSeenLaneLemmas.{lane_there}
 use Rattle.gptp_invariants.proofs.ChoiceSettlesAsMachineLemmas.{kept_back}
 use Rattle.gptp_invariants.proofs.DelayLinkLemmas.{sender_opposite, good_between}
 use Rattle.gptp_invariants.proofs.WorldGreatestDelayLemmas.{delay_of_used}
-use Rattle.gptp_invariants.proofs.WorldNewsLemmas.{news_are_kept, news_go_on}
+use Rattle.gptp_invariants.proofs.WorldNewsLemmas.{news_are_kept, news_go_on, silent_off}
 use Rattle.gptp_invariants.proofs.WorldStandsLemmas.{stands_well}
 use Rattle.gptp_invariants.proofs.WorldWayLemmas.{IsWay, one_way, way_of}
 use Rattle.gptp_settling_time.specs.Starts.{DelaysVaryLittle}
@@ -72,7 +72,6 @@ use Rattle.gptp_invariants.proofs.WorldStandsLemmas.{used_up}
 use Rattle.gptp_model.proofs.BareLemmas.{bare}
 use Rattle.gptp_setup.specs.SettlingParams.{largest_interval}
 use Rattle.gptp_settling_time.proofs.HeardLemmas.{IsHeardAt, heard_acts, heard_due, heard_later, heard_link, heard_now, heard_on}
-use Rattle.gptp_settling_time.proofs.LastAnsweredLemmas.{AreOffBy, off_by, silent_are_off}
 use Rattle.gptp_settling_time.proofs.LinkStoodLemmas.{stood_in}
 use Rattle.gptp_settling_time.proofs.OrderedLemmas.{link_seen, tells}
 use Rattle.gptp_invariants.proofs.DelayCapableKeptLemmas.{stood}
@@ -292,7 +291,7 @@ pub record IsStanding (p : SettlingParams) (start : ℕ) (w : WorldState) : Type
   pub pace : KeepPace p
   pub world : IsWorld p w
   pub measured : LinkIsMeasured w
-  pub off : AreOffBy p start w
+  pub silent : AreSilentBy p start w
 
 -- such is a world since news
 abbrev pub standing : {p : SettlingParams} {start : ℕ} {w : WorldState} → IsNews p start w → IsStanding p start w
@@ -300,7 +299,7 @@ standing {p} {start} {w} news = record {
   pace = news.pace;
   world = news.world;
   measured = news.measured;
-  off = silent_are_off p start w news.silent;
+  silent = news.silent;
 }
 
 -- ---- ports are capable from the start on
@@ -372,7 +371,7 @@ module _ (p : SettlingParams) (start : ℕ) (w : WorldState) (news : IsStanding 
             (linked_capable p start w world heard quiet late place station here i q to there joins
             (way_of w (port_identity_number (own station.system (suc i))) to joins));
         unlinked = λ none. elim (linked_or_off p w world
-            (off_by p start w news.pace world news.off late) place station here lives i q there) [
+            (silent_off p start w world news.silent late) place station here lives i q there) [
               | inl linked ↦ absurd (none linked)
               | inr off ↦ (shown.each i h q stands there).off off
             ];

@@ -16,9 +16,10 @@ use Rattle.gptp_invariants.specs.ChoiceView.{frame_view, lane_place, lane_view, 
 use Rattle.gptp_invariants.specs.DelayLinkView.{IsLinkOf, LinkPlace, asker_view, link_frame_view, link_lane_view, other_direction, waits_view, kept_view}
 use Rattle.gptp_invariants.proofs.ChoiceSeenLaneLemmas.{lane_there}
 use Rattle.gptp_invariants.proofs.WorldWayLemmas.{one_way}
+use Rattle.gptp_invariants.proofs.PortInputLemmas.{of_up}
 use Rattle.gptp_settling_time.proofs.RaisedLemmas.{IsRaised}
 use Rattle.gptp_settling_time.proofs.SameLinkLemmas.{IsSameLink}
-use Rattle.gptp_settling_time.proofs.SamePartsLemmas.{HasSameParts, of_up, tells_parts}
+use Rattle.gptp_settling_time.proofs.SamePartsLemmas.{HasSameParts, tells_parts}
 
 -- ---- frames in flight
 

@@ -33,14 +33,13 @@ use Rattle.gptp_settling_time.proofs.FitsLemmas.{UnlinkedHoldNothing}
 use Rattle.gptp_settling_time.proofs.LeftClaimedLemmas.{HaveAskedBy, IsLeftAlways, asked_acts, asked_heard, asked_later, left_acts, left_calm, left_later, left_net, left_network, left_seen, same_left}
 use Rattle.gptp_settling_time.proofs.RightKeptLemmas.{right_kept}
 use Rattle.gptp_settling_time.proofs.RightLemmas.{all_right}
-use Rattle.gptp_settling_time.proofs.TellsRightLemmas.{IsSettledState, LevelTellsRight, RightTimes}
+use Rattle.gptp_settling_time.proofs.TellsRightLemmas.{IsSettledState, LevelTellsRight, tells_right_from}
 use Rattle.gptp_settling_time.proofs.DueLemmas.{AreDueBy, UpIsInUse, due_by_delay, due_by_interval, use_kept}
 use Rattle.gptp_settling_time.proofs.UnlinkedLemmas.{IsLeftSeen}
 use native.Mathlib.Decide.{dec_le}
 use Rattle.gptp_settling_time.proofs.SettledSeenLemmas.{IsSettledSeen, always_seen, news_seen}
 use Rattle.gptp_settling_time.proofs.SoundButOldLemmas.{IsSoundButOld, but_old_kept, old_are_gone}
 use Rattle.gptp_settling_time.proofs.StandsLikeLemmas.{none_short}
-use Rattle.gptp_invariants.proofs.WorldNewsLemmas.{acts_silent, silent_later}
 
 -- What is in flight is gone so much later: by the greatest delay of a link in use, where each link that is up is in
 -- use; else by an announce interval.
@@ -57,10 +56,10 @@ goes_due p gone w is seen goes = elim goes [
 
 -- links tell right traces by distance, and what they told before is gone by a time
 pub record IsBecomingRight (p : SettlingParams) (n : Network) (right gone old : ℕ) (w : WorldState) : Type 0 where
-  pub times : RightTimes n
+  pub base : ℕ
   pub goes : GoesBy p gone w
-  pub levels : (d : ℕ) → LevelTellsRight says_announce n times (view w) d
-  pub is : times.from (pred n.reach) ≤ right
+  pub levels : (d : ℕ) → LevelTellsRight says_announce n base (view w) d
+  pub is : tells_right_from n base (pred n.reach) ≤ right
   pub early : w.time < right
   pub by : right + gone ≤ suc old
 
@@ -75,7 +74,6 @@ BecomesSound p silent right old w =
 pub record IsCleared (p : SettlingParams) (g : Snapshot) (since silent right old : ℕ) (w : WorldState) : Type 0 where
   pub left : IsLeftAlways p g silent w
   pub asked : HaveAskedBy since w
-  pub silent_by : AreSilentBy p silent w
   pub sound : HaveQuietLinks p.params w → NothingLapses p.params → BecomesSound p silent right old w
 
 -- ---- it goes on
@@ -88,7 +86,7 @@ same_time says w w' (inr (inr act)) = act.call.time
 
 module _ (p : SettlingParams) (g : Snapshot) (since silent right old : ℕ) (w w' : WorldState)
     (is : IsCleared p g since silent right old w) (left' : IsLeftAlways p g silent w') (asked' : HaveAskedBy since w')
-    (silent_by' : AreSilentBy p silent w') (keeps : KeepsNetwork w w')
+    (keeps : KeepsNetwork w w')
     (step : MachineSteps says_announce (view w) (view w')) where
   abbrev n : Network
   n = left_network p silent w
@@ -145,9 +143,9 @@ module _ (p : SettlingParams) (g : Snapshot) (since silent right old : ℕ) (w w
         none = none';
       }
 
-      levels' : (d : ℕ) → LevelTellsRight says_announce n becomes.times (view w') d
+      levels' : (d : ℕ) → LevelTellsRight says_announce n becomes.base (view w') d
       levels' =
-          right_kept says_announce n net is.left.near becomes.times (view w) (view w') x x'
+          right_kept says_announce n net is.left.near becomes.base (view w) (view w') x x'
           (λ port linked.
           linked_interval p w is.left.standing.world.sound is.left.standing.world.known port linked) step becomes.levels
 
@@ -165,7 +163,7 @@ module _ (p : SettlingParams) (g : Snapshot) (since silent right old : ℕ) (w w
           → IsSoundButOld says_announce n.graph old (view w')
       all_by_now by_now =
           let is_right = becomes.is in
-          all_right says_announce n net is.left.near becomes.times (view w') x' levels' (omega (arith, is_right, by_now)) old
+          all_right says_announce n net is.left.near becomes.base (view w') x' levels' (omega (arith, is_right, by_now)) old
           (by step)
         where
           by : MachineSteps says_announce (view w) (view w') → AreDueBy old w'
@@ -186,7 +184,7 @@ module _ (p : SettlingParams) (g : Snapshot) (since silent right old : ℕ) (w w
         | no not ↦ inr (
           gone,
           subst (λ y. IsBecomingRight p y right gone old w') (sym same) (record {
-            times = becomes.times;
+            base = becomes.base;
             goes = goes';
             levels = levels';
             is = becomes.is;
@@ -203,14 +201,14 @@ module _ (p : SettlingParams) (g : Snapshot) (since silent right old : ℕ) (w w
     ]
 
   pub cleared_step : IsCleared p g since silent right old w'
-  cleared_step = record { left = left'; asked = asked'; silent_by = silent_by'; sound = sound_then }
+  cleared_step = record { left = left'; asked = asked'; sound = sound_then }
 
 pub cleared_later : (p : SettlingParams) (g : Snapshot) (since silent right old time : ℕ) (w : WorldState)
     → w.time ≤ time → NothingBefore time w.net.pending → IsCleared p g since silent right old w
     → IsCleared p g since silent right old (at_time time w)
 cleared_later p g since silent right old time w later first is =
     cleared_step p g since silent right old w (at_time time w) is (left_later p g silent time w later first is.left)
-    (asked_later p since time w is.left.standing.world later first is.asked) (silent_later p silent time w is.silent_by)
+    (asked_later p since time w is.left.standing.world later first is.asked)
     (later_keeps time w) (inl (record { time = time; later = later; is = refl }))
 
 pub cleared_acts : (p : SettlingParams) (g : Snapshot) (since silent right old : ℕ) (act : Act) (w : WorldState)
@@ -221,7 +219,6 @@ cleared_acts p g since silent right old act w draws done w' none octet acts is =
     let left' = left_acts p g silent act w draws done w' none octet acts is.left in
     cleared_step p g since silent right old w w' is left'
     (asked_acts p since silent act w draws done w' none acts is.left.standing left'.standing.world is.asked)
-    (acts_silent p silent act w draws done w' none acts world is.left.standing.measured is.silent_by)
     (acts_keep act w draws done w' none acts)
     (inr (acts_seen act w draws done w' none world.sound world.encodable acts))
 
@@ -250,7 +247,7 @@ module _ (p : SettlingParams) (g : Snapshot) (since silent right old : ℕ) (w :
   -- So claims are made of all links always, from each time on by which ports at links are capable, and those without
   -- one aren't.
   pub cleared_claimed : (start : ℕ) → since ≤ start → AreSilentBy p start w → IsClaimedAlways p start w
-  cleared_claimed start past silent_by = record {
+  cleared_claimed start past silent_from = record {
     news = news;
     heard = asked_heard p start w is.left.asked;
     settling = λ m bounded quiet off.
@@ -262,7 +259,7 @@ module _ (p : SettlingParams) (g : Snapshot) (since silent right old : ℕ) (w :
         pace = is.left.standing.pace;
         world = is.left.standing.world;
         measured = is.left.standing.measured;
-        silent = silent_by;
+        silent = silent_from;
         sound = cleared_sound;
         ready = λ at stands.
             let (first, by, before, x) = is.asked at stands in

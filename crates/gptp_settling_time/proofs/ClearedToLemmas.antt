@@ -13,7 +13,7 @@ use Rattle.gptp_world.specs.Transitions.{ActTrace}
 use Rattle.gptp_world.proofs.SettlingInvariantLemmas.{next_octet}
 use Rattle.gptp_network.specs.Document.{DocumentState}
 use Rattle.gptp_invariants.specs.WorldNews.{AreSilentBy}
-use Rattle.gptp_invariants.proofs.WorldNewsActLemmas.{silent_by_later}
+use Rattle.gptp_invariants.proofs.WorldNewsLemmas.{silent_from_now}
 use Rattle.gptp_theorem.specs.PlayedLaws.{IsPlayable}
 use Rattle.gptp_theorem.proofs.CalmLemmas.{quiet_stands}
 use Rattle.gptp_theorem.proofs.PlayedLemmas.{no_change}
@@ -72,7 +72,7 @@ module _ (d : DocumentState) (events : List Timed) (since silent right old : ℕ
             rest.off rest.gone start rest.later (silent_by rest.unlinked);
       }
     where
-      silent_by : (silent ≤ start) ⊎ UpIsUsed d.network events → AreSilentBy (pace_of d.network) start w
-      silent_by (inl soon) =
-          silent_by_later (pace_of d.network) silent start w soon so.is.silent_by
+      silent_by : (silent ≤ w.time) ⊎ UpIsUsed d.network events → AreSilentBy (pace_of d.network) start w
+      silent_by (inl past) =
+          silent_from_now (pace_of d.network) start silent w so.is.left.standing.world so.is.left.standing.silent past
       silent_by (inr used) = none_unanswered d events w so.keeps start used

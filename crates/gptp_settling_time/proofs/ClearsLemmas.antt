@@ -2,12 +2,15 @@
 -- but for what is due soon.
 use Rattle.std.proofs.Common.{List, Some, ap, arith, inl, inr, pred, slice_get, subst, suc, sym, ℕ, ◌*◌, ◌+◌, ◌∙◌, ◌≡◌, ◌≢◌, ◌≤◌, ◌⊎◌}
 use Rattle.gptp_lists.specs.Members.{In}
-use Rattle.gptp_graph.specs.Snapshot.{Joins, PortIdentity, Snapshot}
+use Rattle.gptp_graph.specs.Best.{IsBest}
+use Rattle.gptp_graph.specs.Distance.{IsDistance}
+use Rattle.gptp_graph.specs.Snapshot.{Adjacent, IsWellFormed, Joins, PortIdentity, Snapshot, System, port_of}
 use Rattle.gptp_links.specs.declared.link.Direction.{Direction}
 use Rattle.gptp_links.specs.declared.link.Direction.TheVariants.{FromA, FromB}
 use Rattle.gptp_links.specs.Fate.{Draw}
 use Rattle.gptp_scenario.specs.Calm.{NothingLapses}
 use Rattle.gptp_setup.specs.SettlingParams.{SettlingParams, largest_interval}
+use Rattle.gptp_scenario.specs.Calm.{NothingLapses}
 use Rattle.gptp_system.specs.Input.{PortDown}
 use Rattle.gptp_model.specs.Changing.{TellsEnds, taken_down}
 use Rattle.gptp_model.specs.World.{Channel, WorldState, receiver, sender}
@@ -16,21 +19,21 @@ use Rattle.gptp_bmca_machine.specs.SoundLaws.{AllAreNear}
 use Rattle.gptp_invariants.specs.ChoiceCalm.{HaveQuietLinks, delay_in}
 use Rattle.gptp_invariants.specs.ChoiceSettlesAsMachine.{IsWorld}
 use Rattle.gptp_invariants.specs.ChoiceView.{says_announce, view}
-use Rattle.gptp_invariants.specs.WorldNews.{AreReadyBy, AreSilentBy}
+use Rattle.gptp_invariants.specs.WorldNews.{AreReadyBy}
 use Rattle.gptp_invariants.specs.WorldSound.{IsSoundWorld}
 use Rattle.gptp_invariants.specs.WorldStanding.{snapshot_of}
 use Rattle.gptp_invariants.proofs.WorldStandsLemmas.{stands_well}
 use Rattle.gptp_settling_time.specs.Losses.{IsCutOff, IsFarEnd}
 use Rattle.gptp_settling_time.proofs.ClearedLemmas.{GoesBy, IsBecomingRight, IsCleared}
 use Rattle.gptp_settling_time.proofs.FarEndLemmas.{HasAllBut}
-use Rattle.gptp_settling_time.proofs.FitsLemmas.{IsLeftUnmoved}
+use Rattle.gptp_settling_time.proofs.FitsLemmas.{IsLeftUnmoved, best_before, joined_stays}
 use Rattle.gptp_settling_time.proofs.LeftClaimedLemmas.{HaveAskedBy, IsLeftAlways, left_calm, left_net, left_network}
 use Rattle.gptp_settling_time.proofs.LostEndLemmas.{but_old_reduced, lost_end_sound}
 use Rattle.gptp_settling_time.proofs.LoweredLemmas.{still_joins}
 use Rattle.gptp_settling_time.proofs.ReducedLemmas.{IsReduced}
+use Rattle.gptp_settling_time.proofs.NamesItselfLemmas.{AllNameItself}
 use Rattle.gptp_settling_time.proofs.RightBeginLemmas.{right_begins, root_right}
-use Rattle.gptp_settling_time.proofs.TellsRightLemmas.{told_last, told_times}
-use Rattle.gptp_settling_time.proofs.UnlinkedLemmas.{IsLeftSeen}
+use Rattle.gptp_settling_time.proofs.TellsRightLemmas.{right_last}
 use Rattle.gptp_graph.specs.PathBound.{path_bound}
 use Rattle.gptp_settling_time.proofs.SettledSeenLemmas.{IsSettledSeen}
 use Rattle.gptp_settling_time.proofs.SoundButOldLemmas.{IsSoundButOld}
@@ -51,7 +54,7 @@ module _ (p : SettlingParams) (since silent old : ℕ) (w w' : WorldState) (is' 
     (seen : IsSettledSeen p w)
     (near : AllAreNear (snapshot_of w)) (sound : IsSoundWorld w) (less : IsReduced (view w) (view w'))
     (left : IsLeftAlways p (snapshot_of w) silent w') (asked : HaveAskedBy since w')
-    (silent_by : AreSilentBy p silent w') (x : ℕ) (far : IsFarEnd (snapshot_of w) x)
+    (x : ℕ) (far : IsFarEnd (snapshot_of w) x)
     (has : HasAllBut (snapshot_of w) (snapshot_of w') x)
     (gone : (a b : PortIdentity) → Joins (snapshot_of w') a b → a.clock ≢ x)
     (due : HaveQuietLinks p.params w' → NothingLapses p.params → AreDueBy old w') where
@@ -59,7 +62,6 @@ module _ (p : SettlingParams) (since silent old : ℕ) (w w' : WorldState) (is' 
   clears = record {
     left = left;
     asked = asked;
-    silent_by = silent_by;
     sound = λ quiet off.
         inl (lost_end_sound says_announce seen.n seen.net (view w) seen.calm seen.invariant seen.late
         (subst AllAreNear same near) (subst (λ h. IsSoundEverywhere says_announce h (view w)) same sound)
@@ -75,13 +77,11 @@ module _ (p : SettlingParams) (since silent old : ℕ) (w w' : WorldState) (is' 
 -- what is cleared stays so where ports are disabled and links go down, and what is in use stays
 pub cleared_reduced : (p : SettlingParams) (g : Snapshot) (since silent right old : ℕ) (w w' : WorldState)
     → snapshot_of w' ≡ snapshot_of w → IsReduced (view w) (view w') → HaveQuietLinks p.params w → right ≤ w.time
-    → IsLeftAlways p g silent w' → HaveAskedBy since w' → AreSilentBy p silent w'
-    → IsCleared p g since silent right old w
+    → IsLeftAlways p g silent w' → HaveAskedBy since w' → IsCleared p g since silent right old w
     → IsCleared p g since silent right old w'
-cleared_reduced p g since silent right old w w' same less quiet late left asked silent_by is = record {
+cleared_reduced p g since silent right old w w' same less quiet late left asked is = record {
   left = left;
   asked = asked;
-  silent_by = silent_by;
   sound = λ quiet' off. elim (is.sound quiet off) [
     | inl sound ↦
         inl (but_old_reduced says_announce (snapshot_of w') old (view w) (view w') less
@@ -97,39 +97,50 @@ cleared_reduced p g since silent right old w w' same less quiet late left asked 
 abbrev pub nearer_echo : SettlingParams → WorldState → ℕ
 nearer_echo p w = pred (pred (path_bound (snapshot_of w))) * (largest_interval p + delay_in w)
 
--- links begin to tell right traces, where all that is held was sound before
-pub rights : (p : SettlingParams) (g : Snapshot) (since silent gone : ℕ) (w : WorldState) → IsLeftAlways p g silent w
-    → HaveAskedBy since w → AreSilentBy p silent w → GoesBy p gone w → IsSoundEverywhere says_announce g (view w)
-    → IsCleared p g since silent (suc (w.time + nearer_echo p w)) (w.time + nearer_echo p w + gone) w
-rights p g since silent gone w left asked silent_by goes sound = record {
-  left = left;
-  asked = asked;
-  silent_by = silent_by;
-  sound = λ quiet off. inr (gone, becomes (left.seen quiet off) quiet);
-}
-  where
-    becomes : IsLeftSeen says_announce g (left_network p silent w) (view w) → HaveQuietLinks p.params w
-        → IsBecomingRight p (left_network p silent w) (suc (w.time + nearer_echo p w)) gone
-        (w.time + nearer_echo p w + gone) w
-    becomes seen quiet =
-        let n = left_network p silent w in
-        let by = told_last n (suc w.time) (pred (path_bound (snapshot_of w))) in
-        record {
-          times = told_times n (suc w.time);
-          goes = goes;
-          levels = right_begins says_announce n (suc w.time) (view w) (omega arith)
-              (root_right says_announce g n left.well (left_net p silent w left.standing.world) left.near left.left
-              (view w)
-              (record {
-                calm = left_calm p silent w left.standing left.asked quiet seen.unlinked;
-                invariant = seen.invariant;
-                late = let past = left.late in omega (arith, past);
-                none = seen.unlinked;
-              }) sound (told_times n (suc w.time)));
-          is = omega (arith, by);
-          early = omega arith;
-          by = omega arith;
-        }
+-- links begin to tell right traces, where what names the best in no steps names it alone
+module _ (p : SettlingParams) (g : Snapshot) (since silent gone : ℕ) (w : WorldState)
+    (left : IsLeftAlways p g silent w) (asked : HaveAskedBy since w)
+    (goes : GoesBy p gone w) (before : Snapshot)
+    (was : (v u : ℕ) (best : System) → Adjacent (snapshot_of w) v u → IsBest (snapshot_of w) v best
+    → IsDistance (snapshot_of w) v 0 → IsBest before v best)
+    (itself : HaveQuietLinks p.params w → NothingLapses p.params
+    → AllNameItself says_announce (left_network p silent w) before (view w)) where
+  becomes : HaveQuietLinks p.params w → NothingLapses p.params
+      → IsBecomingRight p (left_network p silent w) (suc (w.time + nearer_echo p w)) gone
+      (w.time + nearer_echo p w + gone) w
+  becomes quiet off =
+      let n = left_network p silent w in
+      let seen = left.seen quiet off in
+      let by = right_last n (suc w.time) (pred (path_bound (snapshot_of w))) in
+      record {
+        base = suc w.time;
+        goes = goes;
+        levels = right_begins says_announce n (suc w.time) (view w) (omega arith)
+            (root_right says_announce before n (left_net p silent w left.standing.world) left.near (view w)
+            (record {
+              calm = left_calm p silent w left.standing left.asked quiet seen.unlinked;
+              invariant = seen.invariant;
+              late = let past = left.late in omega (arith, past);
+              none = seen.unlinked;
+            }) was (itself quiet off) (suc w.time));
+        is = omega (arith, by);
+        early = omega arith;
+        by = omega arith;
+      }
+
+  pub rights : IsCleared p g since silent (suc (w.time + nearer_echo p w)) (w.time + nearer_echo p w + gone) w
+  rights = record {
+    left = left;
+    asked = asked;
+    sound = λ quiet off. inr (gone, becomes quiet off);
+  }
+
+-- who is the best after a loss by which no system is moved was so before
+pub was_best : (g g' : Snapshot) → IsWellFormed g → IsWellFormed g' → IsLeftUnmoved g g' → (v u : ℕ) (best : System)
+    → Adjacent g' v u → IsBest g' v best → IsDistance g' v 0 → IsBest g v best
+was_best g g' well well' left v u best joined is here =
+    best_before g g' well well' left v best
+    (joined_stays g g' well well' left (port_of v joined.0) (port_of u joined.1) joined.2) is
 
 -- ---- a link goes down, and cuts a far end off
 

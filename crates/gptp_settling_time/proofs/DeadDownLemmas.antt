@@ -21,7 +21,6 @@ use Rattle.gptp_invariants.specs.ChoiceCalm.{HaveQuietLinks, delay_in}
 use Rattle.gptp_invariants.specs.ChoiceSettlesAsMachine.{IsWorld}
 use Rattle.gptp_invariants.specs.ChoiceView.{says_announce, view}
 use Rattle.gptp_invariants.specs.DelayMeasured.{LinkIsMeasured}
-use Rattle.gptp_invariants.specs.WorldNews.{AreSilentBy}
 use Rattle.gptp_invariants.specs.WorldStanding.{channel_is_used, live_stations, snapshot_of}
 use Rattle.gptp_invariants.proofs.ChoiceCalmKeptLemmas.{KeepsNetwork, delay_kept, same_snapshot}
 use Rattle.gptp_invariants.proofs.WorldNewsLemmas.{ready_goes_through}
@@ -35,7 +34,7 @@ use Rattle.gptp_settling_time.proofs.LeftClaimedLemmas.{HaveAskedBy, HaveAskedLo
 use Rattle.gptp_settling_time.proofs.LoweredLemmas.{StandsReduced, StayOrAreAlone, less, other, told, wires}
 use Rattle.gptp_settling_time.proofs.ReducedLemmas.{IsReduced}
 use Rattle.gptp_settling_time.proofs.SettledSeenLemmas.{IsSettledSeen}
-use Rattle.gptp_settling_time.proofs.TakenDownLemmas.{off_down, silent_down, stood_down, told_keeps}
+use Rattle.gptp_settling_time.proofs.TakenDownLemmas.{silent_down, stood_down, told_keeps}
 use Rattle.gptp_settling_time.proofs.UnlinkedLemmas.{IsLeftSeen, LostAreFarther}
 use Rattle.gptp_settling_time.proofs.WidenedLemmas.{ready_first}
 
@@ -129,12 +128,8 @@ module _ (p : SettlingParams) (before : Snapshot) (silent owner port : ℕ) (w :
       pace = left.standing.pace;
       world = is';
       measured = measured';
-      off = off_down p w is k.place k.channel k.is.here draws w' is' tells silent left.standing.off;
+      silent = silent_down p w is k.place k.channel k.is.here draws w' is' tells silent left.standing.silent;
     }
-
-    -- ports beside failed systems stay silent
-    pub silent_on : AreSilentBy p silent w → AreSilentBy p silent w'
-    silent_on = silent_down p w is k.place k.channel k.is.here draws w' is' tells silent
 
     -- ports at links have asked as they had
     pub asked_on : (since : ℕ) → HaveAskedBy since w → HaveAskedBy since w'

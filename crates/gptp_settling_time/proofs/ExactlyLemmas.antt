@@ -109,7 +109,7 @@ module _ {F : Type 0} (answers : Bounds → ℕ → F → Option ℕ → F → T
       subst (λ from. IsSettledBy p m from settled now) (same_from p time between now keeps) by in
       let news = link_up_news p start number port then k.draws made between claim.pace claim_then.world claimed.world
       claim_then.measured
-      (unanswered_silent p start then claim_then.silent (omega (arith, rest)))
+      (unanswered_silent p start then claim.pace claim_then.silent (omega (arith, rest)))
       (sound_later w time sound)
       (watched_ready p start then claim_then.watched (omega (arith, rest)) (omega (arith, rest, requests)))
       other (omega arith) k.acts in
@@ -132,7 +132,7 @@ module _ {F : Type 0} (answers : Bounds → ℕ → F → Option ℕ → F → T
       let begins : AreSilentBy p start between
       × (between.time + 2 * largest_interval p + 3 * interval_of p.params.pdelay ≤ start) = elim from [
         | inl is ↦ (
-          unanswered_silent p start between claimed.silent (omega (arith, is, last, same)),
+          unanswered_silent p start between claim.pace claimed.silent (omega (arith, is, last, same)),
           omega (arith, is, same, requests),
         )
         | inr (live, is) ↦ (none_silent p start between live, omega (arith, is, same))

@@ -42,7 +42,7 @@ use Rattle.gptp_invariants.specs.DelayElsewhere.{IsOtherSystem}
 use Rattle.gptp_invariants.specs.DelayFirstAt.{IsFirstAt}
 use Rattle.gptp_invariants.specs.DelayLinkView.{LinkPlace, pair}
 use Rattle.gptp_invariants.specs.DelayMeasured.{LinkIsMeasured, LinkStandsAt, StationIsLiveAt}
-use Rattle.gptp_invariants.specs.FailedUnanswered.{IsFailedAmong, IsUnansweredAt, StandsUnanswered}
+use Rattle.gptp_invariants.specs.FailedUnanswered.{IsFailedAmong, IsLastAnswered, IsUnansweredAt, StandsUnanswered, silence_span}
 use Rattle.gptp_invariants.specs.WorldNews.{AreReadyBy, AreSilentBy, IsSilentBy}
 use Rattle.gptp_invariants.specs.WorldSound.{IsSoundWorld}
 use Rattle.gptp_invariants.specs.WorldStanding.{channel_is_used, live_stations, snapshot_of, standing_system, stations_have_clock}
@@ -54,12 +54,11 @@ use Rattle.gptp_invariants.proofs.WorldSoundCallLemmas.{links_more}
 use Rattle.gptp_invariants.proofs.WorldStandsLemmas.{stands_well, used_up}
 use Rattle.gptp_invariants.proofs.WorldSystemLemmas.{clock_there, live_from, live_there}
 use Rattle.gptp_invariants.proofs.WorldWayLemmas.{used_joins, way_of}
-use Rattle.gptp_settling_time.specs.Losses.{IsCutOff, IsFarEnd, IsUnmoved, IsUnmovedOrCutOff, silence_span}
+use Rattle.gptp_settling_time.specs.Losses.{IsCutOff, IsFarEnd, IsUnmoved, IsUnmovedOrCutOff}
 use Rattle.gptp_settling_time.proofs.BegunLeftLemmas.{begins_left}
 use Rattle.gptp_settling_time.proofs.AlwaysClaimedLemmas.{IsStanding, start_network}
 use Rattle.gptp_settling_time.proofs.FitsLemmas.{IsLeftUnmoved, UnlinkedHoldNothing, at_zero, lived}
 use Rattle.gptp_settling_time.proofs.FarEndLemmas.{HasAllBut}
-use Rattle.gptp_settling_time.proofs.LastAnsweredLemmas.{AreOffBy, IsLastAnswered}
 use Rattle.gptp_settling_time.proofs.LeftClaimedLemmas.{HaveAskedLong, IsLeftAlways, left_network}
 use Rattle.gptp_settling_time.proofs.ReactsLemmas.{places_set}
 use Rattle.gptp_settling_time.proofs.ReducedLemmas.{IsReduced, reduced_itself}
@@ -283,15 +282,15 @@ module _ (p : SettlingParams) (number : ℕ) (w : WorldState) (draws : List Draw
         }
 
         pub silent_still : (next later : ℕ) → next ≤ later → IsSilentBy p next at w → IsSilentBy p later at w'
-        silent_still next later less (inl never) =
-            inl (record { link = beside never.link; mute = never.mute; unmeasured = never.unmeasured })
-        silent_still next later less (inr (change, one, soon)) =
+        silent_still next later less (inl off) =
+            inl (record { link = beside off.link; mute = off.mute; off = off.off })
+        silent_still next later less (inr (sent, last, soon)) =
             inr (
-              change,
+              sent,
               record {
-                link = beside one.link;
-                old = one.old;
-                inv = record { lost = one.inv.lost; counts = one.inv.counts };
+                link = beside last.link;
+                replies = last.replies;
+                inv = record { lost = last.inv.lost; counts = last.inv.counts };
               },
               omega (arith, soon, less),
             )
@@ -345,15 +344,15 @@ module _ (p : SettlingParams) (number : ℕ) (w : WorldState) (draws : List Draw
             (subst (λ (c : Channel). IsFailedAmong at.answering (receiver at.direction c).clock w'.stations)
             (same_there w.net.channels at.link s.channel x.link.channel here_before x.link.here) s.answering)
 
-    off_then : (next silent : ℕ) → next ≤ w.time → AreReadyBy p next w → HaveQuietLinks p.params w
-        → AreSilentBy p next w → w.time + silence_span p < silent → AreOffBy p silent w'
-    off_then next silent past ready quiet before long at s = elim (same_place at.answering k.place) [
+    silent_then : (next silent : ℕ) → next ≤ w.time → AreReadyBy p next w → HaveQuietLinks p.params w
+        → AreSilentBy p next w → w.time + silence_span p < silent → AreSilentBy p silent w'
+    silent_then next silent past ready quiet before long at s = elim (same_place at.answering k.place) [
       | inl own ↦
           let (first, by) = ready_first p next w is past at (ready at (stood_good at s own quiet)) in
           let asked_by = by.0.facts.asked in
           inr ((pair at w by.0.link).asker.asked, last_still at s own quiet first by.0, omega (arith, asked_by, long))
       | inr other ↦
-          inl (silent_still at s other next silent (omega (arith, past, long)) (before at (stood_beside at s other)))
+          silent_still at s other next silent (omega (arith, past, long)) (before at (stood_beside at s other))
     ]
 
     -- what is left is all but the system and its links
@@ -454,7 +453,7 @@ module _ (p : SettlingParams) (number : ℕ) (w : WorldState) (draws : List Draw
         pace = pace;
         world = is';
         measured = measured';
-        off = off_then next silent past ready quiet silent_before long;
+        silent = silent_then next silent past ready quiet silent_before long;
       }
 
       -- ports at links that are left are ready as they were

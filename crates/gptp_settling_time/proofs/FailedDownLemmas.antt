@@ -48,13 +48,14 @@ use Rattle.gptp_invariants.proofs.ChoiceSeenLaneLemmas.{lane_from, lane_there}
 use Rattle.gptp_invariants.proofs.DelayClaimedCapableLemmas.{clock_has, used_if}
 use Rattle.gptp_invariants.proofs.WorldWayLemmas.{way_of}
 use Rattle.gptp_invariants.proofs.WorldNewsLemmas.{silent_off}
+use Rattle.gptp_invariants.proofs.PortInputLemmas.{of_down}
 use Rattle.gptp_settling_time.proofs.AlwaysClaimedLemmas.{IsClaimedAlways, lane_at, same_start}
 use Rattle.gptp_settling_time.proofs.FailedUpLemmas.{delay_set, used_set}
 use Rattle.gptp_settling_time.proofs.LinkStoodLemmas.{second_still, used_elsewhere}
 use Rattle.gptp_settling_time.proofs.LinkUpLemmas.{lane_set}
 use Rattle.gptp_settling_time.proofs.QuietUpLemmas.{unseen_at}
 use Rattle.gptp_settling_time.proofs.SameLinkLemmas.{IsSameLink}
-use Rattle.gptp_settling_time.proofs.SamePartsLemmas.{of_down, tells_parts}
+use Rattle.gptp_settling_time.proofs.SamePartsLemmas.{tells_parts}
 use Rattle.gptp_settling_time.proofs.StandsLikeLemmas.{StandsLike, claims_like, expects_none, news_like}
 use Rattle.gptp_settling_time.proofs.StandsStillLemmas.{StandsStill, changed_still, claims_stand, news_stands}
 use Rattle.gptp_settling_time.proofs.TakenDownLemmas.{silent_down, stood_down, told_keeps}
@@ -200,7 +201,7 @@ module _ (p : SettlingParams) (start : ℕ) (w : WorldState) (news : IsNews p st
               let places = shown.places in
               let (q, there) = member_there station.system.ports i (omega arith) in
               let (h, holds) = member_there station.system.held i (omega (arith, most, places)) in
-              let off = silent_off p start w news.pace is news.silent late place_there (record {
+              let off = silent_off p start w is news.silent late place_there (record {
                 channel = channel;
                 here = here;
                 up = up;

@@ -33,7 +33,7 @@ use Rattle.gptp_invariants.specs.ChoiceSettlesAsMachine.{IsWorld}
 use Rattle.gptp_invariants.specs.ChoiceView.{lane_view, port_identity_number, station_view, view}
 use Rattle.gptp_invariants.specs.DelayLinkView.{IsEndOf, LinkPlace, other_direction}
 use Rattle.gptp_invariants.specs.DelayMeasured.{LinkStandsAt}
-use Rattle.gptp_invariants.specs.FailedUnanswered.{FailedNeighboursAreSilent, IsSilent, StandsUnanswered, IsNeverAnswered, IsUnmeasured}
+use Rattle.gptp_invariants.specs.FailedUnanswered.{FailedNeighboursAreSilent, IsOff, IsSilent, IsUnmeasured, StandsUnanswered}
 use Rattle.gptp_invariants.specs.WorldNews.{AreSilentBy}
 use Rattle.gptp_invariants.specs.WorldSettlingInvariant.{KeepsAll}
 use Rattle.gptp_invariants.specs.WorldSound.{IsSoundWorld}
@@ -49,6 +49,7 @@ use Rattle.gptp_invariants.proofs.FailedUnansweredLaneLemmas.{calls_shrink}
 use Rattle.gptp_invariants.proofs.WorldSoundCallLemmas.{tells_keep}
 use Rattle.gptp_invariants.proofs.WorldSoundLemmas.{sound_gains}
 use Rattle.gptp_invariants.proofs.WorldWayLemmas.{one_way, way_of}
+use Rattle.gptp_invariants.proofs.UnmeasuredLemmas.{unmeasured_off}
 use Rattle.gptp_settling_time.proofs.AlwaysClaimedLemmas.{IsClaimedAlways, lane_at, same_start}
 use Rattle.gptp_settling_time.proofs.BesideUpLemmas.{beside_same}
 use Rattle.gptp_settling_time.proofs.LinkStoodLemmas.{raised_ends, second_still, stood_in, stood_untold, used_elsewhere}
@@ -307,8 +308,8 @@ module _ (p : SettlingParams) (w : WorldState) (is : IsWorld p w) (place : ℕ) 
           (λ ways. failed_there k.place_a k.station_a k.is_a.here
           (k.is_a.named ∙ ap (λ d. (sender d channel).clock) ways)) begun k.at_a) k.at_b
 
-      pub never_answered : IsNeverAnswered at w'
-      never_answered =
+      pub is_off : IsOff at w'
+      is_off =
           let none_flies = mute_then in
           let channel_is : one.link.channel ≡ none_flies.now =
           same_there w'.net.channels at.link one.link.channel none_flies.now one.link.here none_flies.now_here in
@@ -316,12 +317,12 @@ module _ (p : SettlingParams) (w : WorldState) (is : IsWorld p w) (place : ℕ) 
             link = one.link;
             mute = λ f member r says.
                 absurd (none_flies.none f (subst (λ c. In f (world_queue back c)) channel_is member));
-            unmeasured = unmeasured;
+            off = unmeasured_off one.link.asking.state.peer unmeasured;
           }
 
     pub up_silent : (start : ℕ) → FailedNeighboursAreSilent p w' → AreSilentBy p start w → AreSilentBy p start w'
     up_silent start silent' silent at s = elim (same_place at.link place) [
-      | inl same ↦ inl (never_answered at same s (w'.last_change + largest_interval p) (silent' at s))
+      | inl same ↦ inl (is_off at same s (w'.last_change + largest_interval p) (silent' at s))
       | inr apart ↦ up_silences p start at place channel w draws w' is.sound.wired here apart k silent s
     ]
 

@@ -2,7 +2,7 @@
 use Rattle.std.proofs.Common.{◌≡◌, ◌⊎◌, inl, inr, ◌<◌, ◌≤◌, ◌+◌, ◌*◌, ℕ, suc, List, [], ◌∷◌, ◌++◌, refl, sym, ap, subst, ◌∙◌, append_assoc, arith}
 use Rattle.std.specs.Prelude.{min}
 use Rattle.std.specs.List.{AllByRecursion}
-use Rattle.std.proofs.Math.Nat.{le-max_left, le-max_right}
+use Rattle.std.proofs.Math.Nat.{le-max_right}
 use native.Mathlib.Decide.{dec_le}
 use Rattle.gptp_setup.specs.SettlingParams.{largest_interval}
 use Rattle.gptp_scenario.specs.Calm.{IsCalm, NothingLapses}
@@ -14,15 +14,16 @@ use Rattle.gptp_scenario.specs.declared.change.Timed.{Timed}
 use Rattle.gptp_network.specs.Document.{DocumentState}
 use Rattle.gptp_network.specs.Events.{AreInOrder}
 use Rattle.gptp_network.specs.Snapshot.{events_by}
-use Rattle.gptp_settling_time.specs.HowSoon.{AreGainEvents, AreHeardEvents, AreReadyAtStart, AreStartEvents, BoundsAging, BoundsAnyLoss, BoundsEvents, BoundsLoss, BoundsStart, IsChoiceAloneBound, IsChoiceBound, IsChoiceBoundAfter, IsLossBoundAfter, IsRestBoundAfter, EachEvent, NoneBetween, OneEvent, RestsAfterLoss, RolesAfterLoss, delay_between, events_at, way_span}
+use Rattle.gptp_settling_time.specs.HowSoon.{AreGainEvents, AreHeardEvents, AreReadyAtStart, AreStartEvents, BoundsAging, BoundsAnyLoss, BoundsEvents, BoundsLoss, BoundsStart, IsChoiceAloneBound, IsChoiceBound, IsChoiceBoundAfter, IsLossBoundAfter, IsRestBoundAfter, EachEvent, NoneBetween, OneEvent, RestsAfterLoss, events_at, way_span}
 use Rattle.gptp_settling_time.specs.InTurn.{Aging, AnyPast, AreCapableSoon, BeginsBy, ChoosesAfter, ChoosesByEvents, ComesByEvents, EventLeads, Gained, Heard, LeadOn, Left, Lost, Past, SettlesAfter, SettlesByEvents, Starting, StartsWith, TellsNothing, Turned, UsedVaryLittle}
-use Rattle.gptp_settling_time.specs.Losses.{FailsHeard, LowersLink, LowersUnused, TurnsLink, UpIsUsed, aging_span, loss_span, silence_span}
+use Rattle.gptp_settling_time.specs.Losses.{FailsHeard, LowersLink, LowersUnused, TurnsLink, UpIsUsed, aging_span, loss_span}
 use Rattle.gptp_settling_time.proofs.CalmLessLemmas.{failure_calm, fails_calm}
 use Rattle.gptp_settling_time.proofs.CutLemmas.{IsBy, all_by}
 use Rattle.gptp_settling_time.proofs.MomentLemmas.{all_at, last_by, parted}
 use Rattle.gptp_settling_time.proofs.LeadOnLemmas.{HasRested, HasSettled, IsLed, after_idle, any_leads, gains_led, heard_led, idle_led, lead_as, leads_on, led_as, next, rested_so, settled_later, taken_later, wider_led}
-use Rattle.gptp_settling_time.proofs.LosesLeadLemmas.{IsSilencedBy, long_silenced, losing_lead, now_silenced}
+use Rattle.gptp_settling_time.proofs.LosesLeadLemmas.{LosesBy, any_rests, loses_by}
 use Rattle.gptp_settling_time.proofs.LossLeadLemmas.{IsLeftBy, ages_leads, aging_lead, cleared_led, dead_lead, loss_leads, settles_chooses, turn_leads}
+use Rattle.gptp_invariants.specs.FailedUnanswered.{silence_span}
 
 -- ---- a document
 
@@ -200,8 +201,13 @@ module _ (n : NetworkState) (network : IsNetwork n) (off : NothingLapses n.param
           let (seen, taken, is) = before.settles in
           let parts = parted all last time order less between in
           let (x, lead, rested) = goes_on then (suc (time + choice)) before soon (omega arith)
-          (cleared_led n off time before_now at_now seen choice (all_at time all) calm (subst (IsCalm n) parts calm_now)
-          (by_now seen is) loses) in
+          (elim loses [
+            | inl one ↦
+                cleared_led n off time before_now at_now seen choice (all_at time all) calm
+                (subst (IsCalm n) parts calm_now) (by_now seen is) one
+            | inr any ↦
+                any_rests n time network off before_now at_now seen (all_at time all) (by_now seen is) calm choice any
+          ]) in
           record { first = before.first; begins = before.begins; last = x; lead = lead; settles = rested }
 
   bound_calm : (earlier : List ℕ) (time rest : ℕ) → IsRestBoundAfter n all earlier time rest
@@ -382,53 +388,35 @@ module _ (d : DocumentState) (network : IsNetwork d.network) (order : AreInOrder
 
         -- whatever is taken away
         any_lost : BoundsAnyLoss n earlier (event ∷ now) choice roles → IsLost
-        any_lost (any, is_choice, after) = by after
-          where
-            at_now : AllByRecursion (λ (t : Timed). t.at ≡ time) (event ∷ now)
-            at_now = subst (AllByRecursion (λ (t : Timed). t.at ≡ time)) is (all_at time d.events)
-
-            most : ℕ
-            most = delay_between n earlier (event ∷ now)
-
-            -- ports beside systems that fail aren't capable from a time on, by which roles stand
-            lost_so : (silent : ℕ) → EachEvent (IsSilencedBy n silent) earlier (event ∷ now)
-                → ((settled : ℕ) → time + roles < settled
-                → (suc (time + choice) ≤ settled)
-                × ((silent ≤ settled) ⊎ UpIsUsed n (events_by time d.events))) → IsLost
-            lost_so silent quiet settles =
-                let past : Past = Lost time most silent in
-                let less = le-max_left (sync_paths n earlier).delay (sync_paths n (earlier ++ event ∷ now)).delay in
-                let paths : choice ≡ loss_span (pace_of n) (sync_paths n (events_by time d.events)) most =
-                is_choice ∙ ap (λ es. loss_span (pace_of n) (sync_paths n es) most) (sym parts) in
-                record {
-                  first = before.first;
-                  begins = before.begins;
-                  last = past;
-                  lead = subst (λ es. LeadOn n [] before.first es past) (sym parts)
-                      (leads_on n [] before.first before.last past earlier (event ∷ now) before.lead
-                      (lead_as n earlier event now before.last seen past
-                      (taken_later n earlier before.last seen (suc (last + choice_then)) event.at
-                      (omega (arith, soon, here)) before.settles.1)
-                      (losing_lead n time network off most silent earlier (event ∷ now) seen at_now
-                      (subst (HasSettled n earlier seen) here then) calm_then less any quiet)));
-                  calm = calm;
-                  settles = λ settled late.
-                      let (passed, quiet_then) = settles settled late in (off, omega (arith, passed, paths), quiet_then);
-                  chooses = λ settled late. (off, omega (arith, late, paths));
-                }
-
-            by : RolesAfterLoss n earlier (event ∷ now) choice roles → IsLost
-            by (inl (inl none, is_roles)) =
-                lost_so time (now_silenced n time earlier (event ∷ now) at_now none)
-                (λ settled late. (omega (arith, late, is_roles), inl (omega (arith, late))))
-            by (inl (inr used, is_roles)) =
-                lost_so (suc (time + silence_span (pace_of n))) (long_silenced n time earlier (event ∷ now) at_now)
-                (λ settled late. (omega (arith, late, is_roles), inr (subst (UpIsUsed n) (sym parts) used)))
-            by (inr is_roles) =
-                let one = le-max_left choice (silence_span (pace_of n)) in
-                let other = le-max_right choice (silence_span (pace_of n)) in
-                lost_so (suc (time + silence_span (pace_of n))) (long_silenced n time earlier (event ∷ now) at_now)
-                (λ settled late. (omega (arith, late, is_roles, one), inl (omega (arith, late, is_roles, other))))
+        any_lost bounds =
+            let x : LosesBy n time earlier (event ∷ now) seen choice roles =
+            loses_by n time network off earlier (event ∷ now) seen
+            (subst (AllByRecursion (λ (t : Timed). t.at ≡ time)) is (all_at time d.events))
+            (subst (HasSettled n earlier seen) here then) calm_then choice roles bounds in
+            let past : Past = Lost time x.most x.silent in
+            let paths : choice ≡ loss_span (pace_of n) (sync_paths n (events_by time d.events)) x.most =
+            x.span ∙ ap (λ es. loss_span (pace_of n) (sync_paths n es) x.most) (sym parts) in
+            let more = x.more in
+            record {
+              first = before.first;
+              begins = before.begins;
+              last = past;
+              lead = subst (λ es. LeadOn n [] before.first es past) (sym parts)
+                  (leads_on n [] before.first before.last past earlier (event ∷ now) before.lead
+                  (lead_as n earlier event now before.last seen past
+                  (taken_later n earlier before.last seen (suc (last + choice_then)) event.at
+                  (omega (arith, soon, here)) before.settles.1) x.lead));
+              calm = calm;
+              settles = λ settled late. (
+                off,
+                omega (arith, late, paths, more),
+                elim x.quiet [
+                  | inl quiet ↦ inl (omega (arith, late, quiet))
+                  | inr used ↦ inr (subst (UpIsUsed n) (sym parts) used)
+                ],
+              );
+              chooses = λ settled late. (off, omega (arith, late, paths));
+            }
 
         by : BoundsLoss n earlier (event ∷ now) choice roles → IsLost
         by (inl (lowers, is_roles, is_choice)) = lowered now refl lowers

@@ -90,10 +90,7 @@ taken_later n events past seen time later less (inr rests) = inr (by past seen r
         record {
           calm = is.calm;
           off = is.off;
-          told = elim is.told [
-            | inl (used, told) ↦ inl (used, omega (arith, told, less))
-            | inr told ↦ inr (omega (arith, told, less))
-          ];
+          told = let told = is.told in omega (arith, told, less);
           later = is.later;
           unlinked = is.unlinked;
           over = omega (arith, over, less);
@@ -114,7 +111,7 @@ taken_later n events past seen time later less (inr rests) = inr (by past seen r
           off = is.off;
           gone = omega (arith, gone, less);
           later = is.later;
-          unlinked = is.unlinked;
+          unlinked = elim is.unlinked [ inl past ↦ inl (omega (arith, past, less)) | inr used ↦ inr used ];
           over = omega (arith, over, less);
         }
     by (Cleared begun silent right old) (Left start) none = absurd none
@@ -123,7 +120,24 @@ taken_later n events past seen time later less (inr rests) = inr (by past seen r
     by (Cleared begun silent right old) (Aging gone start) none = absurd none
     by (Cleared begun silent right old) (Lost since most start) none = absurd none
     by (Aging aged silent) seen none = absurd none
-    by (Lost since most silent) seen none = absurd none
+    by (Lost since most silent) AnyPast none = absurd none
+    by (Lost since most silent) Starting none = absurd none
+    by (Lost since most silent) (Gained start) none = absurd none
+    by (Lost since most silent) (Heard start) is =
+        let told = is.told in
+        let over = is.over in
+        record {
+          off = is.off;
+          told = omega (arith, told, less);
+          later = is.later;
+          unlinked = elim is.unlinked [ inl past ↦ inl (omega (arith, past, less)) | inr used ↦ inr used ];
+          over = omega (arith, over, less);
+        }
+    by (Lost since most silent) (Left start) none = absurd none
+    by (Lost since most silent) (Turned start now) none = absurd none
+    by (Lost since most silent) (Cleared start dark clean last) none = absurd none
+    by (Lost since most silent) (Aging gone start) none = absurd none
+    by (Lost since most silent) (Lost begun more start) none = absurd none
 
 -- what is taken so is taken as nothing else
 taken_on : (n : NetworkState) (events : List Timed) (past seen other : Past) (time : ℕ)
@@ -158,7 +172,15 @@ taken_on n events past seen other time (inr rests) (inr again) = absurd (by past
     by (Cleared begun silent right old) (Aging gone start) none again = none
     by (Cleared begun silent right old) (Lost since most start) none again = none
     by (Aging aged silent) seen none again = none
-    by (Lost since most silent) seen none again = none
+    by (Lost since most silent) AnyPast none again = none
+    by (Lost since most silent) Starting none again = none
+    by (Lost since most silent) (Gained start) none again = none
+    by (Lost since most silent) (Heard start) rests again = again
+    by (Lost since most silent) (Left start) none again = none
+    by (Lost since most silent) (Turned start now) none again = none
+    by (Lost since most silent) (Cleared start dark clean last) none again = none
+    by (Lost since most silent) (Aging gone start) none again = none
+    by (Lost since most silent) (Lost begun more start) none again = none
 
 settled_so : (n : NetworkState) (events : List Timed) (past : Past) (time : ℕ) → NothingLapses n.params
     → HasSettled n events past time → SettlesAfter n events past time
@@ -188,13 +210,7 @@ rested_so n events past time off (seen, inr rests, is) = by past seen rests
     by (Turned silent now) AnyPast none = absurd none
     by (Turned silent now) Starting none = absurd none
     by (Turned silent now) (Gained start) none = absurd none
-    by (Turned silent now) (Heard start) rest = (
-      off,
-      elim rest.told [
-        | inl (used, told) ↦ omega (arith, told)
-        | inr told ↦ omega (arith, told)
-      ],
-    )
+    by (Turned silent now) (Heard start) rest = let told = rest.told in (off, omega (arith, told))
     by (Turned silent now) (Left start) none = absurd none
     by (Turned silent now) (Turned start was) none = absurd none
     by (Turned silent now) (Cleared start dark clean last) none = absurd none
@@ -203,16 +219,22 @@ rested_so n events past time off (seen, inr rests, is) = by past seen rests
     by (Cleared begun silent right old) AnyPast none = absurd none
     by (Cleared begun silent right old) Starting none = absurd none
     by (Cleared begun silent right old) (Gained start) none = absurd none
-    by (Cleared begun silent right old) (Heard start) rest =
-        let over = rest.over in
-        (off, elim rest.unlinked [ inl soon ↦ inl (omega (arith, over, soon)) | inr used ↦ inr used ])
+    by (Cleared begun silent right old) (Heard start) rest = (off, rest.unlinked)
     by (Cleared begun silent right old) (Left start) none = absurd none
     by (Cleared begun silent right old) (Turned start now) none = absurd none
     by (Cleared begun silent right old) (Cleared start dark clean last) none = absurd none
     by (Cleared begun silent right old) (Aging gone start) none = absurd none
     by (Cleared begun silent right old) (Lost since most start) none = absurd none
     by (Aging aged silent) seen none = absurd none
-    by (Lost since most silent) seen none = absurd none
+    by (Lost since most silent) AnyPast none = absurd none
+    by (Lost since most silent) Starting none = absurd none
+    by (Lost since most silent) (Gained start) none = absurd none
+    by (Lost since most silent) (Heard start) rest = (off, rest.told, rest.unlinked)
+    by (Lost since most silent) (Left start) none = absurd none
+    by (Lost since most silent) (Turned start now) none = absurd none
+    by (Lost since most silent) (Cleared start dark clean last) none = absurd none
+    by (Lost since most silent) (Aging gone start) none = absurd none
+    by (Lost since most silent) (Lost begun more start) none = absurd none
 
 -- ---- an event leads from a network that has settled
 

@@ -3,6 +3,7 @@
 use Rattle.std.proofs.Common.{◌≡◌, ◌≤◌, ◌+◌, ◌*◌, ℕ, pred, List, refl, sym, ap, subst, ◌∙◌, inl, inr, arith}
 use Rattle.gptp_graph.specs.PathBound.{path_bound}
 use Rattle.gptp_graph.specs.Snapshot.{IsWellFormed, Snapshot}
+use Rattle.gptp_graph.proofs.LinkLemmas.{Joins-clock}
 use Rattle.gptp_links.specs.Fate.{Draw}
 use Rattle.gptp_scenario.specs.Calm.{NothingLapses}
 use Rattle.gptp_scenario.specs.SettlingTime.{window_span}
@@ -43,11 +44,11 @@ use Rattle.gptp_invariants.proofs.WorldNewsCourseLemmas.{later_keeps}
 use Rattle.gptp_invariants.proofs.WorldOutlineLemmas.{acts_time}
 use Rattle.gptp_invariants.proofs.WorldSettledLemmas.{still_acts_stay, time_stays}
 use Rattle.gptp_invariants.proofs.WorldStandsLemmas.{stands_well}
+use Rattle.gptp_invariants.proofs.WorldNewsLemmas.{acts_silent, silent_later}
 use Rattle.gptp_settling_time.specs.ChoiceAlone.{ChoiceStands}
 use Rattle.gptp_settling_time.proofs.AlwaysClaimedLemmas.{AreHeard, IsStanding, linked_on, same_start, start_calm, start_network}
 use Rattle.gptp_settling_time.proofs.FitsLemmas.{IsLeftUnmoved, UnlinkedHoldNothing}
 use Rattle.gptp_settling_time.proofs.HeardLemmas.{IsFirstLong, first_acted, first_later}
-use Rattle.gptp_settling_time.proofs.LastAnsweredLemmas.{acts_off, off_later, silent_are_off}
 use Rattle.gptp_settling_time.proofs.LinkStoodLemmas.{stood_in}
 use Rattle.gptp_settling_time.proofs.NewsMeasuredLemmas.{ready_measures}
 use Rattle.gptp_settling_time.proofs.SeenSettledLemmas.{seen_chooses, seen_settles}
@@ -62,7 +63,7 @@ standing_later p start time w later first is = record {
   pace = is.pace;
   world = time_stays p w time later (later_sound w time w.last_change is.world.sound first) is.world;
   measured = later_measured time w later is.measured;
-  off = off_later p start time w is.off;
+  silent = silent_later p start time w is.silent;
 }
 
 pub standing_acts : (p : SettlingParams) (start : ℕ) (act : Act) (w : WorldState) (draws : List Draw) (done : Done)
@@ -73,7 +74,7 @@ standing_acts p start act w draws done w' none octet k is =
       pace = is.pace;
       world = still_acts_stay p act w draws done w' none k is.world;
       measured = acts_measured act w w' draws done is.world.sound is.measured octet k;
-      off = acts_off p start act w draws done w' none k is.world is.measured is.off;
+      silent = acts_silent p start act w draws done w' none k is.world is.measured is.silent;
     }
 
 -- each port at a link first asked long enough before a time
@@ -154,6 +155,30 @@ pub record IsLeftAlways (p : SettlingParams) (g : Snapshot) (silent : ℕ) (w : 
   pub late : pred (path_bound (snapshot_of w)) * delay_in w ≤ w.time
   pub seen : HaveQuietLinks p.params w → NothingLapses p.params
       → IsLeftSeen says_announce g (left_network p silent w) (view w)
+
+-- so it is where all fits its own snapshot
+pub left_itself : (p : SettlingParams) (silent : ℕ) (w : WorldState) → IsStanding p silent w → HaveAskedLong w
+    → AllAreNear (snapshot_of w) → pred (path_bound (snapshot_of w)) * delay_in w ≤ w.time
+    → (HaveQuietLinks p.params w → NothingLapses p.params
+    → IsLeftSeen says_announce (snapshot_of w) (left_network p silent w) (view w))
+    → IsLeftAlways p (snapshot_of w) silent w
+left_itself p silent w standing asked near late seen =
+    let world = standing.world in
+    let well = stands_well w world.sound world.between world.encodable in
+    record {
+      standing = standing;
+      asked = asked;
+      well = well;
+      left = record {
+        systems = λ s member. member;
+        links = λ a b joins. joins;
+        unmoved = λ v known. inl (record { best = λ b of. of; far = λ d there. there });
+      };
+      near = near;
+      farther = λ a b joins known gone. absurd (gone (Joins-clock (snapshot_of w) a b well joins));
+      late = late;
+      seen = seen;
+    }
 
 -- The world is calm whose ports without a link hold nothing from a time on.
 pub bare_calm : (p : SettlingParams) (bare silent : ℕ) (w : WorldState) → IsStanding p silent w → HaveAskedLong w
@@ -272,7 +297,7 @@ left_now p g silent w is none = record {
     pace = is.standing.pace;
     world = is.standing.world;
     measured = is.standing.measured;
-    off = silent_are_off p w.time w none;
+    silent = none;
   };
   asked = is.asked;
   well = is.well;

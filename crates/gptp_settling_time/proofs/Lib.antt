@@ -82,7 +82,6 @@ pub mod FitsLemmas
 pub mod TouchedLemmas
 pub mod NotTakenLemmas
 pub mod UnlinkedLemmas
-pub mod LastAnsweredLemmas
 pub mod ReplyDueLemmas
 pub mod LeftClaimedLemmas
 pub mod GoesDownLemmas
@@ -127,6 +126,7 @@ pub mod AgingClaimedLemmas
 pub mod AgingDownLemmas
 pub mod AgingToLemmas
 pub mod FailedHeardLemmas
+pub mod LostPowerLemmas
 pub mod EmptiedLemmas
 pub mod LiveTracesLemmas
 pub mod LostClaimedLemmas
@@ -138,10 +138,10 @@ pub mod LosesNothingLemmas
 pub mod LosesPriorityLemmas
 pub mod LostToLemmas
 pub mod LostMadeLemmas
-pub mod EndsToldLemmas
 pub mod LosesVainLemmas
 pub mod CalmStillLemmas
 pub mod LosesLeadLemmas
 pub mod MovedFlightLemmas
 pub mod RightBeginLemmas
 pub mod ToldAnewLemmas
+pub mod NamesItselfLemmas

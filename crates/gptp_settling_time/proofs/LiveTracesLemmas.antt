@@ -1,6 +1,6 @@
 -- Traces become clean by what live systems tell each other, once what failed systems told them is gone. What else is in
 -- flight doesn't matter.
-use Rattle.std.proofs.Common.{◌≡◌, ◌⊎◌, ◌≤◌, ◌<◌, ◌+◌, ◌*◌, ℕ, suc, true, List, [], ◌∷◌, Some, slice_get, refl, sym, subst, ◌∙◌, inl, inr, arith}
+use Rattle.std.proofs.Common.{◌≡◌, ◌⊎◌, ◌≤◌, ◌<◌, ◌+◌, ◌*◌, ℕ, suc, true, List, [], Some, slice_get, refl, sym, subst, ◌∙◌, inl, inr, arith}
 use Rattle.std.proofs.lemmas.Option.{none-some}
 use Rattle.gptp_lists.specs.Members.{In}
 use Rattle.gptp_lists.proofs.SystemSpecLemmas.{In-parts}
@@ -25,11 +25,15 @@ TellersLive says k w = (j : ℕ) (l : Lane) (f : AnnounceFrame) (a : Announce) �
     → In f l.frames → says f.octets a → In l.to.clock (clocks k.graph) → k.gone ≤ f.due
     → In l.from.clock (clocks k.graph)
 
--- So it is; and what is in flight over links, and what live systems hold, is as clean as when it was sent asks for.
+-- So it is; and what is in flight over links, and what live systems hold, is as clean as when it was sent asks for. What
+-- is due so late that it was sent by then is so wherever it is in flight, and a live system told it.
 pub record ToldIsClean (says : Spelling) (k : NetworkSetting) (w : MachineState) : Type 0 where
   pub tellers : TellersLive says k w
   pub flight : (j : ℕ) (l : Lane) (f : AnnounceFrame) (a : Announce) (c : ℕ) → slice_get w.lanes j ≡ Some l
       → In f l.frames → says f.octets a → Joins k.graph l.from l.to → Late k c f.due → Good k.graph (suc c) l.from a
+  pub anywhere : (j : ℕ) (l : Lane) (f : AnnounceFrame) (a : Announce) (c : ℕ) → slice_get w.lanes j ≡ Some l
+      → In f l.frames → says f.octets a → k.start + c * turn k + k.interval ≤ f.due
+      → In l.from.clock (clocks k.graph) × Good k.graph (suc c) l.from a
   pub held : (i : ℕ) (s : Station) → slice_get w.stations i ≡ Some s → s.live ≡ true → StationIsClean k s
 
 module _ (says : Spelling) (k : NetworkSetting) where
@@ -45,7 +49,8 @@ module _ (says : Spelling) (k : NetworkSetting) where
   called : (touch : StationTouch) (w w' : MachineState) (call : StationAnswers says touch w w') → StationFacts k w'
       → ToldIsClean says k w → TellsClean w.time call.s touch → ToldIsClean says k w'
   unfolding TellsClean
-  called touch w w' call facts' clean heard = record { tellers = tellers; flight = flight; held = held }
+  called touch w w' call facts' clean heard =
+      record { tellers = tellers; flight = flight; anywhere = anywhere; held = held }
     where
       live' : call.s'.live ≡ true
       live' = call.reacts.live ∙ call.live
@@ -103,6 +108,12 @@ module _ (says : Spelling) (k : NetworkSetting) where
       sent_late c due (inl soon) late = let time = call.time in omega (arith, soon, late, time)
       sent_late c due (inr early) late = absurd (omega (arith, early, late))
 
+      -- what it says after so many turns is as clean
+      said_so : (c port : ℕ) (a : Announce) (from : PortIdentity) → IsOwn call.s' port a
+          → port_of call.s'.clock port ≡ from → k.start + c * turn k ≤ w.time → Good k.graph (suc c) from a
+      said_so c port a from own same late =
+          subst (λ q. Good k.graph (suc c) q a) same (may_say k w.time call.s' is' held' c port a own late)
+
       flight : (j : ℕ) (l' : Lane) (f : AnnounceFrame) (a : Announce) (c : ℕ) → slice_get w'.lanes j ≡ Some l'
           → In f l'.frames → says f.octets a → Joins k.graph l'.from l'.to → Late k c f.due
           → Good k.graph (suc c) l'.from a
@@ -115,11 +126,28 @@ module _ (says : Spelling) (k : NetworkSetting) where
                 (subst (λ q. Joins k.graph q l.to) step.from (subst (Joins k.graph l'.from) step.to joins)) late)
             | inr new ↦
                 let (x, x_in, from, octets) = step.sent f new in
-                let own : IsOwn call.s' x.port a =
-                (call.reacts.tells x a x_in (subst (λ o. says o a) octets said)).0 in
-                subst (λ q. Good k.graph (suc c) q a) (sent_by l l' x.port step.from from)
-                (may_say k w.time call.s' is' held' c x.port a own
-                (sent_late c f.due (facts'.fresh j l' f at flies joins) late))
+                said_so c x.port a l'.from (call.reacts.tells x a x_in (subst (λ o. says o a) octets said)).0
+                (sent_by l l' x.port step.from from) (sent_late c f.due (facts'.fresh j l' f at flies joins) late)
+          ]
+
+      anywhere : (j : ℕ) (l' : Lane) (f : AnnounceFrame) (a : Announce) (c : ℕ) → slice_get w'.lanes j ≡ Some l'
+          → In f l'.frames → says f.octets a → k.start + c * turn k + k.interval ≤ f.due
+          → In l'.from.clock (clocks k.graph) × Good k.graph (suc c) l'.from a
+      anywhere j l' f a c at flies said late =
+          let (l, stood, step) = call.lanes j l' at in
+          elim (In-parts f l.frames step.news (subst (In f) step.behind flies)) [
+            | inl old ↦
+                subst (λ q. In q.clock (clocks k.graph) × Good k.graph (suc c) q a) (sym step.from)
+                (clean.anywhere j l f a c stood old said late)
+            | inr new ↦
+                let (x, x_in, from, octets) = step.sent f new in
+                let near = facts'.near j l' f at flies in
+                let time = call.time in
+                let same = sent_by l l' x.port step.from from in (
+                  subst (λ (q : PortIdentity). In q.clock (clocks k.graph)) same (known_as w.time call.s' is'),
+                  said_so c x.port a l'.from (call.reacts.tells x a x_in (subst (λ o. says o a) octets said)).0 same
+                      (omega (arith, near, late, time)),
+                )
           ]
 
   -- a frame is taken off its lane
@@ -139,6 +167,12 @@ module _ (says : Spelling) (k : NetworkSetting) where
           (clean.flight j l x a c pops.here (before x l' is flies) said
           (subst (λ (y : Lane). Joins k.graph y.from y.to) is joins) late)
       | inr (other, stood) ↦ clean.flight m l' x a c stood flies said joins late
+    ];
+    anywhere = λ m l' x a c at flies said late. elim (pops.lanes m l' at) [
+      | inl (same, is) ↦
+          subst (λ (y : Lane). In y.from.clock (clocks k.graph) × Good k.graph (suc c) y.from a) (sym is)
+          (clean.anywhere j l x a c pops.here (before x l' is flies) said late)
+      | inr (other, stood) ↦ clean.anywhere m l' x a c stood flies said late
     ];
     held = λ i s at. clean.held i s (pops.stations i s at);
   }
@@ -178,7 +212,7 @@ module _ (says : Spelling) (k : NetworkSetting) where
       → ToldIsClean says k w → ToldIsClean says k w'
   told_kept begun w w' facts facts' (inl wait) clean =
       subst (ToldIsClean says k) (sym wait.is)
-      (record { tellers = clean.tellers; flight = clean.flight; held = clean.held })
+      (record { tellers = clean.tellers; flight = clean.flight; anywhere = clean.anywhere; held = clean.held })
   told_kept begun w w' facts facts' (inr (inl act)) clean =
       called act.touch act.mid w' act.call facts' (popped act.j act.l act.f act.fs w act.mid act.pops clean)
       (arrived begun w w' act facts clean)
@@ -192,6 +226,8 @@ module _ (says : Spelling) (k : NetworkSetting) where
   told_begins w facts tellers early = record {
     tellers = tellers;
     flight = λ j l f a c at flies said joins late. absurd (by f.due c (facts.fresh j l f at flies joins) late);
+    anywhere = λ j l f a c at flies said late.
+        let near = facts.near j l f at flies in absurd (omega (arith, near, late, early));
     held = λ i s at alive place r c holds late.
         let came = ((facts.stations i s at alive).held place r holds).came in
         absurd (omega (arith, came, late, early));

@@ -1,7 +1,9 @@
 -- Events of a time that take something away lead a network that has settled to one that has lost.
-use Rattle.std.proofs.Common.{List, [], arith, inl, inr, refl, subst, suc, sym, ℕ, ◌++◌, ◌+◌, ◌∷◌, ◌≡◌, ◌<◌, ◌≤◌}
+use Rattle.std.proofs.Common.{List, [], arith, inl, inr, refl, subst, suc, sym, ℕ, ◌++◌, ◌+◌, ◌∷◌, ◌≡◌, ◌≤◌, ◌⊎◌}
 use Rattle.std.specs.List.{AllByRecursion}
+use Rattle.std.proofs.Math.Nat.{le-max_left, le-max_right}
 use Rattle.gptp_setup.specs.SettlingParams.{SettlingParams}
+use Rattle.gptp_invariants.specs.FailedUnanswered.{silence_span}
 use Rattle.gptp_scenario.specs.Calm.{IsCalm, IsLive, NothingLapses}
 use Rattle.gptp_scenario.specs.Network.{IsNetwork, NetworkState, pace_of}
 use Rattle.gptp_scenario.specs.SyncWait.{sync_paths}
@@ -10,11 +12,11 @@ use Rattle.gptp_scenario.specs.declared.change.Act.TheVariants.{Deliver, Expire,
 use Rattle.gptp_scenario.specs.declared.change.Change.TheVariants.{LinkDown, LinkUp, LinkSet, Fail, Recover, Priority1, Inject}
 use Rattle.gptp_scenario.specs.declared.change.Timed.{Timed}
 use Rattle.gptp_scenario.specs.declared.sync_wait.SyncPaths.{SyncPaths}
-use Rattle.gptp_settling_time.specs.HowSoon.{EachEvent, IsLossToo, LosesEvents, NoneFails}
+use Rattle.gptp_settling_time.specs.HowSoon.{BoundsAnyLoss, EachEvent, IsLossToo, LosesEvents, NoneFails, RestsAfterAnyLoss, RolesAfterLoss, delay_between}
 use Rattle.gptp_settling_time.specs.InTurn.{Heard, LeadOn, Lost, Past}
-use Rattle.gptp_settling_time.specs.Losses.{AreSilentAfter, LosesAny, silence_span}
+use Rattle.gptp_settling_time.specs.Losses.{AreSilentAfter, LosesAny, UpIsUsed, loss_span}
 use Rattle.gptp_settling_time.proofs.CalmStillLemmas.{idle_calm}
-use Rattle.gptp_settling_time.proofs.LeadOnLemmas.{HasSettled, idle_leads, idle_settled, makes_nothing, same_paths, since}
+use Rattle.gptp_settling_time.proofs.LeadOnLemmas.{HasSettled, IsLed, idle_leads, idle_settled, makes_nothing, same_paths, since}
 use Rattle.gptp_settling_time.proofs.LossLeadLemmas.{loses_leads}
 
 -- ---- from when on ports aren't capable beside what fails
@@ -56,7 +58,7 @@ module _ (n : NetworkState) (made : List Timed) (time : ℕ) where
 -- ---- the events lead on
 
 module _ (n : NetworkState) (time : ℕ) where
-  abbrev AreNow : List Timed → Type 0
+  abbrev pub AreNow : List Timed → Type 0
   AreNow = AllByRecursion (λ (t : Timed). t.at ≡ time)
 
   pub long_silenced : (made now : List Timed) → AreNow now
@@ -139,3 +141,71 @@ module _ (n : NetworkState) (time : ℕ) where
               (idle_calm n network off made event idle calm)
               (subst (λ (x : SyncPaths). x.delay ≤ most) (sym stays) less) others quiet,
         )
+
+-- ---- what the events ask for
+
+-- By them the network has lost. Its choice stands after the span of a loss, and roles do once ports without a link
+-- aren't capable.
+pub record LosesBy (n : NetworkState) (time : ℕ) (made now : List Timed) (past : Past) (choice roles : ℕ) : Type 0
+  where
+    pub most : ℕ
+    pub silent : ℕ
+    pub lead : LeadOn n made past now (Lost time most silent)
+    pub span : choice ≡ loss_span (pace_of n) (sync_paths n (made ++ now)) most
+    pub more : choice ≤ roles
+    pub quiet : (silent ≤ suc (time + roles)) ⊎ UpIsUsed n (made ++ now)
+
+module _ (n : NetworkState) (time : ℕ) (network : IsNetwork n) (off : NothingLapses n.params) (made now : List Timed)
+    (past : Past) (at : AreNow n time now) (settled : HasSettled n made past time) (calm : IsCalm n made) where
+  pub loses_by : (choice roles : ℕ) → BoundsAnyLoss n made now choice roles
+      → LosesBy n time made now past choice roles
+  loses_by choice roles (any, is_choice, after) = by after
+    where
+      most : ℕ
+      most = delay_between n made now
+
+      lost_by : (silent : ℕ) → EachEvent (IsSilencedBy n silent) made now → choice ≤ roles
+          → (silent ≤ suc (time + roles)) ⊎ UpIsUsed n (made ++ now) → LosesBy n time made now past choice roles
+      lost_by silent silenced more quiet = record {
+        most = most;
+        silent = silent;
+        lead = losing_lead n time network off most silent made now past at settled calm
+            (le-max_left (sync_paths n made).delay (sync_paths n (made ++ now)).delay) any silenced;
+        span = is_choice;
+        more = more;
+        quiet = quiet;
+      }
+
+      by : RolesAfterLoss n made now choice roles → LosesBy n time made now past choice roles
+      by (inl (inl none, same)) =
+          lost_by time (now_silenced n time made now at none) (omega (arith, same)) (inl (omega arith))
+      by (inl (inr used, same)) =
+          lost_by (suc (time + silence_span (pace_of n))) (long_silenced n time made now at) (omega (arith, same))
+          (inr used)
+      by (inr is_roles) =
+          let one = le-max_left choice (silence_span (pace_of n)) in
+          let other = le-max_right choice (silence_span (pace_of n)) in
+          lost_by (suc (time + silence_span (pace_of n))) (long_silenced n time made now at)
+          (omega (arith, is_roles, one)) (inl (omega (arith, is_roles, other)))
+
+  -- and then it has come to rest
+  pub any_rests : (rest : ℕ) → RestsAfterAnyLoss n made now rest → IsLed n made now past (suc (time + rest))
+  any_rests rest (choice, bounds) =
+      let x = loses_by choice rest bounds in
+      let span = x.span in
+      let more = x.more in
+      record {
+        last = Lost time x.most x.silent;
+        lead = x.lead;
+        settles = (
+          Heard time,
+          inr (record {
+            off = off;
+            told = omega (arith, span, more);
+            later = omega arith;
+            unlinked = x.quiet;
+            over = omega (arith, span, more);
+          }),
+          omega (arith, span, more),
+        );
+      }

@@ -21,16 +21,15 @@ use Rattle.gptp_model.specs.declared.done.Done.{Done}
 use Rattle.gptp_model.proofs.BareLemmas.{bare}
 use Rattle.gptp_invariants.specs.ChoiceSettlesAsMachine.{IsWorld}
 use Rattle.gptp_invariants.specs.DelayMeasured.{LinkIsMeasured}
-use Rattle.gptp_invariants.specs.WorldNews.{AreReadyBy}
+use Rattle.gptp_invariants.specs.WorldNews.{AreReadyBy, AreSilentBy}
 use Rattle.gptp_invariants.specs.WorldStanding.{channel_is_used, live_stations, snapshot_of}
 use Rattle.gptp_invariants.proofs.ChoiceCalmKeptLemmas.{KeepsNetwork}
 use Rattle.gptp_invariants.proofs.WorldOutlineLemmas.{acts_time}
 use Rattle.gptp_invariants.proofs.WorldStandsLemmas.{used_up}
 use Rattle.gptp_settling_time.proofs.DeadLanesLemmas.{HasLess, told_less}
-use Rattle.gptp_settling_time.proofs.LastAnsweredLemmas.{AreOffBy}
 use Rattle.gptp_settling_time.proofs.LosingLemmas.{HadFlight, TakesAway, WasUsed}
 use Rattle.gptp_settling_time.proofs.LoweredLemmas.{ready_on}
-use Rattle.gptp_settling_time.proofs.TakenDownLemmas.{off_down, told_keeps, up_apart}
+use Rattle.gptp_settling_time.proofs.TakenDownLemmas.{silent_down, told_keeps, up_apart}
 
 -- nothing is in flight on a link that is lost
 none_flies : (direction : Direction) (channel : Channel) (f : Frame) → In f (world_queue direction (lost channel)) → ⊥
@@ -135,12 +134,12 @@ module _ (p : SettlingParams) (owner port : ℕ) (w : WorldState) (draws : List 
         }
 
     pub lowers_takes : (since silent : ℕ) → KeepPace p → LinkIsMeasured w → LinkIsMeasured w' → AreReadyBy p since w
-        → AreOffBy p silent w → TakesAway p since silent w w'
-    lowers_takes since silent pace measured measured' ready off = record {
+        → AreSilentBy p silent w → TakesAway p since silent w w'
+    lowers_takes since silent pace measured measured' ready silent_by = record {
       time = acts_time (Changing (LinkDown owner port)) w draws done w' acts;
       world = is';
       measured = measured';
-      off = off_down p w is k.place k.channel k.is.here draws w' is' tells silent off;
+      quiet = silent_down p w is k.place k.channel k.is.here draws w' is' tells silent silent_by;
       ready = ready_on p since owner port w draws done w' pace is is' measured measured' acts up ready;
       lived = lived;
       used = was_used;

@@ -1,6 +1,5 @@
 -- The priority1 of a live system is set: among events that take something away it takes nothing but its identity.
-use Rattle.std.proofs.Common.{◌≡◌, ◌<◌, ◌+◌, ℕ, true, List, Some, slice_get, refl, sym, ap, subst, ◌∙◌, inl, inr}
-use Rattle.std.specs.Prelude.{max}
+use Rattle.std.proofs.Common.{◌≡◌, ◌<◌, ℕ, true, List, Some, slice_get, refl, sym, ap, subst, ◌∙◌}
 use Rattle.gptp_lists.specs.Members.{In}
 use Rattle.gptp_lists.proofs.MappedLemmas.{alike, same_there}
 use Rattle.gptp_graph.specs.Snapshot.{Snapshot, clocks}
@@ -9,36 +8,27 @@ use Rattle.gptp_links.specs.declared.link.Direction.{Direction}
 use Rattle.gptp_links.specs.declared.link.Direction.TheVariants.{FromA, FromB}
 use Rattle.gptp_scenario.specs.declared.change.Act.TheVariants.{Change as Changing}
 use Rattle.gptp_scenario.specs.declared.change.Change.TheVariants.{Priority1}
-use Rattle.gptp_setup.specs.SettlingParams.{SettlingParams, largest_interval}
+use Rattle.gptp_setup.specs.SettlingParams.{SettlingParams}
 use Rattle.gptp_system.specs.Input.{Priority}
 use Rattle.gptp_model.specs.Acts.{Acts, AtSystem}
 use Rattle.gptp_model.specs.Changing.{CallsIfLive, with_setup, with_station}
-use Rattle.gptp_model.specs.Sound.{HaveOwnClocks}
 use Rattle.gptp_model.specs.World.{Channel, WorldState, sender, world_queue}
 use Rattle.gptp_model.specs.declared.done.Done.{Done}
 use Rattle.gptp_model.proofs.BareLemmas.{bare}
-use Rattle.gptp_model.proofs.StayLemmas.{stays_clocks, with_setup_stays}
 use Rattle.gptp_invariants.specs.ChoiceSettlesAsMachine.{IsWorld}
-use Rattle.gptp_invariants.specs.DelayLinkView.{LinkPlace, other_direction}
 use Rattle.gptp_invariants.specs.DelayMeasured.{LinkIsMeasured}
-use Rattle.gptp_invariants.specs.FailedUnanswered.{IsOldBy}
-use Rattle.gptp_invariants.specs.WorldNews.{AreReadyBy}
+use Rattle.gptp_invariants.specs.WorldNews.{AreReadyBy, AreSilentBy}
 use Rattle.gptp_invariants.specs.WorldStanding.{channel_is_used, live_stations, snapshot_of, stations_have_clock}
-use Rattle.gptp_invariants.proofs.FailedNeverAnsweredLemmas.{told_never}
-use Rattle.gptp_invariants.proofs.FailedUnansweredCallLemmas.{CallStep, call_seen}
 use Rattle.gptp_invariants.proofs.WorldNewsLemmas.{ready_goes_through}
 use Rattle.gptp_invariants.proofs.WorldStandsLemmas.{sender_lives, used_up}
 use Rattle.gptp_invariants.proofs.WorldSystemLemmas.{clock_from, clock_there}
 use Rattle.gptp_settling_time.specs.Idle.{Lives}
 use Rattle.gptp_settling_time.proofs.DeadLanesLemmas.{HasLess, called_less}
 use Rattle.gptp_settling_time.proofs.FailedAloneLemmas.{used_between}
-use Rattle.gptp_settling_time.proofs.LastAnsweredLemmas.{AreOffBy, IsLastAnswered, IsOffBy}
-use Rattle.gptp_settling_time.proofs.LosesNothingLemmas.{off_still}
 use Rattle.gptp_settling_time.proofs.LosingLemmas.{HadFlight, TakesAway, WasUsed}
-use Rattle.gptp_settling_time.proofs.PriorityNewsLemmas.{prioritized_silent, stood, stood_unanswered}
+use Rattle.gptp_settling_time.proofs.PriorityNewsLemmas.{priority_silent, stood}
 use Rattle.gptp_settling_time.proofs.ReactsLemmas.{Reacts, reacts}
 use Rattle.gptp_settling_time.proofs.StandsStillLemmas.{StandsStill, set_still, snapshot_still}
-use Rattle.gptp_settling_time.proofs.EndsToldLemmas.{last_stays}
 
 module _ (p : SettlingParams) (owner value : ℕ) (w : WorldState) (draws : List Draw) (done : Done) (w' : WorldState)
     (is : IsWorld p w) (is' : IsWorld p w') (live : Lives owner w) (octet : value < 256)
@@ -56,43 +46,6 @@ module _ (p : SettlingParams) (owner value : ℕ) (w : WorldState) (draws : List
 
   still : StandsStill w set
   still = set_still value k.place k.station w k.is.here
-
-  clocks_set : HaveOwnClocks set
-  clocks_set =
-      stays_clocks w (with_station k.place (with_setup value k.station) w)
-      (with_setup_stays value k.place k.station w k.is.here is.sound.wired.setups) is.sound.wired.clocks
-
-  -- ---- ports beside failed systems
-
-  -- the last request of a port that was answered is so still
-  last_set : (sent : ℕ) (at : LinkPlace) → IsLastAnswered sent at set → IsLastAnswered sent at w'
-  last_set sent at last = by k.so
-    where
-      gone : ℕ
-      gone = max (w.time + last.link.channel.bounds.max) (w.last_change + largest_interval p)
-
-      old : IsOldBy gone at set last.link
-      old f member =
-          is.known.fresh.frames at.link (other_direction at.direction) last.link.channel f last.link.here member
-
-      by : CallsIfLive k.place (Priority value) set draws w' → IsLastAnswered sent at w'
-      by (inl (answer, c)) =
-          let x : CallStep k.place (Priority value) gone at set w' last.link =
-          call_seen gone at k.place (Priority value) set draws answer w' c clocks_set last.link old (λ same. tt) in
-          (last_stays gone sent at k.place (Priority value) set w' last x
-          (elim x.part [ inl called ↦ called.1 | inr left ↦ left.1 ])).0
-      by (inr (failed, none, same)) = subst (IsLastAnswered sent at) (sym same) last
-
-  off_set : (silent : ℕ) (at : LinkPlace) → IsOffBy p silent at set → IsOffBy p silent at w'
-  off_set silent at (inl (inl never)) =
-      inl (inl (told_never at k.place (Priority value) (λ n. tt) (λ n. tt) set draws w' clocks_set never k.so))
-  off_set silent at (inl (inr (change, one, soon))) =
-      inl (inr (
-        change,
-        prioritized_silent (change + largest_interval p) at k.place value set draws w' clocks_set one k.so,
-        soon,
-      ))
-  off_set silent at (inr (sent, last, soon)) = inr (sent, last_set sent at last, soon)
 
   -- ---- what is left
 
@@ -154,12 +107,12 @@ module _ (p : SettlingParams) (owner value : ℕ) (w : WorldState) (draws : List
           (record { now = old.0; here = old.1; a = refl; b = refl; fewer = λ f member. member })
 
   pub priority_takes : (since silent : ℕ) → LinkIsMeasured w → LinkIsMeasured w' → AreReadyBy p since w
-      → AreOffBy p silent w → TakesAway p since silent w w'
-  priority_takes since silent measured measured' ready off = record {
+      → AreSilentBy p silent w → TakesAway p since silent w w'
+  priority_takes since silent measured measured' ready silent_by = record {
     time = r.time;
     world = is';
     measured = measured';
-    off = λ at s. off_set silent at (off_still p w set still silent at (off at (stood_unanswered w w' r at s)));
+    quiet = priority_silent p silent owner value w draws done w' is is' measured live silent_by octet acts;
     ready = λ at stands.
         ready_goes_through p since at (Changing (Priority1 owner value)) w w' draws done is.sound measured tt acts
         (ready at (stood w w' r p is is' at stands));

@@ -1,5 +1,5 @@
 -- A system fails: what it takes away from a world, whoever hears it.
-use Rattle.std.proofs.Common.{◌≡◌, ◌≢◌, ◌≤◌, ◌<◌, ◌+◌, ◌*◌, ℕ, true, List, slice_get, refl, sym, ap, subst, ◌∙◌, inl, inr, arith}
+use Rattle.std.proofs.Common.{◌≡◌, ◌≢◌, ◌≤◌, ◌<◌, ◌+◌, ℕ, true, List, slice_get, refl, sym, ap, subst, ◌∙◌, inl, inr, arith}
 use Rattle.gptp_lists.specs.Members.{In}
 use Rattle.gptp_lists.proofs.PlaceLemmas.{same_place}
 use Rattle.gptp_graph.specs.Snapshot.{clocks}
@@ -17,14 +17,13 @@ use Rattle.gptp_invariants.specs.ChoiceCalm.{HaveQuietLinks}
 use Rattle.gptp_invariants.specs.ChoiceSettlesAsMachine.{IsWorld}
 use Rattle.gptp_invariants.specs.DelayLinkView.{pair}
 use Rattle.gptp_invariants.specs.DelayMeasured.{LinkIsMeasured}
-use Rattle.gptp_invariants.specs.WorldNews.{AreReadyBy}
+use Rattle.gptp_invariants.specs.FailedUnanswered.{silence_span}
+use Rattle.gptp_invariants.specs.WorldNews.{AreReadyBy, AreSilentBy, IsSilentBy}
 use Rattle.gptp_invariants.specs.WorldStanding.{live_stations, snapshot_of, stations_have_clock}
 use Rattle.gptp_invariants.proofs.WorldNewsLemmas.{ready_goes_through}
 use Rattle.gptp_invariants.proofs.WorldStandsLemmas.{sender_lives, used_up}
 use Rattle.gptp_invariants.proofs.WorldSystemLemmas.{clock_from, clock_there}
-use Rattle.gptp_settling_time.specs.Losses.{silence_span}
-use Rattle.gptp_settling_time.proofs.FailedAloneLemmas.{beside, channels_now, elsewhere, last_still, silent_still, stood_beside, stood_good, stood_link, systems_before, time_now, used_between}
-use Rattle.gptp_settling_time.proofs.LastAnsweredLemmas.{AreOffBy, IsOffBy}
+use Rattle.gptp_settling_time.proofs.FailedAloneLemmas.{channels_now, elsewhere, last_still, silent_still, stood_beside, stood_good, stood_link, systems_before, time_now, used_between}
 use Rattle.gptp_settling_time.proofs.LosingLemmas.{TakesAway}
 use Rattle.gptp_settling_time.proofs.WidenedLemmas.{ready_first}
 
@@ -37,10 +36,10 @@ module _ (p : SettlingParams) (number : ℕ) (w : WorldState) (draws : List Draw
   module _ (lives : k.station.live ≡ true) where
     -- ports beside it aren't capable once too many requests are lost; others beside failed systems stay as they are
     module _ (since silent : ℕ) (past : since ≤ w.time) (ready : AreReadyBy p since w)
-        (quiet : HaveQuietLinks p.params w) (before : AreOffBy p silent w)
+        (quiet : HaveQuietLinks p.params w) (before : AreSilentBy p silent w)
         (long : w.time + silence_span p < silent) where
-      off_then : AreOffBy p silent w'
-      off_then at s = elim (same_place at.answering k.place) [
+      silent_now : AreSilentBy p silent w'
+      silent_now at s = elim (same_place at.answering k.place) [
         | inl own ↦
             let (first, by) = ready_first p since w is past at
             (ready at (stood_good p number w draws done w' is is' acts lives at s own quiet)) in
@@ -53,23 +52,9 @@ module _ (p : SettlingParams) (number : ℕ) (w : WorldState) (draws : List Draw
         | inr other ↦ still other (before at (stood_beside p number w draws done w' is is' acts lives at s other))
       ]
         where
-          still : (at.answering ≢ k.place) → IsOffBy p silent at w → IsOffBy p silent at w'
-          still other (inl silent_by) =
-              inl (silent_still p number w draws done w' is is' acts lives at s other silent silent (omega arith)
-              silent_by)
-          still other (inr (sent, last, soon)) =
-              inr (
-                sent,
-                record {
-                  link = beside p number w draws done w' is is' acts lives at s other last.link;
-                  replies = last.replies;
-                  since = record {
-                    asked = last.since.asked;
-                    inv = record { lost = last.since.inv.lost; counts = last.since.inv.counts };
-                  };
-                },
-                soon,
-              )
+          still : (at.answering ≢ k.place) → IsSilentBy p silent at w → IsSilentBy p silent at w'
+          still other is_so =
+              silent_still p number w draws done w' is is' acts lives at s other silent silent (omega arith) is_so
 
       lived : (v : ℕ) → In v (clocks (snapshot_of w')) → In v (clocks (snapshot_of w))
       lived v known =
@@ -89,7 +74,7 @@ module _ (p : SettlingParams) (number : ℕ) (w : WorldState) (draws : List Draw
             time = time_now p number w draws done w' is is' acts lives;
             world = is';
             measured = measured';
-            off = off_then;
+            quiet = silent_now;
             ready = λ at stands.
                 ready_goes_through p since at (Changing (Fail number)) w w' draws done is.sound measured
                 (elsewhere p number w draws done w' is is' acts lives at stands) acts

@@ -1,5 +1,5 @@
 -- A link of which an end has failed comes up, among events that take something away: it takes nothing away.
-use Rattle.std.proofs.Common.{◌≡◌, ◌≢◌, ◌⊎◌, ◌+◌, ℕ, true, false, List, [], Some, slice_get, refl, sym, ap, subst, ◌∙◌, inl, inr}
+use Rattle.std.proofs.Common.{◌≡◌, ◌≢◌, ◌⊎◌, ℕ, true, false, List, [], Some, slice_get, refl, sym, ap, subst, ◌∙◌, inl, inr}
 use Rattle.std.proofs.lemmas.Option.{same_Some}
 use Rattle.gptp_lists.specs.Members.{In}
 use Rattle.gptp_lists.proofs.MappedLemmas.{alike, same_there}
@@ -9,29 +9,23 @@ use Rattle.gptp_links.specs.Fate.{Draw}
 use Rattle.gptp_links.specs.Queue.{Frame}
 use Rattle.gptp_links.specs.declared.link.Direction.{Direction}
 use Rattle.gptp_links.specs.declared.link.Direction.TheVariants.{FromA, FromB}
-use Rattle.gptp_setup.specs.SettlingParams.{SettlingParams, largest_interval}
+use Rattle.gptp_setup.specs.SettlingParams.{SettlingParams}
 use Rattle.gptp_system.specs.Input.{PortUp}
 use Rattle.gptp_model.specs.Changing.{TellsEnds, brought_up}
 use Rattle.gptp_model.specs.World.{Channel, WorldState, sender, world_queue}
-use Rattle.gptp_model.proofs.ActsByLemmas.{ends_told}
 use Rattle.gptp_model.proofs.BareLemmas.{bare}
 use Rattle.gptp_invariants.specs.ChoiceSettlesAsMachine.{IsWorld}
-use Rattle.gptp_invariants.specs.DelayLinkView.{LinkPlace}
 use Rattle.gptp_invariants.specs.DelayMeasured.{LinkIsMeasured}
-use Rattle.gptp_invariants.specs.FailedUnanswered.{FailedNeighboursAreSilent, StandsUnanswered}
-use Rattle.gptp_invariants.specs.WorldNews.{AreReadyBy}
+use Rattle.gptp_invariants.specs.FailedUnanswered.{FailedNeighboursAreSilent}
+use Rattle.gptp_invariants.specs.WorldNews.{AreReadyBy, AreSilentBy}
 use Rattle.gptp_invariants.specs.WorldStanding.{channel_is_used, live_stations, snapshot_of}
 use Rattle.gptp_invariants.proofs.ChoiceCalmKeptLemmas.{KeepsNetwork}
 use Rattle.gptp_invariants.proofs.DelayFirstUpLemmas.{queue_up}
-use Rattle.gptp_invariants.proofs.FailedSilentElsewhereLemmas.{stood_up}
 use Rattle.gptp_invariants.proofs.WorldSoundCallLemmas.{tells_keep}
 use Rattle.gptp_settling_time.proofs.DeadLanesLemmas.{HasLess, told_less}
-use Rattle.gptp_settling_time.proofs.EndsToldLemmas.{off_told}
-use Rattle.gptp_settling_time.proofs.FailedUpLemmas.{never_answered, up_like}
-use Rattle.gptp_settling_time.proofs.LastAnsweredLemmas.{AreOffBy}
+use Rattle.gptp_settling_time.proofs.FailedUpLemmas.{up_like, up_silent}
 use Rattle.gptp_settling_time.proofs.LosingLemmas.{HadFlight, TakesAway, WasUsed}
 use Rattle.gptp_settling_time.proofs.SameLinkLemmas.{ready_same}
-use Rattle.gptp_settling_time.proofs.SamePartsLemmas.{of_up}
 use Rattle.gptp_settling_time.proofs.StandsLikeLemmas.{StandsLike}
 
 module _ (p : SettlingParams) (w : WorldState) (is : IsWorld p w) (place : ℕ) (channel : Channel)
@@ -50,37 +44,6 @@ module _ (p : SettlingParams) (w : WorldState) (is : IsWorld p w) (place : ℕ) 
 
     keeps : KeepsNetwork brought w'
     keeps = tells_keep channel brought draws w' k
-
-    -- ---- ports beside failed systems
-
-    -- one of another link stood there before
-    before : (at : LinkPlace) → StandsUnanswered at w' → at.link ≢ place → StandsUnanswered at w
-    before at s apart =
-        let old : StandsUnanswered at brought =
-        ends_told ⊥ (λ v. StandsUnanswered at v → StandsUnanswered at brought) PortUp (stood_up at brought) channel
-        brought draws w' (λ none. absurd none) k (λ stands. stands) s in
-        record {
-          channel = old.channel;
-          here = sym (get-set_other w.net.channels place at.link new apart) ∙ old.here;
-          up = old.up;
-          asking = record {
-            station = old.asking.station;
-            here = old.asking.here;
-            live = old.asking.live;
-            named = old.asking.named;
-          };
-          answering = old.answering;
-        }
-
-    off_then : (silent : ℕ) → FailedNeighboursAreSilent p w' → AreOffBy p silent w → AreOffBy p silent w'
-    off_then silent beside off at s = elim (same_place at.link place) [
-      | inl same ↦
-          inl (inl (never_answered p w is place channel here down unused draws w' is' k at same s
-          (w'.last_change + largest_interval p) (beside at s)))
-      | inr apart ↦
-          off_told p PortUp of_up w is place channel new here refl refl (brought_up place channel w.net) refl draws w' k
-          at apart silent (off at (before at s apart))
-    ]
 
     -- ---- what is left
 
@@ -175,12 +138,12 @@ module _ (p : SettlingParams) (w : WorldState) (is : IsWorld p w) (place : ℕ) 
         }
 
     pub raises_takes : (since silent : ℕ) → LinkIsMeasured w' → FailedNeighboursAreSilent p w' → AreReadyBy p since w
-        → AreOffBy p silent w → TakesAway p since silent w w'
-    raises_takes since silent measured' beside ready off = record {
+        → AreSilentBy p silent w → TakesAway p since silent w w'
+    raises_takes since silent measured' beside ready silent_by = record {
       time = like.time;
       world = is';
       measured = measured';
-      off = off_then silent beside off;
+      quiet = up_silent p w is place channel here down unused draws w' is' k silent beside silent_by;
       ready = λ at s. ready_same p since at w w' (like.links at) (ready at (like.stood p is is' at s));
       lived = λ v known. subst (λ (g : Snapshot). In v (clocks g)) like.snapshot known;
       used = was_used;

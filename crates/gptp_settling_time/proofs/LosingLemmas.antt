@@ -1,6 +1,6 @@
 -- The events of one time take something away: what a world keeps through each of them, so that the claim after a loss
 -- begins once the last is made.
-use Rattle.std.proofs.Common.{◌≡◌, ◌⊎◌, ◌<◌, ◌≤◌, ◌+◌, ◌*◌, ℕ, suc, Bool, true, false, List, [], ◌∷◌, Some, slice_get, refl, sym, ap, subst, ◌∙◌, inl, inr, arith}
+use Rattle.std.proofs.Common.{◌≡◌, ◌≤◌, ◌+◌, ℕ, suc, Bool, true, false, List, [], ◌∷◌, Some, slice_get, refl, sym, ap, subst, ◌∙◌, inl, inr, arith}
 use Rattle.std.specs.Prelude.{if◌then◌else◌, max}
 use Rattle.std.proofs.Math.Nat.{max-le}
 use Rattle.gptp_lists.specs.Members.{In}
@@ -29,7 +29,6 @@ use Rattle.gptp_invariants.proofs.WorldNewsActLemmas.{ready_later}
 use Rattle.gptp_invariants.proofs.WorldSystemLemmas.{clock_from, clock_there}
 use Rattle.gptp_settling_time.proofs.AlwaysClaimedLemmas.{IsStanding}
 use Rattle.gptp_settling_time.proofs.ClearsLemmas.{ready_asked}
-use Rattle.gptp_settling_time.proofs.LastAnsweredLemmas.{AreOffBy, silent_are_off}
 use Rattle.gptp_settling_time.proofs.LeftClaimedLemmas.{HaveAskedBy}
 use Rattle.gptp_settling_time.proofs.LiveTracesLemmas.{TellersLive}
 use Rattle.gptp_settling_time.proofs.LostClaimedLemmas.{IsLostAlways, loss_facts, loss_setting, lost_begins}
@@ -75,7 +74,7 @@ pub record TakesAway (p : SettlingParams) (since silent : ℕ) (w w' : WorldStat
   pub time : w'.time ≡ w.time
   pub world : IsWorld p w'
   pub measured : LinkIsMeasured w'
-  pub off : AreOffBy p silent w'
+  pub quiet : AreSilentBy p silent w'
   pub ready : AreReadyBy p since w'
   pub lived : (v : ℕ) → In v (clocks (snapshot_of w')) → In v (clocks (snapshot_of w))
   pub used : (link : ℕ) (new : Channel) → slice_get w'.net.channels link ≡ Some new
@@ -106,8 +105,7 @@ sound_losing p start since most silent w pace world measured sound ready silent_
         pace = pace;
         world = world;
         measured = measured;
-        off = silent_are_off p silent w
-            (ready_later p start silent w (omega (arith, past, later)) ready silent_by).1;
+        silent = (ready_later p start silent w (omega (arith, past, later)) ready silent_by).1;
       };
       asked = ready_asked p since w world (omega (arith, now)) (ready_later p start since w past ready silent_by).0;
       quiet = quiet;
@@ -217,7 +215,7 @@ module _ (p : SettlingParams) (since most silent : ℕ) (w w' : WorldState) (is 
   -- so it goes on
   pub takes_losing : IsLosing p since most silent w'
   takes_losing = record {
-    standing = record { pace = is.standing.pace; world = by.world; measured = by.measured; off = by.off };
+    standing = record { pace = is.standing.pace; world = by.world; measured = by.measured; silent = by.quiet };
     asked = let now = now' in ready_asked p since w' by.world (omega (arith, now)) by.ready;
     quiet = quiet';
     off = is.off;

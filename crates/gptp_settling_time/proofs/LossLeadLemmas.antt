@@ -1,21 +1,22 @@
 -- A loss leads a network that has settled to what is left, or in which a system turns, or that is cleared.
 use Rattle.std.proofs.Common.{List, [], ap, append-nil, append_assoc, arith, inl, inr, max, pred, refl, subst, suc, sym, zero, ℕ, ◌*◌, ◌++◌, ◌+◌, ◌∙◌, ◌∷◌, ◌≡◌, ◌≤◌, ◌⊎◌}
 use Rattle.std.specs.List.{AllByRecursion}
-use Rattle.std.proofs.Math.Nat.{le-max_left, le-max_right, mul-le-mul_right}
-use Rattle.gptp_setup.specs.SettlingParams.{SettlingParams, largest_interval, longest_span}
+use Rattle.std.proofs.Math.Nat.{le-max_left, le-max_right, mul-le-mul_left}
+use Rattle.gptp_setup.specs.SettlingParams.{largest_interval, longest_span}
 use Rattle.gptp_scenario.specs.Calm.{IsCalm, NothingLapses, last_change}
 use Rattle.gptp_scenario.specs.Network.{NetworkState, pace_of}
 use Rattle.gptp_scenario.specs.SettlingTime.{capability_span}
 use Rattle.gptp_scenario.specs.SyncWait.{sync_paths}
 use Rattle.gptp_scenario.specs.declared.change.Timed.{Timed}
 use Rattle.gptp_scenario.specs.declared.sync_wait.SyncPaths.{SyncPaths}
-use Rattle.gptp_settling_time.specs.HowSoon.{CutsOneEnd, EachEvent, FailsEndFirst, LowersOneLink, RestsAfterLoss, TurnsOneLink, TurnsUnused, way_span}
+use Rattle.gptp_settling_time.specs.HowSoon.{CutsOneEnd, EachEvent, FailsEndFirst, FailsHeardFirst, LowersOneLink, RestsAfterOneLoss, TurnsOneLink, TurnsUnused, way_span}
 use Rattle.gptp_settling_time.specs.InTurn.{Aging, AnyPast, ChoosesAfter, Cleared, CutsCalm, EventLeads, FailsCalm, FailsNow, FlightIsGone, Gained, Heard, LeadOn, Left, LosesNow, Lost, LowersCalm, Past, SettlesAfter, Starting, Turned, TurnsCalm, echo_span, nearer_echo_span, turned_echo_span}
-use Rattle.gptp_settling_time.specs.Losses.{CutsFarEnd, FailsFarEnd, LowersLink, LowersUnused, TurnsLink, UpIsUsed, silence_span}
-use Rattle.gptp_settling_time.proofs.CalmLessLemmas.{fails_calm, lowers_calm}
+use Rattle.gptp_settling_time.specs.Losses.{CutsFarEnd, FailsFarEnd, FailsHeard, LowersLink, LowersUnused, TurnsLink, UpIsUsed, aging_span}
+use Rattle.gptp_settling_time.proofs.CalmLessLemmas.{failure_calm, fails_calm, lowers_calm}
 use Rattle.gptp_settling_time.proofs.SamePathsLemmas.{turned_paths}
 use Rattle.gptp_settling_time.proofs.LeftToLemmas.{less_way}
 use Rattle.gptp_settling_time.proofs.LeadOnLemmas.{HasSettled, IsLed}
+use Rattle.gptp_invariants.specs.FailedUnanswered.{silence_span}
 
 module _ (n : NetworkState) (made : List Timed) (event : Timed) (roles : ℕ) where
   -- after a loss by which no system is moved the network is left so that its choice stands
@@ -180,16 +181,16 @@ aging_lead n made (event ∷ now) aged silent off calm (lowers, others) = (
 
 -- after the loss of a far end it is cleared
 module _ (n : NetworkState) (made : List Timed) (event : Timed) (gone : ℕ) where
-  record IsClearedBy (past : Past) (by : ℕ → ℕ) : Type 0 where
+  record IsClearedBy (past : Past) (by : ℕ) : Type 0 where
     since : ℕ
     silent : ℕ
     leads : EventLeads n made past event (Cleared since silent 0 (event.at + gone))
     early : since + way_span (sync_paths n made) ≤ event.at
-    over : silent ≤ by since
+    over : silent ≤ by
 
   -- by a link that cuts it off, as ports without a link were off
   cut_leads : FlightIsGone n (made ++ event ∷ []) gone → (past : Past) → HasSettled n made past event.at
-      → CutsCalm n made event → IsClearedBy past (λ since. since)
+      → CutsCalm n made event → IsClearedBy past event.at
   cut_leads flight AnyPast settled cuts =
       let passed = settled.passed in
       let over = le-max_left (capability_span (pace_of n)) (2 * largest_interval (pace_of n)
@@ -197,24 +198,24 @@ module _ (n : NetworkState) (made : List Timed) (event : Timed) (gone : ℕ) whe
       record {
         since = last_change made + capability_span (pace_of n);
         silent = last_change made + capability_span (pace_of n);
-        leads = (settled, (refl, inl (refl, inl (cuts, refl, (gone, flight, refl)))));
+        leads = (settled, inl (refl, inl (refl, inl (cuts, refl, (gone, flight, refl)))));
         early = omega (arith, passed, over);
-        over = omega arith;
+        over = omega (arith, passed, over);
       }
   cut_leads flight Starting settled cuts = absurd settled
   cut_leads flight (Gained start) settled cuts = record {
     since = start;
     silent = start;
-    leads = (settled, (refl, inl (refl, inl (cuts, refl, (gone, flight, refl)))));
+    leads = (settled, inl (refl, inl (refl, inl (cuts, refl, (gone, flight, refl)))));
     early = omega (arith, settled);
-    over = omega arith;
+    over = omega (arith, settled);
   }
   cut_leads flight (Heard start) settled cuts = record {
     since = start;
     silent = start;
-    leads = (settled, (refl, inl (refl, inl (cuts, refl, (gone, flight, refl)))));
+    leads = (settled, inl (refl, inl (refl, inl (cuts, refl, (gone, flight, refl)))));
     early = omega (arith, settled);
-    over = omega arith;
+    over = omega (arith, settled);
   }
   cut_leads flight (Left silent) settled cuts = absurd settled
   cut_leads flight (Turned silent now) settled cuts = absurd settled
@@ -224,30 +225,30 @@ module _ (n : NetworkState) (made : List Timed) (event : Timed) (gone : ℕ) whe
 
   -- or as it fails, once the ports beside it have been unanswered for long enough
   fail_leads : FlightIsGone n made gone → (past : Past) → HasSettled n made past event.at → FailsCalm n made event
-      → IsClearedBy past (λ since. event.at + capability_span (pace_of n))
+      → IsClearedBy past (suc (event.at + silence_span (pace_of n)))
   fail_leads flight AnyPast settled fails =
       let passed = settled.passed in
       let over = le-max_left (capability_span (pace_of n)) (2 * largest_interval (pace_of n)
       + (sync_paths n made).systems * (longest_span (pace_of n) + (sync_paths n made).delay)) in
       record {
         since = last_change made + capability_span (pace_of n);
-        silent = event.at + capability_span (pace_of n);
-        leads = (settled, (refl, inl (refl, inr (fails, refl, (gone, flight, refl)))));
+        silent = suc (event.at + silence_span (pace_of n));
+        leads = (settled, inl (refl, inl (refl, inr (fails, refl, (gone, flight, refl)))));
         early = omega (arith, passed, over);
         over = omega arith;
       }
   fail_leads flight Starting settled fails = absurd settled
   fail_leads flight (Gained start) settled fails = record {
     since = start;
-    silent = event.at + capability_span (pace_of n);
-    leads = (settled, (refl, inl (refl, inr (fails, refl, (gone, flight, refl)))));
+    silent = suc (event.at + silence_span (pace_of n));
+    leads = (settled, inl (refl, inl (refl, inr (fails, refl, (gone, flight, refl)))));
     early = omega (arith, settled);
     over = omega arith;
   }
   fail_leads flight (Heard start) settled fails = record {
     since = start;
-    silent = event.at + capability_span (pace_of n);
-    leads = (settled, (refl, inl (refl, inr (fails, refl, (gone, flight, refl)))));
+    silent = suc (event.at + silence_span (pace_of n));
+    leads = (settled, inl (refl, inl (refl, inr (fails, refl, (gone, flight, refl)))));
     early = omega (arith, settled);
     over = omega arith;
   }
@@ -275,18 +276,18 @@ module _ (n : NetworkState) (made : List Timed) (event : Timed) (gone : ℕ)
       + (sync_paths n made).systems * (longest_span (pace_of n) + (sync_paths n made).delay)) in
       record {
         since = last_change made + capability_span (pace_of n);
-        leads = (settled, (refl, inr (lowers, refl, refl, (gone, flight, refl))));
+        leads = (settled, inl (refl, inr (lowers, refl, refl, (gone, flight, refl))));
         early = omega (arith, passed, over);
       }
   right_leads Starting settled lowers = absurd settled
   right_leads (Gained start) settled lowers = record {
     since = start;
-    leads = (settled, (refl, inr (lowers, refl, refl, (gone, flight, refl))));
+    leads = (settled, inl (refl, inr (lowers, refl, refl, (gone, flight, refl))));
     early = omega (arith, settled);
   }
   right_leads (Heard start) settled lowers = record {
     since = start;
-    leads = (settled, (refl, inr (lowers, refl, refl, (gone, flight, refl))));
+    leads = (settled, inl (refl, inr (lowers, refl, refl, (gone, flight, refl))));
     early = omega (arith, settled);
   }
   right_leads (Left silent) settled lowers = absurd settled
@@ -295,12 +296,63 @@ module _ (n : NetworkState) (made : List Timed) (event : Timed) (gone : ℕ)
   right_leads (Aging aged silent) settled lowers = absurd settled
   right_leads (Lost since most silent) settled lowers = absurd settled
 
--- an announce interval is over by when ports beside a system that failed aren't capable
-interval_span : (p : SettlingParams) → largest_interval p ≤ capability_span p
-interval_span p =
-    let more : 1 * largest_interval p ≤ (p.params.lost + 5) * largest_interval p =
-    mul-le-mul_right (largest_interval p) (omega arith) in
-    omega (arith, more)
+-- as a system fails that others hear it is, where each link that is up then is in use
+module _ (n : NetworkState) (made : List Timed) (event : Timed) (aged silent : ℕ)
+    (now : FailsNow n made event aged silent) (used : UpIsUsed n (made ++ event ∷ [])) where
+  abbrev EchoesPower : Past → Type 0
+  EchoesPower past = EventLeads n made past event
+      (Cleared event.at silent (event.at + 1 + nearer_echo_span n (made ++ event ∷ []))
+      (event.at + nearer_echo_span n (made ++ event ∷ []) + (sync_paths n (made ++ event ∷ [])).delay))
+
+  power_leads : (past : Past) → HasSettled n made past event.at → EchoesPower past
+  power_leads AnyPast settled = (settled, inr (aged, now, (used, refl, refl, refl)))
+  power_leads Starting settled = absurd settled
+  power_leads (Gained start) settled = (settled, inr (aged, now, (used, refl, refl, refl)))
+  power_leads (Heard start) settled = (settled, inr (aged, now, (used, refl, refl, refl)))
+  power_leads (Left start) settled = absurd settled
+  power_leads (Turned start was) settled = absurd settled
+  power_leads (Cleared begun start right last) settled = absurd settled
+  power_leads (Aging gone start) settled = absurd settled
+  power_leads (Lost since most start) settled = absurd settled
+
+-- Else it goes on to age until the last link goes down of which an end has failed, at this time.
+power_lead : (n : NetworkState) (made now : List Timed) (other : Timed) (time aged silent : ℕ) → NothingLapses n.params
+    → IsCalm n made → AllByRecursion (λ (t : Timed). t.at ≡ time) (other ∷ now)
+    → EachEvent (LowersUnused n) made (other ∷ now) → UpIsUsed n (made ++ other ∷ now)
+    → LeadOn n made (Aging aged silent) (other ∷ now)
+    (Cleared time silent (time + 1 + nearer_echo_span n (made ++ other ∷ now))
+    (time + nearer_echo_span n (made ++ other ∷ now) + (sync_paths n (made ++ other ∷ now)).delay))
+power_lead n made [] other time aged silent off calm (at, none) (lowers, others) used =
+    let last = Cleared time silent (time + 1 + nearer_echo_span n (made ++ other ∷ []))
+    (time + nearer_echo_span n (made ++ other ∷ []) + (sync_paths n (made ++ other ∷ [])).delay) in (
+      Aging aged silent,
+      inl refl,
+      last,
+      (
+        record { lowers = lowers; calm = calm; off = off },
+        refl,
+        (
+          used,
+          sym at,
+          ap (λ t. t + 1 + nearer_echo_span n (made ++ other ∷ [])) (sym at),
+          ap (λ t. t + nearer_echo_span n (made ++ other ∷ []) + (sync_paths n (made ++ other ∷ [])).delay) (sym at),
+        ),
+      ),
+      refl,
+    )
+power_lead n made (event ∷ now) other time aged silent off calm (at, later) (lowers, others) used =
+    let all : (made ++ other ∷ []) ++ event ∷ now ≡ made ++ other ∷ event ∷ now =
+    append_assoc made (other ∷ []) (event ∷ now) in (
+      Aging aged silent,
+      inl refl,
+      Aging aged silent,
+      (record { lowers = lowers; calm = calm; off = off }, refl, refl),
+      subst (λ es. LeadOn n (made ++ other ∷ []) (Aging aged silent) (event ∷ now)
+          (Cleared time silent (time + 1 + nearer_echo_span n es)
+          (time + nearer_echo_span n es + (sync_paths n es).delay))) all
+          (power_lead n (made ++ other ∷ []) now event time aged silent off
+          (lowers_calm n made other off calm lowers) later others (subst (UpIsUsed n) (sym all) used)),
+    )
 
 -- What was in flight as all but the neighbours of the best tell what is right is gone once they do too.
 nearer_within : (systems hop gone : ℕ) → gone ≤ hop → pred (pred systems) * hop + gone ≤ max (pred systems * hop) gone
@@ -321,23 +373,23 @@ module _ (n : NetworkState) (off : NothingLapses n.params) (time : ℕ) (made no
     settled_then : HasSettled n made past event.at
     settled_then = subst (HasSettled n made past) (sym here) settled
 
-    -- it is cleared, and taken as heard from this start on
-    led : (since silent right old start : ℕ) → EventLeads n made past event (Cleared since silent right old)
+    -- it is cleared, and taken as heard from when its ports were capable
+    led : (since silent right old : ℕ) → EventLeads n made past event (Cleared since silent right old)
         → LeadOn n (made ++ event ∷ []) (Cleared since silent right old) others (Cleared since silent right old)
-        → old ≤ time + rest → since ≤ start → (silent ≤ start) ⊎ UpIsUsed n (made ++ now)
-        → start + way_span (sync_paths n (made ++ now)) ≤ suc (time + rest)
+        → old ≤ time + rest → (silent ≤ suc (time + rest)) ⊎ UpIsUsed n (made ++ now)
+        → since + way_span (sync_paths n (made ++ now)) ≤ suc (time + rest)
         → IsLed n made now past (suc (time + rest))
-    led since silent right old start leads lead less later unlinked over = record {
+    led since silent right old leads lead less unlinked over = record {
       last = Cleared since silent right old;
       lead = subst (λ es. LeadOn n made past es (Cleared since silent right old)) (sym same)
           (past, inl refl, Cleared since silent right old, leads, lead);
       settles = (
-        Heard start,
+        Heard since,
         inr (record {
           calm = calm;
           off = off;
           gone = omega (arith, less);
-          later = later;
+          later = omega arith;
           unlinked = unlinked;
           over = over;
         }),
@@ -370,10 +422,12 @@ module _ (n : NetworkState) (off : NothingLapses n.params) (time : ℕ) (made no
         let less = way_then (subst (EachEvent (LowersUnused n) (made ++ event ∷ [])) (sym alone) tt) l.delay l.paths in
         let before = here in
         let early = x.early in
-        led x.since x.silent 0 (event.at + gone) x.since x.leads
+        let over = x.over in
+        let gone_most = le-max_right (2 * way_span (sync_paths n (made ++ now))) gone in
+        led x.since x.silent 0 (event.at + gone) x.leads
         (subst (λ es. LeadOn n (made ++ event ∷ []) (Cleared x.since x.silent 0 (event.at + gone)) es
-        (Cleared x.since x.silent 0 (event.at + gone))) (sym alone) refl) (omega (arith, before, is)) (omega arith)
-        (inl x.over) (omega (arith, early, before, less))
+        (Cleared x.since x.silent 0 (event.at + gone))) (sym alone) refl) (omega (arith, before, is, gone_most))
+        (inl (omega (arith, over, before))) (omega (arith, early, before, less))
 
     -- another such link goes down
     right_led : LowersLink n made event → others ≡ [] → (gone : ℕ) → FlightIsGone n (made ++ now) gone
@@ -394,9 +448,9 @@ module _ (n : NetworkState) (off : NothingLapses n.params) (time : ℕ) (made no
         let before = here in
         let early = x.early in
         led x.since x.since (event.at + 1 + nearer_echo_span n (made ++ event ∷ []))
-        (event.at + nearer_echo_span n (made ++ event ∷ []) + gone) x.since x.leads
+        (event.at + nearer_echo_span n (made ++ event ∷ []) + gone) x.leads
         (subst (λ es. LeadOn n (made ++ event ∷ []) last es last) (sym alone) refl)
-        (omega (arith, before, is, within)) (omega arith) (inl (omega arith))
+        (omega (arith, before, is, within)) (inl (omega (arith, early, before)))
         (omega (arith, early, before, less))
       where
         gone_soon : FlightIsGone n (made ++ now) gone
@@ -406,7 +460,7 @@ module _ (n : NetworkState) (off : NothingLapses n.params) (time : ℕ) (made no
 
     fail_led : FailsFarEnd n made event → EachEvent (LowersUnused n) (made ++ event ∷ []) others
         → (UpIsUsed n (made ++ now) × FlightIsGone n made rest)
-        ⊎ (rest ≡ capability_span (pace_of n) + way_span (sync_paths n (made ++ now)))
+        ⊎ ((gone : ℕ) × FlightIsGone n made gone × (rest ≡ max (silence_span (pace_of n)) gone))
         → IsLed n made now past (suc (time + rest))
     fail_led fails lowers (inl (used, flight)) =
         let x = fail_leads n made event rest flight past settled_then
@@ -414,32 +468,33 @@ module _ (n : NetworkState) (off : NothingLapses n.params) (time : ℕ) (made no
         let less = way_then lowers fails.delay fails.paths in
         let before = here in
         let early = x.early in
-        led x.since x.silent 0 (event.at + rest) x.since x.leads
+        led x.since x.silent 0 (event.at + rest) x.leads
         (dead_clear n (made ++ event ∷ []) others x.since x.silent (event.at + rest) off
-        (fails_calm n made event off calm_then fails) lowers) (omega (arith, before)) (omega arith) (inr used)
+        (fails_calm n made event off calm_then fails) lowers) (omega (arith, before)) (inr used)
         (omega (arith, early, before, less))
-    fail_led fails lowers (inr is) =
-        let gone = largest_interval (pace_of n) in
-        let x = fail_leads n made event gone (inr refl) past settled_then
+    fail_led fails lowers (inr (gone, flight, is)) =
+        let x = fail_leads n made event gone flight past settled_then
         (record { fails = fails; calm = calm_then; off = off }) in
+        let less = way_then lowers fails.delay fails.paths in
         let before = here in
         let early = x.early in
         let over = x.over in
-        let short = interval_span (pace_of n) in
-        led x.since x.silent 0 (event.at + gone) (time + capability_span (pace_of n)) x.leads
+        let silent_most = le-max_left (silence_span (pace_of n)) gone in
+        let gone_most = le-max_right (silence_span (pace_of n)) gone in
+        led x.since x.silent 0 (event.at + gone) x.leads
         (dead_clear n (made ++ event ∷ []) others x.since x.silent (event.at + gone) off
-        (fails_calm n made event off calm_then fails) lowers) (omega (arith, is, short, before))
-        (omega (arith, early, before)) (inl (omega (arith, over, before))) (omega (arith, is))
+        (fails_calm n made event off calm_then fails) lowers) (omega (arith, is, gone_most, before))
+        (inl (omega (arith, over, before, is, silent_most))) (omega (arith, early, before, less))
 
     -- one system turns, and it is taken as heard from now on
-    turned_led : TurnsLink n made event → others ≡ []
-        → (UpIsUsed n (made ++ now) × (rest ≡ turned_echo_span n (made ++ now)))
-        ⊎ (rest ≡ turned_echo_span n (made ++ now) + largest_interval (pace_of n))
+    turned_led : TurnsLink n made event → others ≡ [] → rest ≡ turned_echo_span n (made ++ now)
         → IsLed n made now past (suc (time + rest))
-    turned_led turns alone which =
+    turned_led turns alone is =
         let x = turn_leads n made event past settled_then (record { turns = turns; calm = calm_then; off = off }) in
         let last : Past = Turned x.silent event.at in
-        let over : event.at + way_span (sync_paths n (made ++ now)) ≤ suc (time + rest) = by_way which in
+        let before = here in
+        let over : event.at + way_span (sync_paths n (made ++ now)) ≤ suc (time + rest) =
+        omega (arith, before, is) in
         record {
           last = last;
           lead = subst (λ es. LeadOn n made past es last) (sym (same ∙ ap (λ es. event ∷ es) alone))
@@ -449,10 +504,7 @@ module _ (n : NetworkState) (off : NothingLapses n.params) (time : ℕ) (made no
             inr (record {
               calm = calm;
               off = off;
-              told = elim which [
-                | inl (used, is) ↦ let before = here in inl (used, omega (arith, before, is))
-                | inr is ↦ let before = here in inr (omega (arith, before, is))
-              ];
+              told = omega (arith, before, is);
               later = omega arith;
               unlinked = x.early;
               over = over;
@@ -460,37 +512,124 @@ module _ (n : NetworkState) (off : NothingLapses n.params) (time : ℕ) (made no
             over,
           );
         }
+
+    -- a system fails that others hear
+    power_led : FailsHeard n made event → EachEvent (LowersUnused n) (made ++ event ∷ []) others
+        → UpIsUsed n (made ++ now) → max (echo_span n (made ++ now)) (sync_paths n (made ++ now)).delay ≤ rest
+        → IsLed n made now past (suc (time + rest))
+    power_led fails lowers used long = by others refl
       where
-        by_way : (UpIsUsed n (made ++ now) × (rest ≡ turned_echo_span n (made ++ now)))
-            ⊎ (rest ≡ turned_echo_span n (made ++ now) + largest_interval (pace_of n))
-            → event.at + way_span (sync_paths n (made ++ now)) ≤ suc (time + rest)
-        by_way (inl (used, is)) = let before = here in omega (arith, before, is)
-        by_way (inr is) = let before = here in omega (arith, before, is)
+        aged : ℕ
+        aged = suc (event.at + aging_span (pace_of n) (sync_paths n made))
+
+        silent : ℕ
+        silent = suc (event.at + silence_span (pace_of n))
+
+        falls : FailsNow n made event aged silent
+        falls = record { fails = fails; calm = calm_then; off = off; gone = refl; unanswered = refl }
+
+        less : way_span (sync_paths n (made ++ now)) ≤ way_span (sync_paths n made)
+        less = way_then lowers fails.delay fails.paths
+
+        old : ℕ
+        old = time + nearer_echo_span n (made ++ now) + (sync_paths n (made ++ now)).delay
+
+        right : ℕ
+        right = time + 1 + nearer_echo_span n (made ++ now)
+
+        within : nearer_echo_span n (made ++ now) + (sync_paths n (made ++ now)).delay ≤ rest
+        within =
+            let hop = largest_interval (pace_of n) + (sync_paths n (made ++ now)).delay in
+            let most = nearer_within (sync_paths n (made ++ now)).systems hop (sync_paths n (made ++ now)).delay
+            (omega arith) in
+            omega (arith, long, most)
+
+        ends : LeadOn n made past now (Cleared time silent right old) → IsLed n made now past (suc (time + rest))
+        ends lead =
+            let way : way_span (sync_paths n (made ++ now)) ≤ echo_span n (made ++ now) =
+            mul-le-mul_left (pred (sync_paths n (made ++ now)).systems) (omega arith) in
+            let over : time + way_span (sync_paths n (made ++ now)) ≤ suc (time + rest) = omega (arith, way, long) in
+            record {
+              last = Cleared time silent right old;
+              lead = lead;
+              settles = (
+                Heard time,
+                inr (record {
+                  calm = calm;
+                  off = off;
+                  gone = omega (arith, within);
+                  later = omega arith;
+                  unlinked = inr used;
+                  over = over;
+                }),
+                over,
+              );
+            }
+
+        by : (es : List Timed) → others ≡ es → IsLed n made now past (suc (time + rest))
+        by [] alone =
+            let one : made ++ now ≡ made ++ event ∷ [] =
+            ap (λ es. made ++ es) (same ∙ ap (λ es. event ∷ es) alone) in
+            let leads = power_leads n made event aged silent falls (subst (UpIsUsed n) one used) past settled_then in
+            let last : Past = Cleared time silent right old in
+            ends (subst (λ es. LeadOn n made past es last) (sym (same ∙ ap (λ es. event ∷ es) alone)) (
+              past,
+              inl refl,
+              last,
+              subst (λ t. EventLeads n made past event (Cleared t silent (t + 1 + nearer_echo_span n (made ++ now))
+                  (t + nearer_echo_span n (made ++ now) + (sync_paths n (made ++ now)).delay))) here
+                  (subst (λ es. EventLeads n made past event (Cleared event.at silent (event.at + 1 + nearer_echo_span n es)
+                  (event.at + nearer_echo_span n es + (sync_paths n es).delay))) (sym one) leads),
+              refl,
+            ))
+        by (other ∷ more) alone =
+            let all : made ++ now ≡ (made ++ event ∷ []) ++ other ∷ more =
+            ap (λ es. made ++ es) (same ∙ ap (λ es. event ∷ es) alone) ∙ sym (append_assoc made (event ∷ [])
+            (other ∷ more)) in
+            let last : Past = Cleared time silent right old in
+            let at_then = (subst (AllByRecursion (λ (t : Timed). t.at ≡ time)) same at).1 in
+            ends (subst (λ es. LeadOn n made past es last) (sym (same ∙ ap (λ es. event ∷ es) alone)) (
+              past,
+              inl refl,
+              Aging aged silent,
+              ages_leads n made event past aged silent settled_then falls,
+              subst (λ es. LeadOn n (made ++ event ∷ []) (Aging aged silent) (other ∷ more)
+                  (Cleared time silent (time + 1 + nearer_echo_span n es)
+                  (time + nearer_echo_span n es + (sync_paths n es).delay))) (sym all)
+                  (power_lead n (made ++ event ∷ []) more other time aged silent off
+                  (failure_calm n made event off calm_then fails.clock fails.act)
+                  (subst (AllByRecursion (λ (t : Timed). t.at ≡ time)) alone at_then)
+                  (subst (EachEvent (LowersUnused n) (made ++ event ∷ [])) alone lowers)
+                  (subst (UpIsUsed n) all used)),
+            ))
 
   lost_led : (es : List Timed) → now ≡ es
       → (CutsOneEnd n made es
       × ((gone : ℕ) × FlightIsGone n made gone × (rest ≡ max (2 * way_span (sync_paths n (made ++ now))) gone)))
       ⊎ ((FailsEndFirst n made es
       × ((UpIsUsed n (made ++ now) × FlightIsGone n made rest)
-      ⊎ (rest ≡ capability_span (pace_of n) + way_span (sync_paths n (made ++ now)))))
+      ⊎ ((gone : ℕ) × FlightIsGone n made gone × (rest ≡ max (silence_span (pace_of n)) gone))))
       ⊎ ((LowersOneLink n made es
       × ((gone : ℕ) × FlightIsGone n (made ++ now) gone × (rest ≡ max (echo_span n (made ++ now)) gone)))
-      ⊎ (TurnsOneLink n made es
-      × ((UpIsUsed n (made ++ now) × (rest ≡ turned_echo_span n (made ++ now)))
-      ⊎ (rest ≡ turned_echo_span n (made ++ now) + largest_interval (pace_of n))))))
+      ⊎ ((TurnsOneLink n made es × (rest ≡ turned_echo_span n (made ++ now)))
+      ⊎ (FailsHeardFirst n made es × UpIsUsed n (made ++ now)
+      × (max (echo_span n (made ++ now)) (sync_paths n (made ++ now)).delay ≤ rest)))))
       → IsLed n made now past (suc (time + rest))
   lost_led [] same (inl (none, flight)) = absurd none
   lost_led [] same (inr (inl (none, after))) = absurd none
   lost_led [] same (inr (inr (inl (none, after)))) = absurd none
-  lost_led [] same (inr (inr (inr (none, after)))) = absurd none
+  lost_led [] same (inr (inr (inr (inl (none, after))))) = absurd none
+  lost_led [] same (inr (inr (inr (inr (none, used, long))))) = absurd none
   lost_led (event ∷ other ∷ others) same (inl (none, flight)) = absurd none
   lost_led (event ∷ other ∷ others) same (inr (inr (inl (none, after)))) = absurd none
-  lost_led (event ∷ other ∷ others) same (inr (inr (inr (none, after)))) = absurd none
+  lost_led (event ∷ other ∷ others) same (inr (inr (inr (inl (none, after))))) = absurd none
   lost_led (event ∷ []) same (inl (cuts, (gone, flight, is))) = cut_led event [] same cuts refl gone flight is
   lost_led (event ∷ []) same (inr (inr (inl (lowers, (gone, flight, is))))) =
       right_led event [] same lowers refl gone flight is
-  lost_led (event ∷ []) same (inr (inr (inr (turns, which)))) = turned_led event [] same turns refl which
+  lost_led (event ∷ []) same (inr (inr (inr (inl (turns, is))))) = turned_led event [] same turns refl is
   lost_led (event ∷ others) same (inr (inl ((fails, lowers), by))) = fail_led event others same fails lowers by
+  lost_led (event ∷ others) same (inr (inr (inr (inr ((fails, lowers), used, long))))) =
+      power_led event others same fails lowers used long
 
-  pub cleared_led : RestsAfterLoss n made now rest → IsLed n made now past (suc (time + rest))
+  pub cleared_led : RestsAfterOneLoss n made now rest → IsLed n made now past (suc (time + rest))
   cleared_led loses = lost_led now refl loses

@@ -8,7 +8,6 @@ use Rattle.gptp_links.specs.Fate.{Draw}
 use Rattle.gptp_setup.specs.SettlingParams.{SettlingParams, largest_interval}
 use Rattle.gptp_scenario.specs.Calm.{IsCalm, NothingLapses, IsUsed}
 use Rattle.gptp_scenario.specs.Network.{NetworkState, pace_of, IsEnd}
-use Rattle.gptp_scenario.specs.SettlingTime.{capability_span}
 use Rattle.gptp_scenario.specs.SyncWait.{sync_paths}
 use Rattle.gptp_scenario.specs.declared.change.Act.TheVariants.{Change as Changing}
 use Rattle.gptp_scenario.specs.declared.change.Change.TheVariants.{LinkDown, Fail}
@@ -27,12 +26,12 @@ use Rattle.gptp_invariants.specs.ChoiceSettlesAsMachine.{IsWorld}
 use Rattle.gptp_invariants.specs.WorldNews.{AreReadyBy, AreSilentBy}
 use Rattle.gptp_invariants.specs.WorldSound.{IsSoundWorld}
 use Rattle.gptp_invariants.specs.WorldStanding.{snapshot_of}
-use Rattle.gptp_invariants.proofs.WorldNewsActLemmas.{unanswered_silent}
+use Rattle.gptp_invariants.proofs.WorldStandsLemmas.{stands_well}
 use Rattle.gptp_theorem.specs.PlayedLaws.{IsPlayable}
 use Rattle.gptp_theorem.specs.Reached.{channel_wire}
 use Rattle.gptp_theorem.proofs.CalmLemmas.{quiet_stands}
 use Rattle.gptp_theorem.proofs.SyncPathLemmas.{paths_stand}
-use Rattle.gptp_settling_time.specs.InTurn.{ClearsBy, CutsCalm, FailsCalm, FailsNow, FlightIsGone, LeavesStanding, LowersCalm, TurnsCalm, TurnsNow, nearer_echo_span}
+use Rattle.gptp_settling_time.specs.InTurn.{ClearsBy, ClearsFarEnd, ClearsTraces, CutsCalm, FailsCalm, FailsNow, FlightIsGone, LeavesStanding, LowersCalm, TurnsCalm, TurnsNow, nearer_echo_span}
 use Rattle.gptp_settling_time.proofs.GainLemmas.{lives_so, up_so}
 use Rattle.gptp_settling_time.proofs.FailedAloneLemmas.{all_but, failed_left, less as failed_reduced, none_joined, ready_on as failed_ready}
 use Rattle.gptp_settling_time.proofs.AgingToLemmas.{IsAgingTo}
@@ -40,7 +39,8 @@ use Rattle.gptp_settling_time.proofs.FailedHeardLemmas.{failed_aging}
 use Rattle.gptp_settling_time.proofs.KeptToLemmas.{KeepsTo}
 use Rattle.gptp_settling_time.proofs.LeftToLemmas.{IsLeftTo, less_way, up_in_use}
 use Rattle.gptp_settling_time.proofs.LostEndLemmas.{sound_reduced}
-use Rattle.gptp_settling_time.proofs.LoweredLemmas.{act_left, ends, less as lowered_reduced, ready_on as lowered_ready, silent_on as lowered_silent, stay}
+use Rattle.gptp_settling_time.proofs.LostPowerLemmas.{told_anew}
+use Rattle.gptp_settling_time.proofs.LoweredLemmas.{act_left, ends, less as lowered_reduced, ready_on as lowered_ready, stay}
 use Rattle.gptp_settling_time.proofs.SettledSeenLemmas.{HasSettledSeen, IsSettledSeen}
 use Rattle.gptp_settling_time.proofs.TakenDownLemmas.{told_lives}
 use Rattle.gptp_settling_time.proofs.ToldAnewLemmas.{IsTurnedAlways, anew_begins}
@@ -49,14 +49,15 @@ use Rattle.gptp_settling_time.proofs.TurnsBeginLemmas.{act_turned}
 use Rattle.gptp_settling_time.proofs.WorldMovesLemmas.{cut_off_so, far_end_so, near_so, stays_joined, turns_so}
 use Rattle.gptp_bmca_machine.specs.SoundLaws.{AllAreNear}
 use Rattle.gptp_invariants.specs.ChoiceView.{says_announce, view}
-use Rattle.gptp_settling_time.specs.Losses.{FailsFarEnd, IsCutOff, IsFarEnd, LowersLink, silence_span}
+use Rattle.gptp_invariants.specs.FailedUnanswered.{silence_span}
+use Rattle.gptp_settling_time.specs.Losses.{FailsFarEnd, IsCutOff, IsFarEnd, LowersLink}
 use Rattle.gptp_settling_time.proofs.ClearedLemmas.{GoesBy, IsCleared, goes_due}
 use Rattle.gptp_settling_time.proofs.ClearedToLemmas.{IsClearedTo}
-use Rattle.gptp_settling_time.proofs.ClearsLemmas.{all_but_cut, clears, cut_joins_none, nearer_echo, ready_asked, rights}
+use Rattle.gptp_settling_time.proofs.ClearsLemmas.{all_but_cut, clears, cut_joins_none, nearer_echo, ready_asked, rights, was_best}
 use Rattle.gptp_settling_time.proofs.DueLemmas.{AreDueBy, due_by_delay, due_by_interval, due_reduced}
-use Rattle.gptp_settling_time.proofs.LeftClaimedLemmas.{HaveAskedBy, IsLeftAlways, left_seen}
+use Rattle.gptp_settling_time.proofs.LeftClaimedLemmas.{HaveAskedBy, IsLeftAlways, left_network, left_seen}
+use Rattle.gptp_settling_time.proofs.NamesItselfLemmas.{itself_begins}
 use Rattle.gptp_settling_time.proofs.ReducedLemmas.{IsReduced}
-use Rattle.std.proofs.Math.Nat.{add-mul, mul-le-mul_left}
 
 -- what is known of a world that has settled and whose ports are capable from a time on, as an event comes at this time
 pub record HasRestedSo (p : SettlingParams) (start time : ℕ) (w : WorldState) : Type 0 where
@@ -146,11 +147,6 @@ module _ (d : DocumentState) (playable : IsPlayable d) (made : List Timed) (even
           (lowered_ready p start x.clock x.port then draws done w' keeps.claim.pace world_then after.claim.world
           keeps.claim.measured after.claim.measured came was_up rest.ready)
 
-      lowered_silent_by : AreSilentBy p start w'
-      lowered_silent_by =
-          lowered_silent p start x.clock x.port then draws done w' keeps.claim.pace world_then after.claim.world
-          keeps.claim.measured after.claim.measured came was_up rest.silent
-
       lowered_to : IsLeftTo d more start w'
       lowered_to = record { keeps = after; before = snapshot_of then; since = lowered_since }
 
@@ -171,7 +167,7 @@ module _ (d : DocumentState) (playable : IsPlayable d) (made : List Timed) (even
         cut_since : IsCleared p (snapshot_of then) start start 0 old w'
         cut_since =
             clears p start start old then w' after.claim.world lowered_seen lowered_near rest.sound lowered_less
-            lowered_since lowered_asked lowered_silent_by lost far
+            lowered_since lowered_asked lost far
             (all_but_cut p then world_then came.1.place came.1.channel came.1.is.here draws w' after.claim.world
             (ends p start x.clock x.port then draws done w' keeps.claim.pace world_then after.claim.world
             keeps.claim.measured after.claim.measured came was_up) lowered_seen lowered_near lost lost_end)
@@ -239,34 +235,20 @@ module _ (d : DocumentState) (playable : IsPlayable d) (made : List Timed) (even
       failed_to : IsLeftTo d more next w'
       failed_to = record { keeps = after; before = snapshot_of then; since = failed_since }
 
-      failed_cleared : (old : ℕ) → AreSilentBy p next w' → AreDueBy old then
-          → IsClearedTo d more start next 0 old w'
-      failed_cleared old silent_by due = record {
+      failed_cleared : (old : ℕ) → AreDueBy old then → IsClearedTo d more start next 0 old w'
+      failed_cleared old due = record {
         keeps = after;
         before = snapshot_of then;
         is = clears p start next old then w' after.claim.world (seen_then fails.calm fails.off)
             (near_so d playable made then keeps y.few) rest.sound
             (failed_reduced p y.clock then draws done w' world_then after.claim.world came_fail lived) failed_since
-            failed_asked silent_by y.clock (far_end_so d playable made then keeps y.clock y.far)
+            failed_asked y.clock (far_end_so d playable made then keeps y.clock y.far)
             (all_but p y.clock then draws done w' world_then after.claim.world came_fail lived)
             (none_joined p y.clock then draws done w' world_then after.claim.world came_fail lived)
             (λ quiet off.
             due_reduced old then w'
             (failed_reduced p y.clock then draws done w' world_then after.claim.world came_fail lived) due);
       }
-
-    -- a port beside a failed system is off no later than it is known to be silent
-    silence_short : silence_span p < capability_span p
-    silence_short =
-        let short = keeps.claim.pace.requests in
-        let answered = playable.network.params.answered in
-        let periods : silence_span p ≤ (p.params.lost + 2) * largest_interval p =
-        mul-le-mul_left (p.params.lost + 2) short in
-        let two : (p.params.lost + 2) * largest_interval p ≡ p.params.lost * largest_interval p
-        + 2 * largest_interval p = add-mul p.params.lost 2 (largest_interval p) in
-        let five : (p.params.lost + 5) * largest_interval p ≡ p.params.lost * largest_interval p
-        + 5 * largest_interval p = add-mul p.params.lost 5 (largest_interval p) in
-        omega (arith, short, answered, periods, two, five)
 
     -- so each number may stand for what it is
     cleared_so : (at_silent at_right since silent right old : ℕ) → since ≡ start → silent ≡ at_silent
@@ -306,20 +288,25 @@ module _ (d : DocumentState) (playable : IsPlayable d) (made : List Timed) (even
           keeps = after;
           before = snapshot_of then;
           is = rights p (snapshot_of then) start start gone w' (lowered_since lowers) (lowered_asked lowers)
-              (lowered_silent_by lowers) (goes_by gone flight)
-              (sound_reduced says_announce (snapshot_of then) (view then) (view w') (lowered_less lowers) rest.sound);
+              (goes_by gone flight) (snapshot_of then)
+              (was_best (snapshot_of then) (snapshot_of w') (lowered_since lowers).well
+              (stands_well w' after.claim.world.sound after.claim.world.between after.claim.world.encodable)
+              (lowered_since lowers).left)
+              (λ quiet off. itself_begins says_announce (left_network p start w') (snapshot_of then) (view w')
+              (sound_reduced says_announce (snapshot_of then) (view then) (view w') (lowered_less lowers) rest.sound));
         }))
 
-    pub cleared_to : (since silent right old : ℕ) → ClearsBy n made event start since silent right old
+    -- far ends go, or another link goes down
+    ends_to : (since silent right old : ℕ) → since ≡ start
+        → ClearsFarEnd n made event start silent right old ⊎ ClearsTraces n made event start silent right old
         → IsClearedTo d more since silent right old w'
-    cleared_to since silent right old (begun, inl (zero, inl (cuts, same, (gone, flight, is)))) =
+    ends_to since silent right old begun (inl (zero, inl (cuts, same, (gone, flight, is)))) =
         cleared_so start 0 since silent right old begun same zero (cut_to gone old cuts (goes_by gone flight) is)
-    cleared_to since silent right old (begun, inl (zero, inr (fails, same, (gone, flight, is)))) =
+    ends_to since silent right old begun (inl (zero, inr (fails, same, (gone, flight, is)))) =
         cleared_so silent 0 since silent right old begun refl zero
-        (failed_cleared fails silent (let short = silence_short in omega (arith, same, short)) old
-        (unanswered_silent p silent w' after.claim.silent (omega (arith, last, time, same)))
+        (failed_cleared fails silent (omega (arith, same)) old
         (subst (λ t. AreDueBy t then) (sym is) (gone_by gone fails.calm fails.off flight)))
-    cleared_to since silent right old (begun, inr (lowers, same, right_is, (gone, flight, old_is))) =
+    ends_to since silent right old begun (inr (lowers, same, right_is, (gone, flight, old_is))) =
         cleared_so start right since silent right old begun same refl (rights_to right gone old lowers right_is flight
         old_is)
 
@@ -346,6 +333,12 @@ module _ (d : DocumentState) (playable : IsPlayable d) (made : List Timed) (even
               (let unanswered = now.unanswered in omega (arith, at_time, unanswered))
               (omega (arith, gone, delay, at_time));
         }
+
+    pub cleared_to : (since silent right old : ℕ) → ClearsBy n made event start since silent right old
+        → IsClearedTo d more since silent right old w'
+    cleared_to since silent right old (inl (begun, which)) = ends_to since silent right old begun which
+    cleared_to since silent right old (inr (aged, now, anew)) =
+        told_anew d playable more event.at aged silent since right old w' after time last (aging_so aged silent now) anew
 
     -- a link goes down that so moves one system
     turned_to : TurnsCalm n made event → IsTurnedTo d more start event.at w'
@@ -381,8 +374,6 @@ module _ (d : DocumentState) (playable : IsPlayable d) (made : List Timed) (even
               (near_so d playable more w' after (omega (arith, few, fewer)))
               (end_of channel x.moved moved) (way_over x.delay x.paths) rest.sound)
               (time ∙ sym at_time) (last ∙ time ∙ sym at_time)
-              (lowered_silent p start x.clock x.port then draws done w' keeps.claim.pace world_then
-              after.claim.world keeps.claim.measured after.claim.measured came up rest.silent)
               (told_lives channel _ draws w'
               (ends p start x.clock x.port then draws done w' keeps.claim.pace world_then after.claim.world
               keeps.claim.measured after.claim.measured came up)));

@@ -1,6 +1,6 @@
 -- A world since something was taken away at a time: whatever is moved, once all that is held is told by live systems
 -- over links in use, it settles as one that has gained.
-use Rattle.std.proofs.Common.{◌≡◌, ◌<◌, ◌≤◌, ◌+◌, ◌*◌, ℕ, pred, suc, max, List, refl, sym, ap, subst, ◌∙◌, inl, inr, arith}
+use Rattle.std.proofs.Common.{◌≡◌, ◌≤◌, ◌+◌, ◌*◌, ℕ, pred, suc, max, List, refl, sym, ap, subst, ◌∙◌, inl, inr, arith}
 use Rattle.std.proofs.Math.Nat.{le-max_left, le-max_right, max-le}
 use Rattle.gptp_graph.specs.PathBound.{path_bound}
 use Rattle.gptp_graph.specs.Snapshot.{Snapshot, port_of}
@@ -21,11 +21,11 @@ use Rattle.gptp_bmca_machine.specs.Facts.{NetworkSetting, StationFacts}
 use Rattle.gptp_bmca_machine.specs.Levels.{Invariant}
 use Rattle.gptp_bmca_machine.specs.Network.{IsSettlingNetwork, Network, network_setting, settled_from}
 use Rattle.gptp_bmca_machine.specs.Sound.{RunIsSound}
-use Rattle.gptp_bmca_machine.proofs.LevelLemmas.{invariant_begins, invariant_kept}
+use Rattle.gptp_bmca_machine.proofs.LevelLemmas.{good_whole, invariant_begins, invariant_kept}
 use Rattle.gptp_bmca_machine.proofs.NearestLemmas.{came_fits}
 use Rattle.gptp_bmca_machine.proofs.SettledLemmas.{systems_bounded}
 use Rattle.gptp_bmca_machine.proofs.TimesLemmas.{times_fit}
-use Rattle.gptp_invariants.specs.ChoiceCalm.{HaveQuietLinks, delay_in}
+use Rattle.gptp_invariants.specs.ChoiceCalm.{HaveQuietLinks, delay_in, paths_with}
 use Rattle.gptp_invariants.specs.ChoiceSeenLaws.{IsNoChange}
 use Rattle.gptp_invariants.specs.ChoiceSettled.{Settled}
 use Rattle.gptp_invariants.specs.ChoiceSettlesAsMachine.{IsWorld}
@@ -34,6 +34,7 @@ use Rattle.gptp_invariants.specs.DelayMeasuredLinks.{HaveMeasuredLinks}
 use Rattle.gptp_invariants.specs.WorldBounded.{IsBoundedWorld}
 use Rattle.gptp_invariants.specs.WorldEncodableLaws.{SetsAnOctet}
 use Rattle.gptp_invariants.specs.WorldNews.{AreReadyBy, AreSilentBy}
+use Rattle.gptp_invariants.specs.WorldSound.{IsSoundWorld}
 use Rattle.gptp_invariants.specs.WorldStanding.{snapshot_of}
 use Rattle.gptp_invariants.proofs.ChoiceCalmKeptLemmas.{KeepsNetwork, acts_keep, delay_kept, links_quiet, same_snapshot}
 use Rattle.gptp_invariants.proofs.ChoiceCalmLemmas.{linked_interval, nothing_lapses}
@@ -45,12 +46,13 @@ use Rattle.gptp_invariants.proofs.WorldNewsCourseLemmas.{later_keeps}
 use Rattle.gptp_invariants.proofs.WorldOutlineLemmas.{acts_time}
 use Rattle.gptp_invariants.proofs.WorldStandsLemmas.{stands_well}
 use Rattle.gptp_settling_time.specs.ChoiceAlone.{ChoiceStands}
-use Rattle.gptp_settling_time.proofs.AlwaysClaimedLemmas.{AreHeard, IsStanding, linked_on, same_start, start_calm, start_network}
-use Rattle.gptp_settling_time.proofs.LastAnsweredLemmas.{silent_are_off}
+use Rattle.gptp_settling_time.proofs.AlwaysClaimedLemmas.{AreHeard, IsClaimedAlways, IsStanding, linked_on, same_start, start_calm, start_network}
 use Rattle.gptp_settling_time.proofs.LeftClaimedLemmas.{HaveAskedBy, asked_acts, asked_later, standing_acts, standing_later}
 use Rattle.gptp_settling_time.proofs.LiveTracesLemmas.{TellersLive, ToldIsClean, told_begins, told_kept, told_whole}
 use Rattle.gptp_settling_time.proofs.NewsMeasuredLemmas.{ready_measures}
 use Rattle.gptp_settling_time.proofs.SeenSettledLemmas.{seen_chooses, seen_settles}
+use Rattle.gptp_settling_time.proofs.SettledSeenLemmas.{IsSettledSeen, always_seen, news_seen, settled_in}
+use Rattle.gptp_settling_time.proofs.StandsLikeLemmas.{none_short}
 
 -- ---- ports at links
 
@@ -349,7 +351,7 @@ lost_now p since most silent w is none = record {
     pace = is.standing.pace;
     world = is.standing.world;
     measured = is.standing.measured;
-    off = silent_are_off p w.time w none;
+    silent = none;
   };
   asked = is.asked;
   quiet = is.quiet;
@@ -400,6 +402,46 @@ module _ (p : SettlingParams) (since most silent : ℕ) (w : WorldState) (is : I
             systems_bounded says_announce now_n (view w) place (station_view station) best net calm is.invariant
             (station_there w.stations place station here) live is_best sound_by_now),
       )
+
+  -- ---- it has come to rest
+
+  -- what is held is told by live systems, and so is what is in flight, since an announce interval is over
+  sound : IsSoundWorld w
+  sound = record {
+    lanes = λ j l there f a flies said.
+        let left = calm.left j l f there flies in
+        let (lives, good) = is.told.anywhere j l f a (path_bound (snapshot_of w)) there flies said
+        (omega (arith, left, late)) in
+        record { sender = lives; source = good.source; sound = inr (good_whole now_n net l.from a good) };
+    stations = λ i s there lives place r holds.
+        let came = whole p since most silent w is.standing is.asked is.quiet is.short is.told sound_by_now i s place r
+        there lives holds in
+        record { from = came.from; joins = came.joins; source = came.source; sound = inr came.whole };
+  }
+
+  seen : IsSettledSeen p w
+  seen = settled_in p w now_n refl net calm is.invariant settled_by_now
+
+  -- So claims are made of all links always, from each time on by which ports at links are capable, and those without
+  -- one aren't.
+  pub lost_claimed : (start : ℕ) → since ≤ start → AreSilentBy p start w → IsClaimedAlways p start w
+  lost_claimed start past silent_from = record {
+    news = record {
+      pace = is.standing.pace;
+      world = world;
+      measured = is.standing.measured;
+      silent = silent_from;
+      sound = sound;
+      ready = λ at stands.
+          let (first, by, before, x) = is.asked at stands in
+          let soon = x.is.1 in
+          inl (first, (x.is.0, omega (arith, before, soon, past)));
+      settling = λ m bounded quiet off. news_seen p m start w world sound seen bounded;
+      in_turn = λ m bounded quiet short. absurd (none_short p (paths_with m w) is.off short);
+    };
+    heard = asked_are_heard p since start w is.asked;
+    settling = λ m bounded quiet off. always_seen p m start w world sound seen bounded;
+  }
 
 -- its ports have measured their links
 pub lost_measured : (p : SettlingParams) (since most silent : ℕ) (w : WorldState)

@@ -1,5 +1,5 @@
 -- The events of a time take something away from a world of a document.
-use Rattle.std.proofs.Common.{List, [], ap, arith, inl, inr, refl, subst, sym, Bool, true, false, ℕ, ◌*◌, ◌++◌, ◌+◌, ◌<◌, ◌∙◌, ◌∷◌, ◌≡◌, ◌≤◌}
+use Rattle.std.proofs.Common.{List, [], ap, arith, inl, inr, refl, subst, sym, Bool, true, false, ℕ, ◌++◌, ◌+◌, ◌∙◌, ◌∷◌, ◌≡◌, ◌≤◌}
 use Rattle.gptp_links.specs.Fate.{Draw}
 use Rattle.gptp_setup.specs.SettlingParams.{SettlingParams}
 use Rattle.gptp_scenario.specs.Network.{NetworkState, pace_of}
@@ -85,12 +85,12 @@ module _ (d : DocumentState) (playable : IsPlayable d) (made : List Timed) (even
         → (up : Bool) → k.1.channel.up ≡ up → TakesAway p since silent then w'
     lowered number port k true up =
         lowers_takes p number port then draws done w' world_then after.claim.world k up since silent keeps.claim.pace
-        keeps.claim.measured after.claim.measured ready losing.standing.off
+        keeps.claim.measured after.claim.measured ready losing.standing.silent
     lowered number port k false down =
         still_takes p then w'
         (changed_still then w'
         (subst (λ up. GoesDownIf up k.1.place k.1.channel (record then { last_change = then.time }) draws w') down
-        k.1.so).1) since silent world_then after.claim.world after.claim.measured ready losing.standing.off
+        k.1.so).1) since silent world_then after.claim.world after.claim.measured ready losing.standing.silent
 
     -- it takes something away
     takes : LosesAny n made event.act → AreSilentAfter p event.at silent event.act → TakesAway p since silent then w'
@@ -111,12 +111,12 @@ module _ (d : DocumentState) (playable : IsPlayable d) (made : List Timed) (even
             fails_takes p number then draws done w' world_then after.claim.world came
             (lives_so n made then keeps.stands world_then.sound number lives came.1.place came.1.station
             (record { here = came.1.is.here; named = came.1.is.named })) since silent (omega (arith, now)) ready
-            losing.quiet losing.standing.off (omega (arith, at_time, long)) keeps.claim.measured after.claim.measured
+            losing.quiet losing.standing.silent (omega (arith, at_time, long)) keeps.claim.measured after.claim.measured
         by (Priority1 number value) same lives later =
             priority_takes p number value then draws done w' world_then after.claim.world
             (lives_so n made then keeps.stands world_then.sound number lives)
             (subst SetsAnOctet (is.act ∙ ap Changing same) octet) (came_so (Priority1 number value) same) since silent
-            keeps.claim.measured after.claim.measured ready losing.standing.off
+            keeps.claim.measured after.claim.measured ready losing.standing.silent
         by (LinkUp number port) same none later = absurd none
         by (LinkSet number port min max loss) same none later = absurd none
         by (Recover number) same none later = absurd none
@@ -130,19 +130,19 @@ module _ (d : DocumentState) (playable : IsPlayable d) (made : List Timed) (even
         still_takes p then w'
         (changed_still then w'
         (subst (λ up. ComesUpIf up k.1.place k.1.channel (record then { last_change = then.time }) draws w') up
-        k.1.so).1) since silent world_then after.claim.world after.claim.measured ready losing.standing.off
+        k.1.so).1) since silent world_then after.claim.world after.claim.measured ready losing.standing.silent
     raised number port failed k false down =
         raises_takes p then world_then k.1.place k.1.channel k.1.is.here down
         (unused_so n made then keeps.stands world_then.sound (port_id number port) failed k.1.place k.1.channel
         (record { here = k.1.is.here; joined = k.1.is.joined })) draws w' after.claim.world
         (subst (λ up. ComesUpIf up k.1.place k.1.channel (record then { last_change = then.time }) draws w') down
-        k.1.so) since silent after.claim.measured after.claim.silent ready losing.standing.off
+        k.1.so) since silent after.claim.measured after.claim.silent ready losing.standing.silent
 
     -- it makes nothing of what stands
     spares : MakesNothing n made event since → TakesAway p since silent then w'
     spares (inl nothing) =
         still_takes p then w' (made_still nothing) since silent world_then after.claim.world after.claim.measured ready
-        losing.standing.off
+        losing.standing.silent
     spares (inr (off, turns)) = by is.change refl (subst (TurnsInVain n made event since) is.act turns)
       where
         by : (change : Change) → is.change ≡ change → TurnsInVain n made event since (Changing change)

@@ -1,5 +1,5 @@
 -- Worlds of documents since something was taken away at a time.
-use Rattle.std.proofs.Common.{◌⊎◌, ◌≡◌, ◌<◌, ◌≤◌, ◌+◌, ◌*◌, ℕ, suc, Option, List, subst, inl, inr, arith}
+use Rattle.std.proofs.Common.{◌⊎◌, ◌≤◌, ◌+◌, ℕ, suc, Option, List, subst, inl, inr, arith}
 use Rattle.gptp_links.specs.declared.bounds.Bounds.{Bounds}
 use Rattle.gptp_setup.specs.SettlingParams.{SettlingParams}
 use Rattle.gptp_scenario.specs.Network.{pace_of}
@@ -17,14 +17,18 @@ use Rattle.gptp_network.specs.Document.{DocumentState}
 use Rattle.gptp_invariants.specs.ChoiceCalm.{sync_paths_of}
 use Rattle.gptp_invariants.specs.ChoiceSettled.{Settled}
 use Rattle.gptp_invariants.specs.WorldBounded.{IsBoundedWorld}
+use Rattle.gptp_invariants.specs.WorldNews.{AreSilentBy}
+use Rattle.gptp_invariants.proofs.WorldNewsLemmas.{silent_from_now}
 use Rattle.gptp_theorem.specs.PlayedLaws.{IsPlayable}
 use Rattle.gptp_theorem.proofs.PlayedLemmas.{no_change}
 use Rattle.gptp_theorem.proofs.SyncPathLemmas.{paths_stand}
 use Rattle.gptp_settling_time.specs.ChoiceAlone.{ChoiceStands}
+use Rattle.gptp_settling_time.specs.InTurn.{HasToldAll}
 use Rattle.gptp_settling_time.specs.Losses.{UpIsUsed, loss_span}
+use Rattle.gptp_settling_time.proofs.ClaimedToLemmas.{IsClaimedTo}
 use Rattle.gptp_settling_time.proofs.KeptToLemmas.{KeepsTo, keeps_act, keeps_later}
 use Rattle.gptp_settling_time.proofs.LeftToLemmas.{none_unanswered}
-use Rattle.gptp_settling_time.proofs.LostClaimedLemmas.{IsLostAlways, lost_acts, lost_chooses, lost_later, lost_now, lost_settles}
+use Rattle.gptp_settling_time.proofs.LostClaimedLemmas.{IsLostAlways, lost_acts, lost_chooses, lost_claimed, lost_later, lost_now, lost_settles}
 
 -- A world of a document after these events, the last of which came at that time and took something away.
 pub record IsLostTo (d : DocumentState) (events : List Timed) (since most silent : ℕ) (w : WorldState) : Type 0 where
@@ -71,3 +75,17 @@ module _ (d : DocumentState) (events : List Timed) (since most silent : ℕ) whe
     lost_to_settled (inr used) =
         lost_settles p since most w.time w
         (lost_now p since most silent w so.is (none_unanswered d events w so.keeps w.time used)) late (omega arith)
+
+  -- once it has come to rest claims are made of all links always
+  pub lost_to_claimed : (w : WorldState) (start : ℕ) → IsLostTo d events since most silent w → IsPlayable d
+      → HasToldAll d.network events since most silent start w.time → IsClaimedTo d events start w
+  lost_to_claimed w start so playable rest = record {
+    keeps = so.keeps;
+    since = lost_claimed p since most silent w so.is (late w so playable rest.told) start rest.later
+        (silent_by rest.unlinked);
+  }
+    where
+      silent_by : (silent ≤ w.time) ⊎ UpIsUsed d.network events → AreSilentBy p start w
+      silent_by (inl past) =
+          silent_from_now p start silent w so.is.standing.world so.is.standing.silent past
+      silent_by (inr used) = none_unanswered d events w so.keeps start used

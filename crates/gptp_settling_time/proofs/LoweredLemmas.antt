@@ -69,7 +69,6 @@ use Rattle.gptp_settling_time.proofs.BegunLeftLemmas.{begins_left}
 use Rattle.gptp_settling_time.proofs.AlwaysClaimedLemmas.{AreHeard, IsStanding, same_start, start_calm, start_network}
 use Rattle.gptp_settling_time.proofs.FitsLemmas.{IsLeftUnmoved, UnlinkedHoldNothing, at_zero, joined_stays, lived}
 use Rattle.gptp_settling_time.proofs.GoesDownLemmas.{AreDisabled, GoesDownQuietly, goes_down_alone, goes_down_quietly, held_among, others_disabled, without}
-use Rattle.gptp_settling_time.proofs.LastAnsweredLemmas.{silent_are_off}
 use Rattle.gptp_settling_time.proofs.LeftClaimedLemmas.{HaveAskedLong, IsLeftAlways, asked_heard, left_network}
 use Rattle.gptp_settling_time.proofs.LinkStoodLemmas.{second_still}
 use Rattle.gptp_settling_time.proofs.LinkUpLemmas.{lane_set}
@@ -539,7 +538,7 @@ module _ (p : SettlingParams) (w : WorldState) (is : IsWorld p w) (place : ℕ) 
         pace = pace;
         world = is';
         measured = measured';
-        off = silent_are_off p next w' (silent_down p w is place channel here draws w' is' k next silent);
+        silent = silent_down p w is place channel here draws w' is' k next silent;
       }
 
       asked_then : HaveAskedLong w'
@@ -593,10 +592,6 @@ module _ (p : SettlingParams) (next owner port : ℕ) (w : WorldState) (draws : 
         up_apart p w is at_link.place at_link.channel at_link.is.here draws w' is' ends at.link s.channel s.here s.up
         (sym same ∙ one)
 
-    -- ports beside failed systems stay silent
-    pub silent_on : AreSilentBy p next w → AreSilentBy p next w'
-    silent_on = silent_down p w is at_link.place at_link.channel at_link.is.here draws w' is' ends next
-
     -- ports at links that are left are ready as they were
     pub ready_on : AreReadyBy p next w → AreReadyBy p next w'
     ready_on ready at s =
@@ -619,7 +614,7 @@ module _ (p : SettlingParams) (next owner port : ℕ) (w : WorldState) (draws : 
               pace = pace;
               world = is;
               measured = measured;
-              off = silent_are_off p next w silent;
+              silent = silent;
             }) heard quiet 0 in
             ((calm.stations i s there live).ports place q at).unlinked past unlinked
 

@@ -116,7 +116,7 @@ anyway_ready d events start w keeps anyway = (
         none_silent (pace_of d.network) start w (all_live d.network events w keeps.stands live)
     by (inr late) =
         let last = keeps.stands.last in
-        unanswered_silent (pace_of d.network) start w keeps.claim.silent (omega (arith, late, last))
+        unanswered_silent (pace_of d.network) start w keeps.claim.pace keeps.claim.silent (omega (arith, late, last))
 
     late_by : AreCapableAnyway d.network events start
         → w.last_change + 2 * largest_interval (pace_of d.network)

@@ -1,42 +1,34 @@
 -- A priority1 that gets no worse leaves a world one since news, beside failed systems too.
-use Rattle.std.proofs.Common.{◌≡◌, ◌<◌, ◌≤◌, ◌+◌, ℕ, Bool, List, sym, ap, subst, ◌∙◌, inl, inr, arith}
+use Rattle.std.proofs.Common.{◌≡◌, ◌<◌, ◌≤◌, ℕ, Bool, List, sym, ap, ◌∙◌, inl, inr, arith}
 use Rattle.gptp_lists.proofs.MappedLemmas.{alike}
 use Rattle.gptp_vector.specs.declared.port.PortId.{PortId}
 use Rattle.gptp_links.specs.Fate.{Draw}
 use Rattle.gptp_scenario.specs.Params.{KeepPace}
 use Rattle.gptp_scenario.specs.declared.change.Act.TheVariants.{Change as Changing}
 use Rattle.gptp_scenario.specs.declared.change.Change.TheVariants.{Priority1}
-use Rattle.gptp_setup.specs.Intervals.{interval_of}
-use Rattle.gptp_setup.specs.SettlingParams.{SettlingParams, largest_interval}
-use Rattle.gptp_system.specs.declared.answer.Answer.{Answer}
+use Rattle.gptp_setup.specs.SettlingParams.{SettlingParams}
 use Rattle.gptp_system.specs.Input.{Priority}
-use Rattle.gptp_system.specs.Measures.{measure_at}
-use Rattle.gptp_model.specs.Act.{Calls}
 use Rattle.gptp_model.specs.Acts.{Acts}
-use Rattle.gptp_model.specs.Changing.{CallsIfLive}
 use Rattle.gptp_model.specs.declared.done.Done.{Done}
-use Rattle.gptp_model.specs.Sound.{HaveOwnClocks}
 use Rattle.gptp_model.specs.World.{Channel, WorldState, receiver, sender}
 use Rattle.gptp_model.proofs.BareLemmas.{bare}
 use Rattle.gptp_model.proofs.StayLemmas.{stays_clocks, with_setup_stays}
-use Rattle.gptp_pdelay_machine.specs.Setting.{Setting}
-use Rattle.gptp_pdelay_machine.specs.Silence.{InvUnanswered}
 use Rattle.gptp_invariants.specs.ChoiceSettlesAsMachine.{IsWorld}
-use Rattle.gptp_invariants.specs.DelayLinkView.{LinkPlace, asker_view}
+use Rattle.gptp_invariants.specs.DelayLinkView.{LinkPlace}
 use Rattle.gptp_invariants.specs.DelayMeasured.{LinkIsMeasured, LinkStandsAt, StationIsLiveAt}
-use Rattle.gptp_invariants.specs.FailedUnanswered.{IsFailedAmong, IsSilent, StandsUnanswered, silent_setting, silent_view}
+use Rattle.gptp_invariants.specs.FailedUnanswered.{IsFailedAmong, StandsUnanswered}
 use Rattle.gptp_invariants.specs.WorldNews.{AreReadyBy, AreSilentBy, IsNews}
 use Rattle.gptp_invariants.specs.WorldSound.{IsGain, IsSoundWorld}
 use Rattle.gptp_invariants.proofs.DelayCapableKeptLemmas.{known_params, same_receiver, same_sender}
 use Rattle.gptp_invariants.proofs.DelayChangeKeptLemmas.{acts_measured}
-use Rattle.gptp_invariants.proofs.FailedUnansweredCallLemmas.{CallStep, call_seen, view_stays}
 use Rattle.gptp_invariants.proofs.WorldNewsLemmas.{news_begin, ready_goes_through}
 use Rattle.gptp_invariants.proofs.WorldSoundLemmas.{sound_gains}
 use Rattle.gptp_settling_time.specs.Idle.{Lives}
-use Rattle.gptp_invariants.proofs.FailedNeverAnsweredLemmas.{told_never}
+use Rattle.gptp_invariants.proofs.FailedLastAnsweredLemmas.{last_told}
+use Rattle.gptp_invariants.proofs.FailedOffLemmas.{off_told}
 use Rattle.gptp_settling_time.proofs.NewsSoonLemmas.{AreComing, IsNewsSoon, coming_goes_through}
 use Rattle.gptp_settling_time.proofs.ReactsLemmas.{Reacts, lives_as, reacts}
-use Rattle.gptp_settling_time.proofs.StandsStillLemmas.{never_still, set_still, silent_still}
+use Rattle.gptp_settling_time.proofs.StandsStillLemmas.{off_still, set_still, last_still}
 
 -- ---- what stands after it stood before
 
@@ -102,32 +94,6 @@ module _ (w w' : WorldState) (r : Reacts w w') where
         answering = had_failed at.answering (receiver at.direction s.channel).clock _ ends s.answering;
       }
 
--- ---- a port beside a failed system
-
-module _ (gone : ℕ) (at : LinkPlace) (place value : ℕ) (w : WorldState) (draws : List Draw) (w' : WorldState)
-    (clocks : HaveOwnClocks w) (is : IsSilent gone at w) where
-  module _ (answer : Answer) (k : Calls place (Priority value) w draws answer w') where
-    step : CallStep place (Priority value) gone at w w' is.link
-    step = call_seen gone at place (Priority value) w draws answer w' k clocks is.link is.old (λ same. tt)
-
-    same_part : measure_at step.after.asking.state ≡ measure_at is.link.asking.state
-    same_part = elim step.part [ inl called ↦ called.1 | inr left ↦ left.1 ]
-
-    same_view : silent_view at w' step.after ≡ silent_view at w is.link
-    same_view = view_stays step (ap (asker_view (interval_of is.link.asking.station.setup.params.pdelay)) same_part)
-
-    called_silent : IsSilent gone at w'
-    called_silent = record {
-      link = step.after;
-      old = step.old;
-      inv = subst (λ (x : Setting). InvUnanswered x gone (silent_view at w' step.after)) (sym step.settled)
-          (subst (InvUnanswered (silent_setting at w is.link) gone) (sym same_view) is.inv);
-    }
-
-  pub prioritized_silent : CallsIfLive place (Priority value) w draws w' → IsSilent gone at w'
-  prioritized_silent (inl (answer, k)) = called_silent answer k
-  prioritized_silent (inr (failed, none, same)) = subst (IsSilent gone at) (sym same) is
-
 -- ---- news
 
 module _ (p : SettlingParams) (start owner value : ℕ) (w : WorldState) (draws : List Draw) (done : Done)
@@ -145,13 +111,13 @@ module _ (p : SettlingParams) (start owner value : ℕ) (w : WorldState) (draws 
       stays_clocks w _ (with_setup_stays value k.place k.station w k.is.here is.sound.wired.setups)
       is.sound.wired.clocks in
       elim (silent at (stood_unanswered w w' r at s)) [
-        | inl never ↦ inl (told_never at k.place (Priority value) (λ n. tt) (λ n. tt) _ draws w' clocks
-            (never_still w _ still at never) k.so)
-        | inr (change, one, soon) ↦
-            let gone = change + largest_interval p in
+        | inl off ↦ inl (off_told at k.place (Priority value) (λ n. tt) (λ n. tt) _ draws w' clocks
+            (off_still w _ still at off) k.so)
+        | inr (sent, last, soon) ↦
             inr (
-              change,
-              prioritized_silent gone at k.place value _ draws w' clocks (silent_still w _ still gone at one) k.so,
+              sent,
+              last_told sent at k.place (Priority value) (λ n. tt) (λ s now n x x' same. same) _ draws w' clocks
+                  (last_still w _ still sent at last) k.so,
               soon,
             )
       ]

@@ -64,6 +64,7 @@ use Rattle.gptp_invariants.proofs.WorldSoundCallLemmas.{links_more}
 use Rattle.gptp_invariants.proofs.WorldStandsLemmas.{sender_lives, used_up}
 use Rattle.gptp_invariants.proofs.WorldSystemLemmas.{clock_in, clock_lives, live_from, live_there}
 use Rattle.gptp_invariants.proofs.WorldWayLemmas.{IsWay, used_joins, way_of}
+use Rattle.gptp_invariants.proofs.PortInputLemmas.{of_up}
 use Rattle.gptp_settling_time.proofs.AlwaysClaimedLemmas.{AreHeard, IsClaimedAlways, same_start, standing, start_calm, start_net, start_network}
 use Rattle.gptp_settling_time.proofs.AsksSoonLemmas.{both_ways}
 use Rattle.gptp_settling_time.proofs.BesideUpLemmas.{seen_same}
@@ -74,7 +75,7 @@ use Rattle.gptp_settling_time.proofs.QuietUpLemmas.{RaisesAlone, raises}
 use Rattle.gptp_settling_time.proofs.ReactsLemmas.{logs_set, places_set}
 use Rattle.gptp_settling_time.proofs.RecoverLemmas.{keeps, orderly, stood_alone}
 use Rattle.gptp_settling_time.proofs.SameLinkLemmas.{IsSameLink, told_same}
-use Rattle.gptp_settling_time.proofs.SamePartsLemmas.{HasSameParts, called_parts, of_up, parts_on}
+use Rattle.gptp_settling_time.proofs.SamePartsLemmas.{HasSameParts, called_parts, parts_on}
 use Rattle.gptp_settling_time.proofs.UntoldLemmas.{HasMeasuredNothing, called_unmeasured, started_unmeasured}
 
 -- ---- its ports come up

@@ -12,15 +12,14 @@ use Rattle.gptp_links.specs.declared.link.Direction.{Direction}
 use Rattle.gptp_links.specs.Fate.{Draw}
 use Rattle.gptp_links.specs.Queue.{Frame}
 use Rattle.gptp_setup.specs.Intervals.{AreParams, interval_of}
-use Rattle.gptp_setup.specs.SettlingParams.{SettlingParams, largest_interval}
-use Rattle.gptp_pdelay.specs.Peer.{reset_peer}
+use Rattle.gptp_setup.specs.SettlingParams.{SettlingParams}
 use Rattle.gptp_scenario.specs.Params.{KeepPace}
 use Rattle.gptp_scenario.specs.declared.change.Act.TheVariants.{Change as Changing}
 use Rattle.gptp_scenario.specs.declared.change.Change.TheVariants.{Recover}
 use Rattle.gptp_system.specs.declared.port.Port.{Port}
 use Rattle.gptp_system.specs.declared.answer.Answer.{Answer}
 use Rattle.gptp_system.specs.Input.{PortUp}
-use Rattle.gptp_system.specs.Measures.{measure_at, part_asked}
+use Rattle.gptp_system.specs.Measures.{measure_at}
 use Rattle.gptp_system.specs.Start.{started}
 use Rattle.gptp_system.specs.State.{SystemState, clock, number as port_number}
 use Rattle.gptp_system.specs.Steps.{HasPortNumber}
@@ -33,33 +32,31 @@ use Rattle.gptp_model.specs.Changing.{Nothing, RecoversIf, Starts, fresh, up_por
 use Rattle.gptp_model.specs.World.{Channel, WorldState, receiver, sender, world_queue}
 use Rattle.gptp_model.proofs.StayLemmas.{Stays, refreshed_stays, stays_apart, stays_clocks, starts_stays, stays_ports, stays_setups}
 use Rattle.gptp_model.proofs.UpLemmas.{brings_port}
-use Rattle.gptp_pdelay_machine.specs.Asker.{Asker}
 use Rattle.gptp_pdelay_machine.specs.Lanes.{LaneFrame}
 use Rattle.gptp_pdelay_machine.specs.Messages.{Request}
-use Rattle.gptp_pdelay_machine.specs.Setting.{Setting}
-use Rattle.gptp_pdelay_machine.specs.Silence.{InvUnanswered}
 use Rattle.gptp_invariants.specs.ChoiceCalm.{delay_in}
 use Rattle.gptp_invariants.specs.ChoiceSettlesAsMachine.{IsWorld}
 use Rattle.gptp_invariants.specs.DelayLinkView.{IsEndOf, IsLinkOf, LinkPlace, asked_at, asker_view, link_setting, other_direction, pair, reads_as_request, waits_by}
 use Rattle.gptp_invariants.specs.DelayMeasured.{IsStationMeasured, LinkIsMeasured, LinkStandsAt, StationIsLiveAt}
-use Rattle.gptp_invariants.specs.FailedUnanswered.{IsFailedAmong, IsNeverAnswered, IsSilent, IsUnansweredAt, IsUnmeasured, StandsUnanswered, silent_setting, silent_view}
+use Rattle.gptp_invariants.specs.FailedUnanswered.{IsFailedAmong, IsLastAnswered, IsOff, IsUnansweredAt, IsUnmeasured, StandsUnanswered, silent_view}
 use Rattle.gptp_invariants.specs.WorldNews.{AreReadyBy, AreSilentBy, IsNews, IsSilentBy}
 use Rattle.gptp_invariants.specs.WorldSound.{IsSoundWorld}
 use Rattle.gptp_invariants.proofs.ChoiceCalmKeptLemmas.{KeepsNetwork, net_keeps}
 use Rattle.gptp_invariants.proofs.DelayCapableKeptLemmas.{HaveParams, known_params, stood_among}
-use Rattle.gptp_invariants.proofs.DelayLinkCallLemmas.{at_own, seen_from}
+use Rattle.gptp_invariants.proofs.DelayLinkCallLemmas.{seen_from}
 use Rattle.gptp_invariants.proofs.DelayLinkKeptLemmas.{started_measured}
 use Rattle.gptp_invariants.proofs.DelayLinkLemmas.{IsOrderly, sender_opposite, sound_orderly}
 use Rattle.gptp_invariants.proofs.DelayLinkStandLemmas.{end_is}
-use Rattle.gptp_invariants.proofs.FailedNeverAnsweredLemmas.{never_called}
-use Rattle.gptp_invariants.proofs.FailedUnansweredCallLemmas.{asker_is, call_seen, view_stays}
-use Rattle.gptp_invariants.proofs.DelayElsewhereLemmas.{orderly_too}
+use Rattle.gptp_invariants.proofs.DelayElsewhereLemmas.{calls_orderly, orderly_too}
 use Rattle.gptp_model.proofs.ActsByLemmas.{PortCallsKeep, start_ports_told, start_told}
 use Rattle.gptp_invariants.proofs.FailedSilentElsewhereLemmas.{stood_up}
 use Rattle.gptp_invariants.proofs.WorldNewsLemmas.{news_begin, ready_goes_through}
 use Rattle.gptp_invariants.proofs.WorldOutlineLemmas.{acts_time}
 use Rattle.gptp_invariants.proofs.WorldSoundCallLemmas.{up_keeps}
 use Rattle.gptp_invariants.proofs.WorldSoundLemmas.{sound_gains}
+use Rattle.gptp_invariants.proofs.FailedLastAnsweredLemmas.{last_called}
+use Rattle.gptp_invariants.proofs.FailedOffLemmas.{off_called}
+use Rattle.gptp_invariants.proofs.UnmeasuredLemmas.{unmeasured_off}
 use Rattle.gptp_settling_time.proofs.AskedElsewhereLemmas.{asked_up, still_in_time}
 use Rattle.gptp_settling_time.proofs.AskedInTimeLemmas.{AreAskedInTime, IsAskedInTime}
 use Rattle.gptp_settling_time.proofs.AsksSoonLemmas.{alone_asks, asked_before, both_ways, due_now, now_asks, seen_due, soon_after}
@@ -69,58 +66,20 @@ use Rattle.gptp_settling_time.proofs.OrderedLemmas.{opposite, turned}
 use Rattle.gptp_settling_time.proofs.RestartLemmas.{AskedAlone, AsksIn, HasAskedNow, IsPrompt, alone_up, asks_in}
 use Rattle.gptp_settling_time.proofs.WillAskLemmas.{WillAsk}
 
--- a port that comes up leaves one beside a failed system silent
-beside_silent : (gone : ℕ) (at : LinkPlace) (place q : ℕ) (w : WorldState) (draws : List Draw) (answer : Answer)
-    (w' : WorldState) → Calls place (PortUp q) w draws answer w' → IsOrderly w → IsSilent gone at w
-    → IsSilent gone at w'
-beside_silent gone at place q w draws answer w' k orderly is =
-    let step = call_seen gone at place (PortUp q) w draws answer w' k orderly.clocks is.link is.old (λ same. tt) in
-    let period = interval_of is.link.asking.station.setup.params.pdelay in
-    let x = measure_at is.link.asking.state in
-    let still : measure_at step.after.asking.state ≡ x → IsSilent gone at w' = λ part.
-    let seen : silent_view at w' step.after ≡ silent_view at w is.link =
-    view_stays step (ap (asker_view period) part) in
-    record {
-      link = step.after;
-      old = step.old;
-      inv = subst (λ (y : Setting). InvUnanswered y gone (silent_view at w' step.after)) (sym step.settled)
-          (subst (InvUnanswered (silent_setting at w is.link) gone) (sym seen) is.inv);
-    } in
-    elim step.part [
-      | inl called ↦ elim (at_own q (sender at.direction is.link.channel).port
-          (part_asked is.link.asking.station.system w.time reset_peer) x (measure_at step.after.asking.state)
-          called.1) [
-            | inl one ↦
-                let becomes : (silent_view at w' step.after).asker
-                ≡ asker_view period (part_asked is.link.asking.station.system w.time reset_peer x) =
-                asker_is step ∙ ap (asker_view period) one.1 in
-                let lost : (silent_view at w' step.after).asker.lost ≡ 0 = ap (λ (a : Asker). a.lost) becomes in
-                let off : (silent_view at w' step.after).asker.capable ≡ false =
-                ap (λ (a : Asker). a.capable) becomes in
-                record {
-                  link = step.after;
-                  old = step.old;
-                  inv = record {
-                    lost = omega (arith, lost);
-                    counts = λ capable. absurd (let both = sym off ∙ capable in cc);
-                  };
-                }
-            | inr beside ↦ still beside.1
-          ]
-      | inr left ↦ still left.1
-    ]
+-- a port that comes up leaves one beside a failed system as it is, where it is one of another system
+last_up : (sent : ℕ) (at : LinkPlace) (place q : ℕ) (w : WorldState) (draws : List Draw) (answer : Answer)
+    (w' : WorldState) → at.asking ≢ place → Calls place (PortUp q) w draws answer w' → IsOrderly w
+    → IsLastAnswered sent at w → IsLastAnswered sent at w'
+last_up sent at place q w draws answer w' apart k orderly last =
+    last_called sent at place (PortUp q) w draws answer w' k orderly.clocks last (λ same. tt)
+    (λ x same part. absurd (apart same))
 
-silent_up : (gone : ℕ) (at : LinkPlace) → PortCallsKeep ⊤ PortUp (λ w. IsOrderly w × IsSilent gone at w)
-silent_up gone at =
-    orderly_too ⊤ PortUp (IsSilent gone at)
-    (λ place port w draws answer w' k of. beside_silent gone at place port w draws answer w' k)
-
--- nor are they answered that have never been
-never_up : (at : LinkPlace) → PortCallsKeep ⊤ PortUp (λ w. IsOrderly w × IsNeverAnswered at w)
-never_up at =
-    orderly_too ⊤ PortUp (IsNeverAnswered at)
+-- one that is off stays so
+off_up : (at : LinkPlace) → PortCallsKeep ⊤ PortUp (λ w. IsOrderly w × IsOff at w)
+off_up at =
+    orderly_too ⊤ PortUp (IsOff at)
     (λ place port w draws answer w' k of orderly is.
-    never_called at place (PortUp port) w draws answer w' k orderly.clocks is (λ same. tt) (λ same. tt))
+    off_called at place (PortUp port) w draws answer w' k orderly.clocks is (λ same. tt) (λ same. tt))
 
 -- A port of a system as it starts answers nothing, hasn't asked, and has measured nothing.
 record IsFreshPort (q : Port) : Type 0 where
@@ -231,6 +190,17 @@ module _ (p : SettlingParams) (by next number : ℕ) (w : WorldState) (draws : L
     through : (So : WorldState → Type 0) → PortCallsKeep ⊤ PortUp (λ v. IsOrderly v × So v) → So begun → So w'
     through So called so =
         (start_told ⊤ (λ v. IsOrderly v × So v) called k.place now draws w' starts (orderly, so)).1
+
+    -- they are calls of its own system
+    through_own : (So : WorldState → Type 0)
+        → ((port : ℕ) (v : WorldState) (ds : List Draw) (answer : Answer) (v' : WorldState)
+        → Calls k.place (PortUp port) v ds answer v' → IsOrderly v → So v → So v')
+        → So begun → So w'
+    through_own So called so =
+        (start_ports_told k.place (λ ports v. IsOrderly v × So v)
+        (λ port ports v ds answer v' c of is.
+        (calls_orderly k.place (PortUp port) v ds answer v' is.0 c, called port v ds answer v' c is.0 is.1)) now draws w'
+        starts (orderly, so)).1
 
     params_begun : HaveParams p begun
     params_begun =
@@ -570,21 +540,26 @@ module _ (p : SettlingParams) (by next number : ℕ) (w : WorldState) (draws : L
           };
         }
 
-        begun_silent : (old_by : ℕ) → IsSilent old_by at w → IsSilent old_by at begun
-        begun_silent old_by one = record { link = unanswered_begun one.link; old = one.old; inv = one.inv }
+        begun_last : (sent : ℕ) → IsLastAnswered sent at w → IsLastAnswered sent at begun
+        begun_last sent one = record {
+          link = unanswered_begun one.link;
+          replies = one.replies;
+          inv = one.inv;
+        }
 
         others_silent : AreSilentBy p next w → IsSilentBy p next at w'
         others_silent silent = elim (silent at was) [
-          | inl never ↦ inl (through (IsNeverAnswered at) (never_up at) (record {
-            link = unanswered_begun never.link;
-            mute = never.mute;
-            unmeasured = never.unmeasured;
+          | inl off ↦ inl (through (IsOff at) (off_up at) (record {
+            link = unanswered_begun off.link;
+            mute = off.mute;
+            off = off.off;
           }))
-          | inr (change, one, from) ↦
-              let old_by = change + largest_interval p in
+          | inr (sent, last, from) ↦
               inr (
-                change,
-                through (IsSilent old_by at) (silent_up old_by at) (begun_silent old_by one),
+                sent,
+                through_own (IsLastAnswered sent at)
+                    (λ port v ds answer v' c. last_up sent at k.place port v ds answer v' asking_apart c)
+                    (begun_last sent last),
                 from,
               )
         ]
@@ -655,11 +630,11 @@ module _ (p : SettlingParams) (by next number : ℕ) (w : WorldState) (draws : L
               old = due_by (other_direction at.direction);
             })
 
-        -- it has never been answered
-        own_never : gone < w.time → IsNeverAnswered at w'
+        -- it is off
+        own_off : gone < w.time → IsOff at w'
         unfolding own_begun
-        own_never past =
-            through (IsNeverAnswered at) (never_up at)
+        own_off past =
+            through (IsOff at) (off_up at)
             (record {
               link = own_begun;
               mute = λ f member r says.
@@ -667,7 +642,7 @@ module _ (p : SettlingParams) (by next number : ℕ) (w : WorldState) (draws : L
                   let late = due_now w is.sound at.link (other_direction at.direction) stood_begun.channel
                   stood_begun.here f member in
                   absurd (omega (arith, due, late, past));
-              unmeasured = fresh_end.unmeasured;
+              off = unmeasured_off end.state.peer fresh_end.unmeasured;
             })
 
     recovers_in_time : (gone : ℕ) → AreAskedInTime gone w → AreGoneBetween gone w → AreAskedInTime gone w'
@@ -678,7 +653,7 @@ module _ (p : SettlingParams) (by next number : ℕ) (w : WorldState) (draws : L
 
     recovers_silent : (gone : ℕ) → gone < w.time → AreGoneBetween gone w → AreSilentBy p next w → AreSilentBy p next w'
     recovers_silent gone past all silent at s = elim (same_place at.asking k.place) [
-      | inl here ↦ inl (own_never at s here gone all past)
+      | inl here ↦ inl (own_off at s here gone all past)
       | inr apart ↦ others_silent at s apart silent
     ]
 

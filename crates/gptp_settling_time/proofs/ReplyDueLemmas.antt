@@ -1,6 +1,6 @@
 -- A system fails: the last request of each port beside it is the last that is answered, since its answer comes before
 -- the next request goes.
-use Rattle.std.proofs.Common.{◌≡◌, ◌⊎◌, ◌≤◌, ◌<◌, ◌+◌, ℕ, List, [], ◌∷◌, Option, Some, slice_get, refl, sym, subst, inl, inr, arith}
+use Rattle.std.proofs.Common.{◌≡◌, ◌⊎◌, ◌≤◌, ◌<◌, ◌+◌, ℕ, List, [], ◌∷◌, Option, Some, slice_get, sym, subst, inl, inr, arith}
 use Rattle.gptp_lists.specs.Members.{In}
 use Rattle.gptp_lists.proofs.SystemSpecLemmas.{In-map}
 use Rattle.gptp_setup.specs.SettlingParams.{SettlingParams}
@@ -17,9 +17,9 @@ use Rattle.gptp_pdelay_machine.proofs.SilenceLemmas.{unanswered_begins}
 use Rattle.gptp_invariants.specs.ChoiceSettlesAsMachine.{IsWorld}
 use Rattle.gptp_invariants.specs.DelayFirstAt.{IsFirstAt}
 use Rattle.gptp_invariants.specs.DelayLinkView.{LinkPlace, least_delay, link_frame_view, link_setting, other_direction, pair, reads_as_reply, reads_as_request}
-use Rattle.gptp_invariants.specs.FailedUnanswered.{IsFailedAmong, IsUnansweredAt, silent_setting, silent_view}
+use Rattle.gptp_invariants.specs.FailedUnanswered.{IsFailedAmong, IsLastAnswered, IsUnansweredAt, silent_setting, silent_view}
+use Rattle.gptp_invariants.proofs.FailedLastAnsweredLemmas.{one_setting, one_view}
 use Rattle.gptp_invariants.proofs.FailedSilentLemmas.{silence_begins}
-use Rattle.gptp_settling_time.proofs.LastAnsweredLemmas.{IsLastAnswered, one_setting, one_view}
 
 -- a frame that says something is the first of such, or comes after it
 first_or_later : {X : Type 0} (says : List ℕ → X → Type 0) (P : LaneFrame → Type 0) (Q : List LaneFrame → Type 0)
@@ -113,10 +113,7 @@ module _ (p : SettlingParams) (w w' : WorldState) (is' : IsWorld p w') (changed 
         x.inv.clean.phase (link_frame_view f)
         (In-map link_frame_view f (world_queue (other_direction at.direction) x.link.channel) member) r says in
         let short : exchange_span (link_setting at w x.link) < (silent_setting at w' link).period = x.short in
-        omega (arith, due, short);
-    since = record {
-      asked = inl refl;
-      inv = unanswered_begins (silent_setting at w' link) last_sent (silent_view at w' link) few_lost
-          (omega arith);
-    };
+        inr (omega arith, omega (arith, due, short));
+    inv = unanswered_begins (silent_setting at w' link) last_sent (silent_view at w' link) few_lost
+        (omega arith);
   }

@@ -59,7 +59,7 @@ module _ (p : SettlingParams) (w : WorldState) (claim : KeepsAll p w) (sound : I
       let soon = capable_by in
       let positive = some in
       news_begin p start w claim.pace claim.world claim.measured
-      (unanswered_silent p start w claim.silent (omega (arith, by))) sound
+      (unanswered_silent p start w claim.pace claim.silent (omega (arith, by))) sound
       (watched_ready p start w claim.watched (omega (arith, soon, positive)) (omega (arith, soon))) (omega arith)
 
   heard : AreHeard p start w

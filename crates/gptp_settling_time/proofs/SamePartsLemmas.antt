@@ -5,12 +5,11 @@ use Rattle.gptp_lists.proofs.PlaceLemmas.{get-set_other}
 use Rattle.gptp_vector.specs.declared.port.PortId.{PortId}
 use Rattle.gptp_links.specs.declared.link.Direction.{Direction}
 use Rattle.gptp_links.specs.Fate.{Draw}
-use Rattle.gptp_pdelay.specs.Peer.{reset_peer}
 use Rattle.gptp_setup.specs.SettlingParams.{SettlingParams}
 use Rattle.gptp_system.specs.declared.answer.Answer.{Answer}
-use Rattle.gptp_system.specs.Input.{Input, IsTimely, PortDown, PortUp}
-use Rattle.gptp_system.specs.Measures.{IsPartAfter, Part, measure_at, part_asked, part_down}
-use Rattle.gptp_system.specs.State.{SystemState, clock}
+use Rattle.gptp_system.specs.Input.{Input}
+use Rattle.gptp_system.specs.Measures.{measure_at}
+use Rattle.gptp_system.specs.State.{clock}
 use Rattle.gptp_system.specs.Steps.{HasPortNumber}
 use Rattle.gptp_model.specs.Act.{Calls}
 use Rattle.gptp_model.specs.Changing.{TellsEnds}
@@ -22,40 +21,8 @@ use Rattle.gptp_model.proofs.StayLemmas.{JoinTheSame, begins_same, join_on, send
 use Rattle.gptp_invariants.specs.ChoiceSettlesAsMachine.{IsWorld}
 use Rattle.gptp_invariants.specs.DelayLinkView.{IsLinkOf, LinkPlace, link_setting, other_direction}
 use Rattle.gptp_invariants.proofs.DelayElsewhereLemmas.{calls_orderly}
-use Rattle.gptp_invariants.proofs.DelayEndLemmas.{HearsWhatFits}
-use Rattle.gptp_invariants.proofs.DelayLinkCallLemmas.{at_own}
-use Rattle.gptp_invariants.proofs.UnmeasuredLemmas.{IsMuteTo}
+use Rattle.gptp_invariants.proofs.PortInputLemmas.{IsOfPort}
 use Rattle.gptp_invariants.proofs.DelayLinkLemmas.{IsOrderly, LinkStep, link_called, net_orderly, sender_opposite, sound_orderly}
-
--- ---- an input of a port
-
--- a port that it isn't given to measures as it did
-pub record IsOfPort (input : ℕ → Input) : Type 0 where
-  pub timely : (s : SystemState) (now p : ℕ) → HasPortNumber s p → IsTimely s now (input p)
-  pub fits : (p n : ℕ) → HearsWhatFits n (input p)
-  pub mute : (p n : ℕ) → IsMuteTo n (input p)
-  pub leaves : (s : SystemState) (now p n : ℕ) (x x' : Part) → n ≢ p → IsPartAfter s now (input p) n x x' → x' ≡ x
-
-pub of_up : IsOfPort PortUp
-of_up = record {
-  timely = λ s now p of. of;
-  fits = λ p n. tt;
-  mute = λ p n. tt;
-  leaves = λ s now p n x x' apart is.
-      elim (at_own p n (part_asked s now reset_peer) x x' is) [
-        | inl own ↦ absurd (apart own.0)
-        | inr beside ↦ beside.1
-      ];
-}
-
-pub of_down : IsOfPort PortDown
-of_down = record {
-  timely = λ s now p of. of;
-  fits = λ p n. tt;
-  mute = λ p n. tt;
-  leaves = λ s now p n x x' apart is.
-      elim (at_own p n part_down x x' is) [ inl own ↦ absurd (apart own.0) | inr beside ↦ beside.1 ];
-}
 
 -- ---- one call
 

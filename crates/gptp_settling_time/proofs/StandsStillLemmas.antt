@@ -1,6 +1,6 @@
 -- What is claimed of a world stays so in one that differs from it in nothing but what failed systems and those that
 -- recover start with, what is pending, and when the last change was.
-use Rattle.std.proofs.Common.{◌≡◌, ◌<◌, ◌+◌, ◌*◌, ℕ, ℤ, pos, zero, suc, List, [], ◌∷◌, map, Some, slice_get, refl, sym, ap, subst, ◌∙◌, inl, inr, arith}
+use Rattle.std.proofs.Common.{◌≡◌, ◌<◌, ◌+◌, ◌*◌, ℕ, ℤ, pos, zero, suc, List, [], ◌∷◌, map, Some, slice_get, refl, sym, ap, subst, ◌∙◌, inl, inr, arith, false}
 use Rattle.std.specs.Option.{option_map_or}
 use Rattle.std.specs.Prelude.{◌==◌, if◌then◌else◌}
 use Rattle.gptp_lists.proofs.MappedLemmas.{alike}
@@ -9,6 +9,7 @@ use Rattle.gptp_graph.specs.Snapshot.{PortIdentity}
 use Rattle.gptp_vector.specs.declared.port.PortId.{PortId}
 use Rattle.gptp_links.specs.declared.link.Direction.{Direction}
 use Rattle.gptp_pdelay.specs.Clock.{clock_stamp}
+use Rattle.gptp_pdelay.specs.Peer.{is_capable}
 use Rattle.gptp_roles.specs.Selection.{clock_of}
 use Rattle.gptp_scenario.specs.SyncWait.{sync_wait}
 use Rattle.gptp_setup.specs.declared.setup.Params.{Params}
@@ -23,7 +24,6 @@ use Rattle.gptp_model.specs.Changing.{with_setup, with_station}
 use Rattle.gptp_model.specs.declared.station.Station.{Station}
 use Rattle.gptp_model.specs.World.{Channel, WorldState, receiver, sender}
 use Rattle.gptp_pdelay_machine.specs.Setting.{Setting}
-use Rattle.gptp_pdelay_machine.specs.Silence.{InvUnanswered, Unanswered}
 use Rattle.gptp_bmca_machine.specs.Frame.{Lane}
 use Rattle.gptp_bmca_machine.specs.Network.{Network}
 use Rattle.gptp_bmca_machine.specs.SoundEverywhere.{IsSoundEverywhere}
@@ -34,7 +34,7 @@ use Rattle.gptp_invariants.specs.ChoiceSettlesAsMachine.{IsWorld}
 use Rattle.gptp_invariants.specs.ChoiceView.{lanes_view, says_announce, says_sync, station_view, view}
 use Rattle.gptp_invariants.specs.DelayLinkView.{IsEndAmong, IsLinkOf, IsMeasuring, LinkPlace, asker_view, pair_view, setting_view, setup_stamping, kept_view}
 use Rattle.gptp_invariants.specs.DelayMeasured.{LinkIsMeasured, LinkStandsAt, StationIsLiveAt}
-use Rattle.gptp_invariants.specs.FailedUnanswered.{IsFailedAmong, IsNeverAnswered, IsSilent, IsUnansweredAt, IsUnmeasured, StandsUnanswered, silent_setting, silent_view}
+use Rattle.gptp_invariants.specs.FailedUnanswered.{IsFailedAmong, IsLastAnswered, IsOff, IsUnansweredAt, StandsUnanswered, silent_setting, silent_view}
 use Rattle.gptp_invariants.specs.WorldNews.{AreSilentBy, IsNews, turn_network}
 use Rattle.gptp_invariants.specs.WorldSound.{IsSoundWorld}
 use Rattle.gptp_invariants.specs.WorldStanding.{channel_is_used, live_stations, snapshot_of, standing_system, used_channels}
@@ -42,10 +42,10 @@ use Rattle.gptp_system.specs.declared.port.Port.{Port}
 use Rattle.gptp_settling_time.proofs.AskedInTimeLemmas.{AreAskedInTime}
 use Rattle.gptp_settling_time.proofs.BetweenFailedLemmas.{AreGoneBetween}
 use Rattle.gptp_settling_time.proofs.AlwaysClaimedLemmas.{IsClaimedAlways}
-use Rattle.gptp_settling_time.proofs.LastAnsweredLemmas.{IsLastAnswered, IsSince, last_then}
 use Rattle.gptp_settling_time.proofs.SameLinkLemmas.{StaysSameLink}
 use Rattle.gptp_settling_time.proofs.NewsSoonLemmas.{IsNewsFrom, from_silent, from_sound}
 use Rattle.gptp_settling_time.proofs.StandsLikeLemmas.{StandsLike, claims_like, from_like, news_like, turn_like_network}
+use Rattle.gptp_invariants.proofs.FailedLastAnsweredLemmas.{last_stays}
 
 -- a station but for the priority1 that it starts with
 abbrev pub plain : Station → Station
@@ -338,47 +338,24 @@ module _ (w w' : WorldState) (still : StandsStill w w') where
         };
       }
 
-  pub silent_still : (gone : ℕ) (at : LinkPlace) → IsSilent gone at w → IsSilent gone at w'
-  silent_still gone at is =
-      let l = is.link in
-      let a = end_still at.asking (sender at.direction l.channel) l.asking in
-      let b = station_still at.answering l.answering.station l.answering.here in
-      let time = still.time in
-      let after = unanswered_still at l in
-      let settled : silent_setting at w' after ≡ silent_setting at w l =
-      λ i. setting_named at.direction l.channel (a.same i).setup (b.same i).setup in
-      let seen : silent_view at w' after ≡ silent_view at w l = λ i. record {
-        time = time i;
-        asker = asker_view (interval_of (a.same i).setup.params.pdelay) (measure_at (a.state i));
-      } in
-      record {
-        link = after;
-        old = is.old;
-        inv = subst (λ (k : Setting). InvUnanswered k gone (silent_view at w' after)) (sym settled)
-            (subst (λ (u : Unanswered). InvUnanswered (silent_setting at w l) gone u) (sym seen) is.inv);
-      }
-
   pub last_still : (sent : ℕ) (at : LinkPlace) → IsLastAnswered sent at w → IsLastAnswered sent at w'
   last_still sent at is =
       let l = is.link in
       let a = end_still at.asking (sender at.direction l.channel) l.asking in
       let b = station_still at.answering l.answering.station l.answering.here in
-      let time = still.time in
-      let seen : silent_view at w' (unanswered_still at l) ≡ silent_view at w l = λ i. record {
-        time = time i;
-        asker = asker_view (interval_of (a.same i).setup.params.pdelay) (measure_at (a.state i));
-      } in
-      last_then sent at w w' is (unanswered_still at l)
-      (λ i. setting_named at.direction l.channel (a.same i).setup (b.same i).setup) (λ f member. member)
-      (subst (IsSince (silent_setting at w l) sent) (sym seen) is.since)
+      let after = unanswered_still at l in
+      let settled : silent_setting at w' after ≡ silent_setting at w l =
+      λ i. setting_named at.direction l.channel (a.same i).setup (b.same i).setup in
+      last_stays sent at w w' is after settled (λ f member. member)
+      (λ i. asker_view (interval_of (a.same i).setup.params.pdelay) (measure_at (a.state i)))
 
-  pub never_still : (at : LinkPlace) → IsNeverAnswered at w → IsNeverAnswered at w'
-  never_still at is =
+  pub off_still : (at : LinkPlace) → IsOff at w → IsOff at w'
+  off_still at is =
       let a = end_still at.asking (sender at.direction is.link.channel) is.link.asking in
       record {
         link = unanswered_still at is.link;
         mute = is.mute;
-        unmeasured = subst (λ (q : Port). IsUnmeasured q.peer) (sym a.state) is.unmeasured;
+        off = subst (λ (q : Port). is_capable q.peer ≡ false) (sym a.state) is.off;
       }
 
   -- what is in flight beside failed systems and between them is in time still
@@ -436,10 +413,10 @@ module _ (p : SettlingParams) (start : ℕ) (w w' : WorldState) (still : StandsS
   like : StandsLike w w'
   like = stands_like w w' still
 
-  silent_then : AreSilentBy p start w → AreSilentBy p start w'
+  pub silent_then : AreSilentBy p start w → AreSilentBy p start w'
   silent_then silent at s = elim (silent at (unanswered_before w w' still at s)) [
-    | inl never ↦ inl (never_still w w' still at never)
-    | inr (change, one, soon) ↦ inr (change, silent_still w w' still (change + largest_interval p) at one, soon)
+    | inl off ↦ inl (off_still w w' still at off)
+    | inr (sent, last, soon) ↦ inr (sent, last_still w w' still sent at last, soon)
   ]
 
   sound_then : IsSoundWorld w → IsSoundWorld w'

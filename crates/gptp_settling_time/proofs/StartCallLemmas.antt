@@ -53,7 +53,8 @@ use Rattle.gptp_invariants.proofs.WorldActEncodableLemmas.{answering_kept, initi
 use Rattle.gptp_model.proofs.ActsByLemmas.{Elementary, IsGiven, SaysWhatIsKnown, acts_by, starts_by}
 use Rattle.gptp_invariants.proofs.WorldAnsweringLemmas.{IsAnswering, sound_answers}
 use Rattle.gptp_invariants.proofs.WorldSoundCallLemmas.{setups_of}
-use Rattle.gptp_invariants.specs.FailedUnanswered.{IsNeverAnswered, IsUnansweredAt, IsUnmeasured}
+use Rattle.gptp_invariants.proofs.UnmeasuredLemmas.{unmeasured_off}
+use Rattle.gptp_invariants.specs.FailedUnanswered.{IsOff, IsUnansweredAt, IsUnmeasured}
 use Rattle.gptp_system.specs.declared.port.Port.{Port}
 use Rattle.std.specs.Option.{option_and_then}
 use Rattle.gptp_settling_time.specs.InTurn.{TellsNothing}
@@ -414,12 +415,12 @@ begun_quiet answers n fate fate_after w network sound k =
 
 -- ---- beside failed systems
 
--- a port beside a failed system has never been answered
-pub starting_never : (w : WorldState) → IsQuietYet w → (at : LinkPlace) → IsUnansweredAt at w → IsNeverAnswered at w
-starting_never w quiet at l = record {
+-- a port beside a failed system is off
+pub starting_off : (w : WorldState) → IsQuietYet w → (at : LinkPlace) → IsUnansweredAt at w → IsOff at w
+starting_off w quiet at l = record {
   link = l;
   mute = (quiet.ahead at.link l.channel l.here).mute (other_direction at.direction);
-  unmeasured = by (sender at.direction l.channel).port l.asking.there;
+  off = unmeasured_off l.asking.state.peer (by (sender at.direction l.channel).port l.asking.there);
 }
   where
     by : (n : ℕ) → number l.asking.station.system.ports n ≡ Some l.asking.state → IsUnmeasured l.asking.state.peer

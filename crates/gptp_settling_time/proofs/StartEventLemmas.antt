@@ -68,7 +68,7 @@ use Rattle.gptp_settling_time.proofs.GainLemmas.{lives_as, member_at, named_as, 
 use Rattle.gptp_settling_time.proofs.KeptToLemmas.{KeepsTo, keeps_act, keeps_later}
 use Rattle.gptp_settling_time.proofs.LinkStoodLemmas.{stood_in, stood_untold, up_first}
 use Rattle.gptp_settling_time.proofs.MadeLemmas.{made_keeps, made_time}
-use Rattle.gptp_settling_time.proofs.StartCallLemmas.{IsQuietYet, begun_quiet, quiet_acts, starting_never}
+use Rattle.gptp_settling_time.proofs.StartCallLemmas.{IsQuietYet, begun_quiet, quiet_acts, starting_off}
 use Rattle.gptp_settling_time.proofs.StartLemmas.{ExchangesAreOver, untold_news, untold_since}
 
 -- ---- as a network starts
@@ -487,7 +487,7 @@ module _ {F : Type 0} (answers : Bounds → ℕ → F → Option ℕ → F → T
     time_is = made_time answers d playable made event fate fate_after w w' done is fit k ∙ starts.now
 
     none_answered : AreSilentBy p next w'
-    none_answered at s = inl (starting_never w' starting.quiet at (after.claim.silent at s).link)
+    none_answered at s = inl (starting_off w' starting.quiet at (after.claim.silent at s).link)
 
     pub starts_news : IsNews p next w'
     starts_news = soon_news d playable more next w' after starting time_is none_answered starts.capable

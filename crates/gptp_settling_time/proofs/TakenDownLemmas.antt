@@ -1,6 +1,6 @@
 -- A link is taken down, and its ends are told: what stands elsewhere stood before, and ports beside failed systems stay
 -- silent.
-use Rattle.std.proofs.Common.{◌≡◌, ◌≢◌, ◌+◌, ℕ, Bool, true, false, List, [], map, Some, slice_get, slice_set, refl, sym, ap, subst, ◌∙◌, inl, inr}
+use Rattle.std.proofs.Common.{Bool, List, Some, [], ap, false, inl, inr, map, refl, slice_get, slice_set, subst, sym, true, ℕ, ◌∙◌, ◌≡◌, ◌≢◌}
 use Rattle.std.proofs.lemmas.Option.{same_Some}
 use Rattle.gptp_lists.specs.Members.{In}
 use Rattle.gptp_lists.proofs.MappedLemmas.{alike}
@@ -21,15 +21,19 @@ use Rattle.gptp_model.proofs.SteadyLemmas.{same_clock}
 use Rattle.gptp_invariants.specs.ChoiceSettlesAsMachine.{IsWorld}
 use Rattle.gptp_invariants.specs.DelayLinkView.{LinkPlace}
 use Rattle.gptp_invariants.specs.DelayMeasured.{LinkStandsAt, StationIsLiveAt}
-use Rattle.gptp_invariants.specs.FailedUnanswered.{IsFailedAmong, StandsUnanswered}
+use Rattle.gptp_invariants.specs.FailedUnanswered.{IsFailedAmong, IsLastAnswered, IsOff, IsUnansweredAt, StandsUnanswered}
 use Rattle.gptp_invariants.specs.WorldNews.{AreSilentBy}
 use Rattle.gptp_invariants.specs.WorldStanding.{snapshot_of}
 use Rattle.gptp_invariants.proofs.ChoiceCalmKeptLemmas.{KeepsNetwork, calls_keep, keeps_on, net_keeps}
-use Rattle.gptp_settling_time.proofs.EndsToldLemmas.{off_told, silent_told}
-use Rattle.gptp_settling_time.proofs.LastAnsweredLemmas.{AreOffBy}
+use Rattle.gptp_invariants.proofs.PortInputLemmas.{of_down}
 use Rattle.gptp_settling_time.proofs.LinkStoodLemmas.{stood_in, stood_untold}
 use Rattle.gptp_settling_time.proofs.ReactsLemmas.{lives_as}
-use Rattle.gptp_settling_time.proofs.SamePartsLemmas.{of_down}
+use Rattle.gptp_model.specs.Ahead.{IsPortAmong}
+use Rattle.gptp_model.proofs.ActsByLemmas.{join_among}
+use Rattle.gptp_model.proofs.EndLemmas.{each_end_told}
+use Rattle.gptp_model.proofs.StayLemmas.{JoinTheSame, begins_same, join_on, set_join, stays_clocks}
+use Rattle.gptp_invariants.proofs.FailedLastAnsweredLemmas.{last_beside}
+use Rattle.gptp_invariants.proofs.FailedOffLemmas.{off_called}
 
 -- ---- the network
 
@@ -163,12 +167,52 @@ module _ (p : SettlingParams) (w : WorldState) (is : IsWorld p w) (place : ℕ) 
                 (sym (receiver_bare at.direction old s.channel same)) s.answering);
           }
 
-    pub silent_down : (start : ℕ) → AreSilentBy p start w → AreSilentBy p start w'
-    silent_down start silent at s =
-        silent_told p PortDown of_down w is place channel (lost channel) here refl refl (taken_down place channel w.net)
-        refl draws w' k at (apart at s) start (silent at (before at s))
+      joins : JoinTheSame w.net.channels taken.net.channels
+      joins = set_join w.net.channels place channel (lost channel) here refl refl
 
-    pub off_down : (start : ℕ) → AreOffBy p start w → AreOffBy p start w'
-    off_down start off at s =
-        off_told p PortDown of_down w is place channel (lost channel) here refl refl (taken_down place channel w.net)
-        refl draws w' k at (apart at s) start (off at (before at s))
+      -- its port is none of the link that goes down
+      no_end : (v : WorldState) → JoinTheSame w.net.channels v.net.channels → (l : IsUnansweredAt at v)
+          (way : Direction) → sender at.direction l.channel ≢ sender way channel
+      no_end v on l way same =
+          let was = on at.link l.channel l.here in
+          apart (is.sound.wired.apart at.link place at.direction way was.old channel was.here here
+          (sym (begins_same w.net.channels at.link at.direction l.channel was) ∙ same))
+
+      ports : (direction : Direction) → IsPortAmong (sender direction channel) taken.stations
+      ports = join_among w place channel is.sound.wired.ports here
+
+      link_taken : (l : IsUnansweredAt at w) → IsUnansweredAt at taken
+      link_taken l = record {
+        channel = l.channel;
+        here = get-set_other w.net.channels place at.link (lost channel) apart ∙ l.here;
+        up = l.up;
+        asking = l.asking;
+        answering = l.answering;
+      }
+
+      last_at : (sent : ℕ) → IsLastAnswered sent at w → IsLastAnswered sent at w'
+      unfolding link_taken
+      last_at sent one =
+          each_end_told PortDown channel taken (IsLastAnswered sent at)
+          (λ direction q v ds answer v' c stays named number last.
+          last_beside of_down sent at q (sender direction channel) v ds answer v' c named
+          (stays_clocks taken v stays is.sound.wired.clocks) last
+          (no_end v (join_on w.net.channels taken.net.channels v.net.channels joins stays.links) last.link direction))
+          is.sound.wired.setups ports draws w' k
+          (record { link = link_taken one.link; replies = one.replies; inv = one.inv })
+
+      off_at : IsOff at w → IsOff at w'
+      unfolding link_taken
+      off_at one =
+          each_end_told PortDown channel taken (IsOff at)
+          (λ direction q v ds answer v' c stays named number so.
+          off_called at q (PortDown (sender direction channel).port) v ds answer v' c
+          (stays_clocks taken v stays is.sound.wired.clocks) so (λ same. tt) (λ same. tt)) is.sound.wired.setups ports
+          draws w' k
+          (record { link = link_taken one.link; mute = one.mute; off = one.off })
+
+    pub silent_down : (start : ℕ) → AreSilentBy p start w → AreSilentBy p start w'
+    silent_down start silent at s = elim (silent at (before at s)) [
+      | inl off ↦ inl (off_at at s off)
+      | inr (sent, last, soon) ↦ inr (sent, last_at at s sent last, soon)
+    ]

@@ -48,7 +48,6 @@ use Rattle.gptp_invariants.proofs.WorldStandsLemmas.{stands_well}
 use Rattle.gptp_settling_time.specs.Losses.{IsTurned}
 use Rattle.gptp_settling_time.proofs.AlwaysClaimedLemmas.{IsStanding}
 use Rattle.gptp_settling_time.proofs.BesideLemmas.{IsDark, IsMoving}
-use Rattle.gptp_settling_time.proofs.LastAnsweredLemmas.{silent_are_off}
 use Rattle.gptp_settling_time.proofs.LeftClaimedLemmas.{HaveAskedLong, left_network}
 use Rattle.gptp_settling_time.proofs.LinkStoodLemmas.{ends_apart, second_still}
 use Rattle.gptp_settling_time.proofs.LoweredLemmas.{CanLose, can_lose, ends, known, less_then, ready_on, wires}
@@ -229,7 +228,7 @@ module _ (p : SettlingParams) (w : WorldState) (is : IsWorld p w) (place : ℕ) 
       pace = pace;
       world = is';
       measured = measured';
-      off = silent_are_off p next w' (silent_down p w is place channel here draws w' is' k next silent);
+      silent = silent_down p w is place channel here draws w' is' k next silent;
     }
 
     asked' : HaveAskedLong w'

@@ -23,7 +23,7 @@ use Rattle.gptp_scenario.specs.declared.change.Change.TheVariants.{LinkSet}
 use Rattle.gptp_setup.specs.declared.setup.Params.{Params}
 use Rattle.gptp_setup.specs.declared.setup.Setup.{Setup}
 use Rattle.gptp_setup.specs.Intervals.{interval_of}
-use Rattle.gptp_setup.specs.SettlingParams.{SettlingParams, largest_interval}
+use Rattle.gptp_setup.specs.SettlingParams.{SettlingParams}
 use Rattle.gptp_setup.specs.Stamping.{blur_of}
 use Rattle.gptp_system.specs.Measures.{Part, measure_at}
 use Rattle.gptp_model.specs.Acts.{Acts, set_to}
@@ -48,7 +48,7 @@ use Rattle.gptp_invariants.specs.ChoiceView.{lane_view, lanes_view, says_announc
 use Rattle.gptp_invariants.specs.DelayFirstAt.{IsFirstBy}
 use Rattle.gptp_invariants.specs.DelayLinkView.{IsLinkOf, LinkPlace, least_delay, link_setting, meter, pair, pair_view, reads_as_reply, reads_as_request, setting_view, kept_view}
 use Rattle.gptp_invariants.specs.DelayMeasured.{LinkIsMeasured, LinkStandsAt}
-use Rattle.gptp_invariants.specs.FailedUnanswered.{IsFailedAmong, IsNeverAnswered, IsSilent, StandsUnanswered}
+use Rattle.gptp_invariants.specs.FailedUnanswered.{IsFailedAmong, IsLastAnswered, IsOff, StandsUnanswered}
 use Rattle.gptp_invariants.specs.WorldNews.{AreReadyBy, AreSilentBy, IsNews, IsReadyBy, news_network}
 use Rattle.gptp_invariants.specs.WorldSound.{IsSoundWorld}
 use Rattle.gptp_invariants.specs.WorldStanding.{channel_is_used, live_stations, snapshot_of, standing_link, used_channels}
@@ -398,8 +398,8 @@ module _ (p : SettlingParams) (start next by place : ℕ) (w : WorldState) (is :
         answering = s.answering;
       }
 
-      still_silent : (gone : ℕ) → IsSilent gone at w → IsSilent gone at widened
-      still_silent gone one = record {
+      still_last : (sent : ℕ) → IsLastAnswered sent at w → IsLastAnswered sent at widened
+      still_last sent one = record {
         link = record {
           channel = one.link.channel;
           here = get-set_other w.net.channels place at.link new unanswered_apart ∙ one.link.here;
@@ -407,12 +407,12 @@ module _ (p : SettlingParams) (start next by place : ℕ) (w : WorldState) (is :
           asking = one.link.asking;
           answering = one.link.answering;
         };
-        old = one.old;
+        replies = one.replies;
         inv = one.inv;
       }
 
-      still_never : IsNeverAnswered at w → IsNeverAnswered at widened
-      still_never one = record {
+      still_off : IsOff at w → IsOff at widened
+      still_off one = record {
         link = record {
           channel = one.link.channel;
           here = get-set_other w.net.channels place at.link new unanswered_apart ∙ one.link.here;
@@ -421,15 +421,14 @@ module _ (p : SettlingParams) (start next by place : ℕ) (w : WorldState) (is :
           answering = one.link.answering;
         };
         mute = one.mute;
-        unmeasured = one.unmeasured;
+        off = one.off;
       }
 
     silent_widened : AreSilentBy p start w → AreSilentBy p next widened
     silent_widened silent at s =
         elim (silent at (unanswered_before at s)) [
-          | inl never ↦ inl (still_never at s never)
-          | inr (change, one, from) ↦
-              inr (change, still_silent at s (change + largest_interval p) one, omega (arith, from, later))
+          | inl off ↦ inl (still_off at s off)
+          | inr (sent, last, from) ↦ inr (sent, still_last at s sent last, omega (arith, from, later))
         ]
 
     -- ---- each link is at its last stage

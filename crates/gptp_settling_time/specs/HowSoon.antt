@@ -37,7 +37,7 @@ use Rattle.gptp_setup.specs.SettlingParams.{SettlingParams, largest_interval}
 use Rattle.gptp_scenario.specs.Calm.{IsCalm, IsLive, NothingLapses}
 use Rattle.gptp_scenario.specs.Network.{NetworkState, pace_of}
 use Rattle.gptp_scenario.specs.SettlingAtOnce.{settling_span_at_once}
-use Rattle.gptp_scenario.specs.SettlingTime.{capability_span, settling_span_with}
+use Rattle.gptp_scenario.specs.SettlingTime.{settling_span_with}
 use Rattle.gptp_scenario.specs.SyncWait.{sync_paths}
 use Rattle.gptp_scenario.specs.declared.change.Act.{Act}
 use Rattle.gptp_scenario.specs.declared.change.Act.TheVariants.{Change as Changing}
@@ -48,8 +48,9 @@ use Rattle.gptp_model.specs.World.{port_id}
 use Rattle.gptp_network.specs.Document.{DocumentState}
 use Rattle.gptp_network.specs.Snapshot.{events_by}
 use Rattle.gptp_settling_time.specs.Gains.{ChangesNothing, EndHasFailed, LeavesCapable, TakesNothing}
+use Rattle.gptp_invariants.specs.FailedUnanswered.{silence_span}
 use Rattle.gptp_settling_time.specs.InTurn.{AddsHeard, BettersClock, FlightIsGone, MakesNothing, NoneUsed, TellsNothing, UsedVaryLittle, WidensLink, echo_span, turned_echo_span}
-use Rattle.gptp_settling_time.specs.Losses.{CutsFarEnd, FailsFarEnd, FailsHeard, LeavesChoice, LosesAny, LowersLink, LowersUnused, TurnsLink, UpIsUsed, aging_span, loss_span, silence_span}
+use Rattle.gptp_settling_time.specs.Losses.{CutsFarEnd, FailsFarEnd, FailsHeard, LeavesChoice, LosesAny, LowersLink, LowersUnused, TurnsLink, UpIsUsed, aging_span, loss_span}
 
 -- ---- times
 
@@ -335,23 +336,31 @@ LosesNext n events Then last time Asks =
 
 -- ---- rest
 
--- How much later a network has come to rest after a loss. After the loss of a far end what was in flight has to be
--- gone. Where it fails and a link is up then that isn't in use, roles have to stand, and the greatest delay to pass for
--- each system of a path but one. After another link goes down that moves no system right traces have to be told first.
--- Where it so moves one system the network settles before. It has within two ways, and where each link that is up is in
--- use what was in flight is gone in that time too.
-abbrev pub RestsAfterLoss : NetworkState → List Timed → List Timed → ℕ → Type 0
-RestsAfterLoss n made now rest =
+-- How much later a network has come to rest after a loss by which one system is moved at most, but for such as are cut
+-- off. After the loss of a far end what was in flight has to be gone. Where it fails and a link is up then that isn't in
+-- use, roles have to stand too. After another link goes down that moves no system right traces have to be told first.
+-- Where it so moves one system the network settles before, within two ways. Right traces have to be told, too, where a
+-- system fails that others hear, and each link that is up then is in use.
+abbrev pub RestsAfterOneLoss : NetworkState → List Timed → List Timed → ℕ → Type 0
+RestsAfterOneLoss n made now rest =
     (CutsOneEnd n made now
     × ((gone : ℕ) × FlightIsGone n (made ++ now) gone × (rest ≡ max (2 * way_span (sync_paths n (made ++ now))) gone)))
     ⊎ ((FailsEndFirst n made now
     × ((UpIsUsed n (made ++ now) × FlightIsGone n made rest)
-    ⊎ (rest ≡ capability_span (pace_of n) + way_span (sync_paths n (made ++ now)))))
+    ⊎ ((gone : ℕ) × FlightIsGone n made gone × (rest ≡ max (silence_span (pace_of n)) gone))))
     ⊎ ((LowersOneLink n made now
     × ((gone : ℕ) × FlightIsGone n (made ++ now) gone × (rest ≡ max (echo_span n (made ++ now)) gone)))
-    ⊎ (TurnsOneLink n made now
-    × ((UpIsUsed n (made ++ now) × (rest ≡ turned_echo_span n (made ++ now)))
-    ⊎ (rest ≡ turned_echo_span n (made ++ now) + largest_interval (pace_of n))))))
+    ⊎ ((TurnsOneLink n made now × (rest ≡ turned_echo_span n (made ++ now)))
+    ⊎ (FailsHeardFirst n made now × UpIsUsed n (made ++ now)
+    × (max (echo_span n (made ++ now)) (sync_paths n (made ++ now)).delay ≤ rest)))))
+
+-- After any loss it has once roles stand: what is in flight by then is told by live systems over links in use, as all
+-- that is held is.
+abbrev pub RestsAfterAnyLoss : NetworkState → List Timed → List Timed → ℕ → Type 0
+RestsAfterAnyLoss n made now rest = (choice : ℕ) × BoundsAnyLoss n made now choice rest
+
+abbrev pub RestsAfterLoss : NetworkState → List Timed → List Timed → ℕ → Type 0
+RestsAfterLoss n made now rest = RestsAfterOneLoss n made now rest ⊎ RestsAfterAnyLoss n made now rest
 
 -- By so much later than a time the network has come to rest, by the times before it, the latest first: it has settled,
 -- and nothing that is held, or in flight, names what is gone. The first time of all is 0.

@@ -11,11 +11,12 @@
 --   system of a path but one later. It has come to rest, as if all had been heard, once right traces have been told by
 --   distance since.
 -- - Cleared: a system was lost that was the far end of its links, so that nobody holds what names it. Or another link
---   went down that moved none, and right traces have been told by distance since. When what was in flight is gone, and
---   ports without a link aren't capable, the network has come to rest as if all had been heard.
+--   went down that moved none, or a system that others heard lost its power, and right traces have been told by distance
+--   since. When what was in flight is gone, and ports without a link aren't capable, the network has come to rest as if
+--   all had been heard.
 -- - Aging: a system failed that others heard. What they hold of it ages, and the choice stands once that is gone.
 -- - Lost: anything was taken away at one time, whatever was moved. The network settles as one that has gained, once all
---   that is held is told by live systems over links in use.
+--   that is held is told by live systems over links in use. It has come to rest then, as if all had been heard.
 --
 -- An event leads from one past to another (`EventLeads`). It may always lead to any past. At time 0, as the network
 -- starts, it may take something away, since nothing is told yet. To a gain it leads where it takes nothing away, or
@@ -58,7 +59,8 @@ use Rattle.gptp_settling_time.specs.ChoiceAlone.{ChoiceStandsAs}
 use Rattle.gptp_settling_time.specs.Documents.{IsSettledAs}
 use Rattle.gptp_settling_time.specs.Exactly.{SettlesBy}
 use Rattle.gptp_settling_time.specs.Gains.{AreCapableAnyway, AreCapableNext, AreCapableStill, ChangesNothing, EndHasFailed, HasRested, IsDownAfter, IsNoWorse, JoinsLive, LeavesCapable, TakesNothing, UsesNoLink, exchanged_from}
-use Rattle.gptp_settling_time.specs.Losses.{AreSilentAfter, CutsFarEnd, FailsFarEnd, FailsHeard, LeavesChoice, LosesAny, LowersLink, LowersUnused, TurnsLink, UpIsUsed, aging_span, loss_span, silence_span}
+use Rattle.gptp_invariants.specs.FailedUnanswered.{silence_span}
+use Rattle.gptp_settling_time.specs.Losses.{AreSilentAfter, CutsFarEnd, FailsFarEnd, FailsHeard, LeavesChoice, LosesAny, LowersLink, LowersUnused, TurnsLink, UpIsUsed, aging_span, loss_span}
 
 -- What a network came from. The numbers are times, but for the second of a loss.
 pub data Past : Type 0 where
@@ -257,7 +259,7 @@ abbrev pub ClearsFarEnd : NetworkState → List Timed → Timed → ℕ → ℕ 
 ClearsFarEnd n before event start silent right old =
     (right ≡ 0)
     × ((CutsCalm n before event × (silent ≡ start) × FlightIsGoneBy n (before ++ event ∷ []) event.at old)
-    ⊎ (FailsCalm n before event × (silent ≡ event.at + capability_span (pace_of n))
+    ⊎ (FailsCalm n before event × (silent ≡ suc (event.at + silence_span (pace_of n)))
     × FlightIsGoneBy n before event.at old))
 
 -- An announce interval and the greatest delay for each system of a path but one: so much later who is told a right
@@ -280,10 +282,28 @@ ClearsTraces n before event start silent right old =
     × ((gone : ℕ) × FlightIsGone n (before ++ event ∷ []) gone
     × (old ≡ event.at + nearer_echo_span n (before ++ event ∷ []) + gone))
 
+-- In a network that had settled a system fails that others hear. What they hold of it ages.
+pub record FailsNow (n : NetworkState) (before : List Timed) (event : Timed) (aged silent : ℕ) : Type 0 where
+  pub fails : FailsHeard n before event
+  pub calm : IsCalm n before
+  pub off : NothingLapses n.params
+  pub gone : aged ≡ suc (event.at + aging_span (pace_of n) (sync_paths n before))
+  pub unanswered : silent ≡ suc (event.at + silence_span (pace_of n))
+
+-- Each link that is up then is in use: from now on right traces are told, first by the best and its neighbours.
+abbrev pub TellsAnew : NetworkState → List Timed → ℕ → ℕ → ℕ → ℕ → Type 0
+TellsAnew n events time since right old =
+    UpIsUsed n events × (since ≡ time)
+    × (right ≡ time + 1 + nearer_echo_span n events)
+    × (old ≡ time + nearer_echo_span n events + (sync_paths n events).delay)
+
+-- So a far end goes, or another link goes down; or a system fails that others hear, as it loses its power.
 abbrev pub ClearsBy : NetworkState → List Timed → Timed → ℕ → ℕ → ℕ → ℕ → ℕ → Type 0
 ClearsBy n before event start since silent right old =
-    (since ≡ start)
-    × (ClearsFarEnd n before event start silent right old ⊎ ClearsTraces n before event start silent right old)
+    ((since ≡ start)
+    × (ClearsFarEnd n before event start silent right old ⊎ ClearsTraces n before event start silent right old))
+    ⊎ ((aged : ℕ) × FailsNow n before event aged silent
+    × TellsAnew n (before ++ event ∷ []) event.at since right old)
 
 -- By this time the network has settled from any past; or from a start from which its ports are capable, where something
 -- may not be heard at once; or from such a start where all is heard.
@@ -377,7 +397,8 @@ LeadsToTurned n before (Cleared since start right old) event silent time = ⊥
 LeadsToTurned n before (Aging aged start) event silent time = ⊥
 LeadsToTurned n before (Lost since most start) event silent time = ⊥
 
--- a network that had settled is cleared, and one that is so stays so
+-- A network that had settled is cleared, and one that is so stays so. One in which something ages is cleared as the last
+-- link goes down of which an end has failed.
 abbrev pub LeadsToCleared : NetworkState → List Timed → Past → Timed → ℕ → ℕ → ℕ → ℕ → Type 0
 LeadsToCleared n before AnyPast event since silent right old =
     HasSettledAnyhow n before event.at
@@ -392,16 +413,9 @@ LeadsToCleared n before (Turned start now) event since silent right old = ⊥
 LeadsToCleared n before (Cleared start dark clean last) event since silent right old =
     LowersUnusedCalm n before event × (clean ≤ event.at)
     × ((since ≡ start) × (silent ≡ dark) × (right ≡ clean) × (old ≡ last))
-LeadsToCleared n before (Aging aged start) event since silent right old = ⊥
+LeadsToCleared n before (Aging aged dark) event since silent right old =
+    LowersUnusedCalm n before event × (silent ≡ dark) × TellsAnew n (before ++ event ∷ []) event.at since right old
 LeadsToCleared n before (Lost start most dark) event since silent right old = ⊥
-
--- In a network that had settled a system fails that others hear. What they hold of it ages.
-pub record FailsNow (n : NetworkState) (before : List Timed) (event : Timed) (aged silent : ℕ) : Type 0 where
-  pub fails : FailsHeard n before event
-  pub calm : IsCalm n before
-  pub off : NothingLapses n.params
-  pub gone : aged ≡ suc (event.at + aging_span (pace_of n) (sync_paths n before))
-  pub unanswered : silent ≡ suc (event.at + silence_span (pace_of n))
 
 -- It goes on to age where a link goes down of which an end has failed.
 abbrev pub LeadsToAging : NetworkState → List Timed → Past → Timed → ℕ → ℕ → Type 0
@@ -502,14 +516,14 @@ EventLeads n before past event (Lost since most silent) = LeadsToLost n before p
 -- ---- rest
 
 -- A cleared network has come to rest by a time, as one whose ports are capable from a start on. What was in flight is
--- gone. Ports without a link aren't capable from the start on, or no link is up that isn't in use. And the greatest
--- delay has passed for each system of a path but one.
+-- gone. Ports without a link aren't capable any more, or no link is up that isn't in use. And the greatest delay has
+-- passed since the start for each system of a path but one.
 pub record HasCleared (n : NetworkState) (events : List Timed) (since silent old start time : ℕ) : Type 0 where
   pub calm : IsCalm n events
   pub off : NothingLapses n.params
   pub gone : old < time
   pub later : since ≤ start
-  pub unlinked : (silent ≤ start) ⊎ UpIsUsed n events
+  pub unlinked : (silent ≤ time) ⊎ UpIsUsed n events
   pub over : HasSettledHeard n events start time
 
 -- So much later than a system turned traces are told anew: the network has settled within two ways, each the greatest
@@ -519,22 +533,31 @@ turned_echo_span n events =
     2 * (pred (sync_paths n events).systems * (sync_paths n events).delay) + echo_span n events
 
 -- A network in which a system turned at a time has come to rest by another, as one whose ports are capable from a start
--- on. Traces are told anew. What was in flight is gone then, or an announce interval later where a link is up that
--- isn't in use. Ports without a link aren't capable from the start on. And the greatest delay has passed for each
--- system of a path but one.
+-- on. Traces are told anew, and what was in flight is gone by then. Ports without a link aren't capable from the start
+-- on. And the greatest delay has passed for each system of a path but one.
 pub record HasToldAnew (n : NetworkState) (events : List Timed) (silent turned start time : ℕ) : Type 0 where
   pub calm : IsCalm n events
   pub off : NothingLapses n.params
-  pub told : (UpIsUsed n events × (turned + turned_echo_span n events < time))
-      ⊎ (turned + turned_echo_span n events + largest_interval (pace_of n) < time)
+  pub told : turned + turned_echo_span n events < time
   pub later : turned ≤ start
   pub unlinked : silent ≤ start
+  pub over : HasSettledHeard n events start time
+
+-- A network that has lost at a time has come to rest by another, as one whose ports are capable from a start on: its
+-- choice stands. Ports without a link aren't capable then, or no link is up that isn't in use. And the greatest delay
+-- has passed since the start for each system of a path but one.
+pub record HasToldAll (n : NetworkState) (events : List Timed) (since most silent start time : ℕ) : Type 0 where
+  pub off : NothingLapses n.params
+  pub told : suc (since + loss_span (pace_of n) (sync_paths n events) most) ≤ time
+  pub later : since ≤ start
+  pub unlinked : (silent ≤ time) ⊎ UpIsUsed n events
   pub over : HasSettledHeard n events start time
 
 -- then it is as if all had been heard from that start on
 abbrev pub RestsAs : NetworkState → List Timed → Past → ℕ → Past → Type 0
 RestsAs n events (Turned silent turned) time (Heard start) = HasToldAnew n events silent turned start time
 RestsAs n events (Cleared since silent right old) time (Heard start) = HasCleared n events since silent old start time
+RestsAs n events (Lost since most silent) time (Heard start) = HasToldAll n events since most silent start time
 RestsAs n events past time seen = ⊥
 
 -- what the network is taken to come from as an event comes at this time

@@ -20,7 +20,7 @@ use Rattle.gptp_scenario.specs.declared.change.Timed.{Timed}
 use Rattle.gptp_scenario.specs.declared.network.LinkSpec.{LinkSpec}
 use Rattle.gptp_scenario.specs.declared.sync_wait.SyncPaths.{SyncPaths}
 use Rattle.gptp_model.specs.World.{port_id}
-use Rattle.gptp_setup.specs.Intervals.{interval_of}
+use Rattle.gptp_invariants.specs.FailedUnanswered.{silence_span}
 use Rattle.gptp_setup.specs.SettlingParams.{SettlingParams, largest_interval, longest_span}
 use Rattle.gptp_settling_time.specs.Gains.{EndHasFailed, IsUpAfter}
 
@@ -101,12 +101,6 @@ pub record CutsFarEnd (n : NetworkState) (before : List Timed) (event : Timed) :
       → ((link_after before v).a.clock ≡ lost) ⊎ ((link_after before v).b.clock ≡ lost)
   pub far : (g : Snapshot) → StandsAfter n before g → IsFarEnd g lost
   pub cut : (g : Snapshot) → StandsAfter n (before ++ event ∷ []) g → IsCutOff g lost
-
--- How long a port beside a system that fails may stay capable. The last of its requests that is answered went before
--- the failure. The next one goes a peer delay interval later, and is lost, as are those after it. Each is given up an
--- interval after it went. The port isn't capable once one more is lost than may be.
-abbrev pub silence_span : SettlingParams → ℕ
-silence_span p = (p.params.lost + 2) * interval_of p.params.pdelay
 
 -- After these events this one lets a live system fail that is the far end of each of its links. No shortest path leads
 -- through it, so no system is moved by that; what `moves` says of systems that are cut off isn't needed here. The

@@ -1,4 +1,4 @@
--- A port beside a failed system that has never been answered: nothing answers it, whatever is done.
+-- A port beside a failed system that isn't capable, and to which no reply is in flight, stays so, whatever is done.
 use Rattle.std.proofs.Common.{◌≡◌, ◌≤◌, ℕ, false, List, [], ◌∷◌, Option, Some, None, sym, subst, ◌∙◌, inl, inr, arith}
 use Rattle.std.specs.Prelude.{max}
 use Rattle.gptp_lists.specs.Members.{In}
@@ -21,11 +21,11 @@ use Rattle.gptp_model.specs.World.{WorldState, receiver, sender, world_queue}
 use Rattle.gptp_invariants.specs.ChoiceSeenLaws.{IsNoChange}
 use Rattle.gptp_invariants.specs.DelayLinkView.{LinkPlace, other_direction}
 use Rattle.gptp_invariants.specs.DelayMeasured.{LinkIsMeasured}
-use Rattle.gptp_invariants.specs.FailedUnanswered.{IsNeverAnswered, IsOldBy, IsUnansweredAt, IsUnmeasured}
+use Rattle.gptp_invariants.specs.FailedUnanswered.{IsOff, IsOldBy, IsUnansweredAt}
 use Rattle.gptp_invariants.proofs.DelayEndLemmas.{HearsWhatFits}
 use Rattle.gptp_invariants.proofs.FailedUnansweredCallLemmas.{CallStep, call_seen, relinked}
 use Rattle.gptp_invariants.proofs.FailedUnansweredDeliveryLemmas.{arrives, flies_there, lane, number_same, step}
-use Rattle.gptp_invariants.proofs.UnmeasuredLemmas.{IsMuteTo, part_stays, unmeasured_off}
+use Rattle.gptp_invariants.proofs.UnmeasuredLemmas.{IsMuteTo, part_off}
 
 -- what is in flight is all due by some time
 due_by : (fs : List Frame) → (gone : ℕ) × ((f : Frame) → In f fs → f.due ≤ gone)
@@ -41,13 +41,13 @@ due_by (g ∷ fs) =
     )
 
 -- from the failed end nothing comes later than at this time
-gone_by : (at : LinkPlace) (w : WorldState) (l : IsUnansweredAt at w) → (gone : ℕ) × IsOldBy gone at w l
+pub gone_by : (at : LinkPlace) (w : WorldState) (l : IsUnansweredAt at w) → (gone : ℕ) × IsOldBy gone at w l
 gone_by at w l = due_by (world_queue (other_direction at.direction) l.channel)
 
 -- ---- a call
 
 module _ (at : LinkPlace) (place : ℕ) (input : Input) (w : WorldState) (draws : List Draw) (answer : Answer)
-    (w' : WorldState) (k : Calls place input w draws answer w') (clocks : HaveOwnClocks w) (is : IsNeverAnswered at w)
+    (w' : WorldState) (k : Calls place input w draws answer w') (clocks : HaveOwnClocks w) (is : IsOff at w)
     (given : at.asking ≡ place → HearsWhatFits (sender at.direction is.link.channel).port input)
     (mute : at.asking ≡ place → IsMuteTo (sender at.direction is.link.channel).port input) where
   called : CallStep place input (gone_by at w is.link).0 at w w' is.link
@@ -55,34 +55,34 @@ module _ (at : LinkPlace) (place : ℕ) (input : Input) (w : WorldState) (draws 
       call_seen (gone_by at w is.link).0 at place input w draws answer w' k clocks is.link (gone_by at w is.link).1
       given
 
-  pub never_called : IsNeverAnswered at w'
-  never_called = record {
+  pub off_called : IsOff at w'
+  off_called = record {
     link = called.after;
     mute = λ f member. is.mute f (called.fewer f member);
-    unmeasured = elim called.part [
+    off = elim called.part [
       | inl own ↦
-          part_stays is.link.asking.station.system w.time input (sender at.direction is.link.channel).port
-          (measure_at is.link.asking.state) (measure_at called.after.asking.state) (mute own.0) own.1 is.unmeasured
-      | inr left ↦ subst (λ (x : Part). IsUnmeasured x.peer) (sym left.1) is.unmeasured
+          part_off is.link.asking.station.system w.time input (sender at.direction is.link.channel).port
+          (measure_at is.link.asking.state) (measure_at called.after.asking.state) (mute own.0) own.1 is.off
+      | inr left ↦ subst (λ (x : Part). is_capable x.peer ≡ false) (sym left.1) is.off
     ];
   }
 
 -- an input that is no frame, where the system lives
-pub told_never : (at : LinkPlace) (place : ℕ) (input : Input) → ((n : ℕ) → HearsWhatFits n input)
+pub off_told : (at : LinkPlace) (place : ℕ) (input : Input) → ((n : ℕ) → HearsWhatFits n input)
     → ((n : ℕ) → IsMuteTo n input) → (w : WorldState) (draws : List Draw) (w' : WorldState) → HaveOwnClocks w
-    → IsNeverAnswered at w → CallsIfLive place input w draws w' → IsNeverAnswered at w'
-told_never at place input fits mute w draws w' clocks is (inl (answer, k)) =
-    never_called at place input w draws answer w' k clocks is
+    → IsOff at w → CallsIfLive place input w draws w' → IsOff at w'
+off_told at place input fits mute w draws w' clocks is (inl (answer, k)) =
+    off_called at place input w draws answer w' k clocks is
     (λ same. fits (sender at.direction is.link.channel).port)
     (λ same. mute (sender at.direction is.link.channel).port)
-told_never at place input fits mute w draws w' clocks is (inr (failed, none, same)) =
-    subst (IsNeverAnswered at) (sym same) is
+off_told at place input fits mute w draws w' clocks is (inr (failed, none, same)) =
+    subst (IsOff at) (sym same) is
 
 -- ---- acts
 
 module _ (at : LinkPlace) (link : ℕ) (direction : Direction) (octets : List ℕ) (w : WorldState) (draws : List Draw)
     (answer : Option Answer) (w' : WorldState) (k : Delivers link direction octets w draws answer w')
-    (sound : IsSound w) (measured : LinkIsMeasured w) (is : IsNeverAnswered at w) where
+    (sound : IsSound w) (measured : LinkIsMeasured w) (is : IsOff at w) where
   abbrev l : IsUnansweredAt at w
   l = is.link
 
@@ -101,12 +101,12 @@ module _ (at : LinkPlace) (link : ℕ) (direction : Direction) (octets : List �
       → In f (world_queue (other_direction at.direction) l.channel)
   fewer = (lane gone at link direction octets w draws answer w' k sound measured l old).shrinks.fewer
 
-  unheard : IsNeverAnswered at emptied
+  unheard : IsOff at emptied
   unheard = record {
     link = relinked at w emptied l (lane gone at link direction octets w draws answer w' k sound measured l old)
         l.asking l.answering;
     mute = λ f member. is.mute f (fewer f member);
-    unmeasured = is.unmeasured;
+    off = is.off;
   }
 
   module _ (told : Answer)
@@ -116,13 +116,13 @@ module _ (at : LinkPlace) (link : ℕ) (direction : Direction) (octets : List �
         l.asking l.answering)
     heard_step = step gone at link direction octets w draws answer w' k sound measured l old told calls
 
-    heard : IsNeverAnswered at w'
+    heard : IsOff at w'
     heard = record {
       link = heard_step.after;
       mute = λ f member. is.mute f (fewer f (heard_step.fewer f member));
-      unmeasured = elim heard_step.part [
+      off = elim heard_step.part [
         | inl own ↦
-            part_stays l.asking.station.system w.time (FrameHeard (receiver direction k.channel).port octets)
+            part_off l.asking.station.system w.time (FrameHeard (receiver direction k.channel).port octets)
             (sender at.direction (lane gone at link direction octets w draws answer w' k sound measured l old).new).port
             (measure_at l.asking.state) (measure_at heard_step.after.asking.state)
             (λ number.
@@ -130,46 +130,41 @@ module _ (at : LinkPlace) (link : ℕ) (direction : Direction) (octets : List �
             (flies_there gone at link direction octets w draws answer w' k sound measured l old
             (arrives gone at link direction octets w draws answer w' k sound measured l old own.0
             (number_same gone at link direction octets w draws answer w' k sound measured l old told calls ∙ number))))
-            own.1 is.unmeasured
-        | inr left ↦ subst (λ (x : Part). IsUnmeasured x.peer) (sym left.1) is.unmeasured
+            own.1 is.off
+        | inr left ↦ subst (λ (x : Part). is_capable x.peer ≡ false) (sym left.1) is.off
       ];
     }
 
-  delivered_never : IsNeverAnswered at w'
-  delivered_never = by answer k.hears
+  off_delivered : IsOff at w'
+  off_delivered = by answer k.hears
     where
       by : (a : Option Answer) → Hears k.place (receiver direction k.channel).port octets emptied draws a w'
-          → IsNeverAnswered at w'
+          → IsOff at w'
       by (Some told) calls = heard told calls
-      by None (failed, none, same) = subst (IsNeverAnswered at) (sym same) unheard
+      by None (failed, none, same) = subst (IsOff at) (sym same) unheard
 
-expired_never : (at : LinkPlace) (place : ℕ) (timer : Timer) (w : WorldState) (draws : List Draw) (w' : WorldState)
-    → TimerRunsOut place timer w draws w' → HaveOwnClocks w → IsNeverAnswered at w → IsNeverAnswered at w'
-expired_never at place timer w draws w' k clocks is =
-    never_called at place (TimerExpires timer) _ draws k.answer w' k.calls clocks
-    (record { link = is.link; mute = is.mute; unmeasured = is.unmeasured }) (λ same. tt) (λ same. tt)
+off_expired : (at : LinkPlace) (place : ℕ) (timer : Timer) (w : WorldState) (draws : List Draw) (w' : WorldState)
+    → TimerRunsOut place timer w draws w' → HaveOwnClocks w → IsOff at w → IsOff at w'
+off_expired at place timer w draws w' k clocks is =
+    off_called at place (TimerExpires timer) _ draws k.answer w' k.calls clocks
+    (record { link = is.link; mute = is.mute; off = is.off }) (λ same. tt) (λ same. tt)
 
-pub never_acts : (at : LinkPlace) (act : Act) (w : WorldState) (draws : List Draw) (done : Done) (w' : WorldState)
-    → IsNoChange act → Acts act w draws done w' → IsSound w → LinkIsMeasured w → IsNeverAnswered at w
-    → IsNeverAnswered at w'
-never_acts at (Deliver link direction) w draws done w' none k sound measured is =
-    delivered_never at link direction k.octets w draws k.answer w' k.delivers sound measured is
-never_acts at (Expire number timer) w draws done w' none k sound measured is =
-    expired_never at k.1.place timer w draws w' k.1.so sound.wired.clocks is
-never_acts at (Changing change) w draws done w' none k sound measured is = absurd none
+pub off_acts : (at : LinkPlace) (act : Act) (w : WorldState) (draws : List Draw) (done : Done) (w' : WorldState)
+    → IsNoChange act → Acts act w draws done w' → IsSound w → LinkIsMeasured w → IsOff at w
+    → IsOff at w'
+off_acts at (Deliver link direction) w draws done w' none k sound measured is =
+    off_delivered at link direction k.octets w draws k.answer w' k.delivers sound measured is
+off_acts at (Expire number timer) w draws done w' none k sound measured is =
+    off_expired at k.1.place timer w draws w' k.1.so sound.wired.clocks is
+off_acts at (Changing change) w draws done w' none k sound measured is = absurd none
 
 -- ---- what leaves it as it is
 
 -- time passes, and a change is counted
-pub never_later : (at : LinkPlace) (time : ℕ) (w : WorldState) → IsNeverAnswered at w
-    → IsNeverAnswered at (at_time time w)
-never_later at time w is = record { link = is.link; mute = is.mute; unmeasured = is.unmeasured }
+pub off_later : (at : LinkPlace) (time : ℕ) (w : WorldState) → IsOff at w
+    → IsOff at (at_time time w)
+off_later at time w is = record { link = is.link; mute = is.mute; off = is.off }
 
-pub never_changed : (at : LinkPlace) (w : WorldState) → IsNeverAnswered at w
-    → IsNeverAnswered at (record w { last_change = w.time })
-never_changed at w is = record { link = is.link; mute = is.mute; unmeasured = is.unmeasured }
-
--- it isn't capable
-pub never_capable : (at : LinkPlace) (w : WorldState) → (is : IsNeverAnswered at w)
-    → is_capable is.link.asking.state.peer ≡ false
-never_capable at w is = unmeasured_off is.link.asking.state.peer is.unmeasured
+pub off_changed : (at : LinkPlace) (w : WorldState) → IsOff at w
+    → IsOff at (record w { last_change = w.time })
+off_changed at w is = record { link = is.link; mute = is.mute; off = is.off }
