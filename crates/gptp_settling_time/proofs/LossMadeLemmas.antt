@@ -99,7 +99,9 @@ module _ (d : DocumentState) (playable : IsPlayable d) (made : List Timed) (even
         → (sync_paths n more).systems ≤ (sync_paths n made).systems
         → pred (path_bound (snapshot_of w')) * delay_in w' ≤ w'.time
     way_over least fewer =
-        let less = subst (λ (x : SyncPaths). pred x.systems * x.delay
+        let less : pred (path_bound (snapshot_of w')) * delay_in w'
+        ≤ pred (path_bound (snapshot_of then)) * delay_in then =
+        subst (λ (x : SyncPaths). pred x.systems * x.delay
         ≤ pred (path_bound (snapshot_of then)) * delay_in then) paths_after
         (subst (λ (x : SyncPaths). pred (sync_paths n more).systems * (sync_paths n more).delay
         ≤ pred x.systems * x.delay) paths_then
