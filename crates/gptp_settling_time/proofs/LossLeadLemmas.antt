@@ -605,7 +605,8 @@ module _ (n : NetworkState) (off : NothingLapses n.params) (time : ℕ) (made no
 
   lost_led : (es : List Timed) → now ≡ es
       → (CutsOneEnd n made es
-      × ((gone : ℕ) × FlightIsGone n made gone × (rest ≡ max (2 * way_span (sync_paths n (made ++ now))) gone)))
+      × ((gone : ℕ) × FlightIsGone n (made ++ now) gone
+      × (rest ≡ max (2 * way_span (sync_paths n (made ++ now))) gone)))
       ⊎ ((FailsEndFirst n made es
       × ((UpIsUsed n (made ++ now) × FlightIsGone n made rest)
       ⊎ ((gone : ℕ) × FlightIsGone n made gone × (rest ≡ max (silence_span (pace_of n)) gone))))
