@@ -622,7 +622,7 @@ fn rests(times: &[SettlingTime], at: u64, next: u64) -> Option<(u64, u64)>
 }
 
 #[test]
-fn events_come_from_rest_soon_after_a_far_end_is_lost(rt: HostRuntime) -> Result<(), Fail> {
+fn events_come_from_rest_soon_after_a_loss(rt: HostRuntime) -> Result<(), Fail> {
     // The link from b to c goes down first; then b is the far end of its own link, and a of none.
     for (case, events, rest, next, choice) in [
         (
@@ -656,9 +656,16 @@ fn events_come_from_rest_soon_after_a_far_end_is_lost(rt: HostRuntime) -> Result
         (
             "d is left behind its link, which was nearer",
             "[[event]]\nat = 100000000000\nkind = \"link_down\"\nclock = \"000000000000000d\"\nport = 2\n[[event]]\nat = 101000000000\nkind = \"link_up\"\nclock = \"000000000000000d\"\nport = 2\n",
-            15_000_000_820,
+            7_000_001_640,
             101_000_000_000,
             15_000_002_870,
+        ),
+        (
+            "d is left behind its link, and then comes back",
+            "[[event]]\nat = 100000000000\nkind = \"link_down\"\nclock = \"000000000000000d\"\nport = 2\n[[event]]\nat = 107000001641\nkind = \"link_up\"\nclock = \"000000000000000d\"\nport = 2\n",
+            7_000_001_640,
+            107_000_001_641,
+            1_000_003_050,
         ),
     ] {
         let mut text = String::new(rt.alloc());
