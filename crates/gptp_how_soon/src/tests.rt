@@ -410,7 +410,7 @@ fn a_system_that_a_link_moves_alone_turns_within_two_ways(rt: HostRuntime) -> Re
             "a system is cut off",
             &["a", "b", "c"] as &[&str],
             &[("a", "1", "b", "1"), ("a", "2", "c", "1")] as &[(&str, &str, &str, &str)],
-            0,
+            820,
         ),
     ] {
         let times = cut(rt.alloc(), clocks, links)?;

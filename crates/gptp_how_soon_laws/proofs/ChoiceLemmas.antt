@@ -187,13 +187,14 @@ module _ (d : DocumentState) (playable : IsPlayable d) where
     -- it has come to rest by that, or sooner after a loss by which no system is moved
     rest_so : (s : Settling) → IsTelling n v s → IsChoiceBoundAfter n all (b.at ∷ earlier) at settled_by
         → IsRestBoundAfter n all (b.at ∷ earlier) at s.sound
-    rest_so s it settles = elim (sound_or_sooner n v.paths_before v.paths silent v.used_before (row_at v) (gained_at n v)) [
-      | inl same ↦ inl (subst (IsChoiceBoundAfter n all (b.at ∷ earlier) at) (sym (it.sound ∙ same)) settles)
-      | inr (off, which) ↦
-          let (rest, loses) = by which in
-          let (bound, past) = sound_before rest in
-          inr (late, between, settles.2.0, off, (rest.settling.sound, bound, past), loses)
-    ]
+    rest_so s it settles =
+        elim (sound_or_sooner n v.paths_before v.paths silent v.used_before (row_at v) (gained_at n v)) [
+          | inl same ↦ inl (subst (IsChoiceBoundAfter n all (b.at ∷ earlier) at) (sym (it.sound ∙ same)) settles)
+          | inr (off, which) ↦
+              let (rest, loses) = by which in
+              let (bound, past) = sound_before rest in
+              inr (late, between, settles.2.0, off, (rest.settling.sound, bound, past), loses)
+        ]
       where
         by : IsSoundSooner n v.paths_before v.paths silent v.used_before (row_at v)
             (sound_by n v.paths_before v.paths silent v.used_before (row_at v) (gained_at n v))

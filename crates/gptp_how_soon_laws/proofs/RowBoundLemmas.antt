@@ -138,7 +138,8 @@ IsSoundSooner n before paths silent used_before row sound =
 pub sound_or_sooner : (n : NetworkState) (before paths : SyncPaths) (silent used_before : Bool) (row : Row)
     (gained : ℕ)
     → (sound_by n before paths silent used_before row gained ≡ choice_by n before paths (past_row row) gained)
-    ⊎ (NothingLapses n.params × IsSoundSooner n before paths silent used_before row (sound_by n before paths silent used_before row gained))
+    ⊎ (NothingLapses n.params
+    × IsSoundSooner n before paths silent used_before row (sound_by n before paths silent used_before row gained))
 sound_or_sooner n before paths silent used_before row gained = by (n.params.sync_timeout == 0) refl row
   where
     span : ℕ
@@ -148,7 +149,8 @@ sound_or_sooner n before paths silent used_before row gained = by (n.params.sync
         → (cond (not off) span (sound_of_row n before paths silent used_before r gained)
         ≡ cond (not off) span (choice_of_row n before paths (past_row r) gained))
         ⊎ (NothingLapses n.params
-        × IsSoundSooner n before paths silent used_before r (cond (not off) span (sound_of_row n before paths silent used_before r gained)))
+        × IsSoundSooner n before paths silent used_before r
+        (cond (not off) span (sound_of_row n before paths silent used_before r gained)))
     by false is r = inl refl
     by true is AnyPast = inl refl
     by true is Unchanged = inl refl
@@ -173,7 +175,8 @@ sound_or_sooner n before paths silent used_before row gained = by (n.params.sync
 pub record IsTelling (n : NetworkState) (v : View) (s : Settling) : Type 0 where
   pub calm : v.calm ≡ true
   pub choice : s.choice ≡ choice_by n v.paths_before v.paths (row_at v) (gained_at n v)
-  pub sound : s.sound ≡ sound_by n v.paths_before v.paths (leaves_silent v.used v.told) v.used_before (row_at v) (gained_at n v)
+  pub sound : s.sound
+      ≡ sound_by n v.paths_before v.paths (leaves_silent v.used v.told) v.used_before (row_at v) (gained_at n v)
   pub roles : s.roles ≡ roles_by n v.paths_before v.paths (leaves_silent v.used v.told) (row_at v) (gained_at n v)
   pub rest : s.sound ≤ s.rest
   pub exact : max (v.at + s.roles) (v.last_set + largest_interval (pace_of n)) + window_span n.params

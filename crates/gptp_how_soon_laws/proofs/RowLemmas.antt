@@ -518,7 +518,7 @@ module _ (n : NetworkState) (network : IsNetwork n) (events : List Timed) (b : S
       → HasComeToRest b at × FailsEndFirst n made now × FlightIsGone n made (gone_by n v.paths v.used_before)
   failed well row =
       let (from, fails, far) = why FailedEnd row in
-      ((from_rest from).rested, failing_end well fails far, flight_so (is_failing_so fails).delay)
+      ((from_rest from).rested, failing_end well fails far, flight_so (fails_so fails).keeps.delay)
 
   -- or a system that others heard
   pub heard : AreWell n (made ++ now) → (row_at v ≡ FailedHeard) ⊎ (row_at v ≡ FailureCutsOff)

@@ -404,8 +404,8 @@ module _ (d : DocumentState) (network : IsNetwork d.network) (order : AreInOrder
               lead = subst (λ es. LeadOn n [] before.first es past) (sym parts)
                   (leads_on n [] before.first before.last past earlier (event ∷ now) before.lead
                   (lead_as n earlier event now before.last seen past
-                  (taken_later n earlier before.last seen (suc (last + choice_then)) event.at (omega (arith, soon, here))
-                  before.settles.1) x.lead));
+                  (taken_later n earlier before.last seen (suc (last + choice_then)) event.at
+                  (omega (arith, soon, here)) before.settles.1) x.lead));
               calm = calm;
               settles = λ settled late. (
                 off,

@@ -144,8 +144,8 @@ module _ (n : NetworkState) (time : ℕ) where
 
 -- ---- what the events ask for
 
--- By them the network has lost. Its choice stands after the span of a loss, and roles do once ports without a link aren't
--- capable.
+-- By them the network has lost. Its choice stands after the span of a loss, and roles do once ports without a link
+-- aren't capable.
 pub record LosesBy (n : NetworkState) (time : ℕ) (made now : List Timed) (past : Past) (choice roles : ℕ) : Type 0
   where
     pub most : ℕ

@@ -558,8 +558,8 @@ pub record HasAged (n : NetworkState) (events : List Timed) (aged silent start t
   pub over : HasSettledHeard n events start time
 
 -- A network that has lost at a time has come to rest by another, as one whose ports are capable from a start on: its
--- choice stands. Ports without a link aren't capable then, or no link is up that isn't in use. And the greatest delay has
--- passed for each system of a path but one.
+-- choice stands. Ports without a link aren't capable then, or no link is up that isn't in use. And the greatest delay
+-- has passed since the start for each system of a path but one.
 pub record HasToldAll (n : NetworkState) (events : List Timed) (since most silent start time : ℕ) : Type 0 where
   pub off : NothingLapses n.params
   pub told : suc (since + loss_span (pace_of n) (sync_paths n events) most) ≤ time
