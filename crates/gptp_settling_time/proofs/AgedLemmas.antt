@@ -55,7 +55,7 @@ aged_now p g aged silent w is has = record {
 
 -- from this moment on all that is held becomes sound
 abbrev pub SoundFrom : SettlingParams → ℕ → ℕ → WorldState → Type 0
-SoundFrom p silent by w = (gone right old : ℕ) → GoesBy p gone w → right ≡ suc by + nearer_echo p w
+SoundFrom p silent by w = (gone right old : ℕ) → GoesBy p gone w → right ≡ suc (by + nearer_echo p w)
     → old ≡ by + nearer_echo p w + gone → HaveQuietLinks p.params w → NothingLapses p.params
     → BecomesSound p silent right old w
 
@@ -70,7 +70,7 @@ begins_now : (p : SettlingParams) (g : Snapshot) (aged silent : ℕ) (w : WorldS
     → HasAgedBy aged silent w.time → SoundFrom p silent w.time w
 begins_now p g aged silent w is has gone right old goes right_is old_is quiet off =
     subst (λ t. BecomesSound p silent t old w) (sym right_is)
-    (subst (λ t. BecomesSound p silent (suc w.time + nearer_echo p w) t w) (sym old_is)
+    (subst (λ t. BecomesSound p silent (suc (w.time + nearer_echo p w)) t w) (sym old_is)
     (becoming p g silent gone w (aged_now p g aged silent w is has) goes g
     (was_best g (snapshot_of w) is.well
     (stands_well w is.standing.world.sound is.standing.world.between is.standing.world.encodable) is.left) quiet off
@@ -101,7 +101,7 @@ module _ (p : SettlingParams) (g : Snapshot) (aged silent : ℕ) (w w' : WorldSt
   sound_on by has past from gone right old goes right_is old_is =
       becomes_on p g silent right old w w' (aged_now p g aged silent w is (aged_on aged silent by w.time past has))
       (aged_now p g aged silent w' is' (aged_on aged silent by w'.time (omega (arith, past, on)) has))
-      (from gone right old (goes_before gone goes) (right_is ∙ ap (λ e. suc by + e) same_echo)
+      (from gone right old (goes_before gone goes) (right_is ∙ ap (λ e. suc (by + e)) same_echo)
       (old_is ∙ ap (λ e. by + e + gone) same_echo))
       keeps step
 
@@ -146,6 +146,6 @@ pub aged_claimed : (p : SettlingParams) (g : Snapshot) (aged silent by gone : �
     → NothingLapses p.params → (start : ℕ) → w.last_change ≤ start → AreSilentBy p start w
     → IsClaimedAlways p start w
 aged_claimed p g aged silent by gone w is sound has since past goes late quiet off =
-    becomes_claimed p g w.last_change silent (suc by + nearer_echo p w) (by + nearer_echo p w + gone) w
+    becomes_claimed p g w.last_change silent (suc (by + nearer_echo p w)) (by + nearer_echo p w + gone) w
     (aged_now p g aged silent w is (aged_on aged silent by w.time past has)) is.asked
-    (sound by has since past gone (suc by + nearer_echo p w) (by + nearer_echo p w + gone) goes refl refl) quiet off late
+    (sound by has since past gone (suc (by + nearer_echo p w)) (by + nearer_echo p w + gone) goes refl refl) quiet off late
