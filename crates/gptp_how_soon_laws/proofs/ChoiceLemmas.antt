@@ -16,7 +16,7 @@ use Rattle.gptp_network.specs.Document.{DocumentState}
 use Rattle.gptp_network.specs.Snapshot.{events_by}
 use Rattle.gptp_network.proofs.SnapshotLemmas.{from_filter}
 use Rattle.gptp_theorem.specs.PlayedLaws.{IsPlayable}
-use Rattle.gptp_how_soon.specs.Bounds.{choice_by, choice_of_row, echo_span, gone_by, held_span, loss_span, roles_of_row, sound_by}
+use Rattle.gptp_how_soon.specs.Bounds.{aged_echo_span, choice_by, choice_of_row, echo_span, gone_by, held_span, loss_span, roles_of_row, sound_by}
 use Rattle.gptp_how_soon.specs.Rest.{leaves_silent}
 use Rattle.gptp_how_soon.specs.Times.{View, events_at, gained_at, last_set, ready_at, row_at, settling_time, settling_times, settling_times_from, time_at, view_at}
 use Rattle.gptp_how_soon.specs.declared.bounds.Row.{Row}
@@ -214,8 +214,13 @@ module _ (d : DocumentState) (playable : IsPlayable d) where
             let (rest, fails, used) = lost_power n playable.network all b at late well row in
             let late : max (echo_span n v.paths) v.paths.delay ≤ s.sound =
             subst (λ t. max (echo_span n v.paths) v.paths.delay ≤ t) (sym it.sound) long in
-            (rest, inl (inr (inr (inr (inr (fails, used, late))))))
-        by (inr (inr (inr (inr (inr (inr (row, is))))))) =
+            (rest, inl (inr (inr (inr (inr (fails, inl (used, late)))))))
+        by (inr (inr (inr (inr (inr (inr (inl (row, long)))))))) =
+            let (rest, fails) = heard n playable.network all b at late well row in
+            let told : aged_echo_span n v.paths_before v.paths ≤ s.sound =
+            subst (λ t. aged_echo_span n v.paths_before v.paths ≤ t) (sym it.sound) long in
+            (rest, inl (inr (inr (inr (inr (fails, inr (largest_interval (pace_of n), inr refl, told)))))))
+        by (inr (inr (inr (inr (inr (inr (inr (row, is)))))))) =
             let (rest, loses, roles) = any_losses n playable.network all b at late row in (
               rest,
               inr (
