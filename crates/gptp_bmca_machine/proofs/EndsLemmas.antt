@@ -123,6 +123,9 @@ module _ (n : Network) (net : IsSettlingNetwork n) (w : MachineState) (calm : Ca
         (same_there w.lanes (n.lane (port_of v (suc p))) has_lane.lane l has_lane.there at)
         (record { from = has_lane.from; to = has_lane.to; loss = has_lane.loss; is_up = has_lane.is_up })
 
+    short : n.most_of (port_of v (suc p)) ≤ n.most
+    short = calm.short (port_of v (suc p)) (port_of u (suc q)) leads.joins
+
     timed : IsTimed n d (port_of v (suc p)) (port_of u (suc q))
     timed = net.timed d (port_of v (suc p)) (port_of u (suc q)) leads.joins
 
@@ -136,12 +139,15 @@ module _ (n : Network) (net : IsSettlingNetwork n) (w : MachineState) (calm : Ca
         → LaneIsOnTime (wiring n d best v p u q) w.time f
     on_time l f at h = record {
       left = calm.left (n.lane (port_of v (suc p))) l f at h;
-      due = λ late. within (started late) (calm.facts.fresh (n.lane (port_of v (suc p))) l f at h
+      due = λ late. within (started late)
+          (subst (λ x. (f.due ≤ w.time + n.most_of x) ⊎ (f.due < n.start)) (lane_is l at).from
+          (calm.soon (n.lane (port_of v (suc p))) l f at h
           (subst (λ x. Joins n.graph x l.to) (sym (lane_is l at).from)
-          (subst (Joins n.graph (port_of v (suc p))) (sym (lane_is l at).to) leads.joins)));
+          (subst (Joins n.graph (port_of v (suc p))) (sym (lane_is l at).to) leads.joins))));
     }
       where
-        within : n.start ≤ w.time → (f.due ≤ w.time + n.most) ⊎ (f.due < n.start) → f.due ≤ w.time + n.most
+        within : n.start ≤ w.time → (f.due ≤ w.time + n.most_of (port_of v (suc p))) ⊎ (f.due < n.start)
+            → f.due ≤ w.time + n.most_of (port_of v (suc p))
         within begun (inl soon) = soon
         within begun (inr early) = omega arith
 
@@ -228,7 +234,8 @@ module _ (n : Network) (net : IsSettlingNetwork n) (w : MachineState) (calm : Ca
           go (live, clock) = record {
             weaker = λ root steps mine. hears_weaker s pu root steps at port mine;
             source = source;
-            long = λ r e log. is_port.long r (port_of v (suc p)) e leads.joins (source r e) log;
+            long = λ r e log.
+                let long = is_port.long r (port_of v (suc p)) e leads.joins (source r e) log in omega (arith, long, short);
           }
             where
               is_port : IsCalmPort n w.time (port_of u (suc q)) pu
@@ -258,11 +265,13 @@ module _ (n : Network) (net : IsSettlingNetwork n) (w : MachineState) (calm : Ca
 
     -- a system that hasn't settled yet, or whose port isn't on yet, still has the time
     early : (s : Station) (pv : Port) → slice_get w.stations (n.place v) ≡ Some s → slice_get s.ports p ≡ Some pv
-        → (TellerIsReady (wiring n d best v p u q) s pv → ⊥) → w.time + n.most < since n (suc d)
+        → (TellerIsReady (wiring n d best v p u q) s pv → ⊥)
+        → w.time + n.most_of (port_of v (suc p)) < since n (suc d)
     early s pv at port not = elim (dec_le (since n d) w.time) [
-      | no before ↦ let delay : n.most ≤ n.step = timed.delay in omega arith
+      | no before ↦ let delay : n.most ≤ n.step = timed.delay in omega (arith, short)
       | yes late ↦ elim (dec_le (n.ready (port_of v (suc p))) w.time) [
-        | no before ↦ let ready : n.ready (port_of v (suc p)) + n.most ≤ since n (suc d) = timed.ready in omega arith
+        | no before ↦
+            let ready : n.ready (port_of v (suc p)) + n.most ≤ since n (suc d) = timed.ready in omega (arith, short)
         | yes ready ↦ let chooses = settled late v best s at leads.is_best leads.here in
             absurd (not (
               (chooses.root, chooses.steps),
@@ -297,7 +306,7 @@ module _ (n : Network) (net : IsSettlingNetwork n) (w : MachineState) (calm : Ca
     -- what the machine keeps of a link holds of it
     pub ends : Ends (wiring n d best v p u q) w
     ends = record {
-      in_time = timed.until;
+      in_time = let until = timed.until in omega (arith, until, short);
       claimed = timed.claimed;
       entry = timed.entry;
       apart = net.graph.apart (port_of v (suc p)) (port_of u (suc q)) leads.joins;

@@ -136,8 +136,8 @@ module _ (says : Spelling) (n n' : Network) (same : SameWiring n n') (d : ℕ) (
       interval : n'.interval_of (port_of v (suc p)) ≡ n.interval_of (port_of v (suc p))
       interval = same.interval (port_of v (suc p))
 
-      most : n.most ≤ n'.most
-      most = same.most
+      most : n.most_of (port_of v (suc p)) ≤ n'.most_of (port_of v (suc p))
+      most = same.most (port_of v (suc p))
 
 -- ---- what leads farther after news did before
 

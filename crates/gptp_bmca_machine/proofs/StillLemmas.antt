@@ -45,7 +45,7 @@ still n d best v p u q = record {
   lane = n.lane (port_of v (suc p));
   log = n.log_of (port_of v (suc p));
   interval = n.interval_of (port_of v (suc p));
-  most = n.most;
+  most = n.most_of (port_of v (suc p));
   root = best.identity;
   steps = d;
   from = 0;
@@ -268,6 +268,9 @@ module _ (g : Snapshot) (n : Network) (wf : IsWellFormed n.graph) (left : IsWhat
     best_to : IsBest g u best
     best_to = IsBest-neighbour g v u best left.graph (suc p, suc q, before) leads.is_best
 
+    short : n.most_of (port_of v (suc p)) ≤ n.most
+    short = calm.short (port_of v (suc p)) (port_of u (suc q)) leads.joins
+
     has_lane : HasLane n w (port_of v (suc p)) (port_of u (suc q))
     has_lane = calm.lanes (port_of v (suc p)) (port_of u (suc q)) leads.joins
 
@@ -282,12 +285,14 @@ module _ (g : Snapshot) (n : Network) (wf : IsWellFormed n.graph) (left : IsWhat
         → LaneIsOnTime (still n d best v p u q) w.time f
     on_time l f at h = record {
       left = calm.left (n.lane (port_of v (suc p))) l f at h;
-      due = λ late. within (calm.facts.fresh (n.lane (port_of v (suc p))) l f at h
+      due = λ late. within (subst (λ x. (f.due ≤ w.time + n.most_of x) ⊎ (f.due < n.start)) (lane_is l at).from
+          (calm.soon (n.lane (port_of v (suc p))) l f at h
           (subst (λ x. Joins n.graph x l.to) (sym (lane_is l at).from)
-          (subst (Joins n.graph (port_of v (suc p))) (sym (lane_is l at).to) leads.joins)));
+          (subst (Joins n.graph (port_of v (suc p))) (sym (lane_is l at).to) leads.joins))));
     }
       where
-        within : (f.due ≤ w.time + n.most) ⊎ (f.due < n.start) → f.due ≤ w.time + n.most
+        within : (f.due ≤ w.time + n.most_of (port_of v (suc p))) ⊎ (f.due < n.start)
+            → f.due ≤ w.time + n.most_of (port_of v (suc p))
         within (inl soon) = soon
         within (inr early) = let begun : n.start ≤ w.time = kept.begun in omega arith
 
@@ -373,7 +378,8 @@ module _ (g : Snapshot) (n : Network) (wf : IsWellFormed n.graph) (left : IsWhat
         go (live, clock) = record {
           weaker = λ root steps mine. hears_weaker s pu root steps at port mine;
           source = source;
-          long = λ r e log. is_port.long r (port_of v (suc p)) e leads.joins (source r e) log;
+          long = λ r e log.
+              let long = is_port.long r (port_of v (suc p)) e leads.joins (source r e) log in omega (arith, long, short);
         }
           where
             is_port : IsCalmPort n w.time (port_of u (suc q)) pu
@@ -394,7 +400,7 @@ module _ (g : Snapshot) (n : Network) (wf : IsWellFormed n.graph) (left : IsWhat
     -- what the machine keeps of a link holds of it
     pub ends : Ends (still n d best v p u q) w
     ends = record {
-      in_time = omega arith;
+      in_time = omega (arith, short);
       claimed = omega arith;
       entry = inl refl;
       apart = wf.apart (port_of v (suc p)) (port_of u (suc q)) leads.joins;

@@ -29,6 +29,7 @@ network = record {
   log_of = λ p. pos 2;
   interval_of = λ p. 4;
   interval = 4;
+  most_of = λ p. 1;
   most = 1;
   timeout = 2;
   gone = 1;

@@ -13,8 +13,8 @@ pub record SyncTiming : Type 0 where
 
 -- The live systems and their links; how many systems a path of them has at most; at which place a system stands, by its
 -- clock, and a lane, by the port that it leads from; the announce interval of each port, first its logarithm, and the
--- largest of them; the largest delay of a link; the announce receipt timeout, in intervals; from when on what comes was
--- sent by them; when claims on traces begin; when ports that no link is at hold nothing, when they are disabled, and
+-- largest of them; the largest delay of the link from each port, and of any; the announce receipt timeout, in
+-- intervals; from when on what comes was sent by them; when claims on traces begin; when ports that no link is at hold nothing, when they are disabled, and
 -- when each port on a link is capable; when all that is held is sound; the times of Syncs, and for how long at most a
 -- settled system waits for the next Sync of the best; how long settling takes anyway from when all is sound, and how
 -- much more each step of distance; from when claims are made of the link that leads from a port, by the distance of its
@@ -28,6 +28,7 @@ pub record Network : Type 0 where
   pub log_of : PortIdentity → ℤ
   pub interval_of : PortIdentity → ℕ
   pub interval : ℕ
+  pub most_of : PortIdentity → ℕ
   pub most : ℕ
   pub timeout : ℕ
   pub gone : ℕ
@@ -113,7 +114,7 @@ wiring n d best v p u q = record {
   lane = n.lane (port_of v (suc p));
   log = n.log_of (port_of v (suc p));
   interval = n.interval_of (port_of v (suc p));
-  most = n.most;
+  most = n.most_of (port_of v (suc p));
   root = best.identity;
   steps = d;
   from = n.claimed d (port_of v (suc p));

@@ -18,7 +18,7 @@ pub record ReactsAtRest (says : Spelling) (n n' : Network) (w w' : MachineState)
   pub news : HasNews n.graph n'.graph
   pub links : (p q : PortIdentity) → Joins n'.graph p q → Joins n.graph p q
   pub same : SameWiring n n'
-  pub most : n'.most ≡ n.most
+  pub most : (p : PortIdentity) → n'.most_of p ≡ n.most_of p
   pub ready : (p : PortIdentity) → IsLinked n'.graph p → n'.ready p ≤ w.time
   pub early : w.time < since n' 0
 

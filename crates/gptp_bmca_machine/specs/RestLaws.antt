@@ -29,7 +29,7 @@ pub record SameWiring (n n' : Network) : Type 0 where
   pub lane : (p : PortIdentity) → n'.lane p ≡ n.lane p
   pub log : (p : PortIdentity) → n'.log_of p ≡ n.log_of p
   pub interval : (p : PortIdentity) → n'.interval_of p ≡ n.interval_of p
-  pub most : n.most ≤ n'.most
+  pub most : (p : PortIdentity) → n.most_of p ≤ n'.most_of p
 
 -- what stands at the ends of this link, and on it, stood there before the news
 pub record StandsAsBefore (n : Network) (w w' : MachineState) (v p u : ℕ) : Type 0 where
