@@ -20,6 +20,7 @@ use Rattle.gptp_bmca_machine.specs.CleanLaws.{HeldIsWhole}
 use Rattle.gptp_lists.proofs.ReverseLemmas.{reverse-end}
 use Rattle.gptp_bmca_machine.proofs.TraceLemmas.{clean_first, clean_on, whole_own, whole_on, not_all_clean}
 use Rattle.gptp_bmca_machine.proofs.ReactsLemmas.{JustHeard, held_from}
+use Rattle.gptp_bmca_machine.proofs.FreshLemmas.{due_within}
 
 -- both ends of a link are joined, seen from either
 joined_back : (k : NetworkSetting) (from : PortIdentity) (c n : ℕ) → Joins k.graph from (port_of c n)
@@ -179,7 +180,7 @@ module _ (says : Spelling) (k : NetworkSetting) where
           let (l, stood, step) = call.lanes j l' at in
           lane_sent says k call.s call.s' touch w.time call.sends call.reacts l l' (clean.lanes j l stood) step
           is' clean' (λ f h joins. subst (λ t. (f.due ≤ t + k.most) ⊎ (f.due < k.start)) call.time
-          (facts'.fresh j l' f at h joins))
+          (due_within k w' facts' j l' f at h joins))
           (λ f h. subst (λ t. f.due ≤ t + k.interval) call.time (facts'.near j l' f at h))
 
   -- a frame is taken off its lane
@@ -259,7 +260,7 @@ module _ (says : Spelling) (k : NetworkSetting) where
   clean_begins w facts live early = record {
     lanes = λ j l at. record {
       sender = λ f h late. live j l f at h late;
-      clean = λ f a c h said joins late. absurd (by f c (facts.fresh j l f at h joins) late);
+      clean = λ f a c h said joins late. absurd (by f c (due_within k w facts j l f at h joins) late);
       anywhere = λ f a c h said late. let soon = facts.near j l f at h in absurd (omega (arith, early, late, soon));
     };
     stations = λ i s at alive place r c holds late.

@@ -124,7 +124,7 @@ module _ (n : Network) (net : IsSettlingNetwork n) (w : MachineState) (calm : Ca
         (record { from = has_lane.from; to = has_lane.to; loss = has_lane.loss; is_up = has_lane.is_up })
 
     short : n.most_of (port_of v (suc p)) ≤ n.most
-    short = calm.short (port_of v (suc p)) (port_of u (suc q)) leads.joins
+    short = calm.facts.short (port_of v (suc p)) (port_of u (suc q)) leads.joins
 
     timed : IsTimed n d (port_of v (suc p)) (port_of u (suc q))
     timed = net.timed d (port_of v (suc p)) (port_of u (suc q)) leads.joins
@@ -141,7 +141,7 @@ module _ (n : Network) (net : IsSettlingNetwork n) (w : MachineState) (calm : Ca
       left = calm.left (n.lane (port_of v (suc p))) l f at h;
       due = λ late. within (started late)
           (subst (λ x. (f.due ≤ w.time + n.most_of x) ⊎ (f.due < n.start)) (lane_is l at).from
-          (calm.soon (n.lane (port_of v (suc p))) l f at h
+          (calm.facts.fresh (n.lane (port_of v (suc p))) l f at h
           (subst (λ x. Joins n.graph x l.to) (sym (lane_is l at).from)
           (subst (Joins n.graph (port_of v (suc p))) (sym (lane_is l at).to) leads.joins))));
     }

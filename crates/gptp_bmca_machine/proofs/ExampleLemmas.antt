@@ -208,16 +208,13 @@ module _ (now timer : ℕ) (second : Station) (frames : List AnnounceFrame) (ear
       → slice_get (example_state now timer second frames).stations i ≡ Some s → P i s
   each_station P p q = each_of_two P (first_system timer) second p q
 
-  due_soon : (j : ℕ) (l : Lane) (f : AnnounceFrame) → slice_get (example_state now timer second frames).lanes j ≡ Some l
-      → In f l.frames → f.due ≤ now + 1
-  due_soon j l f at h = each_frame (λ l f. f.due ≤ now + 1) (λ f h. (flight f h).1) j l f at h
-
   facts : StationFacts (network_setting network) (example_state now timer second frames)
   facts = record {
     stations = each_station (λ i s. s.live ≡ true → IsLiveStationState (network_setting network) now s)
         (λ live. lone_station now 1 first_identity timer early soon (inl refl) first_linked) (λ live. is_station);
     near = each_frame (λ l f. f.due ≤ now + 4) (λ f h. let (left, due) = flight f h in omega arith);
-    fresh = λ j l f at h joins. inl (due_soon j l f at h);
+    short = λ p q joins. omega arith;
+    fresh = λ j l f at h joins. inl (each_frame (λ l f. f.due ≤ now + 1) (λ f h. (flight f h).1) j l f at h);
     linked = λ j l f at h from to.
         each_frame (λ l f. Joins network.graph l.from l.to) (λ f h. inl (inl refl)) j l f at h;
   }
@@ -283,7 +280,5 @@ module _ (now timer : ℕ) (second : Station) (frames : List AnnounceFrame) (ear
           is_up = refl;
         });
     apart = apart;
-    short = λ p q joins. omega arith;
-    soon = λ j l f at h joins. inl (due_soon j l f at h);
     left = each_frame (λ l f. now ≤ f.due) (λ f h. (flight f h).0);
   }

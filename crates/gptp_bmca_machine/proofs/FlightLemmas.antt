@@ -14,16 +14,17 @@ use Rattle.gptp_bmca_machine.specs.Reacts.{IsOwn}
 use Rattle.gptp_bmca_machine.specs.Acts.{StationAnswers, Pops, MachineSteps}
 use Rattle.gptp_bmca_machine.specs.Clean.{Whole}
 use Rattle.gptp_bmca_machine.specs.Facts.{station_system}
-use Rattle.gptp_bmca_machine.specs.Network.{Network, IsSettlingNetwork, since, settled_from}
+use Rattle.gptp_bmca_machine.specs.Network.{Network, IsSettlingNetwork, network_setting, since, settled_from}
 use Rattle.gptp_bmca_machine.specs.Calm.{Calm}
 use Rattle.gptp_bmca_machine.specs.Levels.{Invariant}
 use Rattle.gptp_bmca_machine.specs.SoundLaws.{IsSoundFrom, IsSoundOnLinks, AllIsWhole, AllAreNear, FlightNamesBest}
 use Rattle.gptp_bmca_machine.proofs.SettledLemmas.{network_settles, network_whole}
+use Rattle.gptp_bmca_machine.proofs.FreshLemmas.{due_within}
 
 module _ (says : Spelling) (n : Network) (net : IsSettlingNetwork n) where
   pub flight_begins : (w : MachineState) → Calm n w → w.time < settled_from n → FlightNamesBest says n w
   flight_begins w calm early j l f a best at flies said joins late is_best =
-      absurd (by (calm.facts.fresh j l f at flies joins))
+      absurd (by (due_within (network_setting n) w calm.facts j l f at flies joins))
     where
       by : (f.due ≤ w.time + n.most) ⊎ (f.due < n.start) → ⊥
       by (inl soon) = omega arith
@@ -51,7 +52,7 @@ module _ (says : Spelling) (n : Network) (net : IsSettlingNetwork n) where
               let (has, follows, roles) = network_settles says n w' call.place call.s' net calm' invariant' call.there
               live'
               (near call.s'.clock (In-clocks n.graph (station_system call.s') known))
-              (now (calm'.facts.fresh j l' f at flies joins)) in
+              (now (due_within (network_setting n) w' calm'.facts j l' f at flies joins)) in
               let (b, is_b, root) = has.root in
               let same : b ≡ best =
               IsBest-unique n.graph call.s'.clock b best net.graph is_b

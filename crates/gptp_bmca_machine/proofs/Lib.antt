@@ -4,6 +4,7 @@ pub mod ReactsLemmas
 pub mod EachLiveLemmas
 pub mod HeldLemmas
 pub mod SelectedLemmas
+pub mod FreshLemmas
 pub mod CleanLemmas
 pub mod LinkStageLemmas
 pub mod HearingLemmas

@@ -91,7 +91,7 @@ module _ (says : Spelling) (n n' : Network) (net : IsSettlingNetwork n) (net' : 
     at_place x s at = subst (λ i. slice_get w.stations i ≡ Some s) (k.same.place x) at
 
     short : n'.most_of (port_of v (suc p)) ≤ n'.most
-    short = calm'.short (port_of v (suc p)) (port_of u (suc q)) leads.joins
+    short = calm'.facts.short (port_of v (suc p)) (port_of u (suc q)) leads.joins
 
     has_lane : HasLane n w (port_of v (suc p)) (port_of u (suc q))
     has_lane = calm.lanes (port_of v (suc p)) (port_of u (suc q)) joins
@@ -109,7 +109,7 @@ module _ (says : Spelling) (n n' : Network) (net : IsSettlingNetwork n) (net' : 
     on_time l f at flies = record {
       left = calm.left (n.lane (port_of v (suc p))) l f there flies;
       due = λ late. within (subst (λ x. (f.due ≤ w.time + n.most_of x) ⊎ (f.due < n.start)) (lane_is l at).from
-          (calm.soon (n.lane (port_of v (suc p))) l f there flies
+          (calm.facts.fresh (n.lane (port_of v (suc p))) l f there flies
           (subst (λ x. Joins n.graph x l.to) (sym (lane_is l at).from)
           (subst (Joins n.graph (port_of v (suc p))) (sym (lane_is l at).to) joins))));
     }
@@ -207,7 +207,7 @@ module _ (says : Spelling) (n n' : Network) (net : IsSettlingNetwork n) (net' : 
           let interval : n'.interval_of (port_of v (suc p)) ≡ n.interval_of (port_of v (suc p)) =
           k.same.interval (port_of v (suc p)) in
           let most = k.most (port_of v (suc p)) in
-          let less = calm.short (port_of v (suc p)) (port_of u (suc q)) joins in
+          let less = calm.facts.short (port_of v (suc p)) (port_of u (suc q)) joins in
           omega (arith, long, interval, most, less);
     }
       where

@@ -269,7 +269,7 @@ module _ (g : Snapshot) (n : Network) (wf : IsWellFormed n.graph) (left : IsWhat
     best_to = IsBest-neighbour g v u best left.graph (suc p, suc q, before) leads.is_best
 
     short : n.most_of (port_of v (suc p)) ≤ n.most
-    short = calm.short (port_of v (suc p)) (port_of u (suc q)) leads.joins
+    short = calm.facts.short (port_of v (suc p)) (port_of u (suc q)) leads.joins
 
     has_lane : HasLane n w (port_of v (suc p)) (port_of u (suc q))
     has_lane = calm.lanes (port_of v (suc p)) (port_of u (suc q)) leads.joins
@@ -286,7 +286,7 @@ module _ (g : Snapshot) (n : Network) (wf : IsWellFormed n.graph) (left : IsWhat
     on_time l f at h = record {
       left = calm.left (n.lane (port_of v (suc p))) l f at h;
       due = λ late. within (subst (λ x. (f.due ≤ w.time + n.most_of x) ⊎ (f.due < n.start)) (lane_is l at).from
-          (calm.soon (n.lane (port_of v (suc p))) l f at h
+          (calm.facts.fresh (n.lane (port_of v (suc p))) l f at h
           (subst (λ x. Joins n.graph x l.to) (sym (lane_is l at).from)
           (subst (Joins n.graph (port_of v (suc p))) (sym (lane_is l at).to) leads.joins))));
     }

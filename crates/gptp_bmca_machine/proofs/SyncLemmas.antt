@@ -13,7 +13,7 @@ use Rattle.gptp_graph.proofs.ParentLemmas.{LeadsNearer-distance, parent_exists}
 use Rattle.gptp_bmca_machine.specs.Frame.{SaysSync, AnnounceFrame, Lane}
 use Rattle.gptp_bmca_machine.specs.Station.{Station, MachineState}
 use Rattle.gptp_bmca_machine.specs.Sound.{RunIsSound}
-use Rattle.gptp_bmca_machine.specs.Network.{Network, IsSettlingNetwork, since}
+use Rattle.gptp_bmca_machine.specs.Network.{Network, IsSettlingNetwork, network_setting, since}
 use Rattle.gptp_bmca_machine.specs.Calm.{Calm}
 use Rattle.gptp_bmca_machine.specs.Lapsing.{FollowsFarther, NothingNearLapses}
 use Rattle.gptp_bmca_machine.specs.Matching.{Matches}
@@ -22,6 +22,7 @@ use Rattle.gptp_bmca_machine.proofs.PlaceLemmas.{same_there}
 use Rattle.gptp_bmca_machine.proofs.RestLemmas.{slave_nearer}
 use Rattle.gptp_bmca_machine.proofs.EndsLemmas.{AllChoose, clear_at, station_of, is_station}
 use Rattle.gptp_bmca_machine.proofs.MatchingLemmas.{match_in}
+use Rattle.gptp_bmca_machine.proofs.FreshLemmas.{due_within}
 
 -- a parent is at the distance one less
 pub parent_there : (g : Snapshot) (v d : ℕ) (l : ParentLink) → IsWellFormed g → IsDistance g v (suc d) → IsParent g v l
@@ -90,7 +91,7 @@ module _ (says_sync : SaysSync) (n : Network) (net : IsSettlingNetwork n) (w : M
       subst (λ (x : Lane). Joins n.graph x.from x.to) one
       (subst (λ x. Joins n.graph x has.lane.to) (sym has.from)
       (subst (Joins n.graph from) (sym has.to) joins)) in
-      within f (calm.facts.fresh (n.lane from) at.lane f at.there flies over) same
+      within f (due_within (network_setting n) w calm.facts (n.lane from) at.lane f at.there flies over) same
     where
       within : (f : AnnounceFrame) → (f.due ≤ w.time + n.most) ⊎ (f.due < n.start) → f.due ≡ due → due ≤ w.time + n.most
       within f (inl soon) same = omega arith

@@ -1,7 +1,7 @@
 -- What is known of each state of a network whose last change is past, of one item each. This is what a world has to
 -- show of itself, and gptp_invariants shows it by worlds_are_calm; the laws named here are those on one item. Besides,
 -- the laws of settling have one premise, that nothing lapses (`Lapsing`).
-use Rattle.std.specs.Prelude.{◌≡◌, ◌≢◌, ◌⊎◌, ◌<◌, ◌≤◌, ◌+◌, ℕ, suc, true, Some, slice_get}
+use Rattle.std.specs.Prelude.{◌≡◌, ◌≢◌, ◌<◌, ◌≤◌, ◌+◌, ℕ, suc, true, Some, slice_get}
 use Rattle.gptp_lists.specs.Members.{In}
 use Rattle.gptp_graph.specs.Snapshot.{System, PortIdentity, port_of, Joins, IsLinked}
 use Rattle.gptp_bmca_machine.specs.Frame.{AnnounceFrame, Lane}
@@ -65,9 +65,5 @@ pub record Calm (n : Network) (w : MachineState) : Type 0 where
   -- a port has one link at most, by stands_well
   pub apart : (i j : ℕ) (l m : Lane) → slice_get w.lanes i ≡ Some l → slice_get w.lanes j ≡ Some m
       → l.to ≡ m.to → i ≡ j
-  -- no link takes longer than the largest delay, and what is in flight over one is due within its own
-  pub short : (p q : PortIdentity) → Joins n.graph p q → n.most_of p ≤ n.most
-  pub soon : (j : ℕ) (l : Lane) (f : AnnounceFrame) → slice_get w.lanes j ≡ Some l → In f l.frames
-      → Joins n.graph l.from l.to → (f.due ≤ w.time + n.most_of l.from) ⊎ (f.due < n.start)
   -- nothing due earlier is left when an act happens, by frames_are_due
   pub left : (j : ℕ) (l : Lane) (f : AnnounceFrame) → slice_get w.lanes j ≡ Some l → In f l.frames → w.time ≤ f.due

@@ -1,17 +1,19 @@
 -- What is known of each state between two changes of the network, of one item each.
 use Rattle.std.specs.Prelude.{◌≡◌, ◌⊎◌, ◌<◌, ◌≤◌, ◌+◌, ◌*◌, ℕ, suc, true, [], ◌∷◌, ◌++◌, Some, length, slice_get}
 use Rattle.gptp_lists.specs.Members.{In}
-use Rattle.gptp_graph.specs.Snapshot.{Snapshot, System, clocks, Joins}
+use Rattle.gptp_graph.specs.Snapshot.{PortIdentity, Snapshot, System, clocks, Joins}
 use Rattle.gptp_bmca_machine.specs.Frame.{AnnounceFrame, Lane}
 use Rattle.gptp_bmca_machine.specs.Station.{Reception, Station, MachineState, HoldsAt}
 
 -- The live systems and their links; from when on what comes was sent by them; from when on claims are made; the
--- largest announce interval, and the largest delay of a link; and the longest span for which anything received stays.
+-- largest announce interval, the largest delay of the link from each port, and of any; and the longest span for which
+-- anything received stays.
 pub record NetworkSetting : Type 0 where
   pub graph : Snapshot
   pub gone : ℕ
   pub start : ℕ
   pub interval : ℕ
+  pub most_of : PortIdentity → ℕ
   pub most : ℕ
   pub span : ℕ
 
@@ -71,12 +73,13 @@ abbrev pub SendersLive : NetworkSetting → MachineState → Type 0
 SendersLive k w = (j : ℕ) (l : Lane) (f : AnnounceFrame) → slice_get w.lanes j ≡ Some l → In f l.frames → k.gone ≤ f.due
     → In l.from.clock (clocks k.graph)
 
--- Every live system is such a one; a frame is due within an interval, and over a link of the snapshot within the
--- largest delay, unless it comes before claims are made; and where a frame is in flight between two systems of the
+-- Every live system is such a one; no link takes longer than the largest delay; a frame is due within an interval, and
+-- over a link of the snapshot within the largest delay of that, unless it comes before claims are made; and where a frame is in flight between two systems of the
 -- snapshot, the snapshot has the link. Every sound, legible and known world is so, calm or not, by
 -- worlds_have_networks.
 pub record StationFacts (k : NetworkSetting) (w : MachineState) : Type 0 where
   pub stations : (i : ℕ) (s : Station) → slice_get w.stations i ≡ Some s → s.live ≡ true → IsLiveStationState k w.time s
+  pub short : (p q : PortIdentity) → Joins k.graph p q → k.most_of p ≤ k.most
   -- No delay is above the interval of any port, also of links that aren't in the snapshot, and queues are first in,
   -- first out.
   pub near : (j : ℕ) (l : Lane) (f : AnnounceFrame) → slice_get w.lanes j ≡ Some l → In f l.frames
@@ -84,7 +87,7 @@ pub record StationFacts (k : NetworkSetting) (w : MachineState) : Type 0 where
   -- One largest announce interval after the last change all older frames are gone. A later one is due by its own delay,
   -- or with the frame before it, by frames_are_due.
   pub fresh : (j : ℕ) (l : Lane) (f : AnnounceFrame) → slice_get w.lanes j ≡ Some l → In f l.frames
-      → Joins k.graph l.from l.to → (f.due ≤ w.time + k.most) ⊎ (f.due < k.start)
+      → Joins k.graph l.from l.to → (f.due ≤ w.time + k.most_of l.from) ⊎ (f.due < k.start)
   -- a link that is down has empty queues, by frames_are_due
   pub linked : (j : ℕ) (l : Lane) (f : AnnounceFrame) → slice_get w.lanes j ≡ Some l → In f l.frames
       → In l.from.clock (clocks k.graph) → In l.to.clock (clocks k.graph) → Joins k.graph l.from l.to

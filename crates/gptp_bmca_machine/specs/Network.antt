@@ -51,6 +51,7 @@ network_setting n = record {
   gone = n.gone;
   start = n.start;
   interval = n.interval;
+  most_of = n.most_of;
   most = n.most;
   span = n.timeout * n.interval;
 }
