@@ -24,19 +24,19 @@ use Rattle.gptp_bmca_machine.specs.Station.{Reception as SeenReception, Station 
 use native.Mathlib.Decide.{dec_le}
 use Rattle.gptp_invariants.specs.WorldKnown.{IsKnown}
 use Rattle.gptp_invariants.specs.WorldEncodable.{IsEncodable}
-use Rattle.gptp_invariants.proofs.WorldGreatestDelayLemmas.{delay_of_used}
+use Rattle.gptp_invariants.proofs.ChoiceLinkDelayLemmas.{delay_is, delay_short_of}
 use Rattle.gptp_invariants.proofs.ChoiceKnownAtRestLemmas.{systems_follow}
 use Rattle.gptp_invariants.proofs.WorldDueLemmas.{frames_on_links, ports_known}
 use Rattle.gptp_invariants.specs.ChoiceView.{frame_view, lane_view, lanes_view, reception_view, span_at, station_view, view}
 use Rattle.gptp_invariants.proofs.ChoiceSeenLaneLemmas.{lane_from}
 use Rattle.gptp_invariants.proofs.WorldOrderLemmas.{in_contains}
 use Rattle.gptp_invariants.proofs.ChoicePlaceLemmas.{station_from}
-use Rattle.gptp_invariants.specs.ChoiceCalm.{SettlingTimes, delay_in, network_of, network_with}
+use Rattle.gptp_invariants.specs.ChoiceCalm.{SettlingTimes, delay_of, network_of, network_with}
 use Rattle.gptp_invariants.specs.WorldStanding.{stations_have_clock, channel_is_used, live_stations, snapshot_of}
 use Rattle.gptp_invariants.proofs.ChoicePortLemmas.{held_from, holds_there, same_standing}
 use Rattle.gptp_invariants.proofs.WorldSetLemmas.{span_is}
 use Rattle.gptp_invariants.proofs.WorldSystemLemmas.{clock_there, live_there}
-use Rattle.gptp_invariants.proofs.WorldWayLemmas.{one_way, used_joins, way_of}
+use Rattle.gptp_invariants.proofs.WorldWayLemmas.{used_joins}
 
 -- ---- frames
 
@@ -150,23 +150,21 @@ module _ (p : SettlingParams) (m start : ℕ) (w : WorldState) (sound : IsSound 
           held = in_time place station here live;
         }
 
-    -- a frame on a link of the snapshot is due within the greatest delay, or before the start
+    -- a frame on a link of the snapshot is due within the greatest delay of that, or before the start
     due_soon : (j : ℕ) (l : Lane) (f : SeenFrame) → slice_get (lanes_view w.net.channels) j ≡ Some l → In f l.frames
         → Joins (snapshot_of w) l.from l.to
-        → (f.due ≤ w.time + delay_in w) ⊎ (f.due < w.last_change + 2 * largest_interval p)
+        → (f.due ≤ w.time + delay_of w.net.channels l.from) ⊎ (f.due < w.last_change + 2 * largest_interval p)
     due_soon j l f there member joins =
         let at = frame_from w j l f there member in
-        let way = way_of w l.from l.to joins in
-        let one = one_way w sound encodable way.link at.link way.direction at.direction way.channel at.channel way.here
-        at.here (way.from ∙ ap (λ (z : Lane). z.from) at.lane_is) in
-        let short = subst (λ (c : Channel). c.bounds.max ≤ delay_in w) one.same_channel
-        (delay_of_used (live_stations w.stations) w.net.channels way.link way.channel way.here way.used) in
+        let own : delay_of w.net.channels l.from ≡ at.channel.bounds.max =
+        delay_is w sound encodable at.link at.direction at.channel l.from at.here
+        (sym (ap (λ (z : Lane). z.from) at.lane_is)) in
         let soon = known.fresh.frames at.link at.direction at.channel at.frame at.here at.among in
-        subst (λ (x : SeenFrame). (x.due ≤ w.time + delay_in w) ⊎ (x.due < w.last_change + 2 * largest_interval p))
-        (sym at.is)
-        (elim (dec_le at.frame.due (w.time + delay_in w)) [
+        subst (λ (x : SeenFrame). (x.due ≤ w.time + delay_of w.net.channels l.from)
+        ⊎ (x.due < w.last_change + 2 * largest_interval p)) (sym at.is)
+        (elim (dec_le at.frame.due (w.time + delay_of w.net.channels l.from)) [
           | yes within ↦ inl within
-          | no more ↦ inr (let since : w.last_change ≤ w.time = known.fresh.change in omega (arith, soon, short))
+          | no more ↦ inr (let since : w.last_change ≤ w.time = known.fresh.change in omega (arith, soon, own, more))
         ])
 
     pub facts : StationFacts k (view w)
@@ -179,6 +177,7 @@ module _ (p : SettlingParams) (m start : ℕ) (w : WorldState) (sound : IsSound 
           let at = frame_from w j lane seen there member in
           subst (λ (f : SeenFrame). f.due ≤ w.time + largest_interval p) (sym at.is)
           ((known.near at.link at.channel at.here).dues at.direction at.frame at.among);
+      short = delay_short_of w sound encodable;
       fresh = due_soon;
       linked = linked w sound;
     }
@@ -198,16 +197,19 @@ facts_with p m start times w sound encodable known old = record {
             let y = x.held place r holds in
             record { came = y.came; stays = y.stays; short = y.short; no_loop = y.no_loop };
       };
+  short = are.short;
   near = are.near;
-  fresh = λ j l f there member joins. by times.past f.due (are.fresh j l f there member joins);
+  fresh = λ j l f there member joins.
+      by times.past f.due (delay_of w.net.channels l.from) (are.fresh j l f there member joins);
   linked = are.linked;
 }
   where
     are : StationFacts (network_setting (network_of p m start w)) (view w)
     are = facts p m start w sound encodable known
 
-    by : (past : Bool) (due : ℕ) → (due ≤ w.time + delay_in w) ⊎ (due < w.last_change + 2 * largest_interval p)
-        → (due ≤ w.time + delay_in w) ⊎ (due < (if past then w.last_change + 2 * largest_interval p else start))
-    by true due soon = soon
-    by false due (inl near) = inl near
-    by false due (inr early) = inr (omega (arith, early, old))
+    by : (past : Bool) (due delay : ℕ)
+        → (due ≤ w.time + delay) ⊎ (due < w.last_change + 2 * largest_interval p)
+        → (due ≤ w.time + delay) ⊎ (due < (if past then w.last_change + 2 * largest_interval p else start))
+    by true due delay soon = soon
+    by false due delay (inl near) = inl near
+    by false due delay (inr early) = inr (omega (arith, early, old))

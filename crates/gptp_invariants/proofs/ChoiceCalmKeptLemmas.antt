@@ -34,7 +34,7 @@ use Rattle.gptp_model.proofs.SteadyLemmas.{same_clock, same_ports}
 use Rattle.gptp_bmca_machine.specs.Network.{Network}
 use Rattle.gptp_invariants.specs.ChoiceSeenLaws.{IsNoChange}
 use Rattle.gptp_invariants.specs.ChoiceView.{lane_place}
-use Rattle.gptp_invariants.specs.ChoiceCalm.{HaveQuietLinks, IsQuietWith, IsQuietWorld, delay_in, greatest_channel_delay, has_port_id, lane_of, log_at, log_of, network_of, SettlingTimes, network_with, paths_with, clock_place, setups_of, sync_paths_of, in_turn, at_once, network_at_once, sound_from}
+use Rattle.gptp_invariants.specs.ChoiceCalm.{HaveQuietLinks, IsQuietWith, IsQuietWorld, delay_in, delay_of, greatest_channel_delay, has_port_id, lane_of, log_at, log_of, network_of, SettlingTimes, network_with, paths_with, clock_place, setups_of, sync_paths_of, in_turn, at_once, network_at_once, sound_from}
 use Rattle.gptp_invariants.specs.WorldStanding.{channel_is_used, standing_link, live_stations, snapshot_of, standing_system, used_channels}
 
 -- ---- systems
@@ -87,6 +87,13 @@ pub delay_bare : (systems : List System) (channels : List Channel)
 delay_bare systems [] = refl
 delay_bare systems (first ∷ channels) =
     ap (λ rest. if channel_is_used systems first then max first.bounds.max rest else rest) (delay_bare systems channels)
+
+pub own_delay_bare : (port : PortIdentity) (channels : List Channel)
+    → delay_of (map bare channels) port ≡ delay_of channels port
+own_delay_bare port [] = refl
+own_delay_bare port (first ∷ channels) =
+    ap (λ rest. if has_port_id first.a port then first.bounds.max
+    else (if has_port_id first.b port then first.bounds.max else rest)) (own_delay_bare port channels)
 
 -- so it is the same of links that are kept
 pub of_kept : {X : Type 0} (f : List Channel → X) → ((channels : List Channel) → f (map bare channels) ≡ f channels)
@@ -147,6 +154,10 @@ module _ (w w' : WorldState) (k : KeepsNetwork w w') where
   lanes_kept port =
       of_kept (λ channels. lane_of channels port) (lane_bare port) w.net.channels w'.net.channels k.links
 
+  own_delays_kept : (port : PortIdentity) → delay_of w'.net.channels port ≡ delay_of w.net.channels port
+  own_delays_kept port =
+      of_kept (λ channels. delay_of channels port) (own_delay_bare port) w.net.channels w'.net.channels k.links
+
   logs_kept : (port : PortIdentity) → log_of w'.stations port ≡ log_of w.stations port
   logs_kept port =
       λ i. option_map_or (λ (setup : Setup). log_at setup port.port)
@@ -169,6 +180,7 @@ module _ (w w' : WorldState) (k : KeepsNetwork w w') where
     log_of = λ port. logs_kept port i;
     interval_of = λ port. interval_of (logs_kept port i);
     interval = largest_interval p;
+    most_of = λ port. own_delays_kept port i;
     most = delay_kept i;
     timeout = p.params.timeout;
     gone = k.change i + 2 * largest_interval p;

@@ -42,6 +42,7 @@ pub mod ChoiceFoundLemmas
 pub mod ChoicePortLemmas
 pub mod WorldLogLemmas
 pub mod ChoiceCalmAtRestLemmas
+pub mod ChoiceLinkDelayLemmas
 pub mod ChoiceCalmFactLemmas
 pub mod WorldGreatestDelayLemmas
 pub mod SyncWaitLemmas

@@ -48,7 +48,7 @@ use Rattle.gptp_bmca_machine.specs.Network.{IsSettlingNetwork, Network, network_
 use Rattle.gptp_bmca_machine.proofs.SoundEverywhereLemmas.{on_links}
 use Rattle.gptp_bmca_machine.proofs.LevelLemmas.{invariant_begins, invariant_kept, no_early_ports}
 use Rattle.gptp_bmca_machine.proofs.SoundLemmas.{received_fits}
-use Rattle.gptp_invariants.specs.ChoiceCalm.{AreCapableFrom, HaveQuietLinks, SettlingTimes, delay_in, network_with, paths_with}
+use Rattle.gptp_invariants.specs.ChoiceCalm.{AreCapableFrom, HaveQuietLinks, SettlingTimes, delay_in, delay_of, network_with, paths_with}
 use Rattle.gptp_invariants.specs.ChoiceSettlesAsMachine.{IsWorld}
 use Rattle.gptp_invariants.specs.WorldKnown.{IsKnown}
 use Rattle.gptp_invariants.specs.DelayLinkView.{IsLinkOf, LinkPlace, link_frame_view as measured_view, link_identity, other_direction, pair, link_setting}
@@ -75,7 +75,8 @@ use Rattle.gptp_invariants.specs.FailedUnanswered.{IsOff, IsUnansweredAt, Stands
 use Rattle.gptp_invariants.proofs.FailedOffLemmas.{off_acts, off_later}
 use Rattle.gptp_invariants.specs.WorldStanding.{live_stations}
 use Rattle.gptp_invariants.proofs.DelayChangeKeptLemmas.{acts_measured, later_measured}
-use Rattle.gptp_invariants.proofs.WorldGreatestDelayLemmas.{delay_of_used, delay_short}
+use Rattle.gptp_invariants.proofs.ChoiceLinkDelayLemmas.{delay_is}
+use Rattle.gptp_invariants.proofs.WorldGreatestDelayLemmas.{delay_short}
 use Rattle.gptp_invariants.proofs.DelayElsewhereLemmas.{watch_goes_through, watched_stay_capable}
 use Rattle.gptp_invariants.proofs.DelayFirstAtLemmas.{by_goes_on, by_goes_through, first_full}
 use Rattle.gptp_bmca_machine.proofs.TimesLemmas.{times_fit}
@@ -312,10 +313,11 @@ module _ (p : SettlingParams) (start : ℕ) (w : WorldState) (is : IsWorld p w)
             ];
       }
 
-  -- ---- what is in flight on links of the snapshot is due within the greatest delay
+  -- ---- what is in flight on a link of the snapshot is due within its greatest delay
 
   news_due : (j : ℕ) (l : Lane) (f : SeenFrame) → slice_get (lanes_view w.net.channels) j ≡ Some l → In f l.frames
-      → Joins (snapshot_of w) l.from l.to → (f.due ≤ w.time + delay_in w) ⊎ (f.due < start)
+      → Joins (snapshot_of w) l.from l.to
+      → (f.due ≤ w.time + delay_of w.net.channels l.from) ⊎ (f.due < start)
   news_due j l f there member joins =
       let seen = frame_from w j l f there member in
       let way = way_of w l.from l.to joins in
@@ -326,9 +328,9 @@ module _ (p : SettlingParams) (start : ℕ) (w : WorldState) (is : IsWorld p w)
       let link = link_in p start at w r in
       let same_channel : link.channel ≡ way.channel =
       same_there w.net.channels way.link link.channel way.channel link.here way.here in
-      let short : link.channel.bounds.max ≤ delay_in w =
-      subst (λ (c : Channel). c.bounds.max ≤ delay_in w) (sym same_channel)
-      (delay_of_used (live_stations w.stations) w.net.channels way.link way.channel way.here way.used) in
+      let own : delay_of w.net.channels l.from ≡ link.channel.bounds.max =
+      delay_is w is.sound is.encodable way.link way.direction way.channel l.from way.here way.from
+      ∙ sym (ap (λ (c : Channel). c.bounds.max) same_channel) in
       let among : In seen.frame (world_queue way.direction link.channel) =
       subst (λ (c : Channel). In seen.frame (world_queue way.direction c)) (sym (same_channel ∙ one.same_channel))
       (subst (λ d. In seen.frame (world_queue d seen.channel)) (sym one.same_way) seen.among) in
@@ -336,7 +338,7 @@ module _ (p : SettlingParams) (start : ℕ) (w : WorldState) (is : IsWorld p w)
       (In-map measured_view seen.frame (world_queue way.direction link.channel) among) in
       let is_due : f.due ≡ seen.frame.due = ap (λ (x : SeenFrame). x.due) seen.is in
       elim soon [
-        | inl near ↦ inl (omega (arith, near, short, is_due))
+        | inl near ↦ inl (omega (arith, near, own, is_due))
         | inr early ↦ inr (omega (arith, early, is_due))
       ]
 
@@ -354,9 +356,10 @@ module _ (p : SettlingParams) (start : ℕ) (w : WorldState) (is : IsWorld p w)
                   let y = x.held place r holds in
                   record { came = y.came; stays = y.stays; short = y.short; no_loop = y.no_loop };
             };
+        short = old.short;
         near = old.near;
         fresh = λ j l f there member joins.
-            subst (λ (past : Bool). (f.due ≤ w.time + delay_in w)
+            subst (λ (past : Bool). (f.due ≤ w.time + delay_of w.net.channels l.from)
             ⊎ (f.due < (if past then w.last_change + 2 * largest_interval p else start))) (sym news)
             (news_due j l f there member joins);
         linked = old.linked;

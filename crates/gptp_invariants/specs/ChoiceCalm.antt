@@ -120,6 +120,13 @@ lane_of (channel ∷ channels) port =
     if has_port_id channel.a port then lane_place 0 FromA
     else (if has_port_id channel.b port then lane_place 0 FromB else suc (suc (lane_of channels port)))
 
+-- the greatest delay of the link at a port
+abbrev pub delay_of : List Channel → PortIdentity → ℕ
+delay_of [] port = 0
+delay_of (channel ∷ channels) port =
+    if has_port_id channel.a port then channel.bounds.max
+    else (if has_port_id channel.b port then channel.bounds.max else delay_of channels port)
+
 -- ---- intervals
 
 -- the announce interval, as a logarithm, that a system is set up with for the port of this number; 0 where it has none
@@ -174,6 +181,7 @@ network_with p m start times w = record {
   log_of = log_of w.stations;
   interval_of = λ port. interval_of (log_of w.stations port);
   interval = largest_interval p;
+  most_of = delay_of w.net.channels;
   most = delay_in w;
   timeout = p.params.timeout;
   gone = w.last_change + 2 * largest_interval p;
