@@ -50,7 +50,7 @@ still n d best v p u q = record {
   steps = d;
   from = 0;
   until = 0;
-  before = n.most;
+  before = n.most_of (port_of v (suc p));
 }
 
 -- a link that is left, from an unmoved system to one that was farther, or as far with the higher clock
@@ -400,7 +400,7 @@ module _ (g : Snapshot) (n : Network) (wf : IsWellFormed n.graph) (left : IsWhat
     -- what the machine keeps of a link holds of it
     pub ends : Ends (still n d best v p u q) w
     ends = record {
-      in_time = omega (arith, short);
+      in_time = omega arith;
       claimed = omega arith;
       entry = inl refl;
       apart = wf.apart (port_of v (suc p)) (port_of u (suc q)) leads.joins;
@@ -466,11 +466,13 @@ module _ (says : Spelling) (g : Snapshot) (n : Network) (wf : IsWellFormed n.gra
             lane = has.there;
           } in
           let chooses = settled v best v' v_at leads.unmoved leads.is_best leads.here in
+          let late = kept.late in
+          let short = kept.calm.facts.short (port_of v (suc p)) (port_of u (suc q)) leads.joins in
           let (r, holds, final) = link_settled says (still n d best v p u q) w pv pu has.lane
           (ends g n wf left w kept all d best v p u q near leads settled) link stand (
             (chooses.root, chooses.steps),
             capable_at g n wf left w kept all v p (port_of u (suc q)) v' pv from_v leads.joins v_at pv_at,
-          ) kept.late in
+          ) (omega (arith, late, short)) in
           (r, (pu, pu_at, holds), final)
 
   -- an unmoved system chooses as before

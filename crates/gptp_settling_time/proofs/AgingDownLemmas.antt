@@ -167,10 +167,14 @@ module _ (p : SettlingParams) (before : Snapshot) (aged silent owner port : ℕ)
 
     -- ---- its lanes are emptied
 
+    own_now : n' ≡ aging_network p aged silent taken → (q : PortIdentity) → n'.most_of q ≡ n.most_of q
+    own_now same q =
+        ap (λ (x : Network). x.most_of q) same
+        ∙ own_delay_set w.net.channels k.place k.channel (lost k.channel) q k.is.here refl refl refl
+
     alike : IsAlike n n'
     alike =
         let same = same_aging p aged silent taken w' keeps in
-        let delays = delay_now in
         record {
           graph = snapshot_now;
           wiring = record {
@@ -180,9 +184,10 @@ module _ (p : SettlingParams) (before : Snapshot) (aged silent owner port : ℕ)
                 ∙ lane_set w.net.channels k.place k.channel (lost k.channel) q k.is.here refl refl;
             log = λ q. ap (λ (x : Network). x.log_of q) same;
             interval = λ q. ap (λ (x : Network). x.interval_of q) same;
-            most = omega (arith, delays);
+            most = λ q. let own = own_now same q in omega (arith, own);
           };
           most = delay_now;
+          own = own_now same;
           interval = refl;
           timeout = refl;
           start = refl;

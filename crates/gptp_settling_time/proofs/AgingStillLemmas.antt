@@ -12,9 +12,10 @@ use Rattle.gptp_bmca_machine.specs.Levels.{Invariant, LeadsFarther, LevelSettles
 use Rattle.gptp_bmca_machine.specs.Link.{Ends, Stand}
 use Rattle.gptp_bmca_machine.specs.LinkStage.{FinalAnnounceStays, FinalTail, IsFinal, LinkStage}
 use Rattle.gptp_bmca_machine.specs.LossLaws.{EverythingFits, IsAfterLoss, IsWhatIsLeft, Unmoved}
-use Rattle.gptp_bmca_machine.specs.Network.{IsSettlingNetwork, Network, settled_from, wiring}
+use Rattle.gptp_bmca_machine.specs.Network.{IsSettlingNetwork, Network, network_setting, settled_from, wiring}
 use Rattle.gptp_bmca_machine.specs.RestLaws.{SameWiring}
 use Rattle.gptp_bmca_machine.specs.Station.{Held, MachineState, Station}
+use Rattle.gptp_bmca_machine.proofs.FreshLemmas.{due_within}
 use Rattle.gptp_bmca_machine.proofs.LinkStageLemmas.{settled}
 use Rattle.gptp_bmca_machine.proofs.LossLemmas.{fits_kept}
 use Rattle.gptp_bmca_machine.proofs.PlaceLemmas.{same_there}
@@ -127,9 +128,11 @@ module _ (says : Spelling) (g : Snapshot) (n : Network) (well : IsWellFormed g) 
       stays : FinalAnnounceStays says (still n d best v p u q) pv.announce pu.held l.frames
       stays =
           let teller = is.teller stand.v pv stood.teller stood.teller_port in
+          let late = after.late in
+          let short = after.calm.facts.short (port_of v (suc p)) (port_of u (suc q)) leads.joins in
           settled says (still n d best v p u q) w.time pv.announce pu.held l.frames
           (teller.timer best.identity d (teller.settled always ready).mine).0
-          (λ f h. (is.frames l f stood.lane h).left) is.in_time after.late
+          (λ f h. (is.frames l f stood.lane h).left) is.in_time (omega (arith, late, short))
           (tell d best v p u q close on always pv pu l stood ready)
 
       final : (a : Announce) → IsFinal (still n d best v p u q) a → IsFinal (wiring n' d best v p u q) a
@@ -192,11 +195,11 @@ module _ (says : Spelling) (n n' : Network) (same : SameWiring n n') (d : ℕ) (
     qualified = x.qualified;
   }
 
-  tail_so : (fs : List AnnounceFrame) → FinalTail says (still n d best v p u q) n.most fs
-      → FinalTail says (still n' d best v p u q) n'.most fs
+  tail_so : (fs : List AnnounceFrame) → FinalTail says (still n d best v p u q) (n.most_of (port_of v (suc p))) fs
+      → FinalTail says (still n' d best v p u q) (n'.most_of (port_of v (suc p))) fs
   tail_so [] none = none
   tail_so (f ∷ fs) (inl (due, said, all)) =
-      let most = same.most in
+      let most = same.most (port_of v (suc p)) in
       inl (omega (arith, due, most), said, λ x a at told. final_so a (all x a at told))
   tail_so (f ∷ fs) (inr tail) = inr (tail_so fs tail)
 
@@ -219,8 +222,8 @@ module _ (says : Spelling) (n n' : Network) (same : SameWiring n n') (d : ℕ) (
       interval : n'.interval_of (port_of v (suc p)) ≡ n.interval_of (port_of v (suc p))
       interval = same.interval (port_of v (suc p))
 
-      most : n.most ≤ n'.most
-      most = same.most
+      most : n.most_of (port_of v (suc p)) ≤ n'.most_of (port_of v (suc p))
+      most = same.most (port_of v (suc p))
 
 -- Each live system stands as it did, and each lane is as it was, or down and empty.
 pub record IsEmptied (w w' : MachineState) : Type 0 where
@@ -316,7 +319,7 @@ module _ (says : Spelling) (n : Network) (w : MachineState) (calm : Calm n w) (b
           let fit = fits.lanes j l f a stood flies said (lived l.to.clock known) in
           let most = short a.log in
           let left = calm.left j l f stood flies in
-          elim (calm.facts.fresh j l f stood flies fit.joins) [
+          elim (due_within (network_setting n) w calm.facts j l f stood flies fit.joins) [
             | inl fresh ↦ omega (arith, fresh, most, soon)
             | inr old ↦ omega (arith, old, left, most, soon, begun)
           ]

@@ -37,7 +37,7 @@ use Rattle.gptp_bmca_machine.proofs.LevelLemmas.{invariant_kept}
 use Rattle.gptp_bmca_machine.proofs.SoundEverywhereLemmas.{on_links}
 use Rattle.gptp_bmca_machine.proofs.SoundLemmas.{received_fits}
 use Rattle.gptp_bmca_machine.proofs.TimesLemmas.{times_fit}
-use Rattle.gptp_invariants.specs.ChoiceCalm.{HaveQuietLinks, clock_place, delay_in, lane_of}
+use Rattle.gptp_invariants.specs.ChoiceCalm.{HaveQuietLinks, clock_place, delay_of, lane_of}
 use Rattle.gptp_invariants.specs.ChoiceSeenLaws.{IsNoChange}
 use Rattle.gptp_invariants.specs.ChoiceSettlesAsMachine.{IsWorld}
 use Rattle.gptp_invariants.specs.ChoiceView.{lane_place, frame_view, held_view, lane_view, lanes_view, port_identity_number, says_announce, span_at, view}
@@ -55,7 +55,7 @@ use Rattle.gptp_invariants.proofs.ChoiceSeenActLemmas.{acts_seen}
 use Rattle.gptp_invariants.proofs.ChoiceSeenLaneLemmas.{lane_there}
 use Rattle.gptp_invariants.proofs.ChoiceSettlesAsMachineLemmas.{kept_back}
 use Rattle.gptp_invariants.proofs.DelayLinkLemmas.{sender_opposite, good_between}
-use Rattle.gptp_invariants.proofs.WorldGreatestDelayLemmas.{delay_of_used}
+use Rattle.gptp_invariants.proofs.ChoiceLinkDelayLemmas.{delay_is}
 use Rattle.gptp_invariants.proofs.WorldNewsLemmas.{news_are_kept, news_go_on, silent_off}
 use Rattle.gptp_invariants.proofs.WorldStandsLemmas.{stands_well}
 use Rattle.gptp_invariants.proofs.WorldWayLemmas.{IsWay, one_way, way_of}
@@ -390,9 +390,9 @@ module _ (p : SettlingParams) (start : ℕ) (w : WorldState) (news : IsStanding 
   on_way from to joins way =
       heard (place_of_way p w is quiet from to way) (way_stands p w is quiet from to way joins)
 
-  -- what is in flight there is due within the greatest delay
+  -- what is in flight there is due within its greatest delay
   due_soon : (j : ℕ) (l : Lane) (f : SeenFrame) → slice_get (lanes_view w.net.channels) j ≡ Some l → In f l.frames
-      → Joins (snapshot_of w) l.from l.to → f.due ≤ w.time + delay_in w
+      → Joins (snapshot_of w) l.from l.to → f.due ≤ w.time + delay_of w.net.channels l.from
   due_soon j l f there member joins =
       let at = frame_from w j l f there member in
       let way = way_of w l.from l.to joins in
@@ -403,16 +403,16 @@ module _ (p : SettlingParams) (start : ℕ) (w : WorldState) (news : IsStanding 
       let link = heard_link p start place w x in
       let same_channel : link.channel ≡ way.channel =
       same_there w.net.channels way.link link.channel way.channel link.here way.here in
-      let short : link.channel.bounds.max ≤ delay_in w =
-      subst (λ (c : Channel). c.bounds.max ≤ delay_in w) (sym same_channel)
-      (delay_of_used (live_stations w.stations) w.net.channels way.link way.channel way.here way.used) in
+      let own : delay_of w.net.channels l.from ≡ link.channel.bounds.max =
+      delay_is w is.sound is.encodable way.link way.direction link.channel l.from link.here
+      (ap (λ (c : Channel). port_identity_number (sender way.direction c)) same_channel ∙ way.from) in
       let among : In at.frame (world_queue way.direction link.channel) =
       subst (λ (c : Channel). In at.frame (world_queue way.direction c)) (sym (same_channel ∙ one.same_channel))
       (subst (λ d. In at.frame (world_queue d at.channel)) (sym one.same_way) at.among) in
       let latest = heard_due p start place w x (link_frame_view at.frame)
       (In-map link_frame_view at.frame (world_queue way.direction link.channel) among) in
       let is_due : f.due ≡ at.frame.due = ap (λ (g : SeenFrame). g.due) at.is in
-      omega (arith, latest, short, is_due)
+      omega (arith, latest, own, is_due)
 
   -- what the machine knows of each state, at the times of this network
   start_facts : (m : ℕ) → StationFacts (network_setting (start_network p m start w)) (view w)
@@ -428,6 +428,7 @@ module _ (p : SettlingParams) (start : ℕ) (w : WorldState) (news : IsStanding 
                   let y = x.held place r holds in
                   record { came = y.came; stays = y.stays; short = y.short; no_loop = y.no_loop };
             };
+        short = old.short;
         near = old.near;
         fresh = λ j l f there member joins. inl (due_soon j l f there member joins);
         linked = old.linked;
@@ -446,6 +447,7 @@ module _ (p : SettlingParams) (start : ℕ) (w : WorldState) (news : IsStanding 
                   let y = x.held place r holds in
                   record { came = y.came; stays = y.stays; short = y.short; no_loop = y.no_loop };
             };
+        short = old.short;
         near = old.near;
         fresh = λ j l f there member joins. inl (due_soon j l f there member joins);
         linked = old.linked;

@@ -25,7 +25,7 @@ use Rattle.gptp_bmca_machine.specs.RestLaws.{SameWiring}
 use Rattle.gptp_bmca_machine.specs.SoundLaws.{AllAreNear, HasNews, IsSoundOnLinks}
 use Rattle.gptp_bmca_machine.proofs.SoundEverywhereLemmas.{on_links}
 use Rattle.gptp_bmca_machine.proofs.SoundLemmas.{received_fits}
-use Rattle.gptp_invariants.specs.ChoiceCalm.{HaveQuietLinks, delay_in, greatest_channel_delay, lane_of}
+use Rattle.gptp_invariants.specs.ChoiceCalm.{HaveQuietLinks, delay_in, delay_of, greatest_channel_delay, lane_of}
 use Rattle.gptp_invariants.specs.ChoiceSettlesAsMachine.{IsWorld}
 use Rattle.gptp_invariants.specs.ChoiceView.{says_announce, view}
 use Rattle.gptp_invariants.specs.DelayLinkView.{LinkPlace}
@@ -36,7 +36,7 @@ use Rattle.gptp_invariants.specs.WorldStanding.{channel_is_used, live_stations, 
 use Rattle.gptp_invariants.proofs.WorldSoundCallLemmas.{links_more}
 use Rattle.gptp_invariants.proofs.WorldSystemLemmas.{clock_from, clock_lives, clock_there}
 use Rattle.gptp_invariants.proofs.WorldWayLemmas.{way_of}
-use Rattle.gptp_invariants.proofs.ChoiceCalmKeptLemmas.{delay_bare, lane_bare}
+use Rattle.gptp_invariants.proofs.ChoiceCalmKeptLemmas.{delay_bare, lane_bare, own_delay_bare}
 use Rattle.gptp_settling_time.proofs.AlwaysClaimedLemmas.{AreHeard, IsClaimedAlways, asks_back, capable_is_on, place_of_way, standing, start_calm, start_net, start_network, way_back, way_stands}
 use Rattle.gptp_settling_time.proofs.HeardLemmas.{StaysCapableAt, stays_elsewhere, stays_link, stays_on}
 use Rattle.gptp_settling_time.specs.Idle.{Lives}
@@ -117,6 +117,10 @@ module _ (p : SettlingParams) (w w' : WorldState) (r : Reacts w w') where
       ∙ of_bare (greatest_channel_delay (live_stations w.stations)) (delay_bare (live_stations w.stations))
       w.net.channels w'.net.channels r.links
 
+  own_delays_same : (q : PortIdentity) → delay_of w'.net.channels q ≡ delay_of w.net.channels q
+  own_delays_same q =
+      of_bare (λ channels. delay_of channels q) (own_delay_bare q) w.net.channels w'.net.channels r.links
+
   -- no link is another
   pub links_before : (a b : PortIdentity) → Joins (snapshot_of w') a b → Joins (snapshot_of w) a b
   links_before = links_stay w' w (λ number. sym (r.lives number)) (sym r.links)
@@ -130,21 +134,22 @@ module _ (p : SettlingParams) (w w' : WorldState) (r : Reacts w w') where
       (r.lives number ∙ clock_there (live_stations w.stations) number known)
 
   -- a network of the world has the wiring of one that it had before
-  pub wiring_same : (n n' : Network) → SameWiring n (start_network p 0 0 w) → n.most ≡ delay_in w
+  pub wiring_same : (n n' : Network) → SameWiring n (start_network p 0 0 w)
       → n' ≡ wired_as n' (start_network p 0 0 w') → SameWiring n n'
-  wiring_same n n' same most is =
-      let delay = delay_same in
-      let delays : n'.most ≡ delay_in w' = ap (λ (x : Network). x.most) is in
-      record {
-        place = λ v. ap (λ (x : Network). x.place v) is ∙ r.places v ∙ same.place v;
-        lane = λ q.
-            ap (λ (x : Network). x.lane q) is
-            ∙ of_bare (λ channels. lane_of channels q) (lane_bare q) w.net.channels w'.net.channels r.links
-            ∙ same.lane q;
-        log = λ q. ap (λ (x : Network). x.log_of q) is ∙ r.logs q ∙ same.log q;
-        interval = λ q. ap (λ (x : Network). x.interval_of q) is ∙ ap interval_of (r.logs q) ∙ same.interval q;
-        most = omega (arith, delay, delays, most);
-      }
+  wiring_same n n' same is = record {
+    place = λ v. ap (λ (x : Network). x.place v) is ∙ r.places v ∙ same.place v;
+    lane = λ q.
+        ap (λ (x : Network). x.lane q) is
+        ∙ of_bare (λ channels. lane_of channels q) (lane_bare q) w.net.channels w'.net.channels r.links
+        ∙ same.lane q;
+    log = λ q. ap (λ (x : Network). x.log_of q) is ∙ r.logs q ∙ same.log q;
+    interval = λ q. ap (λ (x : Network). x.interval_of q) is ∙ ap interval_of (r.logs q) ∙ same.interval q;
+    most = λ q.
+        let own : n'.most_of q ≡ delay_of w'.net.channels q = ap (λ (x : Network). x.most_of q) is in
+        let kept = own_delays_same q in
+        let old : n.most_of q ≤ delay_of w.net.channels q = same.most q in
+        omega (arith, own, kept, old);
+  }
 
 -- ---- the change
 
@@ -190,7 +195,7 @@ module _ (p : SettlingParams) (start next owner value : ℕ) (w : WorldState) (d
     seen = settled (quiet_before p w w' r quiet') off
 
     wired : SameWiring seen.n n
-    wired = wiring_same p w w' r seen.n n seen.same seen.most refl
+    wired = wiring_same p w w' r seen.n n seen.same refl
 
     -- the port that hears is on
     lasts : (d : ℕ) (best : System) (v pp u q : ℕ) → LeadsFarther n.graph d best v pp u q
@@ -221,7 +226,7 @@ module _ (p : SettlingParams) (start next owner value : ℕ) (w : WorldState) (d
               (subst (λ g. HasNews g (snapshot_of w')) (sym seen.graph)
               (reacts_news p w world owner value live octet draws done w' acts gain))
               (λ a b joins. subst (λ g. Joins g a b) (sym seen.graph) (links_before p w w' r a b joins)) wired
-              (delay_same p w w' r ∙ sym seen.most) (omega (arith, early)) calm sound lasts d best v pp u q close leads;
+              (λ q. own_delays_same p w w' r q ∙ sym (seen.own q)) (omega (arith, early)) calm sound lasts d best v pp u q close leads;
         }
 
   pub better_claimed : IsClaimedAlways p next w'

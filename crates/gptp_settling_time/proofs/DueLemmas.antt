@@ -6,6 +6,8 @@ use Rattle.gptp_setup.specs.SettlingParams.{SettlingParams, largest_interval}
 use Rattle.gptp_model.specs.Sound.{IsSound}
 use Rattle.gptp_model.specs.World.{Channel, WorldState}
 use Rattle.gptp_bmca_machine.specs.Frame.{Announce, AnnounceFrame, Lane}
+use Rattle.gptp_bmca_machine.specs.Network.{network_setting}
+use Rattle.gptp_bmca_machine.proofs.FreshLemmas.{due_within}
 use Rattle.gptp_bmca_machine.proofs.SettledLemmas.{since_grows}
 use Rattle.gptp_invariants.specs.ChoiceCalm.{delay_in}
 use Rattle.gptp_invariants.specs.ChoiceSettlesAsMachine.{IsWorld}
@@ -48,7 +50,8 @@ in_use_joins w sound used j l f there member =
 -- and it is due within the greatest delay
 pub due_by_delay : (p : SettlingParams) (w : WorldState) → IsWorld p w → IsSettledSeen p w → UpIsInUse w
     → AreDueBy (w.time + delay_in w) w
-due_by_delay p w is seen used j l f a there member said = by (seen.calm.facts.fresh j l f there member joins)
+due_by_delay p w is seen used j l f a there member said =
+    by (due_within (network_setting seen.n) (view w) seen.calm.facts j l f there member joins)
   where
     joins : Joins seen.n.graph l.from l.to
     joins = subst (λ h. Joins h l.from l.to) (sym seen.graph) (in_use_joins w is.sound used j l f there member)

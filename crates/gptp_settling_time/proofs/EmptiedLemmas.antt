@@ -16,6 +16,7 @@ pub record IsAlike (n n' : Network) : Type 0 where
   pub graph : n'.graph ≡ n.graph
   pub wiring : SameWiring n n'
   pub most : n'.most ≡ n.most
+  pub own : (p : PortIdentity) → n'.most_of p ≡ n.most_of p
   pub interval : n'.interval ≡ n.interval
   pub timeout : n'.timeout ≡ n.timeout
   pub start : n'.start ≡ n.start
@@ -88,15 +89,20 @@ module _ (n n' : Network) (alike : IsAlike n n') (w : MachineState) (lanes : Lis
                   no_loop = y.no_loop;
                 };
           };
+      short = λ p q joins.
+          let short = c.facts.short p q (joined p q joins) in
+          let own = alike.own p in
+          let most = alike.most in
+          omega (arith, short, own, most);
       near = λ j l f there flies.
           let near = c.facts.near j l f (flew j l f there flies) flies in
           let interval = alike.interval in
           omega (arith, near, interval);
       fresh = λ j l f there flies joins.
-          let most = alike.most in
+          let own = alike.own l.from in
           let start = alike.start in
           elim (c.facts.fresh j l f (flew j l f there flies) flies (joined l.from l.to joins)) [
-            | inl soon ↦ inl (omega (arith, soon, most))
+            | inl soon ↦ inl (omega (arith, soon, own))
             | inr old ↦ inr (omega (arith, old, start))
           ];
       linked = λ j l f there flies from to.

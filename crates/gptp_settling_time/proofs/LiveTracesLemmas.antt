@@ -127,7 +127,8 @@ module _ (says : Spelling) (k : NetworkSetting) where
             | inr new ↦
                 let (x, x_in, from, octets) = step.sent f new in
                 said_so c x.port a l'.from (call.reacts.tells x a x_in (subst (λ o. says o a) octets said)).0
-                (sent_by l l' x.port step.from from) (sent_late c f.due (facts'.fresh j l' f at flies joins) late)
+                (sent_by l l' x.port step.from from) (sent_late c f.due (due_within k w' facts' j l' f at flies joins)
+                late)
           ]
 
       anywhere : (j : ℕ) (l' : Lane) (f : AnnounceFrame) (a : Announce) (c : ℕ) → slice_get w'.lanes j ≡ Some l'
@@ -225,7 +226,7 @@ module _ (says : Spelling) (k : NetworkSetting) where
       → ToldIsClean says k w
   told_begins w facts tellers early = record {
     tellers = tellers;
-    flight = λ j l f a c at flies said joins late. absurd (by f.due c (facts.fresh j l f at flies joins) late);
+    flight = λ j l f a c at flies said joins late. absurd (by f.due c (due_within k w facts j l f at flies joins) late);
     anywhere = λ j l f a c at flies said late.
         let near = facts.near j l f at flies in absurd (omega (arith, near, late, early));
     held = λ i s at alive place r c holds late.
@@ -244,6 +245,7 @@ module _ (says : Spelling) (k : NetworkSetting) where
       held_whole says k m (record w { lanes = [] }) bounded
       (record {
         stations = facts.stations;
+        short = facts.short;
         near = λ j l f at. absurd (none j l at);
         fresh = λ j l f at. absurd (none j l at);
         linked = λ j l f at. absurd (none j l at);

@@ -194,7 +194,7 @@ module _ (p : SettlingParams) (since most silent : ℕ) (w w' : WorldState) (is 
         let told = is.tellers j l f a stood flew said known_before late in
         let joins = facts.linked j l f stood flew told known_before in
         let now = is.now in
-        elim (facts.fresh j l f stood flew joins) [
+        elim (due_within k (view w) facts j l f stood flew joins) [
           | inl soon ↦ omega (arith, soon, late, now)
           | inr early ↦ omega (arith, early, late)
         ]

@@ -78,6 +78,7 @@ loss_setting p since most g = record {
   gone = since + 1 + most;
   start = since + 1;
   interval = largest_interval p;
+  most_of = λ port. most;
   most = most;
   span = longest_span p;
 }
@@ -166,9 +167,10 @@ module _ (p : SettlingParams) (since most silent : ℕ) (w : WorldState) (standi
                   let y = x.held place r holds in
                   record { came = y.came; stays = y.stays; short = y.short; no_loop = y.no_loop };
             };
+        short = λ from to joins. omega arith;
         near = old.near;
         fresh = λ j l f there member joins. elim (old.fresh j l f there member joins) [
-          | inl soon ↦ inl (omega (arith, soon, short))
+          | inl soon ↦ inl (let own = old.short l.from l.to joins in omega (arith, soon, own, short))
           | inr early ↦ inr (omega (arith, early))
         ];
         linked = old.linked;

@@ -48,7 +48,7 @@ module _ (says : Spelling) (g : Snapshot) (n : Network) (x d e : ℕ) (best : Sy
   -- what is in flight now is due within the greatest delay
   due_soon : (w : MachineState) → IsMoving says g n x e best w → (j : ℕ) (l : Lane) (f : AnnounceFrame)
       → slice_get w.lanes j ≡ Some l → In f l.frames → Joins n.graph l.from l.to → f.due ≤ w.time + n.most
-  due_soon w m j l f at flies joins = elim (m.kept.calm.facts.fresh j l f at flies joins) [
+  due_soon w m j l f at flies joins = elim (due_within (network_setting n) w m.kept.calm.facts j l f at flies joins) [
     | inl soon ↦ soon
     | inr early ↦ let begun = m.kept.begun in omega (arith, early, begun)
   ]

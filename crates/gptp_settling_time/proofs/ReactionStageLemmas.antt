@@ -34,7 +34,7 @@ module _ (says : Spelling) (n n' : Network) (net : IsSettlingNetwork n) (net' : 
     (w w' : MachineState) (all_near : AllAreNear n.graph) (calm : Calm n w) (invariant : Invariant says n w)
     (late : settled_from n ≤ w.time) (call : StationAnswers says Other w w') (news : HasNews n.graph n'.graph)
     (links : (p q : PortIdentity) → Joins n'.graph p q → Joins n.graph p q) (same : SameWiring n n')
-    (most_is : n'.most ≡ n.most) (early : w.time < since n' 0) (calm' : Calm n' w')
+    (most_is : (q : PortIdentity) → n'.most_of q ≡ n.most_of q) (early : w.time < since n' 0) (calm' : Calm n' w')
     (all_after : IsSoundOnLinks says n'.graph w')
     (stays_on : (d : ℕ) (best : System) (v p u q : ℕ) → LeadsFarther n'.graph d best v p u q
     → StaysOn (wiring n' d best v p u q) w w') where
@@ -121,6 +121,9 @@ module _ (says : Spelling) (n n' : Network) (net : IsSettlingNetwork n) (net' : 
         → slice_get w.stations (n.place x) ≡ Some s
     at_place x s at = subst (λ i. slice_get w.stations i ≡ Some s) (same.place x) at
 
+    short : n'.most_of (port_of v (suc p)) ≤ n'.most
+    short = calm'.facts.short (port_of v (suc p)) (port_of u (suc q)) leads.joins
+
     has_lane : HasLane n w (port_of v (suc p)) (port_of u (suc q))
     has_lane = calm.lanes (port_of v (suc p)) (port_of u (suc q)) joins
 
@@ -136,16 +139,18 @@ module _ (says : Spelling) (n n' : Network) (net : IsSettlingNetwork n) (net' : 
         → LaneIsOnTime (wiring n' d b' v p u q) w.time f
     on_time l f at flies = record {
       left = calm.left (n.lane (port_of v (suc p))) l f there flies;
-      due = λ late. within (calm.facts.fresh (n.lane (port_of v (suc p))) l f there flies
+      due = λ late. within (subst (λ x. (f.due ≤ w.time + n.most_of x) ⊎ (f.due < n.start)) (lane_is l at).from
+          (calm.facts.fresh (n.lane (port_of v (suc p))) l f there flies
           (subst (λ x. Joins n.graph x l.to) (sym (lane_is l at).from)
-          (subst (Joins n.graph (port_of v (suc p))) (sym (lane_is l at).to) joins)));
+          (subst (Joins n.graph (port_of v (suc p))) (sym (lane_is l at).to) joins))));
     }
       where
         there : slice_get w.lanes (n.lane (port_of v (suc p))) ≡ Some l
         there = subst (λ i. slice_get w.lanes i ≡ Some l) (same.lane (port_of v (suc p))) at
 
-        within : (f.due ≤ w.time + n.most) ⊎ (f.due < n.start) → f.due ≤ w.time + n'.most
-        within (inl soon) = let most : n'.most ≡ n.most = most_is in omega arith
+        within : (f.due ≤ w.time + n.most_of (port_of v (suc p))) ⊎ (f.due < n.start)
+            → f.due ≤ w.time + n'.most_of (port_of v (suc p))
+        within (inl soon) = let most = same.most (port_of v (suc p)) in omega (arith, soon, most)
         within (inr before) = let begun : n.start ≤ since n 0 = net.begun in omega (arith, started)
 
     -- a teller that has settled had before
@@ -232,8 +237,9 @@ module _ (says : Spelling) (n n' : Network) (net : IsSettlingNetwork n) (net' : 
           is_port.long r (port_of v (suc p)) e joins (source r e) (log ∙ same.log (port_of v (suc p))) in
           let interval : n'.interval_of (port_of v (suc p)) ≡ n.interval_of (port_of v (suc p)) =
           same.interval (port_of v (suc p)) in
-          let most : n'.most ≡ n.most = most_is in
-          omega arith;
+          let most = most_is (port_of v (suc p)) in
+          let less = calm.facts.short (port_of v (suc p)) (port_of u (suc q)) joins in
+          omega (arith, long, interval, most, less);
     }
       where
         at : slice_get w.stations (n.place u) ≡ Some s
@@ -262,7 +268,7 @@ module _ (says : Spelling) (n n' : Network) (net : IsSettlingNetwork n) (net' : 
 
     ends_before : Ends (wiring n' d b' v p u q) w
     ends_before = record {
-      in_time = timed.until;
+      in_time = let until = timed.until in omega (arith, until, short);
       claimed = timed.claimed;
       entry = timed.entry;
       apart = net'.graph.apart (port_of v (suc p)) (port_of u (suc q)) leads.joins;
@@ -304,7 +310,7 @@ module _ (says : Spelling) (n n' : Network) (net : IsSettlingNetwork n) (net' : 
               early = λ not.
                   let soon : w.time < since n' 0 = early in
                   let delay : n'.most ≤ n'.step = timed.delay in
-                  omega arith;
+                  omega (arith, soon, delay, short);
             }
 
     -- the link is at a stage after the reaction

@@ -1,7 +1,7 @@
 -- A network in which a world has settled, as the machine sees it.
 use Rattle.std.proofs.Common.{◌≡◌, ◌<◌, ◌≤◌, ◌+◌, ◌*◌, ℕ, pred, Some, slice_get, refl, sym, ap, subst, inr, arith}
 use Rattle.gptp_graph.specs.PathBound.{BoundsPaths, path_bound}
-use Rattle.gptp_graph.specs.Snapshot.{System}
+use Rattle.gptp_graph.specs.Snapshot.{PortIdentity, System}
 use Rattle.gptp_setup.specs.SettlingParams.{SettlingParams}
 use Rattle.gptp_scenario.specs.Calm.{NothingLapses}
 use Rattle.gptp_model.specs.World.{WorldState}
@@ -16,7 +16,7 @@ use Rattle.gptp_bmca_machine.specs.SoundEverywhere.{IsSoundEverywhere}
 use Rattle.gptp_bmca_machine.proofs.RestingLemmas.{links_stay, stays_so}
 use Rattle.gptp_bmca_machine.proofs.SoundEverywhereLemmas.{on_links}
 use Rattle.gptp_bmca_machine.proofs.SoundLemmas.{received_fits}
-use Rattle.gptp_invariants.specs.ChoiceCalm.{HaveQuietLinks, delay_in}
+use Rattle.gptp_invariants.specs.ChoiceCalm.{HaveQuietLinks, delay_in, delay_of}
 use Rattle.gptp_invariants.specs.ChoiceSettlesAsMachine.{IsWorld}
 use Rattle.gptp_invariants.specs.ChoiceView.{says_announce, view}
 use Rattle.gptp_invariants.specs.WorldNews.{news_network}
@@ -35,6 +35,7 @@ pub record IsSettledSeen (p : SettlingParams) (w : WorldState) : Type 0 where
   pub graph : n.graph ≡ snapshot_of w
   pub same : SameWiring n (start_network p 0 0 w)
   pub most : n.most ≡ delay_in w
+  pub own : (q : PortIdentity) → n.most_of q ≡ delay_of w.net.channels q
 
 abbrev pub HasSettledSeen : SettlingParams → WorldState → Type 0
 HasSettledSeen p w = HaveQuietLinks p.params w → NothingLapses p.params → IsSettledSeen p w
@@ -55,6 +56,7 @@ wired_as n other = record n {
   lane = other.lane;
   log_of = other.log_of;
   interval_of = other.interval_of;
+  most_of = other.most_of;
   most = other.most;
 }
 
@@ -63,7 +65,6 @@ pub settled_in : (p : SettlingParams) (w : WorldState) (n : Network) → n ≡ w
     → IsSettlingNetwork n → Calm n (view w) → Invariant says_announce n (view w) → settled_from n ≤ w.time
     → IsSettledSeen p w
 settled_in p w n is net calm invariant late =
-    let most = ap (λ (x : Network). x.most) is in
     record {
       n = n;
       net = net;
@@ -76,9 +77,10 @@ settled_in p w n is net calm invariant late =
         lane = λ q. ap (λ (x : Network). x.lane q) (sym is);
         log = λ q. ap (λ (x : Network). x.log_of q) (sym is);
         interval = λ q. ap (λ (x : Network). x.interval_of q) (sym is);
-        most = omega (arith, most);
+        most = λ q. let own = ap (λ (x : Network). x.most_of q) is in omega (arith, own);
       };
-      most = most;
+      most = ap (λ (x : Network). x.most) is;
+      own = λ q. ap (λ (x : Network). x.most_of q) is;
     }
 
 -- so it is where claims are made of all links always
@@ -120,15 +122,13 @@ module _ (p : SettlingParams) (m start : ℕ) (w : WorldState) (world : IsWorld 
       (on_links says_announce (snapshot_of w) (view w) sound)
 
   wired : SameWiring seen.n (start_network p m start w)
-  wired =
-      let most = seen.most in
-      record {
-        place = seen.same.place;
-        lane = seen.same.lane;
-        log = seen.same.log;
-        interval = seen.same.interval;
-        most = omega (arith, most);
-      }
+  wired = record {
+    place = seen.same.place;
+    lane = seen.same.lane;
+    log = seen.same.log;
+    interval = seen.same.interval;
+    most = seen.same.most;
+  }
 
   pub always_seen : Invariant says_announce (start_network p m start w) (view w)
   always_seen = record {

@@ -147,18 +147,23 @@ module _ (says : Spelling) (g : Snapshot) (n : Network) (x d e : ℕ) (best : Sy
         → In f l.frames → LaneIsOnTime (towards n before neighbour.far best y q x p) w.time f
     on_time l f at h = record {
       left = m.kept.calm.left (n.lane (port_of y (suc q))) l f at h;
-      due = λ since. within (m.kept.calm.facts.fresh (n.lane (port_of y (suc q))) l f at h
+      due = λ since. within (subst (λ k. (f.due ≤ w.time + n.most_of k) ⊎ (f.due < n.start)) (lane_is l at).from
+          (m.kept.calm.facts.fresh (n.lane (port_of y (suc q))) l f at h
           (subst (λ k. Joins n.graph k l.to) (sym (lane_is l at).from)
-          (subst (Joins n.graph (port_of y (suc q))) (sym (lane_is l at).to) joins_back)));
+          (subst (Joins n.graph (port_of y (suc q))) (sym (lane_is l at).to) joins_back))));
     }
       where
-        within : (f.due ≤ w.time + n.most) ⊎ (f.due < n.start) → f.due ≤ w.time + n.most
+        within : (f.due ≤ w.time + n.most_of (port_of y (suc q))) ⊎ (f.due < n.start)
+            → f.due ≤ w.time + n.most_of (port_of y (suc q))
         within (inl soon) = soon
         within (inr early) = let begun = m.kept.begun in omega (arith, early, begun)
 
+    short : n.most_of (port_of y (suc q)) ≤ n.most
+    short = m.kept.calm.facts.short (port_of y (suc q)) (port_of x (suc p)) joins_back
+
     pub ends_new : Ends (towards n before neighbour.far best y q x p) w
     ends_new = record {
-      in_time = omega (arith, in_time);
+      in_time = omega (arith, in_time, short);
       claimed = omega arith;
       entry = inl refl;
       apart = neighbour.apart;

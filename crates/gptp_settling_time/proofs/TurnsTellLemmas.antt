@@ -403,7 +403,7 @@ module _ (says : Spelling) (n0 n : Network) (x d e : ℕ) (best : System) (t : T
                 soon f among =
                     let time = a.time in
                     let begun = kept'.begun in
-                    elim (kept'.calm.facts.fresh (n.lane from) l f at_l among
+                    elim (due_within (network_setting n) w' kept'.calm.facts (n.lane from) l f at_l among
                     (subst (λ v. Joins n.graph v l.to) (sym (ap (λ (v : Lane). v.from) (sym one) ∙ has.from))
                     (subst (Joins n.graph from) (sym (ap (λ (v : Lane). v.to) (sym one) ∙ has.to)) joins))) [
                       | inl is ↦ omega (arith, is, time)

@@ -313,7 +313,7 @@ module _ (p : SettlingParams) (next owner value : ℕ) (w : WorldState) (draws :
   }
     where
       wires : SameWiring seen.n n
-      wires = wiring_same p w w' r seen.n n seen.same seen.most wired
+      wires = wiring_same p w w' r seen.n n seen.same wired
 
   -- ---- the claims
 
