@@ -62,7 +62,7 @@ use Rattle.gptp_settling_time.proofs.FailedAloneLemmas.{used_between}
 use Rattle.gptp_settling_time.proofs.FailedUpLemmas.{delay_set, used_set}
 use Rattle.gptp_settling_time.proofs.FitsLemmas.{IsLeftUnmoved}
 use Rattle.gptp_settling_time.proofs.LeftClaimedLemmas.{HaveAskedLong}
-use Rattle.gptp_settling_time.proofs.LinkUpLemmas.{lane_set}
+use Rattle.gptp_settling_time.proofs.LinkUpLemmas.{lane_set, own_delay_set}
 use Rattle.gptp_settling_time.proofs.LoweredLemmas.{other}
 use Rattle.gptp_settling_time.proofs.ReactsLemmas.{lives_as}
 use Rattle.gptp_settling_time.proofs.TakenDownLemmas.{if_live_stand, silent_down, stood_down, told_keeps}

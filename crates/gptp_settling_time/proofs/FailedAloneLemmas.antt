@@ -35,7 +35,7 @@ use Rattle.gptp_bmca_machine.specs.Network.{Network}
 use Rattle.gptp_bmca_machine.specs.RestLaws.{SameWiring}
 use Rattle.gptp_bmca_machine.specs.SoundLaws.{AllAreNear}
 use Rattle.gptp_bmca_machine.specs.Station.{Station as SeenStation}
-use Rattle.gptp_invariants.specs.ChoiceCalm.{HaveQuietLinks, IsQuietLink, clock_place, delay_in, lane_of, log_at, log_of, setups_of}
+use Rattle.gptp_invariants.specs.ChoiceCalm.{HaveQuietLinks, IsQuietLink, clock_place, delay_in, delay_of, lane_of, log_at, log_of, setups_of}
 use Rattle.gptp_invariants.specs.ChoiceSettlesAsMachine.{IsWorld}
 use Rattle.gptp_invariants.specs.ChoiceView.{lanes_view, port_identity_number, says_announce, view}
 use Rattle.gptp_invariants.specs.DelayElsewhere.{IsOtherSystem}
@@ -431,11 +431,8 @@ module _ (p : SettlingParams) (number : ℕ) (w : WorldState) (draws : List Draw
             ∙ places_set w.stations k.place k.station dead k.is.here refl v
 
     module _ (seen : IsSettledSeen p w) where
-      pub wires : (n : Network) → delay_in w' ≡ delay_in w → n ≡ wired_as n (start_network p 0 0 w')
-          → SameWiring seen.n n
-      wires n delay wired =
-          let most = seen.most in
-          let delays : n.most ≡ delay_in w' = ap (λ (x : Network). x.most) wired in
+      pub wires : (n : Network) → n ≡ wired_as n (start_network p 0 0 w') → SameWiring seen.n n
+      wires n wired =
           record {
             place = λ v.
                 ap (λ (x : Network). x.place v) wired ∙ ap (λ xs. clock_place xs v) stations_now
@@ -445,7 +442,10 @@ module _ (p : SettlingParams) (number : ℕ) (w : WorldState) (draws : List Draw
             log = λ q. ap (λ (x : Network). x.log_of q) wired ∙ log_kept q ∙ seen.same.log q;
             interval = λ q.
                 ap (λ (x : Network). x.interval_of q) wired ∙ ap interval_of (log_kept q) ∙ seen.same.interval q;
-            most = omega (arith, delay, delays, most);
+            most = λ q.
+                let own = ap (λ (x : Network). x.most_of q) wired ∙ ap (λ cs. delay_of cs q) channels_now in
+                let most = seen.same.most q in
+                omega (arith, own, most);
           }
 
     module _ (next silent : ℕ) (pace : KeepPace p) (measured : LinkIsMeasured w) (measured' : LinkIsMeasured w')
@@ -569,14 +569,14 @@ module _ (p : SettlingParams) (number : ℕ) (w : WorldState) (draws : List Draw
           ]
 
       module _ (next silent : ℕ) (pace : KeepPace p) (measured : LinkIsMeasured w) (measured' : LinkIsMeasured w')
-          (past : next ≤ w.time) (delay : delay_in w' ≡ delay_in w)
+          (past : next ≤ w.time)
           (way : pred (path_bound g') * delay_in w' ≤ w'.time) (ready : AreReadyBy p next w)
           (quiet : HaveQuietLinks p.params w) (silent_before : AreSilentBy p next w)
           (long : w.time + silence_span p < silent) where
         pub failed_left : IsLeftAlways p g silent w'
         failed_left =
             begins_left p g silent w w' is' well seen less left left
-            (wires seen (left_network p silent w') delay refl) (sound_fits p w seen sound)
+            (wires seen (left_network p silent w') refl) (sound_fits p w seen sound)
             (standing_then next silent pace measured measured' past ready quiet silent_before long)
             (asked_then next silent pace measured measured' past ready quiet silent_before long)
             (λ quiet'. unlinked_then) near_then

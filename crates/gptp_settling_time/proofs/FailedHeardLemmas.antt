@@ -157,7 +157,7 @@ module _ (p : SettlingParams) (number : ℕ) (w : WorldState) (draws : List Draw
     back_known v known = subst (λ h. In v (clocks h)) (sym seen.graph) (lived_before v known)
 
     module _ (next aged silent : ℕ) (pace : KeepPace p) (measured : LinkIsMeasured w)
-        (measured' : LinkIsMeasured w') (past : next ≤ w.time) (delay : delay_in w' ≡ delay_in w)
+        (measured' : LinkIsMeasured w') (past : next ≤ w.time)
         (way : pred (path_bound g') * delay_in w' ≤ w'.time) (ready : AreReadyBy p next w)
         (quiet : HaveQuietLinks p.params w) (silent_before : AreSilentBy p next w)
         (long : w.time + silence_span p < silent) (soon : w.time + longest_span p + delay_in w < aged) where
@@ -194,7 +194,7 @@ module _ (p : SettlingParams) (number : ℕ) (w : WorldState) (draws : List Draw
           (alone.less p number w draws done w' is is' acts lives) (sound_fits p w seen sound)
 
       same : SameWiring seen.n n'
-      same = alone.wires p number w draws done w' is is' acts lives seen n' delay refl
+      same = alone.wires p number w draws done w' is is' acts lives seen n' refl
 
       back : (v : ℕ) → Unmoved g n' v → Unmoved g seen.n v
       back v x = record {

@@ -24,7 +24,7 @@ use Rattle.gptp_model.specs.declared.done.Done.{Done}
 use Rattle.gptp_model.specs.World.{Channel, WorldState, port_id, sender, world_queue}
 use Rattle.gptp_pdelay_machine.specs.Lanes.{LaneFrame}
 use Rattle.gptp_pdelay_machine.specs.Order.{Untold}
-use Rattle.gptp_invariants.specs.ChoiceCalm.{HaveQuietLinks, delay_in}
+use Rattle.gptp_invariants.specs.ChoiceCalm.{HaveQuietLinks, delay_in, delay_of}
 use Rattle.gptp_invariants.specs.ChoiceSettlesAsMachine.{IsWorld}
 use Rattle.gptp_invariants.specs.ChoiceView.{frame_view, lane_place, lane_view, port_identity_number, says_announce, view}
 use Rattle.gptp_invariants.specs.DelayFirstAt.{IsFirstAt}
@@ -89,6 +89,23 @@ lane_set (x ∷ xs) zero c d q there a b =
 lane_set (x ∷ xs) (suc i) c d q there a b =
     ap (λ rest. if has_port_id x.a q then lane_place 0 FromA
     else (if has_port_id x.b q then lane_place 0 FromB else suc (suc rest))) (lane_set xs i c d q there a b)
+
+-- and the greatest delay of a link by its bounds too
+pub own_delay_set : (channels : List Channel) (i : ℕ) (c d : Channel) (q : PortIdentity)
+    → slice_get channels i ≡ Some c → d.a ≡ c.a → d.b ≡ c.b → d.bounds ≡ c.bounds
+    → delay_of (slice_set channels i d) q ≡ delay_of channels q
+own_delay_set [] i c d q there a b bounds = absurd (none-some c there)
+own_delay_set (x ∷ xs) zero c d q there a b bounds =
+    let one : x ≡ c = same_Some x c there in
+    let a_is : d.a ≡ x.a = a ∙ ap (λ (y : Channel). y.a) (sym one) in
+    let b_is : d.b ≡ x.b = b ∙ ap (λ (y : Channel). y.b) (sym one) in
+    let most_is : d.bounds.max ≡ x.bounds.max =
+    ap (λ (y : Bounds). y.max) (bounds ∙ ap (λ (y : Channel). y.bounds) (sym one)) in
+    λ i. if has_port_id (a_is i) q then most_is i
+    else (if has_port_id (b_is i) q then most_is i else delay_of xs q)
+own_delay_set (x ∷ xs) (suc i) c d q there a b bounds =
+    ap (λ rest. if has_port_id x.a q then x.bounds.max else (if has_port_id x.b q then x.bounds.max else rest))
+    (own_delay_set xs i c d q there a b bounds)
 
 module _ (p : SettlingParams) (start next owner port : ℕ) (w : WorldState) (draws : List Draw) (done : Done)
     (w' : WorldState) (is : IsClaimedAlways p start w) (world' : IsWorld p w') (ahead : start ≤ next)
@@ -302,7 +319,8 @@ module _ (p : SettlingParams) (start next owner port : ℕ) (w : WorldState) (dr
         lane = lane_same;
         log = λ q. refl;
         interval = λ q. refl;
-        most = delay_more;
+        most = λ q.
+            let own = own_delay_set w.net.channels k.place k.channel new q k.is.here refl refl refl in omega (arith, own);
       }
 
       later_since : (d : ℕ) → since n (suc d) ≤ since n_v (suc d)

@@ -17,6 +17,7 @@ use Rattle.gptp_bmca_machine.specs.Reacts.{IsOwn}
 use Rattle.gptp_bmca_machine.specs.Station.{MachineState, Reception, Station}
 use Rattle.gptp_bmca_machine.specs.Touch.{Hear, StationTouch}
 use Rattle.gptp_bmca_machine.proofs.CleanLemmas.{held_whole, may_say}
+use Rattle.gptp_bmca_machine.proofs.FreshLemmas.{due_within}
 use Rattle.gptp_bmca_machine.proofs.ReactsLemmas.{JustHeard, held_from}
 
 -- An Announce to a live system that is due once what others sent is gone is told by a live one.

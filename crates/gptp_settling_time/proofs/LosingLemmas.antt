@@ -15,6 +15,7 @@ use Rattle.gptp_setup.specs.SettlingParams.{SettlingParams}
 use Rattle.gptp_model.specs.World.{Channel, WorldState, sender, world_queue}
 use Rattle.gptp_bmca_machine.specs.Facts.{NetworkSetting, StationFacts}
 use Rattle.gptp_bmca_machine.specs.Frame.{Announce, AnnounceFrame, Lane}
+use Rattle.gptp_bmca_machine.proofs.FreshLemmas.{due_within}
 use Rattle.gptp_invariants.specs.ChoiceCalm.{HaveQuietLinks, delay_in, greatest_channel_delay}
 use Rattle.gptp_invariants.specs.ChoiceSettlesAsMachine.{IsWorld}
 use Rattle.gptp_invariants.specs.ChoiceView.{frame_view, lane_view, port_identity_number, says_announce, view}

@@ -71,7 +71,7 @@ use Rattle.gptp_settling_time.proofs.FitsLemmas.{IsLeftUnmoved, UnlinkedHoldNoth
 use Rattle.gptp_settling_time.proofs.GoesDownLemmas.{AreDisabled, GoesDownQuietly, goes_down_alone, goes_down_quietly, held_among, others_disabled, without}
 use Rattle.gptp_settling_time.proofs.LeftClaimedLemmas.{HaveAskedLong, IsLeftAlways, asked_heard, left_network}
 use Rattle.gptp_settling_time.proofs.LinkStoodLemmas.{second_still}
-use Rattle.gptp_settling_time.proofs.LinkUpLemmas.{lane_set}
+use Rattle.gptp_settling_time.proofs.LinkUpLemmas.{lane_set, own_delay_set}
 use Rattle.gptp_settling_time.proofs.ReducedLemmas.{HoldsAsMuch, IsLess, IsReduced, IsReducedStation, NearerStay, holds_as_much, reduced_itself}
 use Rattle.gptp_settling_time.proofs.SettledSeenLemmas.{IsSettledSeen, sound_fits, wired_as}
 use Rattle.gptp_settling_time.proofs.TakenDownLemmas.{silent_down, stood_down, told_keeps, up_apart}
@@ -430,11 +430,9 @@ module _ (p : SettlingParams) (w : WorldState) (is : IsWorld p w) (place : ℕ) 
   still_b = second_still PortDown channel taken draws w' k (is.between place channel here).apart
 
   -- a network of the world then has the wiring of one that it had
-  pub wires : (n : Network) → delay_in w' ≡ delay_in w → n ≡ wired_as n (start_network p 0 0 w') → SameWiring seen.n n
-  wires n delay wired =
+  pub wires : (n : Network) → n ≡ wired_as n (start_network p 0 0 w') → SameWiring seen.n n
+  wires n wired =
       let started = same_start p 0 0 taken w' keeps in
-      let most = seen.most in
-      let delays : n.most ≡ delay_in w' = ap (λ (x : Network). x.most) wired in
       record {
         place = λ v. ap (λ (x : Network). x.place v) wired ∙ keeps.places v ∙ seen.same.place v;
         lane = λ q.
@@ -445,7 +443,11 @@ module _ (p : SettlingParams) (w : WorldState) (is : IsWorld p w) (place : ℕ) 
         interval = λ q.
             ap (λ (x : Network). x.interval_of q) wired ∙ ap (λ (x : Network). x.interval_of q) started
             ∙ seen.same.interval q;
-        most = omega (arith, delay, delays, most);
+        most = λ q.
+            let own = ap (λ (x : Network). x.most_of q) wired ∙ ap (λ (x : Network). x.most_of q) started
+            ∙ own_delay_set w.net.channels place channel (lost channel) q here refl refl refl in
+            let most = seen.same.most q in
+            omega (arith, own, most);
       }
 
   module _ (stay : StayOrAreAlone w w') where
@@ -531,7 +533,7 @@ module _ (p : SettlingParams) (w : WorldState) (is : IsWorld p w) (place : ℕ) 
         (sym keeps.systems) (Joins-clock g p q well joins)))
 
     module _ (next : ℕ) (pace : KeepPace p) (measured' : LinkIsMeasured w') (past : next ≤ w.time)
-        (delay : delay_in w' ≡ delay_in w) (way : pred (path_bound g') * delay_in w' ≤ w'.time)
+        (way : pred (path_bound g') * delay_in w' ≤ w'.time)
         (sound : IsSoundWorld w) (ready' : AreReadyBy p next w') (silent : AreSilentBy p next w) where
       by_now : next ≤ w'.time
       by_now = let time = told.time in omega (arith, past, time)
@@ -560,7 +562,7 @@ module _ (p : SettlingParams) (w : WorldState) (is : IsWorld p w) (place : ℕ) 
 
       pub lowered_left : IsLeftAlways p g next w'
       lowered_left =
-          begins_left p g next w w' is' well seen less left left (wires (left_network p next w') delay refl)
+          begins_left p g next w w' is' well seen less left left (wires (left_network p next w') refl)
           (sound_fits p w seen sound) standing_then asked_then unlinked_then near_then farther_then way
 
 -- ---- the act
@@ -624,8 +626,8 @@ module _ (p : SettlingParams) (next owner port : ℕ) (w : WorldState) (draws : 
         pub stay : StayOrAreAlone w w'
         stay v known = elim (unmoved v known) [ inl is ↦ inl is | inr cut ↦ inr (cut, dark) ]
 
-        pub act_left : delay_in w' ≡ delay_in w → pred (path_bound (snapshot_of w')) * delay_in w' ≤ w'.time
+        pub act_left : pred (path_bound (snapshot_of w')) * delay_in w' ≤ w'.time
             → IsSoundWorld w → IsLeftAlways p (snapshot_of w) next w'
-        act_left delay way sound =
+        act_left way sound =
             lowered_left p w is at_link.place at_link.channel at_link.is.here draws w' is' ends seen near stay next
-            pace measured' past delay way sound (ready_on ready) silent
+            pace measured' past way sound (ready_on ready) silent

@@ -14,10 +14,11 @@ use Rattle.gptp_bmca_machine.specs.Clean.{HeldFits}
 use Rattle.gptp_bmca_machine.specs.Facts.{station_system}
 use Rattle.gptp_bmca_machine.specs.Frame.{Announce, AnnounceFrame, Lane, Spelling}
 use Rattle.gptp_bmca_machine.specs.LossLaws.{EverythingFits, FlightFits, IsWhatIsLeft}
-use Rattle.gptp_bmca_machine.specs.Network.{Network}
+use Rattle.gptp_bmca_machine.specs.Network.{Network, network_setting}
 use Rattle.gptp_bmca_machine.specs.Reacts.{IsOwn}
 use Rattle.gptp_bmca_machine.specs.Station.{MachineState}
 use Rattle.gptp_bmca_machine.specs.Touch.{StationTouch}
+use Rattle.gptp_bmca_machine.proofs.FreshLemmas.{due_within}
 use Rattle.gptp_bmca_machine.proofs.LossLemmas.{flight_fits}
 use Rattle.gptp_settling_time.proofs.BesideLemmas.{IsMoving}
 use Rattle.gptp_settling_time.proofs.MovedLemmas.{EachTurns, received_then}

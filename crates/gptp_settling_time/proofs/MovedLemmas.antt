@@ -338,6 +338,13 @@ module _ (says : Spelling) (g : Snapshot) (n : Network) (x d e : ℕ) (best : Sy
           → (f : ℕ) → LevelSettles says timed f w
       levels_then in_time delay f c v p u q close leads = by (ℕ_discrete v x) (ℕ_discrete u x)
         where
+          soon : (a i b j : ℕ) → Joins n.graph (port_of a (suc i)) (port_of b (suc j)) → (far : ℕ)
+              → n.most_of (port_of a (suc i)) ≤ since timed (suc far)
+          soon a i b j joins far =
+              let short = m.kept.calm.facts.short (port_of a (suc i)) (port_of b (suc j)) joins in
+              let late = delay far in
+              omega (arith, short, late)
+
           back : Joins n.graph (port_of u (suc q)) (port_of v (suc p))
           back = Joins-sym n.graph (port_of v (suc p)) (port_of u (suc q)) leads.joins
 
@@ -398,7 +405,8 @@ module _ (says : Spelling) (g : Snapshot) (n : Network) (x d e : ℕ) (best : Sy
                   } in
                   subst (λ z. LinkSettles says (wiring timed z c v p x q) w) far_is
                   (subst (λ z. LinkSettles says (wiring timed neighbour.far z v p x q) w) one
-                  (settles_too best neighbour.far v p x q n.most (delay neighbour.far)
+                  (settles_too best neighbour.far v p x q (n.most_of (port_of v (suc p)))
+                  (soon v p x q (Joins-sym n.graph (port_of x (suc q)) (port_of v (suc p)) joins) neighbour.far)
                   (m.levels neighbour.far best v p x q neighbour.close leads_on)))
 
           -- a link between two others
@@ -414,7 +422,8 @@ module _ (says : Spelling) (g : Snapshot) (n : Network) (x d e : ℕ) (best : Sy
                 there = far_before u leads.far apart_u leads.there;
                 farther = leads.farther;
               } in
-              settles_too c f v p u q n.most (delay f) (m.levels f c v p u q close leads_on)
+              settles_too c f v p u q (n.most_of (port_of v (suc p))) (soon v p u q leads.joins f)
+              (m.levels f c v p u q close leads_on)
 
           by : Dec (v ≡ x) → Dec (u ≡ x) → LinkSettles says (wiring timed f c v p u q) w
           by (yes same) is_u = absurd (not_from same)

@@ -15,7 +15,7 @@ use Rattle.gptp_bmca_machine.specs.Levels.{Invariant, LeadsFarther}
 use Rattle.gptp_bmca_machine.specs.Link.{LinkSettles}
 use Rattle.gptp_bmca_machine.specs.Network.{Network, wiring}
 use Rattle.gptp_bmca_machine.specs.Syncs.{SyncsAreExpected}
-use Rattle.gptp_invariants.specs.ChoiceCalm.{HaveQuietLinks, SettlingTimes, clock_place, delay_in, lane_of, log_of, network_with, paths_with, step_with, wait_with}
+use Rattle.gptp_invariants.specs.ChoiceCalm.{HaveQuietLinks, SettlingTimes, clock_place, delay_in, delay_of, lane_of, log_of, network_with, paths_with, step_with, wait_with}
 use Rattle.gptp_invariants.specs.ChoiceSettlesAsMachine.{IsWorld}
 use Rattle.gptp_invariants.specs.ChoiceView.{says_announce, says_sync, view}
 use Rattle.gptp_invariants.specs.DelayLinkView.{LinkPlace}
@@ -37,6 +37,7 @@ pub record StandsLike (w w' : WorldState) : Type 0 where
   pub places : (number : ℕ) → clock_place w'.stations number ≡ clock_place w.stations number
   pub logs : (port : PortIdentity) → log_of w'.stations port ≡ log_of w.stations port
   pub lane_places : (port : PortIdentity) → lane_of w'.net.channels port ≡ lane_of w.net.channels port
+  pub own_delays : (port : PortIdentity) → delay_of w'.net.channels port ≡ delay_of w.net.channels port
   pub lanes : (from to : PortIdentity) → Joins (snapshot_of w) from to → (l : Lane)
       → slice_get (view w').lanes (lane_of w.net.channels from) ≡ Some l
       → slice_get (view w).lanes (lane_of w.net.channels from) ≡ Some l
@@ -66,6 +67,7 @@ module _ (w w' : WorldState) (like : StandsLike w w') where
         let places = like.places in
         let logs = like.logs in
         let lanes = like.lane_places in
+        let own = like.own_delays in
         λ i. record {
           graph = snapshot i;
           reach = m;
@@ -74,6 +76,7 @@ module _ (w w' : WorldState) (like : StandsLike w w') where
           log_of = λ port. logs port i;
           interval_of = λ port. interval_of (logs port i);
           interval = largest_interval p;
+          most_of = λ port. own port i;
           most = delay i;
           timeout = p.params.timeout;
           gone = gone;

@@ -18,13 +18,14 @@ use Rattle.gptp_bmca_machine.specs.Levels.{Invariant, LeadsFarther}
 use Rattle.gptp_bmca_machine.specs.Link.{HearsSettled}
 use Rattle.gptp_bmca_machine.specs.LinkStage.{AllFinal, FinalAnnounceStays, FrameSaysAnnounce, Wiring}
 use Rattle.gptp_bmca_machine.specs.LossLaws.{IsAfterLoss}
-use Rattle.gptp_bmca_machine.specs.Network.{IsSettlingNetwork, Network, settled_from}
+use Rattle.gptp_bmca_machine.specs.Network.{IsSettlingNetwork, Network, network_setting, settled_from}
 use Rattle.gptp_bmca_machine.specs.Reacts.{AnnouncesNow, IsOwn, KeepsHeld, PortStep}
 use Rattle.gptp_bmca_machine.specs.RestLaws.{SameWiring}
 use Rattle.gptp_bmca_machine.specs.SoundEverywhere.{IsSoundEverywhere}
 use Rattle.gptp_bmca_machine.specs.SoundLaws.{AllAreNear}
 use Rattle.gptp_bmca_machine.specs.Station.{Disabled, HoldsAt, MachineState, Mine, Port, Reception, Station}
 use Rattle.gptp_bmca_machine.specs.Touch.{Disable, IsUsable}
+use Rattle.gptp_bmca_machine.proofs.FreshLemmas.{due_within}
 use Rattle.gptp_bmca_machine.proofs.PlaceLemmas.{same_there}
 use Rattle.gptp_bmca_machine.proofs.RestingLemmas.{all_choose, by_then_at, links_stay, stays_so}
 use Rattle.gptp_bmca_machine.proofs.StillLemmas.{port_there, still, still_stays}

@@ -42,7 +42,7 @@ use Rattle.gptp_bmca_machine.specs.RestLaws.{SameWiring}
 use Rattle.gptp_bmca_machine.specs.Sound.{ReceivedFits}
 use Rattle.gptp_bmca_machine.proofs.SoundEverywhereLemmas.{on_links}
 use Rattle.gptp_bmca_machine.proofs.SoundLemmas.{received_fits}
-use Rattle.gptp_invariants.specs.ChoiceCalm.{HaveQuietLinks, greatest_channel_delay, paths_with}
+use Rattle.gptp_invariants.specs.ChoiceCalm.{HaveQuietLinks, delay_of, has_port_id, paths_with}
 use Rattle.gptp_invariants.specs.ChoiceSettlesAsMachine.{IsWorld}
 use Rattle.gptp_invariants.specs.ChoiceView.{lane_view, lanes_view, says_announce, station_view, view}
 use Rattle.gptp_invariants.specs.DelayFirstAt.{IsFirstBy}
@@ -159,32 +159,33 @@ links_set systems (first ∷ channels) (suc i) c b here =
     ap (λ rest. if channel_is_used systems first then standing_link first ∷ rest else rest)
     (links_set systems channels i c b here)
 
--- ---- a greatest delay gets no smaller
+-- ---- the greatest delay of a link gets no smaller
 
-first_more : (used : Bool) (a b rest : ℕ) → a ≤ b
-    → (if used then max a rest else rest) ≤ (if used then max b rest else rest)
-first_more true a b rest more = omega (arith, more)
-first_more false a b rest more = omega arith
+own_more : (a b : Bool) (own more rest : ℕ) → own ≤ more
+    → (if a then own else (if b then own else rest)) ≤ (if a then more else (if b then more else rest))
+own_more true b own more rest is = is
+own_more false true own more rest is = is
+own_more false false own more rest is = omega arith
 
-rest_more : (used : Bool) (a rest more : ℕ) → rest ≤ more
-    → (if used then max a rest else rest) ≤ (if used then max a more else more)
-rest_more true a rest more is = omega (arith, is)
-rest_more false a rest more is = is
+own_rest : (a b : Bool) (own rest more : ℕ) → rest ≤ more
+    → (if a then own else (if b then own else rest)) ≤ (if a then own else (if b then own else more))
+own_rest true b own rest more is = omega arith
+own_rest false true own rest more is = omega arith
+own_rest false false own rest more is = is
 
-delay_set_more : (systems : List System) (channels : List Channel) (i : ℕ) (c : Channel) (b : Bounds)
+own_delay_more : (channels : List Channel) (i : ℕ) (c : Channel) (b : Bounds) (q : PortIdentity)
     → slice_get channels i ≡ Some c → c.bounds.max ≤ b.max
-    → greatest_channel_delay systems channels
-    ≤ greatest_channel_delay systems (slice_set channels i (record c { bounds = b }))
-delay_set_more systems [] i c b here more = omega arith
-delay_set_more systems (first ∷ channels) zero c b here more =
-    let rest : ℕ = greatest_channel_delay systems channels in
-    subst (λ (x : Channel). (if channel_is_used systems x then max x.bounds.max rest else rest)
-    ≤ (if channel_is_used systems c then max b.max rest else rest)) (sym (same_Some first c here))
-    (first_more (channel_is_used systems c) c.bounds.max b.max rest more)
-delay_set_more systems (first ∷ channels) (suc i) c b here more =
-    rest_more (channel_is_used systems first) first.bounds.max (greatest_channel_delay systems channels)
-    (greatest_channel_delay systems (slice_set channels i (record c { bounds = b })))
-    (delay_set_more systems channels i c b here more)
+    → delay_of channels q ≤ delay_of (slice_set channels i (record c { bounds = b })) q
+own_delay_more [] i c b q here more = omega arith
+own_delay_more (first ∷ channels) zero c b q here more =
+    subst (λ (x : Channel). (if has_port_id x.a q then x.bounds.max
+    else (if has_port_id x.b q then x.bounds.max else delay_of channels q))
+    ≤ (if has_port_id c.a q then b.max else (if has_port_id c.b q then b.max else delay_of channels q)))
+    (sym (same_Some first c here))
+    (own_more (has_port_id c.a q) (has_port_id c.b q) c.bounds.max b.max (delay_of channels q) more)
+own_delay_more (first ∷ channels) (suc i) c b q here more =
+    own_rest (has_port_id first.a q) (has_port_id first.b q) first.bounds.max (delay_of channels q)
+    (delay_of (slice_set channels i (record c { bounds = b })) q) (own_delay_more channels i c b q here more)
 
 -- ---- the link gets wider
 
@@ -480,14 +481,15 @@ module _ (p : SettlingParams) (start next by place : ℕ) (w : WorldState) (is :
 
       wired : SameWiring seen.n (start_network p m next widened)
       wired =
-          let most = seen.most in
-          let more = delay_set_more (live_stations w.stations) w.net.channels place channel b here wider.most in
           record {
             place = seen.same.place;
             lane = λ q. lane_set w.net.channels place channel new q here refl refl ∙ seen.same.lane q;
             log = seen.same.log;
             interval = seen.same.interval;
-            most = omega (arith, most, more);
+            most = λ q.
+                let more = own_delay_more w.net.channels place channel b q here wider.most in
+                let own = seen.own q in
+                omega (arith, own, more);
           }
 
       -- so it is in every network with the wiring and the delays of this world
