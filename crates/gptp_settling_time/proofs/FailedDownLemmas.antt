@@ -52,7 +52,7 @@ use Rattle.gptp_invariants.proofs.PortInputLemmas.{of_down}
 use Rattle.gptp_settling_time.proofs.AlwaysClaimedLemmas.{IsClaimedAlways, lane_at, same_start}
 use Rattle.gptp_settling_time.proofs.FailedUpLemmas.{delay_set, used_set}
 use Rattle.gptp_settling_time.proofs.LinkStoodLemmas.{second_still, used_elsewhere}
-use Rattle.gptp_settling_time.proofs.LinkUpLemmas.{lane_set}
+use Rattle.gptp_settling_time.proofs.LinkUpLemmas.{lane_set, own_delay_set}
 use Rattle.gptp_settling_time.proofs.QuietUpLemmas.{unseen_at}
 use Rattle.gptp_settling_time.proofs.SameLinkLemmas.{IsSameLink}
 use Rattle.gptp_settling_time.proofs.SamePartsLemmas.{tells_parts}
@@ -316,6 +316,9 @@ module _ (p : SettlingParams) (start : ℕ) (w : WorldState) (news : IsNews p st
       lane_places = λ port.
           ap (λ (n : Network). n.lane port) (same_start p 0 0 taken w' keeps)
           ∙ lane_set w.net.channels place channel (lost channel) port here refl refl;
+      own_delays = λ port.
+          ap (λ (n : Network). n.most_of port) (same_start p 0 0 taken w' keeps)
+          ∙ own_delay_set w.net.channels place channel (lost channel) port here refl refl refl;
       lanes = lanes;
       quiet = quiet_before;
       links = same_link;

@@ -28,7 +28,7 @@ use Rattle.gptp_model.proofs.StayLemmas.{sender_same}
 use Rattle.gptp_bmca_machine.specs.Frame.{Lane}
 use Rattle.gptp_bmca_machine.specs.Network.{Network}
 use Rattle.gptp_bmca_machine.specs.Station.{Station as SeenStation}
-use Rattle.gptp_invariants.specs.ChoiceCalm.{HaveQuietLinks, delay_in, greatest_channel_delay, lane_of, log_of}
+use Rattle.gptp_invariants.specs.ChoiceCalm.{HaveQuietLinks, delay_in, delay_of, greatest_channel_delay, lane_of, log_of}
 use Rattle.gptp_invariants.specs.ChoiceSettlesAsMachine.{IsWorld}
 use Rattle.gptp_invariants.specs.ChoiceView.{lane_view, port_identity_number, station_view, view}
 use Rattle.gptp_invariants.specs.DelayLinkView.{IsEndOf, LinkPlace, other_direction}
@@ -53,7 +53,7 @@ use Rattle.gptp_invariants.proofs.UnmeasuredLemmas.{unmeasured_off}
 use Rattle.gptp_settling_time.proofs.AlwaysClaimedLemmas.{IsClaimedAlways, lane_at, same_start}
 use Rattle.gptp_settling_time.proofs.BesideUpLemmas.{beside_same}
 use Rattle.gptp_settling_time.proofs.LinkStoodLemmas.{raised_ends, second_still, stood_in, stood_untold, used_elsewhere}
-use Rattle.gptp_settling_time.proofs.LinkUpLemmas.{lane_set}
+use Rattle.gptp_settling_time.proofs.LinkUpLemmas.{lane_set, own_delay_set}
 use Rattle.gptp_settling_time.proofs.RaisedLemmas.{IsRaised, raised, unmeasured_then}
 use Rattle.gptp_settling_time.proofs.NewsSoonLemmas.{IsNewsFrom, from_silent, from_sound}
 use Rattle.gptp_settling_time.proofs.StandsLikeLemmas.{StandsLike, claims_like, expects_none, from_like}
@@ -139,6 +139,11 @@ module _ (p : SettlingParams) (w : WorldState) (is : IsWorld p w) (place : ℕ) 
         ap (λ (n : Network). n.lane port) (same_start p 0 0 brought w' keeps)
         ∙ lane_set w.net.channels place channel new port here refl refl
 
+    own_delays : (port : PortIdentity) → delay_of w'.net.channels port ≡ delay_of w.net.channels port
+    own_delays port =
+        ap (λ (n : Network). n.most_of port) (same_start p 0 0 brought w' keeps)
+        ∙ own_delay_set w.net.channels place channel new port here refl refl refl
+
     -- a link in use is another
     used_apart : (link : ℕ) (other : Channel) → slice_get w.net.channels link ≡ Some other
         → channel_is_used systems other ≡ true → link ≢ place
@@ -202,6 +207,7 @@ module _ (p : SettlingParams) (w : WorldState) (is : IsWorld p w) (place : ℕ) 
       places = keeps.places;
       logs = logs;
       lane_places = lane_places;
+      own_delays = own_delays;
       lanes = lanes;
       quiet = quiet;
       links = λ at l. beside_same p w is place channel here down draws w' is_raised k at l;

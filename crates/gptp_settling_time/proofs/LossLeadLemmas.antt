@@ -399,7 +399,7 @@ module _ (n : NetworkState) (off : NothingLapses n.params) (time : ℕ) (made no
 
     -- the way that is left is no longer
     module _ (others_lower : EachEvent (LowersUnused n) (made ++ event ∷ []) others)
-        (delay : (sync_paths n (made ++ event ∷ [])).delay ≡ (sync_paths n made).delay)
+        (delay : (sync_paths n (made ++ event ∷ [])).delay ≤ (sync_paths n made).delay)
         (fewer : (sync_paths n (made ++ event ∷ [])).systems ≤ (sync_paths n made).systems) where
       way_then : way_span (sync_paths n (made ++ now)) ≤ way_span (sync_paths n made)
       way_then =

@@ -94,20 +94,22 @@ module _ (d : DocumentState) (playable : IsPlayable d) (made : List Timed) (even
     paths_after : sync_paths n more ≡ sync_paths_of w'
     paths_after = paths_stand n more w' playable.network after.stands after.claim.world.sound
 
-    same_delay : (sync_paths n more).delay ≡ (sync_paths n made).delay → delay_in w' ≡ delay_in then
-    same_delay same =
-        sym (ap (λ (y : SyncPaths). y.delay) paths_after) ∙ same ∙ ap (λ (y : SyncPaths). y.delay) paths_then
+    less_delay : (sync_paths n more).delay ≤ (sync_paths n made).delay → delay_in w' ≤ delay_in then
+    less_delay less =
+        let after_is = ap (λ (y : SyncPaths). y.delay) paths_after in
+        let then_is = ap (λ (y : SyncPaths). y.delay) paths_then in
+        omega (arith, less, after_is, then_is)
 
     -- the way that is left is no longer
-    way_over : (sync_paths n more).delay ≡ (sync_paths n made).delay
+    way_over : (sync_paths n more).delay ≤ (sync_paths n made).delay
         → (sync_paths n more).systems ≤ (sync_paths n made).systems
         → pred (path_bound (snapshot_of w')) * delay_in w' ≤ w'.time
-    way_over same fewer =
+    way_over shorter_links fewer =
         let shorter : path_bound (snapshot_of w') ≤ path_bound (snapshot_of then) =
         subst (λ (x : SyncPaths). path_bound (snapshot_of w') ≤ x.systems) paths_then
         (subst (λ (x : SyncPaths). x.systems ≤ (sync_paths n made).systems) paths_after fewer) in
         let less = less_way (path_bound (snapshot_of then)) (path_bound (snapshot_of w')) (delay_in then) (delay_in w')
-        shorter (same_delay same) in
+        shorter (less_delay shorter_links) in
         let over = rest.over in
         omega (arith, over, less, time)
 
@@ -140,7 +142,7 @@ module _ (d : DocumentState) (playable : IsPlayable d) (made : List Timed) (even
       lowered_since =
           act_left p start x.clock x.port then draws done w' keeps.claim.pace world_then after.claim.world
           keeps.claim.measured after.claim.measured came was_up lowered_seen lowered_near lowered_quiet past rest.ready
-          rest.silent (stays_joined d playable made event then w' keeps after x.moves) (same_delay x.delay)
+          rest.silent (stays_joined d playable made event then w' keeps after x.moves)
           (way_over x.delay x.paths) rest.sound
 
       lowered_asked : HaveAskedBy start w'
@@ -218,7 +220,7 @@ module _ (d : DocumentState) (playable : IsPlayable d) (made : List Timed) (even
           (seen_then fails.calm fails.off) (near_so d playable made then keeps y.few)
           (far_end_so d playable made then keeps y.clock y.far)
           (stays_joined d playable made event then w' keeps after y.moves) rest.sound start next keeps.claim.pace
-          keeps.claim.measured after.claim.measured (omega (arith, over, at_time)) (same_delay y.delay)
+          keeps.claim.measured after.claim.measured (omega (arith, over, at_time))
           (way_over y.delay y.paths) rest.ready failed_quiet rest.silent (omega (arith, at_time, long))
 
       failed_asked : HaveAskedBy start w'
@@ -323,7 +325,7 @@ module _ (d : DocumentState) (playable : IsPlayable d) (made : List Timed) (even
               (seen_then now.calm now.off) (near_so d playable made then keeps x.few)
               (stays_joined d playable made event then w' keeps after x.moves) rest.sound start aged silent
               keeps.claim.pace keeps.claim.measured after.claim.measured (omega (arith, over, at_time))
-              (same_delay x.delay) (way_over x.delay x.paths) rest.ready
+              (way_over x.delay x.paths) rest.ready
               (quiet_stands n made then playable.network keeps.stands world_then.sound now.calm).links rest.silent
               (let unanswered = now.unanswered in omega (arith, at_time, unanswered))
               (omega (arith, gone, delay, at_time));
@@ -367,7 +369,7 @@ module _ (d : DocumentState) (playable : IsPlayable d) (made : List Timed) (even
               (near_so d playable made then keeps x.few)
               (live_ends channel used) x.moved was far best turns
               (near_so d playable more w' after (omega (arith, few, fewer)))
-              (end_of channel x.moved moved) (same_delay x.delay) (way_over x.delay x.paths) rest.sound)
+              (end_of channel x.moved moved) (way_over x.delay x.paths) rest.sound)
               (time ∙ sym at_time) (last ∙ time ∙ sym at_time)
               (told_lives channel _ draws w'
               (ends p start x.clock x.port then draws done w' keeps.claim.pace world_then after.claim.world

@@ -29,7 +29,7 @@ use Rattle.gptp_bmca_machine.specs.Network.{Network}
 use Rattle.gptp_bmca_machine.specs.SoundEverywhere.{IsSoundEverywhere}
 use Rattle.gptp_bmca_machine.specs.Station.{MachineState, Station as SeenStation}
 use Rattle.gptp_bmca_machine.specs.Syncs.{SyncsAreExpected, TellsBy}
-use Rattle.gptp_invariants.specs.ChoiceCalm.{HaveQuietLinks, clock_place, delay_in, greatest_channel_delay, lane_of, log_at, log_of, paths_with, setups_of}
+use Rattle.gptp_invariants.specs.ChoiceCalm.{HaveQuietLinks, clock_place, delay_in, delay_of, greatest_channel_delay, lane_of, log_at, log_of, paths_with, setups_of}
 use Rattle.gptp_invariants.specs.ChoiceSettlesAsMachine.{IsWorld}
 use Rattle.gptp_invariants.specs.ChoiceView.{lanes_view, says_announce, says_sync, station_view, view}
 use Rattle.gptp_invariants.specs.DelayLinkView.{IsEndAmong, IsLinkOf, IsMeasuring, LinkPlace, asker_view, pair_view, setting_view, setup_stamping, kept_view}
@@ -399,6 +399,7 @@ module _ (w w' : WorldState) (still : StandsStill w w') where
         places = places_still;
         logs = logs_still;
         lane_places = λ port. ap (λ cs. lane_of cs port) channels;
+        own_delays = λ port. ap (λ cs. delay_of cs port) channels;
         lanes = λ from to joins l there.
             subst (λ (x : MachineState). slice_get x.lanes (lane_of w.net.channels from) ≡ Some l) seen there;
         quiet = quiet_still;
