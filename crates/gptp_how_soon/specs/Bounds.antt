@@ -90,8 +90,8 @@ choice_of_row n before paths LostEnd gained = 0
 choice_of_row n before paths FailedEnd gained = 0
 choice_of_row n before paths LostPower gained = 0
 choice_of_row n before paths PowerCutsOff gained = 2 * way_span paths
-choice_of_row n before paths FailedHeard gained = held_span n paths
-choice_of_row n before paths FailureCutsOff gained = held_span n paths + 2 * way_span paths
+choice_of_row n before paths FailedHeard gained = held_span n before
+choice_of_row n before paths FailureCutsOff gained = held_span n before + 2 * way_span paths
 choice_of_row n before paths OneTurned gained = 2 * way_span paths
 choice_of_row n before paths AnyLosses gained = loss_span n before paths
 choice_of_row n before paths Gained gained = gained
@@ -150,10 +150,10 @@ abbrev pub sound_of_row : NetworkState → SyncPaths → SyncPaths → Bool → 
 sound_of_row n before paths silent used_before AnyPast gained = settling_span_at_once (pace_of n) paths
 sound_of_row n before paths silent used_before Unchanged gained = 0
 sound_of_row n before paths silent used_before Lowered gained = max (echo_span n paths) (gone_by n paths used_before)
-sound_of_row n before paths silent used_before CutOff gained = max (2 * way_span paths) (gone_by n paths used_before)
-sound_of_row n before paths silent used_before LostEnd gained = gone_by n paths used_before
+sound_of_row n before paths silent used_before CutOff gained = max (2 * way_span paths) (gone_by n before used_before)
+sound_of_row n before paths silent used_before LostEnd gained = gone_by n before used_before
 sound_of_row n before paths silent used_before FailedEnd gained =
-    max (silence_span n.params) (gone_by n paths used_before)
+    max (silence_span n.params) (gone_by n before used_before)
 sound_of_row n before paths silent used_before LostPower gained = max (echo_span n paths) paths.delay
 sound_of_row n before paths silent used_before PowerCutsOff gained =
     max (2 * way_span paths) (max (echo_span n paths) paths.delay)

@@ -52,11 +52,11 @@ is_wider_followed b at paths_before paths told =
 abbrev pub are_losses_followed : SyncPaths → List Told → Bool
 are_losses_followed paths_before told = nat_le paths_before.systems 255 && list_all leaves_links told
 
--- Other losses are followed where they leave paths as they are: the greatest delay of a link in use stays, no path gets
+-- Other losses are followed where paths get no worse: the greatest delay of a link in use gets no greater, no path gets
 -- longer, and none had more than 255 systems before.
 abbrev pub keeps_paths : SyncPaths → SyncPaths → Bool
 keeps_paths paths_before paths =
-    nat_le paths_before.systems 255 && (paths.delay == paths_before.delay)
+    nat_le paths_before.systems 255 && nat_le paths.delay paths_before.delay
     && nat_le paths.systems paths_before.systems
 
 -- Then a link that goes down by the one event of a time is followed. So is a system that fails, alone or as it loses

@@ -248,8 +248,8 @@ fn choice_by(network: &Network, before: SyncPaths, paths: SyncPaths, row: Row, g
     match row {
         Row::AnyPast => settling_span_at_once(network, paths),
         Row::Unchanged | Row::Lowered | Row::LostEnd | Row::FailedEnd | Row::LostPower => 0,
-        Row::FailedHeard => held_span(network, paths),
-        Row::FailureCutsOff => held_span(network, paths) + 2 * way_span(paths),
+        Row::FailedHeard => held_span(network, before),
+        Row::FailureCutsOff => held_span(network, before) + 2 * way_span(paths),
         Row::CutOff | Row::PowerCutsOff | Row::OneTurned => 2 * way_span(paths),
         Row::AnyLosses => loss_span(network, before, paths),
         Row::Gained => gained,
@@ -296,7 +296,7 @@ fn roles_by(
         Row::Unchanged | Row::Lowered | Row::LostEnd | Row::LostPower => 0,
         Row::FailedEnd | Row::FailedHeard => silence_span(network),
         Row::FailureCutsOff => {
-            (held_span(network, paths) + 2 * way_span(paths)).max(silence_span(network))
+            (held_span(network, before) + 2 * way_span(paths)).max(silence_span(network))
         }
         Row::CutOff | Row::PowerCutsOff | Row::OneTurned => 2 * way_span(paths),
         Row::AnyLosses => roles_after_losses(network, before, paths, silent),
@@ -355,9 +355,9 @@ fn sound_by(
         }
         Row::Unchanged => 0,
         Row::Lowered => echo_span(network, paths).max(gone_by(network, paths, used_before)),
-        Row::CutOff => (2 * way_span(paths)).max(gone_by(network, paths, used_before)),
-        Row::LostEnd => gone_by(network, paths, used_before),
-        Row::FailedEnd => silence_span(network).max(gone_by(network, paths, used_before)),
+        Row::CutOff => (2 * way_span(paths)).max(gone_by(network, before, used_before)),
+        Row::LostEnd => gone_by(network, before, used_before),
+        Row::FailedEnd => silence_span(network).max(gone_by(network, before, used_before)),
         Row::LostPower => echo_span(network, paths).max(paths.delay),
         Row::PowerCutsOff => (2 * way_span(paths)).max(echo_span(network, paths).max(paths.delay)),
         Row::OneTurned => 2 * way_span(paths) + echo_span(network, paths),

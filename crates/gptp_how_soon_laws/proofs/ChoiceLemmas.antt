@@ -6,7 +6,7 @@ use Rattle.std.proofs.lemmas.Bool.{eqb-false, eqb-true}
 use Rattle.std.proofs.lemmas.Bool.Decides.{nat_tests}
 use Rattle.gptp_lists.specs.Members.{In}
 use Rattle.gptp_lists.proofs.SystemSpecLemmas.{In-left, In-parts}
-use Rattle.gptp_setup.specs.SettlingParams.{largest_interval, longest_span}
+use Rattle.gptp_setup.specs.SettlingParams.{largest_interval}
 use Rattle.gptp_scenario.specs.Calm.{NothingLapses}
 use Rattle.gptp_scenario.specs.Network.{NetworkState, pace_of}
 use Rattle.gptp_scenario.specs.SettlingTime.{window_span}
@@ -200,13 +200,13 @@ module _ (d : DocumentState) (playable : IsPlayable d) where
             (x.rested, inl (inr (inl (x.fails, inl (x.used, flight)))))
         by (inr (inl (row, is))) =
             let (rest, fails, flight) = failed n playable.network all b at late well row in
-            (rest, inl (inr (inl (fails, inr (gone_by n v.paths v.used_before, flight, it.sound ∙ is)))))
+            (rest, inl (inr (inl (fails, inr (gone_by n v.paths_before v.used_before, flight, it.sound ∙ is)))))
         by (inr (inr (inl (row, is)))) =
             let (rest, lowers, flight) = lowered n playable.network all b at late well row in
             (rest, inl (inr (inr (inl (lowers, (gone_by n v.paths v.used_before, flight, it.sound ∙ is))))))
         by (inr (inr (inr (inl (row, is))))) =
             let x = cut_off n playable.network all b at late well row in
-            (x.rested, inl (inl (x.cuts, (gone_by n v.paths v.used_before, x.flight, it.sound ∙ is))))
+            (x.rested, inl (inl (x.cuts, (gone_by n v.paths_before v.used_before, x.flight, it.sound ∙ is))))
         by (inr (inr (inr (inr (inl (row, is)))))) =
             let (rest, turns) = turned n playable.network all b at late well row in
             (rest, inl (inr (inr (inr (inl (turns, it.sound ∙ is))))))
@@ -258,11 +258,6 @@ module _ (d : DocumentState) (playable : IsPlayable d) where
     no_later choice roles (inr (inr (inr (inr (loses, is, inr later))))) =
         greater choice roles (silence_span (pace_of n)) later
 
-    -- what is heard is held for as long by the delay of before
-    held_as : v.paths.delay ≡ (sync_paths n made).delay
-        → held_span n v.paths ≡ min (aging_span (pace_of n) (sync_paths n made)) (silence_span (pace_of n))
-    held_as delay = ap (λ d. min (longest_span (pace_of n) + d) (silence_span (pace_of n))) delay
-
     -- what is lost at this time asks for what its row says
     loses_by : (r : Row) → row_at v ≡ r → HasOwnBounds r
         → HasComeToRest b at
@@ -293,19 +288,19 @@ module _ (d : DocumentState) (playable : IsPlayable d) where
         let (rest, turns) = turned n playable.network all b at late well row in
         (rest, inr (inr (inl (turns, refl, refl))))
     loses_by FailedHeard row own =
-        let (rest, fails, delay) = heard n playable.network all b at late well (inl row) in (
+        let (rest, fails) = heard n playable.network all b at late well (inl row) in (
           rest,
           inr (inr (inr (inl (
             fails,
-            (held_span n v.paths, silence_span (pace_of n), inr (held_as delay, refl), inl (refl, refl)),
+            (held_span n v.paths_before, silence_span (pace_of n), inr (refl, refl), inl (refl, refl)),
           )))),
         )
     loses_by FailureCutsOff row own =
-        let (rest, fails, delay) = heard n playable.network all b at late well (inr row) in (
+        let (rest, fails) = heard n playable.network all b at late well (inr row) in (
           rest,
           inr (inr (inr (inl (
             fails,
-            (held_span n v.paths, silence_span (pace_of n), inr (held_as delay, refl), inr (refl, refl)),
+            (held_span n v.paths_before, silence_span (pace_of n), inr (refl, refl), inr (refl, refl)),
           )))),
         )
     loses_by AnyLosses row own =
