@@ -549,11 +549,6 @@ fn other_losses_cost_a_turn_for_each_system_of_a_path(rt: HostRuntime) -> Result
             (13_000_003_500, 13_000_003_500),
         ),
         (
-            "the widest link goes down",
-            "[[event]]\nat = 60000000000\nkind = \"link_down\"\nclock = \"000000000000000a\"\nport = 1\n",
-            (13_000_003_230, 13_000_003_230),
-        ),
-        (
             "two links go down, and one that is down",
             "[[event]]\nat = 60000000000\nkind = \"link_down\"\nclock = \"000000000000000a\"\nport = 1\n[[event]]\nat = 60000000000\nkind = \"link_down\"\nclock = \"000000000000000c\"\nport = 2\n[[event]]\nat = 60000000000\nkind = \"link_down\"\nclock = \"000000000000000a\"\nport = 1\n",
             (7_000_001_410, 7_000_001_410),
@@ -572,6 +567,41 @@ fn other_losses_cost_a_turn_for_each_system_of_a_path(rt: HostRuntime) -> Result
         let times = ring(rt.alloc(), text.as_str())?;
         assert_eq!(rt; bounds(&times, 60_000_000_000), Some(bound), "{case}");
     }
+    Ok(())
+}
+
+#[test]
+fn the_widest_link_is_lost(rt: HostRuntime) -> Result<(), Fail> {
+    // The link from a to b is wider first. What others hold of b came over it.
+    for (case, events, bound) in [
+        (
+            "it goes down, and b turns",
+            "[[event]]\nat = 60000000000\nkind = \"link_down\"\nclock = \"000000000000000a\"\nport = 1\n",
+            (2_460, 2_460),
+        ),
+        (
+            "b hangs",
+            "[[event]]\nat = 60000000000\nkind = \"fail\"\nclock = \"000000000000000b\"\n",
+            (3_000_000_500, 11_000_000_000),
+        ),
+    ] {
+        let mut text = String::new(rt.alloc());
+        text.push_str(
+            "[[event]]\nat = 30000000000\nkind = \"link_set\"\nclock = \"000000000000000a\"\nport = 1\nmin = 380\nmax = 500\nloss = 0\n",
+        )?;
+        text.push_str(events)?;
+        let times = ring(rt.alloc(), text.as_str())?;
+        assert_eq!(rt; bounds(&times, 60_000_000_000), Some(bound), "{case}");
+    }
+    // What b sent is in flight for as long as over that link.
+    let times = ring(
+        rt.alloc(),
+        "[[event]]\nat = 30000000000\nkind = \"link_set\"\nclock = \"000000000000000a\"\nport = 1\nmin = 380\nmax = 500\nloss = 0\n[[event]]\nat = 60000000000\nkind = \"link_down\"\nclock = \"000000000000000b\"\nport = 2\n[[event]]\nat = 100000000000\nkind = \"fail\"\nclock = \"000000000000000b\"\n[[event]]\nat = 100000000000\nkind = \"link_down\"\nclock = \"000000000000000b\"\nport = 1\n[[event]]\nat = 101000000000\nkind = \"recover\"\nclock = \"000000000000000b\"\n",
+    )?;
+    assert_eq!(rt;
+        rests(&times, 100_000_000_000, 101_000_000_000),
+        Some((910, 820))
+    );
     Ok(())
 }
 
