@@ -167,30 +167,40 @@ module _ (says : Spelling) (g : Snapshot) (n : Network) (x d e : ℕ) (best : Sy
 
     -- ---- the neighbour hears the system, as it did before
 
+    source_y : (s : Station) (pu : Port) → slice_get w.stations (n.place y) ≡ Some s → slice_get s.ports q ≡ Some pu
+        → (r : Reception) → pu.held ≡ Received r → r.said.source ≡ port_of x (suc p)
+    source_y s pu at there r is =
+        let (live, clock) = here_y s at in
+        source_of (n.place y) s q r (port_of x (suc p)) at live
+        (subst (λ c. Joins n.graph (port_of c (suc q)) (port_of x (suc p))) (sym clock) back) (pu, there, is)
+
+    -- what it holds of that stays for longer than an announce interval and the greatest delay of any link
+    pub long_old : (s : Station) (pu : Port) → slice_get w.stations (n.place y) ≡ Some s → slice_get s.ports q ≡ Some pu
+        → (r : Reception) → pu.held ≡ Received r → r.said.log ≡ n.log_of (port_of x (suc p))
+        → n.interval_of (port_of x (suc p)) + n.most < r.span
+    long_old s pu at there r is log =
+        is_port.long r (port_of x (suc p)) is joins (source_y s pu at there r is) log
+      where
+        is_port : IsCalmPort n w.time (port_of y (suc q)) pu
+        is_port =
+            let (live, clock) = here_y s at in
+            subst (λ c. IsCalmPort n w.time (port_of c (suc q)) pu) clock
+            ((calm.stations (n.place y) s at live).ports q pu there)
+
     pub hears_old : (d < neighbour_at.far) ⊎ ((d ≡ neighbour_at.far) × (x < y)) → (s : Station) (pu : Port)
         → slice_get w.stations (n.place y) ≡ Some s → slice_get s.ports q ≡ Some pu
         → HearsSettled (still n d best x p y q) pu
     hears_old heard s pu at there = record {
       weaker = λ root steps mine. weaker root steps (rest.mine q pu root steps there mine) (chooses_y s at) heard;
-      source = source;
-      long = λ r is log. is_port.long r (port_of x (suc p)) is joins (source r is) log;
+      source = source_y s pu at there;
+      long = λ r is log.
+          let long = long_old s pu at there r is log in
+          let short = calm.facts.short (port_of x (suc p)) (port_of y (suc q)) joins in
+          omega (arith, long, short);
     }
       where
-        is_y : (s.live ≡ true) × (s.clock ≡ y)
-        is_y = here_y s at
-
         rest : StationIsAtRest s
-        rest = (calm.stations (n.place y) s at is_y.0).at_rest
-
-        is_port : IsCalmPort n w.time (port_of y (suc q)) pu
-        is_port =
-            subst (λ c. IsCalmPort n w.time (port_of c (suc q)) pu) is_y.1
-            ((calm.stations (n.place y) s at is_y.0).ports q pu there)
-
-        source : (r : Reception) → pu.held ≡ Received r → r.said.source ≡ port_of x (suc p)
-        source r is =
-            source_of (n.place y) s q r (port_of x (suc p)) at is_y.0
-            (subst (λ c. Joins n.graph (port_of c (suc q)) (port_of x (suc p))) (sym is_y.1) back) (pu, there, is)
+        rest = (calm.stations (n.place y) s at (here_y s at).0).at_rest
 
         weaker : (root steps : ℕ) → (root ≡ s.root) × (steps ≡ s.steps) → Chooses s best neighbour_at.far
             → (d < neighbour_at.far) ⊎ ((d ≡ neighbour_at.far) × (x < y))
@@ -243,7 +253,10 @@ module _ (says : Spelling) (g : Snapshot) (n : Network) (x d e : ℕ) (best : Sy
     hears_new before s pv at there = record {
       weaker = λ root steps mine. weaker root steps (rest_x.mine p pv root steps there mine);
       source = source;
-      long = λ r is log. is_port.long r (port_of y (suc q)) is back (source r is) log;
+      long = λ r is log.
+          let long = is_port.long r (port_of y (suc q)) is back (source r is) log in
+          let short = calm.facts.short (port_of y (suc q)) (port_of x (suc p)) back in
+          omega (arith, long, short);
     }
       where
         is_x : (s.live ≡ true) × (s.clock ≡ x)

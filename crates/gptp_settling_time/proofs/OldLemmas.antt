@@ -20,7 +20,7 @@ use Rattle.gptp_bmca_machine.proofs.HearingLemmas.{final_kept, final_taken, mid_
 use Rattle.gptp_bmca_machine.proofs.LinkStageLemmas.{begins}
 use Rattle.gptp_bmca_machine.proofs.PlaceLemmas.{same_holds, same_place, same_there}
 use Rattle.gptp_bmca_machine.proofs.RestLemmas.{Chooses}
-use Rattle.gptp_settling_time.proofs.BesideLemmas.{IsFresh, IsMoving, neighbour_at, chooses_y, fresh_worse, hears_old, here_y, on_y, tells_new, towards}
+use Rattle.gptp_settling_time.proofs.BesideLemmas.{IsFresh, IsMoving, neighbour_at, chooses_y, fresh_worse, hears_old, here_y, long_old, on_y, tells_new, towards}
 use Rattle.gptp_bmca_machine.proofs.StillLemmas.{port_there, station_of, still}
 use Rattle.gptp_settling_time.proofs.TurnLemmas.{IsBeside, TurnsOne}
 use Rattle.gptp_settling_time.proofs.TurnedLemmas.{AllFresh, HasTurned, PortThen, ends_new, heard_over, joins_back, news_fresh, port_then, turned_kept}
@@ -214,7 +214,7 @@ module _ (says : Spelling) (g : Snapshot) (n : Network) (x d e : ℕ) (best : Sy
                     let r : Reception = record { said = a; at = mid.time; span = span } in
                     let holds = final_kept k says mid.time touch call.s'.root call.s'.steps then.pu pu' call.sends
                     answer hears' r final mid_is in
-                    let long = hears'.long r holds final.log in
+                    let long = long_old says g n x d e best t p y q joins w' m' s' pu' at' there' r holds final.log in
                     let (from_is, tail) = rest l at_l in
                     record {
                       r = r;

@@ -37,7 +37,7 @@ use Rattle.gptp_graph.proofs.PathBoundLemmas.{IsDistance-within}
 use Rattle.gptp_bmca_machine.proofs.RestLemmas.{is_master}
 use Rattle.gptp_bmca_machine.proofs.EndsLemmas.{clear_at}
 use Rattle.std.proofs.lemmas.List.{length-append}
-use Rattle.gptp_settling_time.proofs.BesideLemmas.{IsDark, IsFresh, IsMoving, above, neighbour_at, hears_old, late, on_x, on_y}
+use Rattle.gptp_settling_time.proofs.BesideLemmas.{IsDark, IsFresh, IsMoving, above, neighbour_at, hears_old, late, long_old, on_x, on_y}
 use Rattle.gptp_settling_time.proofs.RestNamesLemmas.{HeldDown, held_down, whole_names}
 use Rattle.gptp_settling_time.proofs.TurnLemmas.{IsBeside, TurnsOne}
 use Rattle.gptp_settling_time.proofs.TurnsAwayLemmas.{TurnsAway, at_place, held_before, known_x, moving', port_stood, received'}
@@ -419,7 +419,8 @@ module _ (says : Spelling) (n0 n : Network) (x d e : ℕ) (best : System) (t : T
           young = elim stays.next [
             | inl soon ↦
                 let now = timer z in
-                let long = hears_y.long stays.what stays.holds stays.final.log in
+                let long = long_old says g n x d e best t p y q joins w' moving_now s pu at there stays.what
+                stays.holds stays.final.log in
                 inl (omega (arith, soon, now, long))
             | inr (f, among, said, due) ↦
                 let long = hears_y.long stays.what stays.holds stays.final.log in
