@@ -379,7 +379,8 @@ module _ (g : Snapshot) (n : Network) (wf : IsWellFormed n.graph) (left : IsWhat
           weaker = λ root steps mine. hears_weaker s pu root steps at port mine;
           source = source;
           long = λ r e log.
-              let long = is_port.long r (port_of v (suc p)) e leads.joins (source r e) log in omega (arith, long, short);
+              let long = is_port.long r (port_of v (suc p)) e leads.joins (source r e) log in
+              omega (arith, long, short);
         }
           where
             is_port : IsCalmPort n w.time (port_of u (suc q)) pu

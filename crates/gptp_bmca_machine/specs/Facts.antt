@@ -74,9 +74,9 @@ SendersLive k w = (j : ℕ) (l : Lane) (f : AnnounceFrame) → slice_get w.lanes
     → In l.from.clock (clocks k.graph)
 
 -- Every live system is such a one; no link takes longer than the largest delay; a frame is due within an interval, and
--- over a link of the snapshot within the largest delay of that, unless it comes before claims are made; and where a frame is in flight between two systems of the
--- snapshot, the snapshot has the link. Every sound, legible and known world is so, calm or not, by
--- worlds_have_networks.
+-- over a link of the snapshot within the largest delay of that, unless it comes before claims are made; and where a
+-- frame is in flight between two systems of the snapshot, the snapshot has the link. Every sound, legible and known
+-- world is so, calm or not, by worlds_have_networks.
 pub record StationFacts (k : NetworkSetting) (w : MachineState) : Type 0 where
   pub stations : (i : ℕ) (s : Station) → slice_get w.stations i ≡ Some s → s.live ≡ true → IsLiveStationState k w.time s
   pub short : (p q : PortIdentity) → Joins k.graph p q → k.most_of p ≤ k.most

@@ -14,12 +14,13 @@ pub record SyncTiming : Type 0 where
 -- The live systems and their links; how many systems a path of them has at most; at which place a system stands, by its
 -- clock, and a lane, by the port that it leads from; the announce interval of each port, first its logarithm, and the
 -- largest of them; the largest delay of the link from each port, and of any; the announce receipt timeout, in
--- intervals; from when on what comes was sent by them; when claims on traces begin; when ports that no link is at hold nothing, when they are disabled, and
--- when each port on a link is capable; when all that is held is sound; the times of Syncs, and for how long at most a
--- settled system waits for the next Sync of the best; how long settling takes anyway from when all is sound, and how
--- much more each step of distance; from when claims are made of the link that leads from a port, by the distance of its
--- system, and before which time the timer of such a port has run out where it had to be waited for. That of a world is
--- `network_of` of gptp_invariants, which settles system by system, or `network_at_once`.
+-- intervals; from when on what comes was sent by them; when claims on traces begin; when ports that no link is at hold
+-- nothing, when they are disabled, and when each port on a link is capable; when all that is held is sound; the times
+-- of Syncs, and for how long at most a settled system waits for the next Sync of the best; how long settling takes
+-- anyway from when all is sound, and how much more each step of distance; from when claims are made of the link that
+-- leads from a port, by the distance of its system, and before which time the timer of such a port has run out where it
+-- had to be waited for. That of a world is `network_of` of gptp_invariants, which settles system by system, or
+-- `network_at_once`.
 pub record Network : Type 0 where
   pub graph : Snapshot
   pub reach : ℕ

@@ -59,7 +59,8 @@ module _ (w : WorldState) (sound : IsSound w) (encodable : IsEncodable w) where
       → slice_get w.net.channels link ≡ Some channel → port_identity_number (sender direction channel) ≡ port
       → delay_of w.net.channels port ≡ channel.bounds.max
   delay_is link direction channel port here begins =
-      let (other, way, found, there, from, delay) = delay_found w.net.channels port link direction channel here begins in
+      let (other, way, found, there, from, delay) =
+      delay_found w.net.channels port link direction channel here begins in
       let one = one_way w sound encodable other link way direction found channel there here (from ∙ sym begins) in
       delay ∙ ap (λ (c : Channel). c.bounds.max) one.same_channel
 

@@ -226,7 +226,8 @@ module _ (p : SettlingParams) (start next owner value : ℕ) (w : WorldState) (d
               (subst (λ g. HasNews g (snapshot_of w')) (sym seen.graph)
               (reacts_news p w world owner value live octet draws done w' acts gain))
               (λ a b joins. subst (λ g. Joins g a b) (sym seen.graph) (links_before p w w' r a b joins)) wired
-              (λ q. own_delays_same p w w' r q ∙ sym (seen.own q)) (omega (arith, early)) calm sound lasts d best v pp u q close leads;
+              (λ q. own_delays_same p w w' r q ∙ sym (seen.own q)) (omega (arith, early)) calm sound lasts d best v pp u
+              q close leads;
         }
 
   pub better_claimed : IsClaimedAlways p next w'

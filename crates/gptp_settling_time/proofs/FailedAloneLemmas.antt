@@ -432,21 +432,21 @@ module _ (p : SettlingParams) (number : ℕ) (w : WorldState) (draws : List Draw
 
     module _ (seen : IsSettledSeen p w) where
       pub wires : (n : Network) → n ≡ wired_as n (start_network p 0 0 w') → SameWiring seen.n n
-      wires n wired =
-          record {
-            place = λ v.
-                ap (λ (x : Network). x.place v) wired ∙ ap (λ xs. clock_place xs v) stations_now
-                ∙ places_set w.stations k.place k.station dead k.is.here refl v ∙ seen.same.place v;
-            lane = λ q.
-                ap (λ (x : Network). x.lane q) wired ∙ ap (λ cs. lane_of cs q) channels_now ∙ seen.same.lane q;
-            log = λ q. ap (λ (x : Network). x.log_of q) wired ∙ log_kept q ∙ seen.same.log q;
-            interval = λ q.
-                ap (λ (x : Network). x.interval_of q) wired ∙ ap interval_of (log_kept q) ∙ seen.same.interval q;
-            most = λ q.
-                let own = ap (λ (x : Network). x.most_of q) wired ∙ ap (λ cs. delay_of cs q) channels_now in
-                let most = seen.same.most q in
-                omega (arith, own, most);
-          }
+      wires n wired = record {
+        place = λ v.
+            ap (λ (x : Network). x.place v) wired ∙ ap (λ xs. clock_place xs v) stations_now
+            ∙ places_set w.stations k.place k.station dead k.is.here refl v ∙ seen.same.place v;
+        lane = λ q.
+            ap (λ (x : Network). x.lane q) wired ∙ ap (λ cs. lane_of cs q) channels_now ∙ seen.same.lane q;
+        log = λ q. ap (λ (x : Network). x.log_of q) wired ∙ log_kept q ∙ seen.same.log q;
+        interval = λ q.
+            ap (λ (x : Network). x.interval_of q) wired ∙ ap interval_of (log_kept q) ∙ seen.same.interval q;
+        most = λ q.
+            let own : n.most_of q ≡ delay_of w.net.channels q =
+            ap (λ (x : Network). x.most_of q) wired ∙ ap (λ cs. delay_of cs q) channels_now in
+            let most : seen.n.most_of q ≤ delay_of w.net.channels q = seen.same.most q in
+            omega (arith, own, most);
+      }
 
     module _ (next silent : ℕ) (pace : KeepPace p) (measured : LinkIsMeasured w) (measured' : LinkIsMeasured w')
         (past : next ≤ w.time) (ready : AreReadyBy p next w) (quiet : HaveQuietLinks p.params w)

@@ -320,7 +320,9 @@ module _ (p : SettlingParams) (start next owner port : ℕ) (w : WorldState) (dr
         log = λ q. refl;
         interval = λ q. refl;
         most = λ q.
-            let own = own_delay_set w.net.channels k.place k.channel new q k.is.here refl refl refl in omega (arith, own);
+            let own : delay_of brought.net.channels q ≡ delay_of w.net.channels q =
+            own_delay_set w.net.channels k.place k.channel new q k.is.here refl refl refl in
+            omega (arith, own);
       }
 
       later_since : (d : ℕ) → since n (suc d) ≤ since n_v (suc d)

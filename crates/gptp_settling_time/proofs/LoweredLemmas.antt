@@ -47,7 +47,7 @@ use Rattle.gptp_bmca_machine.specs.RestLaws.{SameWiring}
 use Rattle.gptp_bmca_machine.specs.SoundLaws.{AllAreNear, UnlinkedAreOff}
 use Rattle.gptp_bmca_machine.proofs.PlaceLemmas.{there_within}
 use Rattle.gptp_bmca_machine.specs.Station.{Disabled, Port as SeenPort, Received, Reception as SeenReception, Station as SeenStation}
-use Rattle.gptp_invariants.specs.ChoiceCalm.{HaveQuietLinks, delay_in}
+use Rattle.gptp_invariants.specs.ChoiceCalm.{HaveQuietLinks, delay_in, delay_of}
 use Rattle.gptp_invariants.specs.ChoiceSettlesAsMachine.{IsWorld}
 use Rattle.gptp_invariants.specs.ChoiceView.{held_view, lane_view, port_identity_number, port_view, ports_view, reception_view, says_announce, span_at, station_view, system_view, view}
 use Rattle.gptp_invariants.specs.DelayElsewhere.{IsOtherLink}
@@ -444,9 +444,10 @@ module _ (p : SettlingParams) (w : WorldState) (is : IsWorld p w) (place : ℕ) 
             ap (λ (x : Network). x.interval_of q) wired ∙ ap (λ (x : Network). x.interval_of q) started
             ∙ seen.same.interval q;
         most = λ q.
-            let own = ap (λ (x : Network). x.most_of q) wired ∙ ap (λ (x : Network). x.most_of q) started
+            let own : n.most_of q ≡ delay_of w.net.channels q =
+            ap (λ (x : Network). x.most_of q) wired ∙ ap (λ (x : Network). x.most_of q) started
             ∙ own_delay_set w.net.channels place channel (lost channel) q here refl refl refl in
-            let most = seen.same.most q in
+            let most : seen.n.most_of q ≤ delay_of w.net.channels q = seen.same.most q in
             omega (arith, own, most);
       }
 

@@ -391,12 +391,14 @@ module _ (says : Spelling) (g : Snapshot) (n : Network) (x d e : ℕ) (best : Sy
                 let ends = ends_new says g n x d e best t p y q joins before in_time w' m' mine_then in
                 let frames = subst (In f) (sym step.behind) (In-right f l.frames step.news among) in
                 let due = (ends.frames l' f stand.lane frames).due (omega arith) in
+                let short = m'.kept.calm.facts.short (port_of y (suc q)) from
+                (joins_back says g n x d e best t p y q joins) in
                 let same = call.time in
                 subst (LinkStage says (towards n before neighbour.far best y q x p) pv.announce pu.held)
                 (sym step.behind)
                 (begins says (towards n before neighbour.far best y q x p) pv.announce pu.held l.frames step.news f
                 (news_final stand.v pv stand.teller stand.teller_port l l' lane_from step) among
-                (c, subst (λ o. says o c) (sym octets) said) (omega (arith, due, same, time, soon, room)))
+                (c, subst (λ o. says o c) (sym octets) said) (omega (arith, due, same, time, soon, room, short)))
 
     -- ---- a step
 

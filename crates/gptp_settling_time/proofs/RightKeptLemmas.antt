@@ -264,8 +264,10 @@ module _ (says : Spelling) (n : Network) (net : IsSettlingNetwork n) (near : All
 
                   due : (f : AnnounceFrame) → In f step.news → f.due ≤ w'.time + n.most
                   due f new =
-                      (facts'.is.frames l' f stand'.lane
-                      (subst (In f) (sym step.behind) (In-right f l.frames step.news new))).due facts'.from
+                      let within = (facts'.is.frames l' f stand'.lane
+                      (subst (In f) (sym step.behind) (In-right f l.frames step.news new))).due facts'.from in
+                      let short = x'.calm.facts.short (port_of v (suc p)) (port_of u (suc q)) leads.joins in
+                      omega (arith, within, short)
 
         -- the lane of the link stood before
         lane_was : HasLane n w (port_of v (suc p)) (port_of u (suc q))

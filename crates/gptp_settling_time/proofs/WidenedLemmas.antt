@@ -480,17 +480,17 @@ module _ (p : SettlingParams) (start next by place : ℕ) (w : WorldState) (is :
           (on_links says_announce (snapshot_of widened) (view widened) sound')
 
       wired : SameWiring seen.n (start_network p m next widened)
-      wired =
-          record {
-            place = seen.same.place;
-            lane = λ q. lane_set w.net.channels place channel new q here refl refl ∙ seen.same.lane q;
-            log = seen.same.log;
-            interval = seen.same.interval;
-            most = λ q.
-                let more = own_delay_more w.net.channels place channel b q here wider.most in
-                let own = seen.own q in
-                omega (arith, own, more);
-          }
+      wired = record {
+        place = seen.same.place;
+        lane = λ q. lane_set w.net.channels place channel new q here refl refl ∙ seen.same.lane q;
+        log = seen.same.log;
+        interval = seen.same.interval;
+        most = λ q.
+            let more : delay_of w.net.channels q ≤ delay_of widened.net.channels q =
+            own_delay_more w.net.channels place channel b q here wider.most in
+            let own = seen.own q in
+            omega (arith, own, more);
+      }
 
       -- so it is in every network with the wiring and the delays of this world
       last_stages : (n : Network) → n.graph ≡ snapshot_of widened → SameWiring seen.n n
