@@ -263,8 +263,8 @@ turns = record {
   moved = second.clock;
   moved_end = moved_end;
   turns = turns_second;
-  delay = subst (λ (x : SyncPaths). x.delay ≡ (sync_paths ring_network []).delay) (sym paths_left)
-      (subst (λ (x : SyncPaths). 410 ≡ x.delay) (sym paths_are) refl);
+  delay = subst (λ (x : SyncPaths). x.delay ≤ (sync_paths ring_network []).delay) (sym paths_left)
+      (subst (λ (x : SyncPaths). 410 ≤ x.delay) (sym paths_are) (omega arith));
   paths = subst (λ (x : SyncPaths). x.systems ≤ (sync_paths ring_network []).systems) (sym paths_left)
       (subst (λ (x : SyncPaths). 4 ≤ x.systems) (sym paths_are) (omega arith));
   few = subst (λ (x : SyncPaths). x.systems ≤ 255) (sym paths_are) (omega arith);
