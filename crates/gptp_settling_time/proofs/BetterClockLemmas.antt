@@ -1,6 +1,6 @@
 -- A priority1 that gets no worse, in a world that has settled, leaves claims made of all links always.
-use Rattle.std.proofs.Common.{◌≡◌, ◌<◌, ℕ, suc, Bool, true, false, List, [], ◌∷◌, map, refl, sym, ap, subst, ◌∙◌, inl, inr, arith}
-use Rattle.std.specs.Prelude.{◌==◌, ◌&&◌, ◌||◌, if◌then◌else◌, max}
+use Rattle.std.proofs.Common.{◌≡◌, ◌<◌, ◌≤◌, ℕ, suc, Bool, true, false, List, [], ◌∷◌, map, refl, sym, ap, subst, ◌∙◌, inl, inr, arith}
+use Rattle.std.specs.Prelude.{◌==◌, ◌&&◌, ◌||◌}
 use Rattle.std.proofs.lemmas.Bool.{eq-eqb}
 use Rattle.gptp_lists.specs.Members.{In}
 use Rattle.gptp_lists.proofs.MappedLemmas.{alike, same_there}
@@ -25,7 +25,7 @@ use Rattle.gptp_bmca_machine.specs.RestLaws.{SameWiring}
 use Rattle.gptp_bmca_machine.specs.SoundLaws.{AllAreNear, HasNews, IsSoundOnLinks}
 use Rattle.gptp_bmca_machine.proofs.SoundEverywhereLemmas.{on_links}
 use Rattle.gptp_bmca_machine.proofs.SoundLemmas.{received_fits}
-use Rattle.gptp_invariants.specs.ChoiceCalm.{HaveQuietLinks, delay_in, delay_of, greatest_channel_delay, lane_of}
+use Rattle.gptp_invariants.specs.ChoiceCalm.{HaveQuietLinks, delay_of, lane_of}
 use Rattle.gptp_invariants.specs.ChoiceSettlesAsMachine.{IsWorld}
 use Rattle.gptp_invariants.specs.ChoiceView.{says_announce, view}
 use Rattle.gptp_invariants.specs.DelayLinkView.{LinkPlace}
@@ -36,7 +36,7 @@ use Rattle.gptp_invariants.specs.WorldStanding.{channel_is_used, live_stations, 
 use Rattle.gptp_invariants.proofs.WorldSoundCallLemmas.{links_more}
 use Rattle.gptp_invariants.proofs.WorldSystemLemmas.{clock_from, clock_lives, clock_there}
 use Rattle.gptp_invariants.proofs.WorldWayLemmas.{way_of}
-use Rattle.gptp_invariants.proofs.ChoiceCalmKeptLemmas.{delay_bare, lane_bare, own_delay_bare}
+use Rattle.gptp_invariants.proofs.ChoiceCalmKeptLemmas.{lane_bare, own_delay_bare}
 use Rattle.gptp_settling_time.proofs.AlwaysClaimedLemmas.{AreHeard, IsClaimedAlways, asks_back, capable_is_on, place_of_way, standing, start_calm, start_net, start_network, way_back, way_stands}
 use Rattle.gptp_settling_time.proofs.HeardLemmas.{StaysCapableAt, stays_elsewhere, stays_link, stays_on}
 use Rattle.gptp_settling_time.specs.Idle.{Lives}
@@ -57,16 +57,6 @@ has_clock (first ∷ systems) s (inr member) = by (first.clock == s.clock) (has_
     by : (b : Bool) → stations_have_clock systems s.clock ≡ true → (b || stations_have_clock systems s.clock) ≡ true
     by true has = refl
     by false has = has
-
-delay_alike : (systems others : List System)
-    → ((number : ℕ) → stations_have_clock others number ≡ stations_have_clock systems number) →
-    (channels : List Channel)
-    → greatest_channel_delay others channels ≡ greatest_channel_delay systems channels
-delay_alike systems others each [] = refl
-delay_alike systems others each (first ∷ channels) =
-    λ i. if first.up && (each first.a.clock i && each first.b.clock i)
-    then max first.bounds.max (delay_alike systems others each channels i)
-    else delay_alike systems others each channels i
 
 of_bare : {X : Type 0} (f : List Channel → X) → ((channels : List Channel) → f (map bare channels) ≡ f channels)
     → (before after : List Channel) → DifferInFlight before after → f after ≡ f before
@@ -110,12 +100,6 @@ module _ (p : SettlingParams) (w w' : WorldState) (r : Reacts w w') where
       let x = quiet link now stands (used_now channel now same used) in
       let bounds = ap (λ (c : Channel). c.bounds) same in
       record { lossless = rw⁻¹ bounds x.lossless; good = rw⁻¹ bounds x.good }
-
-  delay_same : delay_in w' ≡ delay_in w
-  delay_same =
-      delay_alike (live_stations w.stations) (live_stations w'.stations) r.lives w'.net.channels
-      ∙ of_bare (greatest_channel_delay (live_stations w.stations)) (delay_bare (live_stations w.stations))
-      w.net.channels w'.net.channels r.links
 
   own_delays_same : (q : PortIdentity) → delay_of w'.net.channels q ≡ delay_of w.net.channels q
   own_delays_same q =
