@@ -13,8 +13,8 @@ mod RowBoundLemmas
 mod RowReasonLemmas
 mod StartRowLemmas
 mod RowLemmas
-pub mod AnyLossLemmas
-mod ChoiceLemmas
+mod AnyLossLemmas
+pub mod ChoiceLemmas
 pub mod StepLemmas
 mod SettledLemmas
 pub mod EndLemmas
