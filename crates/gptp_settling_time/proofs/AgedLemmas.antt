@@ -148,4 +148,5 @@ pub aged_claimed : (p : SettlingParams) (g : Snapshot) (aged silent by gone : â„
 aged_claimed p g aged silent by gone w is sound has since past goes late quiet off =
     becomes_claimed p g w.last_change silent (suc (by + nearer_echo p w)) (by + nearer_echo p w + gone) w
     (aged_now p g aged silent w is (aged_on aged silent by w.time past has)) is.asked
-    (sound by has since past gone (suc (by + nearer_echo p w)) (by + nearer_echo p w + gone) goes refl refl) quiet off late
+    (sound by has since past gone (suc (by + nearer_echo p w)) (by + nearer_echo p w + gone) goes refl refl) quiet off
+    late
