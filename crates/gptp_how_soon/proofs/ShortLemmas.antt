@@ -32,7 +32,7 @@ use Rattle.gptp_setup.specs.SettlingParams.{largest_interval, longest_span}
 use Rattle.gptp_setup.proofs.IntervalLemmas.{interval_most}
 use Rattle.gptp_topology.specs.Times.{times_from, times_of}
 use Rattle.gptp_topology.specs.declared.course.Cable.{Cable}
-use Rattle.gptp_how_soon.specs.Bounds.{asked_again, echo_span, exact_span, gone_by, is_again, loss_span, needed_watch, ready, roles_after_losses, roles_by, roles_of_row, set_span, settling_by, silence_span, sound_by, sound_of_row, two_exchanges, unused_by, watch, way_span}
+use Rattle.gptp_how_soon.specs.Bounds.{asked_again, echo_span, exact_span, gone_by, is_again, loss_span, needed_watch, ready, roles_after_losses, roles_by, roles_of_row, set_span, settling_by, silence_span, sound_by, sound_of_row, two_exchanges, watch, way_span}
 use Rattle.gptp_how_soon.specs.Kinds.{sets_bounds, sets_link}
 use Rattle.gptp_how_soon.specs.Rest.{leaves_silent}
 use Rattle.gptp_how_soon.specs.Times.{IsWatchedShortly, View, events_at, events_before, gained_at, heard_at, last_set, row_at, settling_time, settling_times, settling_times_from, time_at, view_at}
@@ -150,9 +150,6 @@ module _ (n : NetworkState) (network : IsNetwork n) (paths : SyncPaths) (few : p
       gone : gone_by n paths used ≤ 16000000000
       gone = either_most used paths.delay (largest_interval (pace_of n)) 16000000000 short largest
 
-      unused : unused_by n used ≤ 16000000000
-      unused = either_most used 0 (largest_interval (pace_of n)) 16000000000 (omega arith) largest
-
       echo : echo_span n paths ≤ 16384000000000
       echo =
           let l = largest in
@@ -166,14 +163,11 @@ module _ (n : NetworkState) (network : IsNetwork n) (paths : SyncPaths) (few : p
       by CutOff = let w = way in let g = gone in omega (arith, w, g)
       by LostEnd = let g = gone in omega (arith, g)
       by FailedEnd = let s = silence_most in let g = gone in omega (arith, s, g)
-      by LostPower = at_once
-      by PowerCutsOff = at_once
+      by LostPower = let e = echo in omega (arith, e, short)
+      by PowerCutsOff = let w = way in let e = echo in omega (arith, w, e, short)
       by FailedHeard = at_once
       by FailureCutsOff = at_once
-      by OneTurned =
-          let w = way in let e = echo in
-          let u = unused in
-          omega (arith, w, e, u)
+      by OneTurned = let w = way in let e = echo in omega (arith, w, e)
       by AnyLosses = roles_lost before silent soon
       by Gained = early
 

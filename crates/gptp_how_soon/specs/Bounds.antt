@@ -140,15 +140,12 @@ gone_by n paths used_before = if used_before then paths.delay else largest_inter
 abbrev pub echo_span : NetworkState → SyncPaths → ℕ
 echo_span n paths = pred paths.systems * (largest_interval (pace_of n) + paths.delay)
 
--- Where a link was up that isn't in use what was in flight on it may be gone an announce interval later than elsewhere.
-abbrev pub unused_by : NetworkState → Bool → ℕ
-unused_by n used_before = if used_before then 0 else largest_interval (pace_of n)
-
 -- By when all that is held and in flight is sound: as soon as the choice stands, but after a loss it may name what is
 -- gone. After a far end is cut off, or loses its power, only what was in flight does. Where a far end fails, and ports
--- beside it may still be capable, roles have to stand too. After a link goes down by which no system is moved traces
--- have to be told anew first, and so they do where one system turns, once the choice stands. After losses without a row
--- of their own all is sound once roles stand. After others it is as soon as the choice stands from any past.
+-- beside it may still be capable, roles have to stand too. After a link goes down by which no system is moved, or a
+-- system that others heard loses its power, traces have to be told anew first. So they do where one system turns, once
+-- the choice stands. After losses without a row of their own all is sound once roles stand. After others it is as soon
+-- as the choice stands from any past.
 abbrev pub sound_of_row : NetworkState → SyncPaths → SyncPaths → Bool → Bool → Row → ℕ → ℕ
 sound_of_row n before paths silent used_before AnyPast gained = settling_span_at_once (pace_of n) paths
 sound_of_row n before paths silent used_before Unchanged gained = 0
@@ -157,12 +154,12 @@ sound_of_row n before paths silent used_before CutOff gained = max (2 * way_span
 sound_of_row n before paths silent used_before LostEnd gained = gone_by n paths used_before
 sound_of_row n before paths silent used_before FailedEnd gained =
     max (silence_span n.params) (gone_by n paths used_before)
-sound_of_row n before paths silent used_before LostPower gained = settling_span_at_once (pace_of n) paths
-sound_of_row n before paths silent used_before PowerCutsOff gained = settling_span_at_once (pace_of n) paths
+sound_of_row n before paths silent used_before LostPower gained = max (echo_span n paths) paths.delay
+sound_of_row n before paths silent used_before PowerCutsOff gained =
+    max (2 * way_span paths) (max (echo_span n paths) paths.delay)
 sound_of_row n before paths silent used_before FailedHeard gained = settling_span_at_once (pace_of n) paths
 sound_of_row n before paths silent used_before FailureCutsOff gained = settling_span_at_once (pace_of n) paths
-sound_of_row n before paths silent used_before OneTurned gained =
-    2 * way_span paths + echo_span n paths + unused_by n used_before
+sound_of_row n before paths silent used_before OneTurned gained = 2 * way_span paths + echo_span n paths
 sound_of_row n before paths silent used_before AnyLosses gained = roles_after_losses n before paths silent
 sound_of_row n before paths silent used_before Gained gained = gained
 

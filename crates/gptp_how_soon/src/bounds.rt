@@ -6,7 +6,7 @@ ghost use Rattle.gptp_network.specs.declared.keys.TheConstants.{LATEST_EVENT};
 ghost use Rattle.gptp_scenario.specs.Network.{pace_of};
 ghost use Rattle.gptp_scenario.specs.SettlingAtOnce.{settling_span_at_once};
 ghost use Rattle.gptp_scenario.specs.SettlingTime.{capability_span};
-ghost use Rattle.gptp_how_soon.specs.Bounds.{aging_span, asked_again, choice_by, echo_span, exact_from, exact_span, gone_by, heard_by, held_span, is_again, is_hard_to_hear, loss_span, ready, roles_after_losses, roles_by, set_span, settled, silence_span, sound_by, times_by, two_exchanges, unused_by, watch, way_span};
+ghost use Rattle.gptp_how_soon.specs.Bounds.{aging_span, asked_again, choice_by, echo_span, exact_from, exact_span, gone_by, heard_by, held_span, is_again, is_hard_to_hear, loss_span, ready, roles_after_losses, roles_by, set_span, settled, silence_span, sound_by, times_by, two_exchanges, watch, way_span};
 
 use crate::kinds::{Told, recovers};
 use crate::links::varies;
@@ -329,19 +329,6 @@ fn gone_by(network: &Network, paths: SyncPaths, used_before: bool) -> u64
     }
 }
 
-/// By how much later than elsewhere what was in flight on links that aren't in use is gone, in ns.
-fn unused_by(network: &Network, used_before: bool) -> u64
-    ensures is { result ≡ unused_by network.now used_before }
-    ensures bound { result ≤ 16000000000 }
-{
-    network.well_formed();
-    if !used_before {
-        interval_of(network.largest())
-    } else {
-        0
-    }
-}
-
 /// The bound of what is held and in flight, in ns.
 fn sound_by(
     network: &Network,
@@ -363,19 +350,17 @@ fn sound_by(
         return network.settling_span_with(paths);
     }
     match row {
-        Row::AnyPast
-        | Row::LostPower
-        | Row::PowerCutsOff
-        | Row::FailedHeard
-        | Row::FailureCutsOff => settling_span_at_once(network, paths),
+        Row::AnyPast | Row::FailedHeard | Row::FailureCutsOff => {
+            settling_span_at_once(network, paths)
+        }
         Row::Unchanged => 0,
         Row::Lowered => echo_span(network, paths).max(gone_by(network, paths, used_before)),
         Row::CutOff => (2 * way_span(paths)).max(gone_by(network, paths, used_before)),
         Row::LostEnd => gone_by(network, paths, used_before),
         Row::FailedEnd => silence_span(network).max(gone_by(network, paths, used_before)),
-        Row::OneTurned => {
-            2 * way_span(paths) + echo_span(network, paths) + unused_by(network, used_before)
-        }
+        Row::LostPower => echo_span(network, paths).max(paths.delay),
+        Row::PowerCutsOff => (2 * way_span(paths)).max(echo_span(network, paths).max(paths.delay)),
+        Row::OneTurned => 2 * way_span(paths) + echo_span(network, paths),
         Row::AnyLosses => roles_after_losses(network, before, paths, silent),
         Row::Gained => gained,
     }

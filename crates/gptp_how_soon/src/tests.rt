@@ -410,7 +410,7 @@ fn a_system_that_a_link_moves_alone_turns_within_two_ways(rt: HostRuntime) -> Re
             "a system is cut off",
             &["a", "b", "c"] as &[&str],
             &[("a", "1", "b", "1"), ("a", "2", "c", "1")] as &[(&str, &str, &str, &str)],
-            0,
+            820,
         ),
     ] {
         let times = cut(rt.alloc(), clocks, links)?;
@@ -532,47 +532,35 @@ fn a_system_that_a_failure_cuts_off_costs_two_ways(rt: HostRuntime) -> Result<()
 #[test]
 fn other_losses_cost_a_turn_for_each_system_of_a_path(rt: HostRuntime) -> Result<(), Fail> {
     // Three announce intervals and a delay for each, an interval, and a way. The link from a to b is wider first.
-    const EVENT: &str = "[[event]]\nat = 60000000000\nkind = ";
     for (case, events, bound) in [
         (
             "the root hangs",
-            &["\"fail\"\nclock = \"000000000000000a\""] as &[&str],
+            "[[event]]\nat = 60000000000\nkind = \"fail\"\nclock = \"000000000000000a\"\n",
             (10_000_002_320, 11_000_000_000),
         ),
         (
             "the root loses its power",
-            &[
-                "\"fail\"\nclock = \"000000000000000a\"",
-                "\"link_down\"\nclock = \"000000000000000a\"\nport = 1",
-                "\"link_down\"\nclock = \"000000000000000a\"\nport = 2",
-            ] as &[&str],
+            "[[event]]\nat = 60000000000\nkind = \"fail\"\nclock = \"000000000000000a\"\n[[event]]\nat = 60000000000\nkind = \"link_down\"\nclock = \"000000000000000a\"\nport = 1\n[[event]]\nat = 60000000000\nkind = \"link_down\"\nclock = \"000000000000000a\"\nport = 2\n",
             (10_000_002_320, 10_000_002_320),
         ),
         (
             "the root gets worse",
-            &["\"priority1\"\nclock = \"000000000000000a\"\nvalue = 250"] as &[&str],
+            "[[event]]\nat = 60000000000\nkind = \"priority1\"\nclock = \"000000000000000a\"\nvalue = 250\n",
             (13_000_003_500, 13_000_003_500),
         ),
         (
             "the widest link goes down",
-            &["\"link_down\"\nclock = \"000000000000000a\"\nport = 1"] as &[&str],
+            "[[event]]\nat = 60000000000\nkind = \"link_down\"\nclock = \"000000000000000a\"\nport = 1\n",
             (13_000_003_230, 13_000_003_230),
         ),
         (
             "two links go down, and one that is down",
-            &[
-                "\"link_down\"\nclock = \"000000000000000a\"\nport = 1",
-                "\"link_down\"\nclock = \"000000000000000c\"\nport = 2",
-                "\"link_down\"\nclock = \"000000000000000a\"\nport = 1",
-            ] as &[&str],
+            "[[event]]\nat = 60000000000\nkind = \"link_down\"\nclock = \"000000000000000a\"\nport = 1\n[[event]]\nat = 60000000000\nkind = \"link_down\"\nclock = \"000000000000000c\"\nport = 2\n[[event]]\nat = 60000000000\nkind = \"link_down\"\nclock = \"000000000000000a\"\nport = 1\n",
             (7_000_001_410, 7_000_001_410),
         ),
         (
             "the root gets worse, and another better",
-            &[
-                "\"priority1\"\nclock = \"000000000000000a\"\nvalue = 250",
-                "\"priority1\"\nclock = \"000000000000000c\"\nvalue = 1",
-            ] as &[&str],
+            "[[event]]\nat = 60000000000\nkind = \"priority1\"\nclock = \"000000000000000a\"\nvalue = 250\n[[event]]\nat = 60000000000\nkind = \"priority1\"\nclock = \"000000000000000c\"\nvalue = 1\n",
             (15_000_003_500, 15_000_003_500),
         ),
     ] {
@@ -580,9 +568,7 @@ fn other_losses_cost_a_turn_for_each_system_of_a_path(rt: HostRuntime) -> Result
         text.push_str(
             "[[event]]\nat = 30000000000\nkind = \"link_set\"\nclock = \"000000000000000a\"\nport = 1\nmin = 380\nmax = 500\nloss = 0\n",
         )?;
-        for event in events {
-            writeln!(text, "{EVENT}{event}")?;
-        }
+        text.push_str(events)?;
         let times = ring(rt.alloc(), text.as_str())?;
         assert_eq!(rt; bounds(&times, 60_000_000_000), Some(bound), "{case}");
     }
@@ -654,6 +640,13 @@ fn events_come_from_rest_soon_after_a_loss(rt: HostRuntime) -> Result<(), Fail> 
             820,
         ),
         (
+            "d loses its power, and cuts c off",
+            "[[event]]\nat = 100000000000\nkind = \"fail\"\nclock = \"000000000000000d\"\n[[event]]\nat = 100000000000\nkind = \"link_down\"\nclock = \"000000000000000d\"\nport = 1\n[[event]]\nat = 100000000000\nkind = \"link_down\"\nclock = \"000000000000000d\"\nport = 2\n[[event]]\nat = 102000000000\nkind = \"recover\"\nclock = \"000000000000000d\"\n",
+            1_000_000_820,
+            102_000_000_000,
+            410,
+        ),
+        (
             "b hangs",
             "[[event]]\nat = 100000000000\nkind = \"fail\"\nclock = \"000000000000000b\"\n[[event]]\nat = 111500000000\nkind = \"recover\"\nclock = \"000000000000000b\"\n",
             11_000_000_410,
@@ -687,6 +680,19 @@ fn events_come_from_rest_soon_after_a_loss(rt: HostRuntime) -> Result<(), Fail> 
             "{case}"
         );
     }
+    Ok(())
+}
+
+#[test]
+fn events_come_from_rest_soon_after_lost_power(rt: HostRuntime) -> Result<(), Fail> {
+    let times = ring(
+        rt.alloc(),
+        "[[event]]\nat = 30000000000\nkind = \"fail\"\nclock = \"000000000000000d\"\n[[event]]\nat = 30000000000\nkind = \"link_down\"\nclock = \"000000000000000d\"\nport = 1\n[[event]]\nat = 30000000000\nkind = \"link_down\"\nclock = \"000000000000000d\"\nport = 2\n[[event]]\nat = 33000000000\nkind = \"recover\"\nclock = \"000000000000000d\"\n",
+    )?;
+    assert_eq!(rt;
+        rests(&times, 30_000_000_000, 33_000_000_000),
+        Some((2_000_001_230, 820))
+    );
     Ok(())
 }
 

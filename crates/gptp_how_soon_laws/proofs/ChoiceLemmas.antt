@@ -16,7 +16,7 @@ use Rattle.gptp_network.specs.Document.{DocumentState}
 use Rattle.gptp_network.specs.Snapshot.{events_by}
 use Rattle.gptp_network.proofs.SnapshotLemmas.{from_filter}
 use Rattle.gptp_theorem.specs.PlayedLaws.{IsPlayable}
-use Rattle.gptp_how_soon.specs.Bounds.{choice_by, choice_of_row, gone_by, held_span, loss_span, roles_of_row, sound_by}
+use Rattle.gptp_how_soon.specs.Bounds.{choice_by, choice_of_row, echo_span, gone_by, held_span, loss_span, roles_of_row, sound_by}
 use Rattle.gptp_how_soon.specs.Rest.{leaves_silent}
 use Rattle.gptp_how_soon.specs.Times.{View, events_at, gained_at, last_set, ready_at, row_at, settling_time, settling_times, settling_times_from, time_at, view_at}
 use Rattle.gptp_how_soon.specs.declared.bounds.Row.{Row}
@@ -208,17 +208,14 @@ module _ (d : DocumentState) (playable : IsPlayable d) where
             let x = cut_off n playable.network all b at late well row in
             (x.rested, inl (inl (x.cuts, (gone_by n v.paths v.used_before, x.flight, it.sound ∙ is))))
         by (inr (inr (inr (inr (inl (row, is)))))) =
-            let (rest, turns, unused) = turned n playable.network all b at late well row in (
-              rest,
-              inl (inr (inr (inr (
-                turns,
-                elim unused [
-                  | inl (used, none) ↦ let same = it.sound in inl (used, omega (arith, same, is, none))
-                  | inr later ↦ let same = it.sound in inr (omega (arith, same, is, later))
-                ],
-              )))),
-            )
-        by (inr (inr (inr (inr (inr (row, is)))))) =
+            let (rest, turns) = turned n playable.network all b at late well row in
+            (rest, inl (inr (inr (inr (inl (turns, it.sound ∙ is))))))
+        by (inr (inr (inr (inr (inr (inl (row, long))))))) =
+            let (rest, fails, used) = lost_power n playable.network all b at late well row in
+            let late : max (echo_span n v.paths) v.paths.delay ≤ s.sound =
+            subst (λ t. max (echo_span n v.paths) v.paths.delay ≤ t) (sym it.sound) long in
+            (rest, inl (inr (inr (inr (inr (fails, used, late))))))
+        by (inr (inr (inr (inr (inr (inr (row, is))))))) =
             let (rest, loses, roles) = any_losses n playable.network all b at late row in (
               rest,
               inr (
@@ -293,7 +290,7 @@ module _ (d : DocumentState) (playable : IsPlayable d) where
         let (rest, fails, used) = lost_power n playable.network all b at late well (inr row) in
         (rest, inr (inr (inr (inl (fails, (0, 0, inl (used, refl, refl), inr (omega arith, omega arith)))))))
     loses_by OneTurned row own =
-        let (rest, turns, unused) = turned n playable.network all b at late well row in
+        let (rest, turns) = turned n playable.network all b at late well row in
         (rest, inr (inr (inl (turns, refl, refl))))
     loses_by FailedHeard row own =
         let (rest, fails, delay) = heard n playable.network all b at late well (inl row) in (

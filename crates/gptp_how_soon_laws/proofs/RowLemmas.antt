@@ -19,7 +19,7 @@ use Rattle.gptp_scenario.specs.declared.change.Timed.{Timed}
 use Rattle.gptp_scenario.specs.declared.network.LinkSpec.{LinkSpec}
 use Rattle.gptp_network.specs.Snapshot.{events_by}
 use Rattle.gptp_topology.specs.Course.{cable_of}
-use Rattle.gptp_how_soon.specs.Bounds.{is_hard_to_hear, gone_by, unused_by}
+use Rattle.gptp_how_soon.specs.Bounds.{is_hard_to_hear, gone_by}
 use Rattle.gptp_how_soon.specs.Chosen.{moves_counted, moves_joined, moves_some}
 use Rattle.gptp_how_soon.specs.Kinds.{are_heard, brings_nothing, fails_and_recovers, fails_first, is_better, is_failing, is_gain, is_idle, is_loss, is_lowering, is_other, is_recovery, leaves_links, lowers_one, lowers_unused, makes_nothing, recovers, takes_one, begins_wider, first_wider_by, is_wider}
 use Rattle.gptp_how_soon.specs.Links.{delay_set, longest_among, longest_delay, longest_set}
@@ -47,7 +47,7 @@ use Rattle.gptp_how_soon_laws.proofs.GainedLemmas.{AreFollowed, AreTurnsFollowed
 use Rattle.gptp_how_soon_laws.proofs.KindLemmas.{told}
 use Rattle.gptp_how_soon_laws.proofs.FailedLemmas.{fails_end_first, fails_heard_first, used_up}
 use Rattle.gptp_how_soon_laws.proofs.CutOffLemmas.{cuts_one_end}
-use Rattle.gptp_how_soon_laws.proofs.LoweredLemmas.{lowers_one_link, used_on, used_turned}
+use Rattle.gptp_how_soon_laws.proofs.LoweredLemmas.{lowers_one_link, used_on}
 use Rattle.gptp_how_soon_laws.proofs.TurnedLemmas.{turns_one_link}
 use Rattle.gptp_how_soon_laws.proofs.UnmovedLemmas.{AreWell, all_still_unmoved}
 use Rattle.gptp_how_soon_laws.proofs.RowReasonLemmas.{ReasonOf, reason_of}
@@ -161,10 +161,6 @@ longest_within n events others = record {
       let here = longest_there v n.links (In-slice_get v n.links place there) in omega (arith, here);
   sets = set_within (longest_delay n (events ++ others)) events others (omega arith);
 }
-
--- so much later what was in flight on links that aren't in use is gone: not at all where each that is up is
-abbrev pub IsUnusedBy : NetworkState → List Timed → ℕ → Type 0
-IsUnusedBy n events span = (UpIsUsed n events × (span ≡ 0)) ⊎ (span ≡ largest_interval (pace_of n))
 
 module _ (n : NetworkState) (network : IsNetwork n) (events : List Timed) (b : SettlingTime) (at : ℕ)
     (late : b.at < at) where
@@ -507,24 +503,15 @@ module _ (n : NetworkState) (network : IsNetwork n) (events : List Timed) (b : S
         flight = flight_so (fails_so fails).keeps.delay;
       }
 
-  -- what was in flight on links that aren't in use is gone so much later than elsewhere
-  unused_so : TurnsOneLink n made now → IsUnusedBy n (made ++ now) (unused_by n v.used_before)
-  unused_so turns = by v.used_before refl
-    where
-      by : (used : Bool) → v.used_before ≡ used → IsUnusedBy n (made ++ now) (unused_by n used)
-      by true is = inl (used_turned n made now turns (used_up n network made is), refl)
-      by false is = inr refl
-
   -- or one system turns
   pub turned : AreWell n (made ++ now) → row_at v ≡ OneTurned
-      → HasComeToRest b at × TurnsOneLink n made now × IsUnusedBy n (made ++ now) (unused_by n v.used_before)
+      → HasComeToRest b at × TurnsOneLink n made now
   turned well row =
       let (from, turns) = why OneTurned row in
       let (followed, one) = and_parts (is_lowering_followed v.paths_before v.paths v.told) v.turned turns in
       let (keeps, lowers) = and_parts (keeps_paths v.paths_before v.paths) (lowers_one v.told) followed in
       let x = keeps_so keeps in
-      let turns = turns_one_link n network made now well one x.delay x.paths x.few lowers in
-      ((from_rest from).rested, turns, unused_so turns)
+      ((from_rest from).rested, turns_one_link n network made now well one x.delay x.paths x.few lowers)
 
   -- or a far end hangs
   pub failed : AreWell n (made ++ now) → row_at v ≡ FailedEnd

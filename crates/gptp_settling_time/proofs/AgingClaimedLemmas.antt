@@ -220,6 +220,7 @@ aging_now p g aged silent w is none = record {
           there = on.there;
           farther = on.farther;
         });
+        itself = record { lanes = seen.itself.lanes; stations = seen.itself.stations };
       };
 }
 
@@ -253,8 +254,8 @@ module _ (p : SettlingParams) (g : Snapshot) (aged silent : ℕ) (w : WorldState
   net : IsSettlingNetwork left_n
   net = left_net p silent w world
 
-  claims : IsLeftSeen says_announce g left_n (view w)
-  claims =
+  pub aging_left : IsLeftSeen says_announce g left_n (view w)
+  aging_left =
       aging_over says_announce g (aging_network p aged silent w) is.well
       (stands_well w world.sound world.between world.encodable) is.left (view w) after seen.fits seen.still none
 
@@ -267,16 +268,16 @@ module _ (p : SettlingParams) (g : Snapshot) (aged silent : ℕ) (w : WorldState
   -- its choice stands
   pub aging_chooses : ChoiceStands w
   aging_chooses =
-      seen_chooses p left_n w world refl net calm claims.invariant settled_by_now (omega arith) (omega arith)
+      seen_chooses p left_n w world refl net calm aging_left.invariant settled_by_now (omega arith) (omega arith)
 
   -- it has settled once ports without a link aren't capable
   pub aging_settles : silent ≤ w.time → Settled w × IsBoundedWorld w
   aging_settles late =
       let settled : Settled w =
-      seen_settles p left_n w world refl net calm claims.invariant settled_by_now (omega arith) (omega arith) late in (
+      seen_settles p left_n w world refl net calm aging_left.invariant settled_by_now (omega arith) (omega arith) late in (
         settled,
         bounded_by p w world settled (λ place station here live best is_best.
-            systems_bounded says_announce left_n (view w) place (station_view station) best net calm claims.invariant
+            systems_bounded says_announce left_n (view w) place (station_view station) best net calm aging_left.invariant
             (station_there w.stations place station here) live is_best (omega arith)),
       )
 

@@ -305,6 +305,14 @@ module _ (p : SettlingParams) (before : Snapshot) (aged silent owner port : ℕ)
       still = still_emptied says_announce before n n' well' alike.wiring
           (λ a b joins. subst (λ h. Joins h a b) snapshot_now joins) same_unmoved less (view w) (view taken) is_emptied
           after_taken fits_taken claims.still;
+      itself = record {
+        lanes = λ j l f a there flies said known. elim (is_emptied.lanes j l there) [
+          | inl stood ↦
+              claims.itself.lanes j l f a stood flies said (subst (λ h. In l.to.clock (clocks h)) snapshot_now known)
+          | inr (none, down) ↦ absurd (subst (In f) none flies)
+        ];
+        stations = claims.itself.stations;
+      };
     }
 
     -- ---- the end that lives answers

@@ -22,6 +22,7 @@ use Rattle.gptp_bmca_machine.proofs.RestingLemmas.{links_stay}
 use Rattle.gptp_bmca_machine.proofs.StillLemmas.{LeadsOn, StillChoose, StillSettles, chooses_still, ends, is_station, levels_below, still, still_stays}
 use Rattle.gptp_settling_time.proofs.AgingLemmas.{StaysAsNamed, UnlinkedAge}
 use Rattle.gptp_settling_time.proofs.FitsLemmas.{IsLeftUnmoved, UnlinkedHoldNothing, best_before, distance_before, joined_stays, received_still}
+use Rattle.gptp_settling_time.proofs.NamesItselfLemmas.{AllNameItself, itself_kept}
 use Rattle.gptp_settling_time.proofs.ReducedLemmas.{IsReduced, reduced_itself}
 use Rattle.gptp_settling_time.proofs.UnlinkedLemmas.{IsLeftSeen}
 
@@ -30,6 +31,7 @@ pub record IsAgingSeen (says : Spelling) (g : Snapshot) (n : Network) (stay : �
   pub ages : UnlinkedAge says n.graph stay aged w
   pub fits : EverythingFits says g n w
   pub still : (d : ℕ) → StillSettles says g n d w
+  pub itself : AllNameItself says n g w
 
 abbrev what_is_left : (g : Snapshot) (n : Network) → IsWellFormed g → IsLeftUnmoved g n.graph → IsWhatIsLeft g n
 what_is_left g n well left = record { graph = well; systems = left.systems; links = left.links }
@@ -46,6 +48,7 @@ aging_kept says g n stay aged w w' well well' left was is ages step seen = recor
   still = λ d.
       levels_below says g n well' less w w' was after seen.fits.stations fits.stations step seen.still (suc d) d
       (omega arith);
+  itself = itself_kept says n g w w' was.calm after.calm step seen.itself;
 }
   where
     less : IsWhatIsLeft g n

@@ -24,6 +24,7 @@ use Rattle.gptp_bmca_machine.specs.Vectors.{master, path_vector}
 use Rattle.gptp_bmca_machine.proofs.PlaceLemmas.{same_there}
 use Rattle.gptp_bmca_machine.proofs.RestLemmas.{Chooses, IsClear, own_best, root_above}
 use Rattle.gptp_settling_time.proofs.ClaimLemmas.{EachAnnounce}
+use Rattle.gptp_settling_time.proofs.NamesItselfLemmas.{AllNameItself}
 use Rattle.gptp_bmca_machine.proofs.StillLemmas.{StillSettles, capable_at, chooses_still, clear_at, is_station, still}
 use Rattle.gptp_settling_time.proofs.TurnLemmas.{ComesLate, IsBeside, NamesLate, TurnsOne, beside, source_best, starts_far}
 
@@ -34,7 +35,8 @@ IsDark n w = (i : ℕ) (s : Station) (place : ℕ) (q : Port) → slice_get w.st
     → q.held ≡ Disabled
 
 -- What is known of each state since the loss: it is calm, all fits the snapshot of before, links from unmoved systems
--- stay, ports without a link are off, and what names the system does so late.
+-- stay, ports without a link are off, and what names the system does so late. What names the best in no steps names it
+-- alone.
 pub record IsMoving (says : Spelling) (g : Snapshot) (n : Network) (x e : ℕ) (best : System) (w : MachineState)
     : Type 0 where
   pub kept : IsAfterLoss n w
@@ -42,6 +44,7 @@ pub record IsMoving (says : Spelling) (g : Snapshot) (n : Network) (x e : ℕ) (
   pub levels : (f : ℕ) → StillSettles says g n f w
   pub dark : IsDark n w
   pub names : EachAnnounce says n (ComesLate g x e best) (NamesLate g x e best) w
+  pub itself : AllNameItself says n g w
 
 -- the link tells from the first on, what is sent has come, and those that it leads to have settled by this time
 abbrev pub towards : Network → ℕ → ℕ → System → ℕ → ℕ → ℕ → ℕ → Wiring

@@ -33,7 +33,7 @@ use Rattle.gptp_settling_time.proofs.FitsLemmas.{UnlinkedHoldNothing}
 use Rattle.gptp_settling_time.proofs.LeftClaimedLemmas.{HaveAskedBy, IsLeftAlways, asked_acts, asked_heard, asked_later, left_acts, left_calm, left_later, left_net, left_network, left_seen, same_left}
 use Rattle.gptp_settling_time.proofs.RightKeptLemmas.{right_kept}
 use Rattle.gptp_settling_time.proofs.RightLemmas.{all_right}
-use Rattle.gptp_settling_time.proofs.TellsRightLemmas.{IsSettledState, LevelTellsRight, RightTimes}
+use Rattle.gptp_settling_time.proofs.TellsRightLemmas.{IsSettledState, LevelTellsRight, tells_right_from}
 use Rattle.gptp_settling_time.proofs.DueLemmas.{AreDueBy, UpIsInUse, due_by_delay, due_by_interval, use_kept}
 use Rattle.gptp_settling_time.proofs.UnlinkedLemmas.{IsLeftSeen}
 use native.Mathlib.Decide.{dec_le}
@@ -48,10 +48,10 @@ GoesBy p gone w = (UpIsInUse w × (gone ≡ delay_in w)) ⊎ (gone ≡ largest_i
 
 -- links tell right traces by distance, and what they told before is gone by a time
 pub record IsBecomingRight (p : SettlingParams) (n : Network) (right gone old : ℕ) (w : WorldState) : Type 0 where
-  pub times : RightTimes n
+  pub base : ℕ
   pub goes : GoesBy p gone w
-  pub levels : (d : ℕ) → LevelTellsRight says_announce n times (view w) d
-  pub is : times.from (pred n.reach) ≤ right
+  pub levels : (d : ℕ) → LevelTellsRight says_announce n base (view w) d
+  pub is : tells_right_from n base (pred n.reach) ≤ right
   pub early : w.time < right
   pub by : right + gone ≤ suc old
 
@@ -135,9 +135,9 @@ module _ (p : SettlingParams) (g : Snapshot) (since silent right old : ℕ) (w w
         none = none';
       }
 
-      levels' : (d : ℕ) → LevelTellsRight says_announce n becomes.times (view w') d
+      levels' : (d : ℕ) → LevelTellsRight says_announce n becomes.base (view w') d
       levels' =
-          right_kept says_announce n net is.left.near becomes.times (view w) (view w') x x'
+          right_kept says_announce n net is.left.near becomes.base (view w) (view w') x x'
           (λ port linked.
           linked_interval p w is.left.standing.world.sound is.left.standing.world.known port linked) step becomes.levels
 
@@ -161,7 +161,7 @@ module _ (p : SettlingParams) (g : Snapshot) (since silent right old : ℕ) (w w
           → IsSoundButOld says_announce n.graph old (view w')
       all_by_now by_now =
           let is_right = becomes.is in
-          all_right says_announce n net is.left.near becomes.times (view w') x' levels' (omega (arith, is_right, by_now)) old
+          all_right says_announce n net is.left.near becomes.base (view w') x' levels' (omega (arith, is_right, by_now)) old
           (by step)
         where
           by : MachineSteps says_announce (view w) (view w') → AreDueBy old w'
@@ -182,7 +182,7 @@ module _ (p : SettlingParams) (g : Snapshot) (since silent right old : ℕ) (w w
         | no not ↦ inr (
           gone,
           subst (λ y. IsBecomingRight p y right gone old w') (sym same) (record {
-            times = becomes.times;
+            base = becomes.base;
             goes = goes';
             levels = levels';
             is = becomes.is;

@@ -2,11 +2,14 @@
 -- but for what is due soon.
 use Rattle.std.proofs.Common.{List, Some, ap, arith, inl, inr, pred, slice_get, subst, suc, sym, ℕ, ◌*◌, ◌+◌, ◌∙◌, ◌≡◌, ◌≢◌, ◌≤◌, ◌⊎◌}
 use Rattle.gptp_lists.specs.Members.{In}
-use Rattle.gptp_graph.specs.Snapshot.{Joins, PortIdentity, Snapshot}
+use Rattle.gptp_graph.specs.Best.{IsBest}
+use Rattle.gptp_graph.specs.Distance.{IsDistance}
+use Rattle.gptp_graph.specs.Snapshot.{Adjacent, IsWellFormed, Joins, PortIdentity, Snapshot, System, port_of}
 use Rattle.gptp_links.specs.declared.link.Direction.{Direction}
 use Rattle.gptp_links.specs.declared.link.Direction.TheVariants.{FromA, FromB}
 use Rattle.gptp_links.specs.Fate.{Draw}
 use Rattle.gptp_setup.specs.SettlingParams.{SettlingParams, largest_interval}
+use Rattle.gptp_scenario.specs.Calm.{NothingLapses}
 use Rattle.gptp_system.specs.Input.{PortDown}
 use Rattle.gptp_model.specs.Changing.{TellsEnds, taken_down}
 use Rattle.gptp_model.specs.World.{Channel, WorldState, receiver, sender}
@@ -22,14 +25,14 @@ use Rattle.gptp_invariants.proofs.WorldStandsLemmas.{stands_well}
 use Rattle.gptp_settling_time.specs.Losses.{IsCutOff, IsFarEnd}
 use Rattle.gptp_settling_time.proofs.ClearedLemmas.{GoesBy, IsBecomingRight, IsCleared}
 use Rattle.gptp_settling_time.proofs.FarEndLemmas.{HasAllBut}
-use Rattle.gptp_settling_time.proofs.FitsLemmas.{IsLeftUnmoved}
+use Rattle.gptp_settling_time.proofs.FitsLemmas.{IsLeftUnmoved, best_before, joined_stays}
 use Rattle.gptp_settling_time.proofs.LeftClaimedLemmas.{HaveAskedBy, IsLeftAlways, left_calm, left_net, left_network}
 use Rattle.gptp_settling_time.proofs.LostEndLemmas.{but_old_reduced, lost_end_sound}
 use Rattle.gptp_settling_time.proofs.LoweredLemmas.{still_joins}
 use Rattle.gptp_settling_time.proofs.ReducedLemmas.{IsReduced}
+use Rattle.gptp_settling_time.proofs.NamesItselfLemmas.{AllNameItself}
 use Rattle.gptp_settling_time.proofs.RightBeginLemmas.{right_begins, root_right}
-use Rattle.gptp_settling_time.proofs.TellsRightLemmas.{told_last, told_times}
-use Rattle.gptp_settling_time.proofs.UnlinkedLemmas.{IsLeftSeen}
+use Rattle.gptp_settling_time.proofs.TellsRightLemmas.{right_last}
 use Rattle.gptp_graph.specs.PathBound.{path_bound}
 use Rattle.gptp_settling_time.proofs.SettledSeenLemmas.{IsSettledSeen}
 use Rattle.gptp_settling_time.proofs.SoundButOldLemmas.{IsSoundButOld}
@@ -92,38 +95,50 @@ cleared_reduced p g since silent right old w w' same less quiet late left asked 
 abbrev pub nearer_echo : SettlingParams → WorldState → ℕ
 nearer_echo p w = pred (pred (path_bound (snapshot_of w))) * (largest_interval p + delay_in w)
 
--- links begin to tell right traces, where all that is held was sound before
-pub rights : (p : SettlingParams) (g : Snapshot) (since silent gone : ℕ) (w : WorldState) → IsLeftAlways p g silent w
-    → HaveAskedBy since w → GoesBy p gone w → IsSoundEverywhere says_announce g (view w)
-    → IsCleared p g since silent (suc (w.time + nearer_echo p w)) (w.time + nearer_echo p w + gone) w
-rights p g since silent gone w left asked goes sound = record {
-  left = left;
-  asked = asked;
-  sound = λ quiet off. inr (gone, becomes (left.seen quiet off) quiet);
-}
-  where
-    becomes : IsLeftSeen says_announce g (left_network p silent w) (view w) → HaveQuietLinks p.params w
-        → IsBecomingRight p (left_network p silent w) (suc (w.time + nearer_echo p w)) gone
-        (w.time + nearer_echo p w + gone) w
-    becomes seen quiet =
-        let n = left_network p silent w in
-        let by = told_last n (suc w.time) (pred (path_bound (snapshot_of w))) in
-        record {
-          times = told_times n (suc w.time);
-          goes = goes;
-          levels = right_begins says_announce n (suc w.time) (view w) (omega arith)
-              (root_right says_announce g n left.well (left_net p silent w left.standing.world) left.near left.left
-              (view w)
-              (record {
-                calm = left_calm p silent w left.standing left.asked quiet seen.unlinked;
-                invariant = seen.invariant;
-                late = let past = left.late in omega (arith, past);
-                none = seen.unlinked;
-              }) sound (told_times n (suc w.time)));
-          is = omega (arith, by);
-          early = omega arith;
-          by = omega arith;
-        }
+-- links begin to tell right traces, where what names the best in no steps names it alone
+module _ (p : SettlingParams) (g : Snapshot) (since silent gone : ℕ) (w : WorldState)
+    (left : IsLeftAlways p g silent w) (asked : HaveAskedBy since w)
+    (goes : GoesBy p gone w) (before : Snapshot)
+    (was : (v u : ℕ) (best : System) → Adjacent (snapshot_of w) v u → IsBest (snapshot_of w) v best
+    → IsDistance (snapshot_of w) v 0 → IsBest before v best)
+    (itself : HaveQuietLinks p.params w → NothingLapses p.params
+    → AllNameItself says_announce (left_network p silent w) before (view w)) where
+  becomes : HaveQuietLinks p.params w → NothingLapses p.params
+      → IsBecomingRight p (left_network p silent w) (suc (w.time + nearer_echo p w)) gone
+      (w.time + nearer_echo p w + gone) w
+  becomes quiet off =
+      let n = left_network p silent w in
+      let seen = left.seen quiet off in
+      let by = right_last n (suc w.time) (pred (path_bound (snapshot_of w))) in
+      record {
+        base = suc w.time;
+        goes = goes;
+        levels = right_begins says_announce n (suc w.time) (view w) (omega arith)
+            (root_right says_announce before n (left_net p silent w left.standing.world) left.near (view w)
+            (record {
+              calm = left_calm p silent w left.standing left.asked quiet seen.unlinked;
+              invariant = seen.invariant;
+              late = let past = left.late in omega (arith, past);
+              none = seen.unlinked;
+            }) was (itself quiet off) (suc w.time));
+        is = omega (arith, by);
+        early = omega arith;
+        by = omega arith;
+      }
+
+  pub rights : IsCleared p g since silent (suc (w.time + nearer_echo p w)) (w.time + nearer_echo p w + gone) w
+  rights = record {
+    left = left;
+    asked = asked;
+    sound = λ quiet off. inr (gone, becomes quiet off);
+  }
+
+-- who is the best after a loss by which no system is moved was so before
+pub was_best : (g g' : Snapshot) → IsWellFormed g → IsWellFormed g' → IsLeftUnmoved g g' → (v u : ℕ) (best : System)
+    → Adjacent g' v u → IsBest g' v best → IsDistance g' v 0 → IsBest g v best
+was_best g g' well well' left v u best joined is here =
+    best_before g g' well well' left v best
+    (joined_stays g g' well well' left (port_of v joined.0) (port_of u joined.1) joined.2) is
 
 -- ---- a link goes down, and cuts a far end off
 

@@ -3,10 +3,9 @@ use Rattle.std.proofs.Common.{◌≡◌, ◌⊎◌, ◌<◌, ◌≤◌, ◌+◌,
 use Rattle.gptp_lists.specs.Members.{In}
 use Rattle.gptp_graph.specs.Snapshot.{Joins}
 use Rattle.gptp_setup.specs.SettlingParams.{SettlingParams, largest_interval}
+use Rattle.gptp_model.specs.Sound.{IsSound}
 use Rattle.gptp_model.specs.World.{Channel, WorldState}
-use Rattle.gptp_bmca_machine.specs.Calm.{Calm}
 use Rattle.gptp_bmca_machine.specs.Frame.{Announce, AnnounceFrame, Lane}
-use Rattle.gptp_bmca_machine.specs.Network.{Network}
 use Rattle.gptp_bmca_machine.proofs.SettledLemmas.{since_grows}
 use Rattle.gptp_invariants.specs.ChoiceCalm.{delay_in}
 use Rattle.gptp_invariants.specs.ChoiceSettlesAsMachine.{IsWorld}
@@ -37,33 +36,31 @@ abbrev pub UpIsInUse : WorldState → Type 0
 UpIsInUse w = (link : ℕ) (channel : Channel) → slice_get w.net.channels link ≡ Some channel → channel.up ≡ true
     → channel_is_used (live_stations w.stations) channel ≡ true
 
--- or by the greatest delay of a link in use, where each link that is up is in use
-pub due_in_use : (p : SettlingParams) (w : WorldState) → IsWorld p w → (n : Network) → Calm n (view w)
-    → n.graph ≡ snapshot_of w → n.start ≤ w.time → UpIsInUse w → AreDueBy (w.time + n.most) w
-due_in_use p w is n calm graph begun used j l f a there member said =
-    by (calm.facts.fresh j l f there member joins)
-  where
-    joins : Joins n.graph l.from l.to
-    joins =
-        let at = frame_from w j l f there member in
-        let up = frames_on_links w is.sound at.link at.direction at.channel at.frame at.here at.among in
-        subst (λ h. Joins h l.from l.to) (sym graph)
-        (subst (λ (x : Lane). Joins (snapshot_of w) x.from x.to) (sym at.lane_is)
-        (used_joins w at.link at.direction at.channel at.here (used at.link at.channel at.here up)))
+-- then what is in flight comes over links in use
+pub in_use_joins : (w : WorldState) → IsSound w → UpIsInUse w → (j : ℕ) (l : Lane) (f : AnnounceFrame)
+    → slice_get (view w).lanes j ≡ Some l → In f l.frames → Joins (snapshot_of w) l.from l.to
+in_use_joins w sound used j l f there member =
+    let at = frame_from w j l f there member in
+    let up = frames_on_links w sound at.link at.direction at.channel at.frame at.here at.among in
+    subst (λ (x : Lane). Joins (snapshot_of w) x.from x.to) (sym at.lane_is)
+    (used_joins w at.link at.direction at.channel at.here (used at.link at.channel at.here up))
 
-    by : (f.due ≤ w.time + n.most) ⊎ (f.due < n.start) → f.due ≤ w.time + n.most
-    by (inl soon) = soon
-    by (inr old) = let left = calm.left j l f there member in absurd (omega (arith, old, left, begun))
-
--- so it is where the network has settled
+-- and it is due within the greatest delay
 pub due_by_delay : (p : SettlingParams) (w : WorldState) → IsWorld p w → IsSettledSeen p w → UpIsInUse w
     → AreDueBy (w.time + delay_in w) w
-due_by_delay p w is seen used =
-    let begun = seen.net.begun in
-    let grows = since_grows seen.n 0 (pred seen.n.reach) (omega arith) in
-    let late = seen.late in
-    subst (λ most. AreDueBy (w.time + most) w) seen.most
-    (due_in_use p w is seen.n seen.calm seen.graph (omega (arith, begun, grows, late)) used)
+due_by_delay p w is seen used j l f a there member said = by (seen.calm.facts.fresh j l f there member joins)
+  where
+    joins : Joins seen.n.graph l.from l.to
+    joins = subst (λ h. Joins h l.from l.to) (sym seen.graph) (in_use_joins w is.sound used j l f there member)
+
+    by : (f.due ≤ w.time + seen.n.most) ⊎ (f.due < seen.n.start) → f.due ≤ w.time + delay_in w
+    by (inl soon) = let most = seen.most in omega (arith, soon, most)
+    by (inr old) =
+        let left = seen.calm.left j l f there member in
+        let begun = seen.net.begun in
+        let grows = since_grows seen.n 0 (pred seen.n.reach) (omega arith) in
+        let late = seen.late in
+        absurd (omega (arith, old, left, begun, grows, late))
 
 -- it stays so as long as the network stays
 pub use_kept : (w w' : WorldState) → KeepsNetwork w w' → UpIsInUse w → UpIsInUse w'

@@ -45,6 +45,8 @@ use Rattle.gptp_settling_time.proofs.FailedAloneLemmas as alone
 use Rattle.gptp_settling_time.proofs.FitsLemmas.{IsLeftUnmoved, at_zero, lived}
 use Rattle.gptp_settling_time.proofs.LeftClaimedLemmas.{HaveAskedLong}
 use Rattle.gptp_settling_time.proofs.MovedAlwaysLemmas.{at_least}
+use Rattle.gptp_settling_time.proofs.LostEndLemmas.{sound_reduced}
+use Rattle.gptp_settling_time.proofs.NamesItselfLemmas.{itself_begins}
 use Rattle.gptp_settling_time.proofs.ReducedLemmas.{fits_reduced}
 use Rattle.gptp_settling_time.proofs.SettledSeenLemmas.{IsSettledSeen, sound_fits}
 
@@ -222,5 +224,8 @@ module _ (p : SettlingParams) (number : ℕ) (w : WorldState) (draws : List Draw
               (λ a b joins. subst (λ h. Joins h a b) (sym seen.graph) (left.links a b joins)) back
               (record { graph = well; systems = left.systems; links = left.links }) (view w) (view w') emptied
               (aging_after p aged silent w' standing asked quiet' ages off late) fits' tells;
+          itself = itself_begins says_announce n' g (view w')
+              (sound_reduced says_announce g (view w) (view w')
+              (alone.less p number w draws done w' is is' acts lives) sound);
         };
       }

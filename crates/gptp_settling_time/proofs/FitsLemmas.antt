@@ -148,6 +148,41 @@ module _ (g g' : Snapshot) (well : IsWellFormed g) (well' : IsWellFormed g') (le
                 (distance_before q.clock far (joined_stays q (port_of c n) back) there));
           }
 
+  -- so does what is in flight over a link that is left
+  pub flight_still : (l : Lane) (a : Announce) → Joins g' l.from l.to → FlightFits g l a → FlightFits g' l a
+  flight_still l a joins fit = record {
+    joins = joins;
+    source = fit.source;
+    sender = λ best far of root there.
+        over.sender best far of root (subst (λ (q : PortIdentity). IsDistance g' q.clock far) one there);
+    fits = x.fits;
+  }
+    where
+      received : Reception
+      received = record { said = a; at = 0; span = 0 }
+
+      back : Joins g' l.to l.from
+      back = Joins-sym g' l.from l.to joins
+
+      x : CameFits g' l.to.clock l.to.port received
+      x =
+          came_still l.to.clock l.to.port received (joined_stays l.to l.from back)
+          (record {
+            over = λ linked. record {
+              from = l.from;
+              joins = fit.joins;
+              source = fit.source;
+              sender = fit.sender;
+            };
+            fits = fit.fits;
+          })
+
+      over : CameOverLink g' l.to.clock l.to.port a
+      over = x.over (l.from, back)
+
+      one : l.from ≡ over.from
+      one = well'.one_link l.to l.from over.from back (Joins-sym g' over.from l.to over.joins)
+
 -- so all does, where one that is cut off received nothing
 pub received_still : (g : Snapshot) (n : Network) (w : MachineState) → IsWellFormed g → IsWellFormed n.graph
     → IsLeftUnmoved g n.graph → Calm n w → UnlinkedHoldNothing n.graph w → ReceivedFits g w → ReceivedFits n.graph w

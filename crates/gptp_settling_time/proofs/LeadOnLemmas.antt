@@ -90,10 +90,7 @@ taken_later n events past seen time later less (inr rests) = inr (by past seen r
         record {
           calm = is.calm;
           off = is.off;
-          told = elim is.told [
-            | inl (used, told) ↦ inl (used, omega (arith, told, less))
-            | inr told ↦ inr (omega (arith, told, less))
-          ];
+          told = let told = is.told in omega (arith, told, less);
           later = is.later;
           unlinked = is.unlinked;
           over = omega (arith, over, less);
@@ -213,13 +210,7 @@ rested_so n events past time off (seen, inr rests, is) = by past seen rests
     by (Turned silent now) AnyPast none = absurd none
     by (Turned silent now) Starting none = absurd none
     by (Turned silent now) (Gained start) none = absurd none
-    by (Turned silent now) (Heard start) rest = (
-      off,
-      elim rest.told [
-        | inl (used, told) ↦ omega (arith, told)
-        | inr told ↦ omega (arith, told)
-      ],
-    )
+    by (Turned silent now) (Heard start) rest = let told = rest.told in (off, omega (arith, told))
     by (Turned silent now) (Left start) none = absurd none
     by (Turned silent now) (Turned start was) none = absurd none
     by (Turned silent now) (Cleared start dark clean last) none = absurd none

@@ -63,6 +63,7 @@ use Rattle.gptp_settling_time.proofs.AfterLemmas.{IsAfter}
 use Rattle.gptp_settling_time.proofs.LossMadeLemmas.{HasRestedSo, aging_so, cleared_to, left_to, turned_so}
 use Rattle.gptp_settling_time.proofs.LostClaimedLemmas.{IsLostAlways}
 use Rattle.gptp_settling_time.proofs.LostMadeLemmas.{loses_first, loses_more, made_still}
+use Rattle.gptp_settling_time.proofs.LostPowerLemmas.{told_anew}
 use Rattle.gptp_settling_time.proofs.LostToLemmas.{IsLostTo, lost_to_later}
 use Rattle.gptp_settling_time.proofs.WorldMovesLemmas.{near_so, stays_unmoved}
 use Rattle.gptp_graph.specs.Snapshot.{Snapshot}
@@ -548,6 +549,26 @@ module _ {F : Type 0} (answers : Bounds → ℕ → F → Option ℕ → F → T
         cleared_to d playable made event then k.draws done w' k.acts refl time_now last_now keeps_then after start rest
         since silent right old
 
+    -- what ages goes on to age
+    ages_on : (aged silent : ℕ) → LowersUnusedCalm n made event → IsAgingTo d made aged silent w
+        → IsAgingTo d more aged silent w'
+    ages_on aged silent falls so =
+        let x = falls.lowers in
+        let then_so = aging_to_later d made aged silent w event.at k.ready.timely.now k.ready.timely.first so in
+        let world = keeps_then.claim.world in
+        let end : PortId = port_id x.clock x.port in
+        let came : Acts (Changing (LinkDown x.clock x.port)) then k.draws done w' =
+        subst (λ act. Acts act then k.draws done w') x.act k.acts in
+        let quiet = (quiet_stands n made then playable.network keeps_then.stands world.sound falls.calm).links in
+        record {
+          keeps = after;
+          before = then_so.before;
+          since = down_aging p then_so.before aged silent x.clock x.port then k.draws done w' after.claim.world
+              after.claim.measured came then_so.since quiet falls.off
+              (up_so n made then keeps_then.stands end x.up came.1.place came.1.channel came.1.is)
+              (unused_so n made then keeps_then.stands world.sound end x.failed);
+        }
+
     leads_to_cleared : (past : Past) (since silent right old : ℕ)
         → EventLeads n made past event (Cleared since silent right old)
         → IsAfter d made past w → IsClearedTo d more since silent right old w'
@@ -571,7 +592,10 @@ module _ {F : Type 0} (answers : Bounds → ℕ → F → Option ℕ → F → T
           before = x.before;
           is = fallen_cleared x.before dark falls x.is.left start clean last past x.is;
         }))))
-    leads_to_cleared (Aging aged start) since silent right old none so = absurd none
+    leads_to_cleared (Aging aged dark) since silent right old (falls, same, anew) so =
+        subst (λ t. IsClearedTo d more since t right old w') (sym same)
+        (told_anew d playable more event.at aged dark since right old w' after time_now last_now
+        (ages_on aged dark falls so) anew)
     leads_to_cleared (Lost begun most start) since silent right old none so = absurd none
 
     ages : (start aged silent : ℕ) → HasRestedSo p start event.at then → FailsNow n made event aged silent
@@ -593,23 +617,8 @@ module _ {F : Type 0} (answers : Bounds → ℕ → F → Option ℕ → F → T
     leads_to_aging (Turned start was) aged silent none so = absurd none
     leads_to_aging (Cleared since start right old) aged silent none so = absurd none
     leads_to_aging (Aging gone start) aged silent (falls, same_aged, same_silent) so =
-        let x = falls.lowers in
-        let then_so = aging_to_later d made gone start w event.at k.ready.timely.now k.ready.timely.first so in
-        let world = keeps_then.claim.world in
-        let end : PortId = port_id x.clock x.port in
-        let came : Acts (Changing (LinkDown x.clock x.port)) then k.draws done w' =
-        subst (λ act. Acts act then k.draws done w') x.act k.acts in
-        let quiet = (quiet_stands n made then playable.network keeps_then.stands world.sound falls.calm).links in
         subst (λ time. IsAgingTo d more time silent w') (sym same_aged)
-        (subst (λ time. IsAgingTo d more gone time w') (sym same_silent)
-        (record {
-          keeps = after;
-          before = then_so.before;
-          since = down_aging p then_so.before gone start x.clock x.port then k.draws done w' after.claim.world
-              after.claim.measured came then_so.since quiet falls.off
-              (up_so n made then keeps_then.stands end x.up came.1.place came.1.channel came.1.is)
-              (unused_so n made then keeps_then.stands world.sound end x.failed);
-        }))
+        (subst (λ time. IsAgingTo d more gone time w') (sym same_silent) (ages_on gone start falls so))
     leads_to_aging (Lost since most start) aged silent none so = absurd none
 
     loses_now : (start since most silent : ℕ) → HasRestedSo p start event.at then

@@ -3,6 +3,7 @@
 use Rattle.std.proofs.Common.{◌≡◌, ◌≤◌, ◌+◌, ◌*◌, ℕ, pred, List, refl, sym, ap, subst, ◌∙◌, inl, inr, arith}
 use Rattle.gptp_graph.specs.PathBound.{path_bound}
 use Rattle.gptp_graph.specs.Snapshot.{IsWellFormed, Snapshot}
+use Rattle.gptp_graph.proofs.LinkLemmas.{Joins-clock}
 use Rattle.gptp_links.specs.Fate.{Draw}
 use Rattle.gptp_scenario.specs.Calm.{NothingLapses}
 use Rattle.gptp_scenario.specs.SettlingTime.{window_span}
@@ -154,6 +155,30 @@ pub record IsLeftAlways (p : SettlingParams) (g : Snapshot) (silent : ℕ) (w : 
   pub late : pred (path_bound (snapshot_of w)) * delay_in w ≤ w.time
   pub seen : HaveQuietLinks p.params w → NothingLapses p.params
       → IsLeftSeen says_announce g (left_network p silent w) (view w)
+
+-- so it is where all fits its own snapshot
+pub left_itself : (p : SettlingParams) (silent : ℕ) (w : WorldState) → IsStanding p silent w → HaveAskedLong w
+    → AllAreNear (snapshot_of w) → pred (path_bound (snapshot_of w)) * delay_in w ≤ w.time
+    → (HaveQuietLinks p.params w → NothingLapses p.params
+    → IsLeftSeen says_announce (snapshot_of w) (left_network p silent w) (view w))
+    → IsLeftAlways p (snapshot_of w) silent w
+left_itself p silent w standing asked near late seen =
+    let world = standing.world in
+    let well = stands_well w world.sound world.between world.encodable in
+    record {
+      standing = standing;
+      asked = asked;
+      well = well;
+      left = record {
+        systems = λ s member. member;
+        links = λ a b joins. joins;
+        unmoved = λ v known. inl (record { best = λ b of. of; far = λ d there. there });
+      };
+      near = near;
+      farther = λ a b joins known gone. absurd (gone (Joins-clock (snapshot_of w) a b well joins));
+      late = late;
+      seen = seen;
+    }
 
 -- The world is calm whose ports without a link hold nothing from a time on.
 pub bare_calm : (p : SettlingParams) (bare silent : ℕ) (w : WorldState) → IsStanding p silent w → HaveAskedLong w

@@ -9,6 +9,7 @@ use Rattle.gptp_scenario.specs.Change.{link_after}
 use Rattle.gptp_scenario.specs.Network.{pace_of}
 use Rattle.gptp_scenario.specs.declared.change.Timed.{Timed}
 use Rattle.gptp_scenario.specs.declared.network.LinkSpec.{LinkSpec}
+use Rattle.gptp_setup.specs.SettlingParams.{SettlingParams}
 use Rattle.gptp_model.specs.Acts.{at}
 use Rattle.gptp_model.specs.Course.{WasDone}
 use Rattle.gptp_model.specs.Pending.{NothingBefore}
@@ -20,6 +21,7 @@ use Rattle.gptp_world.proofs.SettlingInvariantLemmas.{next_octet}
 use Rattle.gptp_network.specs.Document.{DocumentState}
 use Rattle.gptp_invariants.specs.ChoiceCalm.{HaveQuietLinks}
 use Rattle.gptp_invariants.specs.ChoiceSettled.{Settled}
+use Rattle.gptp_invariants.specs.ChoiceSettlesAsMachine.{IsWorld}
 use Rattle.gptp_invariants.specs.WorldBounded.{IsBoundedWorld}
 use Rattle.gptp_invariants.specs.WorldNews.{AreSilentBy}
 use Rattle.gptp_invariants.proofs.DelayUsedLinkLemmas.{receiver_lives}
@@ -52,6 +54,19 @@ pub record IsLeftTo (d : DocumentState) (events : List Timed) (silent : ℕ) (w 
   pub before : Snapshot
   pub since : IsLeftAlways (pace_of d.network) before silent w
 
+-- no port is unanswered where each link that is up is in use
+pub answered_in_use : (p : SettlingParams) (w : WorldState) → IsWorld p w → UpIsInUse w → (start : ℕ)
+    → AreSilentBy p start w
+answered_in_use p w world used start at s =
+    let lives = receiver_lives w at.direction s.channel (used at.link s.channel s.here s.up) in
+    let beyond = s.answering in
+    let place = world.sound.wired.clocks at.answering lives.place beyond.station lives.at.station beyond.here
+    lives.at.here (beyond.named ∙ sym lives.at.named) in
+    let one = same_there w.stations lives.place beyond.station lives.at.station
+    (ap (slice_get w.stations) (sym place) ∙ beyond.here) lives.at.here in
+    let both : false ≡ true = sym beyond.failed ∙ ap (λ (x : Station). x.live) one ∙ lives.at.live in
+    absurd cc
+
 module _ (d : DocumentState) (events : List Timed) where
   -- each link that is up is in use
   pub up_in_use : (w : WorldState) → KeepsTo d events w → UpIsUsed d.network events → UpIsInUse w
@@ -64,21 +79,8 @@ module _ (d : DocumentState) (events : List Timed) where
   -- so no port is unanswered
   pub none_unanswered : (w : WorldState) → KeepsTo d events w → (start : ℕ) → UpIsUsed d.network events
       → AreSilentBy (pace_of d.network) start w
-  none_unanswered w keeps start used at s =
-      let world = keeps.claim.world in
-      let (v, there, same) = alike (link_after events) channel_wire d.network.links w.net.channels
-      (sym keeps.stands.links) at.link s.channel s.here in
-      let up = ap (λ (x : LinkSpec). x.up) same ∙ s.up in
-      let lives = receiver_lives w at.direction s.channel
-      (used_so d.network events w keeps.stands world.sound s.channel
-      (subst (IsUsed d.network.systems events) same (used at.link v there up))) in
-      let beyond = s.answering in
-      let place = world.sound.wired.clocks at.answering lives.place beyond.station lives.at.station beyond.here
-      lives.at.here (beyond.named ∙ sym lives.at.named) in
-      let one = same_there w.stations lives.place beyond.station lives.at.station
-      (ap (slice_get w.stations) (sym place) ∙ beyond.here) lives.at.here in
-      let both : false ≡ true = sym beyond.failed ∙ ap (λ (x : Station). x.live) one ∙ lives.at.live in
-      absurd cc
+  none_unanswered w keeps start used =
+      answered_in_use (pace_of d.network) w keeps.claim.world (up_in_use w keeps used) start
 
 module _ (d : DocumentState) (events : List Timed) (silent : ℕ) where
   pub left_to_later : (w : WorldState) (time : ℕ) → w.time ≤ time → NothingBefore time w.net.pending

@@ -126,6 +126,7 @@ pub mod AgingClaimedLemmas
 pub mod AgingDownLemmas
 pub mod AgingToLemmas
 pub mod FailedHeardLemmas
+pub mod LostPowerLemmas
 pub mod EmptiedLemmas
 pub mod LiveTracesLemmas
 pub mod LostClaimedLemmas
@@ -143,3 +144,4 @@ pub mod LosesLeadLemmas
 pub mod MovedFlightLemmas
 pub mod RightBeginLemmas
 pub mod ToldAnewLemmas
+pub mod NamesItselfLemmas

@@ -1,7 +1,7 @@
 -- A loss leads a network that has settled to what is left, or in which a system turns, or that is cleared.
 use Rattle.std.proofs.Common.{List, [], ap, append-nil, append_assoc, arith, inl, inr, max, pred, refl, subst, suc, sym, zero, ℕ, ◌*◌, ◌++◌, ◌+◌, ◌∙◌, ◌∷◌, ◌≡◌, ◌≤◌, ◌⊎◌}
 use Rattle.std.specs.List.{AllByRecursion}
-use Rattle.std.proofs.Math.Nat.{le-max_left, le-max_right}
+use Rattle.std.proofs.Math.Nat.{le-max_left, le-max_right, mul-le-mul_left}
 use Rattle.gptp_setup.specs.SettlingParams.{largest_interval, longest_span}
 use Rattle.gptp_scenario.specs.Calm.{IsCalm, NothingLapses, last_change}
 use Rattle.gptp_scenario.specs.Network.{NetworkState, pace_of}
@@ -9,10 +9,10 @@ use Rattle.gptp_scenario.specs.SettlingTime.{capability_span}
 use Rattle.gptp_scenario.specs.SyncWait.{sync_paths}
 use Rattle.gptp_scenario.specs.declared.change.Timed.{Timed}
 use Rattle.gptp_scenario.specs.declared.sync_wait.SyncPaths.{SyncPaths}
-use Rattle.gptp_settling_time.specs.HowSoon.{CutsOneEnd, EachEvent, FailsEndFirst, LowersOneLink, RestsAfterOneLoss, TurnsOneLink, TurnsUnused, way_span}
+use Rattle.gptp_settling_time.specs.HowSoon.{CutsOneEnd, EachEvent, FailsEndFirst, FailsHeardFirst, LowersOneLink, RestsAfterOneLoss, TurnsOneLink, TurnsUnused, way_span}
 use Rattle.gptp_settling_time.specs.InTurn.{Aging, AnyPast, ChoosesAfter, Cleared, CutsCalm, EventLeads, FailsCalm, FailsNow, FlightIsGone, Gained, Heard, LeadOn, Left, LosesNow, Lost, LowersCalm, Past, SettlesAfter, Starting, Turned, TurnsCalm, echo_span, nearer_echo_span, turned_echo_span}
-use Rattle.gptp_settling_time.specs.Losses.{CutsFarEnd, FailsFarEnd, LowersLink, LowersUnused, TurnsLink, UpIsUsed}
-use Rattle.gptp_settling_time.proofs.CalmLessLemmas.{fails_calm, lowers_calm}
+use Rattle.gptp_settling_time.specs.Losses.{CutsFarEnd, FailsFarEnd, FailsHeard, LowersLink, LowersUnused, TurnsLink, UpIsUsed, aging_span}
+use Rattle.gptp_settling_time.proofs.CalmLessLemmas.{failure_calm, fails_calm, lowers_calm}
 use Rattle.gptp_settling_time.proofs.SamePathsLemmas.{turned_paths}
 use Rattle.gptp_settling_time.proofs.LeftToLemmas.{less_way}
 use Rattle.gptp_settling_time.proofs.LeadOnLemmas.{HasSettled, IsLed}
@@ -198,7 +198,7 @@ module _ (n : NetworkState) (made : List Timed) (event : Timed) (gone : ℕ) (fl
       record {
         since = last_change made + capability_span (pace_of n);
         silent = last_change made + capability_span (pace_of n);
-        leads = (settled, (refl, inl (inl (cuts, refl), refl, (gone, flight, refl))));
+        leads = (settled, inl (refl, inl (inl (cuts, refl), refl, (gone, flight, refl))));
         early = omega (arith, passed, over);
         over = omega (arith, passed, over);
       }
@@ -206,14 +206,14 @@ module _ (n : NetworkState) (made : List Timed) (event : Timed) (gone : ℕ) (fl
   cut_leads (Gained start) settled cuts = record {
     since = start;
     silent = start;
-    leads = (settled, (refl, inl (inl (cuts, refl), refl, (gone, flight, refl))));
+    leads = (settled, inl (refl, inl (inl (cuts, refl), refl, (gone, flight, refl))));
     early = omega (arith, settled);
     over = omega (arith, settled);
   }
   cut_leads (Heard start) settled cuts = record {
     since = start;
     silent = start;
-    leads = (settled, (refl, inl (inl (cuts, refl), refl, (gone, flight, refl))));
+    leads = (settled, inl (refl, inl (inl (cuts, refl), refl, (gone, flight, refl))));
     early = omega (arith, settled);
     over = omega (arith, settled);
   }
@@ -233,7 +233,7 @@ module _ (n : NetworkState) (made : List Timed) (event : Timed) (gone : ℕ) (fl
       record {
         since = last_change made + capability_span (pace_of n);
         silent = suc (event.at + silence_span (pace_of n));
-        leads = (settled, (refl, inl (inr (fails, refl), refl, (gone, flight, refl))));
+        leads = (settled, inl (refl, inl (inr (fails, refl), refl, (gone, flight, refl))));
         early = omega (arith, passed, over);
         over = omega arith;
       }
@@ -241,14 +241,14 @@ module _ (n : NetworkState) (made : List Timed) (event : Timed) (gone : ℕ) (fl
   fail_leads (Gained start) settled fails = record {
     since = start;
     silent = suc (event.at + silence_span (pace_of n));
-    leads = (settled, (refl, inl (inr (fails, refl), refl, (gone, flight, refl))));
+    leads = (settled, inl (refl, inl (inr (fails, refl), refl, (gone, flight, refl))));
     early = omega (arith, settled);
     over = omega arith;
   }
   fail_leads (Heard start) settled fails = record {
     since = start;
     silent = suc (event.at + silence_span (pace_of n));
-    leads = (settled, (refl, inl (inr (fails, refl), refl, (gone, flight, refl))));
+    leads = (settled, inl (refl, inl (inr (fails, refl), refl, (gone, flight, refl))));
     early = omega (arith, settled);
     over = omega arith;
   }
@@ -276,18 +276,18 @@ module _ (n : NetworkState) (made : List Timed) (event : Timed) (gone : ℕ)
       + (sync_paths n made).systems * (longest_span (pace_of n) + (sync_paths n made).delay)) in
       record {
         since = last_change made + capability_span (pace_of n);
-        leads = (settled, (refl, inr (lowers, refl, refl, (gone, flight, refl))));
+        leads = (settled, inl (refl, inr (lowers, refl, refl, (gone, flight, refl))));
         early = omega (arith, passed, over);
       }
   right_leads Starting settled lowers = absurd settled
   right_leads (Gained start) settled lowers = record {
     since = start;
-    leads = (settled, (refl, inr (lowers, refl, refl, (gone, flight, refl))));
+    leads = (settled, inl (refl, inr (lowers, refl, refl, (gone, flight, refl))));
     early = omega (arith, settled);
   }
   right_leads (Heard start) settled lowers = record {
     since = start;
-    leads = (settled, (refl, inr (lowers, refl, refl, (gone, flight, refl))));
+    leads = (settled, inl (refl, inr (lowers, refl, refl, (gone, flight, refl))));
     early = omega (arith, settled);
   }
   right_leads (Left silent) settled lowers = absurd settled
@@ -295,6 +295,64 @@ module _ (n : NetworkState) (made : List Timed) (event : Timed) (gone : ℕ)
   right_leads (Cleared begun silent right last) settled lowers = absurd settled
   right_leads (Aging aged silent) settled lowers = absurd settled
   right_leads (Lost since most silent) settled lowers = absurd settled
+
+-- as a system fails that others hear it is, where each link that is up then is in use
+module _ (n : NetworkState) (made : List Timed) (event : Timed) (aged silent : ℕ)
+    (now : FailsNow n made event aged silent) (used : UpIsUsed n (made ++ event ∷ [])) where
+  abbrev EchoesPower : Past → Type 0
+  EchoesPower past = EventLeads n made past event
+      (Cleared event.at silent (event.at + 1 + nearer_echo_span n (made ++ event ∷ []))
+      (event.at + nearer_echo_span n (made ++ event ∷ []) + (sync_paths n (made ++ event ∷ [])).delay))
+
+  power_leads : (past : Past) → HasSettled n made past event.at → EchoesPower past
+  power_leads AnyPast settled = (settled, inr (aged, now, (used, refl, refl, refl)))
+  power_leads Starting settled = absurd settled
+  power_leads (Gained start) settled = (settled, inr (aged, now, (used, refl, refl, refl)))
+  power_leads (Heard start) settled = (settled, inr (aged, now, (used, refl, refl, refl)))
+  power_leads (Left start) settled = absurd settled
+  power_leads (Turned start was) settled = absurd settled
+  power_leads (Cleared begun start right last) settled = absurd settled
+  power_leads (Aging gone start) settled = absurd settled
+  power_leads (Lost since most start) settled = absurd settled
+
+-- Else it goes on to age until the last link goes down of which an end has failed, at this time.
+power_lead : (n : NetworkState) (made now : List Timed) (other : Timed) (time aged silent : ℕ) → NothingLapses n.params
+    → IsCalm n made → AllByRecursion (λ (t : Timed). t.at ≡ time) (other ∷ now)
+    → EachEvent (LowersUnused n) made (other ∷ now) → UpIsUsed n (made ++ other ∷ now)
+    → LeadOn n made (Aging aged silent) (other ∷ now)
+    (Cleared time silent (time + 1 + nearer_echo_span n (made ++ other ∷ now))
+    (time + nearer_echo_span n (made ++ other ∷ now) + (sync_paths n (made ++ other ∷ now)).delay))
+power_lead n made [] other time aged silent off calm (at, none) (lowers, others) used =
+    let last = Cleared time silent (time + 1 + nearer_echo_span n (made ++ other ∷ []))
+    (time + nearer_echo_span n (made ++ other ∷ []) + (sync_paths n (made ++ other ∷ [])).delay) in (
+      Aging aged silent,
+      inl refl,
+      last,
+      (
+        record { lowers = lowers; calm = calm; off = off },
+        refl,
+        (
+          used,
+          sym at,
+          ap (λ t. t + 1 + nearer_echo_span n (made ++ other ∷ [])) (sym at),
+          ap (λ t. t + nearer_echo_span n (made ++ other ∷ []) + (sync_paths n (made ++ other ∷ [])).delay) (sym at),
+        ),
+      ),
+      refl,
+    )
+power_lead n made (event ∷ now) other time aged silent off calm (at, later) (lowers, others) used =
+    let all : (made ++ other ∷ []) ++ event ∷ now ≡ made ++ other ∷ event ∷ now =
+    append_assoc made (other ∷ []) (event ∷ now) in (
+      Aging aged silent,
+      inl refl,
+      Aging aged silent,
+      (record { lowers = lowers; calm = calm; off = off }, refl, refl),
+      subst (λ es. LeadOn n (made ++ other ∷ []) (Aging aged silent) (event ∷ now)
+          (Cleared time silent (time + 1 + nearer_echo_span n es)
+          (time + nearer_echo_span n es + (sync_paths n es).delay))) all
+          (power_lead n (made ++ other ∷ []) now event time aged silent off
+          (lowers_calm n made other off calm lowers) later others (subst (UpIsUsed n) (sym all) used)),
+    )
 
 -- What was in flight as all but the neighbours of the best tell what is right is gone once they do too.
 nearer_within : (systems hop gone : ℕ) → gone ≤ hop → pred (pred systems) * hop + gone ≤ max (pred systems * hop) gone
@@ -427,14 +485,14 @@ module _ (n : NetworkState) (off : NothingLapses n.params) (time : ℕ) (made no
         (inl (omega (arith, over, before, is, silent_most))) (omega (arith, early, before, less))
 
     -- one system turns, and it is taken as heard from now on
-    turned_led : TurnsLink n made event → others ≡ []
-        → (UpIsUsed n (made ++ now) × (rest ≡ turned_echo_span n (made ++ now)))
-        ⊎ (rest ≡ turned_echo_span n (made ++ now) + largest_interval (pace_of n))
+    turned_led : TurnsLink n made event → others ≡ [] → rest ≡ turned_echo_span n (made ++ now)
         → IsLed n made now past (suc (time + rest))
-    turned_led turns alone which =
+    turned_led turns alone is =
         let x = turn_leads n made event past settled_then (record { turns = turns; calm = calm_then; off = off }) in
         let last : Past = Turned x.silent event.at in
-        let over : event.at + way_span (sync_paths n (made ++ now)) ≤ suc (time + rest) = by_way which in
+        let before = here in
+        let over : event.at + way_span (sync_paths n (made ++ now)) ≤ suc (time + rest) =
+        omega (arith, before, is) in
         record {
           last = last;
           lead = subst (λ es. LeadOn n made past es last) (sym (same ∙ ap (λ es. event ∷ es) alone))
@@ -444,10 +502,7 @@ module _ (n : NetworkState) (off : NothingLapses n.params) (time : ℕ) (made no
             inr (record {
               calm = calm;
               off = off;
-              told = elim which [
-                | inl (used, is) ↦ let before = here in inl (used, omega (arith, before, is))
-                | inr is ↦ let before = here in inr (omega (arith, before, is))
-              ];
+              told = omega (arith, before, is);
               later = omega arith;
               unlinked = x.early;
               over = over;
@@ -455,12 +510,96 @@ module _ (n : NetworkState) (off : NothingLapses n.params) (time : ℕ) (made no
             over,
           );
         }
+
+    -- a system fails that others hear
+    power_led : FailsHeard n made event → EachEvent (LowersUnused n) (made ++ event ∷ []) others
+        → UpIsUsed n (made ++ now) → max (echo_span n (made ++ now)) (sync_paths n (made ++ now)).delay ≤ rest
+        → IsLed n made now past (suc (time + rest))
+    power_led fails lowers used long = by others refl
       where
-        by_way : (UpIsUsed n (made ++ now) × (rest ≡ turned_echo_span n (made ++ now)))
-            ⊎ (rest ≡ turned_echo_span n (made ++ now) + largest_interval (pace_of n))
-            → event.at + way_span (sync_paths n (made ++ now)) ≤ suc (time + rest)
-        by_way (inl (used, is)) = let before = here in omega (arith, before, is)
-        by_way (inr is) = let before = here in omega (arith, before, is)
+        aged : ℕ
+        aged = suc (event.at + aging_span (pace_of n) (sync_paths n made))
+
+        silent : ℕ
+        silent = suc (event.at + silence_span (pace_of n))
+
+        falls : FailsNow n made event aged silent
+        falls = record { fails = fails; calm = calm_then; off = off; gone = refl; unanswered = refl }
+
+        less : way_span (sync_paths n (made ++ now)) ≤ way_span (sync_paths n made)
+        less = way_then lowers fails.delay fails.paths
+
+        old : ℕ
+        old = time + nearer_echo_span n (made ++ now) + (sync_paths n (made ++ now)).delay
+
+        right : ℕ
+        right = time + 1 + nearer_echo_span n (made ++ now)
+
+        within : nearer_echo_span n (made ++ now) + (sync_paths n (made ++ now)).delay ≤ rest
+        within =
+            let hop = largest_interval (pace_of n) + (sync_paths n (made ++ now)).delay in
+            let most = nearer_within (sync_paths n (made ++ now)).systems hop (sync_paths n (made ++ now)).delay
+            (omega arith) in
+            omega (arith, long, most)
+
+        ends : LeadOn n made past now (Cleared time silent right old) → IsLed n made now past (suc (time + rest))
+        ends lead =
+            let way : way_span (sync_paths n (made ++ now)) ≤ echo_span n (made ++ now) =
+            mul-le-mul_left (pred (sync_paths n (made ++ now)).systems) (omega arith) in
+            let over : time + way_span (sync_paths n (made ++ now)) ≤ suc (time + rest) = omega (arith, way, long) in
+            record {
+              last = Cleared time silent right old;
+              lead = lead;
+              settles = (
+                Heard time,
+                inr (record {
+                  calm = calm;
+                  off = off;
+                  gone = omega (arith, within);
+                  later = omega arith;
+                  unlinked = inr used;
+                  over = over;
+                }),
+                over,
+              );
+            }
+
+        by : (es : List Timed) → others ≡ es → IsLed n made now past (suc (time + rest))
+        by [] alone =
+            let one : made ++ now ≡ made ++ event ∷ [] =
+            ap (λ es. made ++ es) (same ∙ ap (λ es. event ∷ es) alone) in
+            let leads = power_leads n made event aged silent falls (subst (UpIsUsed n) one used) past settled_then in
+            let last : Past = Cleared time silent right old in
+            ends (subst (λ es. LeadOn n made past es last) (sym (same ∙ ap (λ es. event ∷ es) alone)) (
+              past,
+              inl refl,
+              last,
+              subst (λ t. EventLeads n made past event (Cleared t silent (t + 1 + nearer_echo_span n (made ++ now))
+                  (t + nearer_echo_span n (made ++ now) + (sync_paths n (made ++ now)).delay))) here
+                  (subst (λ es. EventLeads n made past event (Cleared event.at silent (event.at + 1 + nearer_echo_span n es)
+                  (event.at + nearer_echo_span n es + (sync_paths n es).delay))) (sym one) leads),
+              refl,
+            ))
+        by (other ∷ more) alone =
+            let all : made ++ now ≡ (made ++ event ∷ []) ++ other ∷ more =
+            ap (λ es. made ++ es) (same ∙ ap (λ es. event ∷ es) alone) ∙ sym (append_assoc made (event ∷ [])
+            (other ∷ more)) in
+            let last : Past = Cleared time silent right old in
+            let at_then = (subst (AllByRecursion (λ (t : Timed). t.at ≡ time)) same at).1 in
+            ends (subst (λ es. LeadOn n made past es last) (sym (same ∙ ap (λ es. event ∷ es) alone)) (
+              past,
+              inl refl,
+              Aging aged silent,
+              ages_leads n made event past aged silent settled_then falls,
+              subst (λ es. LeadOn n (made ++ event ∷ []) (Aging aged silent) (other ∷ more)
+                  (Cleared time silent (time + 1 + nearer_echo_span n es)
+                  (time + nearer_echo_span n es + (sync_paths n es).delay))) (sym all)
+                  (power_lead n (made ++ event ∷ []) more other time aged silent off
+                  (failure_calm n made event off calm_then fails.clock fails.act)
+                  (subst (AllByRecursion (λ (t : Timed). t.at ≡ time)) alone at_then)
+                  (subst (EachEvent (LowersUnused n) (made ++ event ∷ [])) alone lowers)
+                  (subst (UpIsUsed n) all used)),
+            ))
 
   lost_led : (es : List Timed) → now ≡ es
       → (CutsOneEnd n made es
@@ -470,22 +609,25 @@ module _ (n : NetworkState) (off : NothingLapses n.params) (time : ℕ) (made no
       ⊎ ((gone : ℕ) × FlightIsGone n made gone × (rest ≡ max (silence_span (pace_of n)) gone))))
       ⊎ ((LowersOneLink n made es
       × ((gone : ℕ) × FlightIsGone n (made ++ now) gone × (rest ≡ max (echo_span n (made ++ now)) gone)))
-      ⊎ (TurnsOneLink n made es
-      × ((UpIsUsed n (made ++ now) × (rest ≡ turned_echo_span n (made ++ now)))
-      ⊎ (rest ≡ turned_echo_span n (made ++ now) + largest_interval (pace_of n))))))
+      ⊎ ((TurnsOneLink n made es × (rest ≡ turned_echo_span n (made ++ now)))
+      ⊎ (FailsHeardFirst n made es × UpIsUsed n (made ++ now)
+      × (max (echo_span n (made ++ now)) (sync_paths n (made ++ now)).delay ≤ rest)))))
       → IsLed n made now past (suc (time + rest))
   lost_led [] same (inl (none, flight)) = absurd none
   lost_led [] same (inr (inl (none, after))) = absurd none
   lost_led [] same (inr (inr (inl (none, after)))) = absurd none
-  lost_led [] same (inr (inr (inr (none, after)))) = absurd none
+  lost_led [] same (inr (inr (inr (inl (none, after))))) = absurd none
+  lost_led [] same (inr (inr (inr (inr (none, used, long))))) = absurd none
   lost_led (event ∷ other ∷ others) same (inl (none, flight)) = absurd none
   lost_led (event ∷ other ∷ others) same (inr (inr (inl (none, after)))) = absurd none
-  lost_led (event ∷ other ∷ others) same (inr (inr (inr (none, after)))) = absurd none
+  lost_led (event ∷ other ∷ others) same (inr (inr (inr (inl (none, after))))) = absurd none
   lost_led (event ∷ []) same (inl (cuts, (gone, flight, is))) = cut_led event [] same cuts refl gone flight is
   lost_led (event ∷ []) same (inr (inr (inl (lowers, (gone, flight, is))))) =
       right_led event [] same lowers refl gone flight is
-  lost_led (event ∷ []) same (inr (inr (inr (turns, which)))) = turned_led event [] same turns refl which
+  lost_led (event ∷ []) same (inr (inr (inr (inl (turns, is))))) = turned_led event [] same turns refl is
   lost_led (event ∷ others) same (inr (inl ((fails, lowers), by))) = fail_led event others same fails lowers by
+  lost_led (event ∷ others) same (inr (inr (inr (inr ((fails, lowers), used, long))))) =
+      power_led event others same fails lowers used long
 
   pub cleared_led : RestsAfterOneLoss n made now rest → IsLed n made now past (suc (time + rest))
   cleared_led loses = lost_led now refl loses

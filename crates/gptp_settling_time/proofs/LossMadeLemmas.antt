@@ -26,11 +26,12 @@ use Rattle.gptp_invariants.specs.ChoiceSettlesAsMachine.{IsWorld}
 use Rattle.gptp_invariants.specs.WorldNews.{AreReadyBy, AreSilentBy}
 use Rattle.gptp_invariants.specs.WorldSound.{IsSoundWorld}
 use Rattle.gptp_invariants.specs.WorldStanding.{snapshot_of}
+use Rattle.gptp_invariants.proofs.WorldStandsLemmas.{stands_well}
 use Rattle.gptp_theorem.specs.PlayedLaws.{IsPlayable}
 use Rattle.gptp_theorem.specs.Reached.{channel_wire}
 use Rattle.gptp_theorem.proofs.CalmLemmas.{quiet_stands}
 use Rattle.gptp_theorem.proofs.SyncPathLemmas.{paths_stand}
-use Rattle.gptp_settling_time.specs.InTurn.{ClearsBy, CutsCalm, FailsCalm, FailsNow, FlightIsGone, LeavesStanding, LowersCalm, TurnsCalm, TurnsNow, nearer_echo_span}
+use Rattle.gptp_settling_time.specs.InTurn.{ClearsBy, ClearsFarEnd, ClearsTraces, CutsCalm, FailsCalm, FailsNow, FlightIsGone, LeavesStanding, LowersCalm, TurnsCalm, TurnsNow, nearer_echo_span}
 use Rattle.gptp_settling_time.proofs.GainLemmas.{lives_so, up_so}
 use Rattle.gptp_settling_time.proofs.FailedAloneLemmas.{all_but, failed_left, less as failed_reduced, none_joined, ready_on as failed_ready}
 use Rattle.gptp_settling_time.proofs.AgingToLemmas.{IsAgingTo}
@@ -38,6 +39,7 @@ use Rattle.gptp_settling_time.proofs.FailedHeardLemmas.{failed_aging}
 use Rattle.gptp_settling_time.proofs.KeptToLemmas.{KeepsTo}
 use Rattle.gptp_settling_time.proofs.LeftToLemmas.{IsLeftTo, less_way, up_in_use}
 use Rattle.gptp_settling_time.proofs.LostEndLemmas.{sound_reduced}
+use Rattle.gptp_settling_time.proofs.LostPowerLemmas.{told_anew}
 use Rattle.gptp_settling_time.proofs.LoweredLemmas.{act_left, ends, less as lowered_reduced, ready_on as lowered_ready, stay}
 use Rattle.gptp_settling_time.proofs.SettledSeenLemmas.{HasSettledSeen, IsSettledSeen}
 use Rattle.gptp_settling_time.proofs.TakenDownLemmas.{told_lives}
@@ -51,9 +53,10 @@ use Rattle.gptp_invariants.specs.FailedUnanswered.{silence_span}
 use Rattle.gptp_settling_time.specs.Losses.{FailsFarEnd, IsCutOff, IsFarEnd, LowersLink}
 use Rattle.gptp_settling_time.proofs.ClearedLemmas.{GoesBy, IsCleared}
 use Rattle.gptp_settling_time.proofs.ClearedToLemmas.{IsClearedTo}
-use Rattle.gptp_settling_time.proofs.ClearsLemmas.{all_but_cut, clears, cut_joins_none, nearer_echo, ready_asked, rights}
+use Rattle.gptp_settling_time.proofs.ClearsLemmas.{all_but_cut, clears, cut_joins_none, nearer_echo, ready_asked, rights, was_best}
 use Rattle.gptp_settling_time.proofs.DueLemmas.{AreDueBy, due_by_delay, due_by_interval}
-use Rattle.gptp_settling_time.proofs.LeftClaimedLemmas.{HaveAskedBy, IsLeftAlways}
+use Rattle.gptp_settling_time.proofs.LeftClaimedLemmas.{HaveAskedBy, IsLeftAlways, left_network}
+use Rattle.gptp_settling_time.proofs.NamesItselfLemmas.{itself_begins}
 use Rattle.gptp_settling_time.proofs.ReducedLemmas.{IsReduced}
 
 -- what is known of a world that has settled and whose ports are capable from a time on, as an event comes at this time
@@ -279,20 +282,26 @@ module _ (d : DocumentState) (playable : IsPlayable d) (made : List Timed) (even
           keeps = after;
           before = snapshot_of then;
           is = rights p (snapshot_of then) start start gone w' (lowered_since lowers) (lowered_asked lowers)
-              (goes_by gone flight)
-              (sound_reduced says_announce (snapshot_of then) (view then) (view w') (lowered_less lowers) rest.sound);
+              (goes_by gone flight) (snapshot_of then)
+              (was_best (snapshot_of then) (snapshot_of w') (lowered_since lowers).well
+              (stands_well w' after.claim.world.sound after.claim.world.between after.claim.world.encodable)
+              (lowered_since lowers).left)
+              (λ quiet off. itself_begins says_announce (left_network p start w') (snapshot_of then) (view w')
+              (sound_reduced says_announce (snapshot_of then) (view then) (view w') (lowered_less lowers) rest.sound));
         }))
 
-    pub cleared_to : (since silent right old : ℕ) → ClearsBy n made event start since silent right old
+    -- far ends go, or another link goes down
+    ends_to : (since silent right old : ℕ) → since ≡ start
+        → ClearsFarEnd n made event start silent right old ⊎ ClearsTraces n made event start silent right old
         → IsClearedTo d more since silent right old w'
-    cleared_to since silent right old (begun, inl (inl (cuts, same), zero, (gone, flight, is))) =
+    ends_to since silent right old begun (inl (inl (cuts, same), zero, (gone, flight, is))) =
         cleared_so start 0 since silent right old begun same zero
         (cut_to old cuts (subst (λ t. AreDueBy t then) (sym is) (gone_by gone cuts.calm cuts.off flight)))
-    cleared_to since silent right old (begun, inl (inr (fails, same), zero, (gone, flight, is))) =
+    ends_to since silent right old begun (inl (inr (fails, same), zero, (gone, flight, is))) =
         cleared_so silent 0 since silent right old begun refl zero
         (failed_cleared fails silent (omega (arith, same)) old
         (subst (λ t. AreDueBy t then) (sym is) (gone_by gone fails.calm fails.off flight)))
-    cleared_to since silent right old (begun, inr (lowers, same, right_is, (gone, flight, old_is))) =
+    ends_to since silent right old begun (inr (lowers, same, right_is, (gone, flight, old_is))) =
         cleared_so start right since silent right old begun same refl (rights_to right gone old lowers right_is flight
         old_is)
 
@@ -319,6 +328,12 @@ module _ (d : DocumentState) (playable : IsPlayable d) (made : List Timed) (even
               (let unanswered = now.unanswered in omega (arith, at_time, unanswered))
               (omega (arith, gone, delay, at_time));
         }
+
+    pub cleared_to : (since silent right old : ℕ) → ClearsBy n made event start since silent right old
+        → IsClearedTo d more since silent right old w'
+    cleared_to since silent right old (inl (begun, which)) = ends_to since silent right old begun which
+    cleared_to since silent right old (inr (aged, now, anew)) =
+        told_anew d playable more event.at aged silent since right old w' after time last (aging_so aged silent now) anew
 
     -- a link goes down that so moves one system
     turned_to : TurnsCalm n made event → IsTurnedTo d more start event.at w'

@@ -26,12 +26,27 @@ use Rattle.gptp_bmca_machine.proofs.LossLemmas.{fits_kept}
 use Rattle.gptp_bmca_machine.proofs.RestLemmas.{is_master}
 use Rattle.gptp_settling_time.proofs.BesideLemmas.{IsDark, IsMoving, neighbour_at, chooses_y, on_y, towards}
 use Rattle.gptp_settling_time.proofs.ClaimLemmas.{each_kept}
+use Rattle.gptp_settling_time.proofs.NamesItselfLemmas.{itself_kept}
 use Rattle.gptp_settling_time.proofs.OldLemmas.{Turning, turned_then, turning_kept}
 use Rattle.gptp_bmca_machine.proofs.StillLemmas.{LeadsOn, StillSettles, clear_at, levels_below, live_before}
 use Rattle.gptp_settling_time.proofs.TurnLemmas.{ComesLate, IsBeside, NamesLate, TurnsOne, beside, own_names, source_best, taken_late, unmoved_by}
 use Rattle.gptp_settling_time.proofs.TurnedLemmas.{HasTurned}
 
 module _ (says : Spelling) (g : Snapshot) (n : Network) (x d e : ℕ) (best : System) (t : TurnsOne g n x d e best) where
+  -- the best of each was so before
+  pub best_before : (v : ℕ) (c : System) → IsBest n.graph v c → IsBest g v c
+  best_before v c is = elim (ℕ_discrete v x) [
+    | yes same ↦
+        let one : best ≡ c =
+        IsBest-unique n.graph x best c t.well t.is_best (subst (λ u. IsBest n.graph u c) same is) in
+        subst (λ u. IsBest g u c) (sym same) (subst (IsBest g x) one t.was_best)
+    | no apart ↦
+        let known = is.reached.1.begins in
+        let u = t.others v known apart in
+        let (f, was) = best_exists g v t.left.graph (live_before g n t.well t.left v known) in
+        subst (IsBest g v) (IsBest-unique n.graph v f c t.well (u.best f was) is) was
+  ]
+
   -- ---- every step keeps what is known
 
   pub moving_kept : (w w' : MachineState) → IsMoving says g n x e best w → IsAfterLoss n w' → IsDark n w'
@@ -45,6 +60,7 @@ module _ (says : Spelling) (g : Snapshot) (n : Network) (x d e : ℕ) (best : Sy
         names = each_kept says n (ComesLate g x e best) (NamesLate g x e best) (λ from to a late. inl late) w w'
             m.kept.calm kept'.calm (own_names says g n x d e best t w' kept' fits' levels' dark')
             (taken_late says g n x d e best t w m.kept m.fits m.levels m.dark) step m.names;
+        itself = itself_kept says n g w w' m.kept.calm kept'.calm step m.itself;
       }
     where
       fits' : EverythingFits says g n w'
@@ -162,19 +178,6 @@ module _ (says : Spelling) (g : Snapshot) (n : Network) (x d e : ℕ) (best : Sy
                 absurd (let both : Received r ≡ Mine best.identity neighbour.far = sym holds ∙ mine in cc)
 
     -- ---- all that is held fits what is left
-
-    best_before : (v : ℕ) (c : System) → IsBest n.graph v c → IsBest g v c
-    best_before v c is = elim (ℕ_discrete v x) [
-      | yes same ↦
-          let one : best ≡ c =
-          IsBest-unique n.graph x best c t.well t.is_best (subst (λ u. IsBest n.graph u c) same is) in
-          subst (λ u. IsBest g u c) (sym same) (subst (IsBest g x) one t.was_best)
-      | no apart ↦
-          let known = is.reached.1.begins in
-          let u = t.others v known apart in
-          let (f, was) = best_exists g v t.left.graph (live_before g n t.well t.left v known) in
-          subst (IsBest g v) (IsBest-unique n.graph v f c t.well (u.best f was) is) was
-    ]
 
     far_before : (v far : ℕ) → v ≢ x → IsDistance n.graph v far → IsDistance g v far
     far_before v far apart is =

@@ -21,21 +21,24 @@ use Rattle.gptp_bmca_machine.proofs.HearingLemmas.{final_taken}
 use Rattle.gptp_bmca_machine.proofs.PlaceLemmas.{received_injective, same_there}
 use Rattle.gptp_settling_time.proofs.RightStageLemmas.{AllRight, HoldsRight, RightStage, right_enters, right_goes, right_holds, right_tells}
 use Rattle.gptp_settling_time.proofs.TouchedLemmas.{mid_heard}
-use Rattle.gptp_settling_time.proofs.TellsRightLemmas.{IsRightOf, IsSettledState, LevelTellsRight, LinkFacts, LinkTellsRight, RightTimes, link_facts, tells_right}
+use Rattle.gptp_settling_time.proofs.TellsRightLemmas.{IsRightOf, IsSettledState, LevelTellsRight, LinkFacts, LinkTellsRight, link_facts, right_fits, right_waits, tells_right, tells_right_from, tells_right_until}
 
 module _ (says : Spelling) (n : Network) (net : IsSettlingNetwork n) (near : AllAreNear n.graph) where
   abbrev g : Snapshot
   g = n.graph
 
-  module _ (times : RightTimes n) where
+  module _ (base : ℕ) where
     abbrev right_from : ℕ → ℕ
-    right_from = times.from
+    right_from = tells_right_from n base
+
+    abbrev right_until : ℕ → ℕ
+    right_until = tells_right_until n base
 
     abbrev LinkIsRight : ℕ → System → ℕ → ℕ → ℕ → ℕ → MachineState → Type 0
-    LinkIsRight = LinkTellsRight says n times
+    LinkIsRight = LinkTellsRight says n base
 
     abbrev LevelIsRight : MachineState → ℕ → Type 0
-    LevelIsRight = LevelTellsRight says n times
+    LevelIsRight = LevelTellsRight says n base
 
     module _ (w w' : MachineState) (x : IsSettledState says n w) (x' : IsSettledState says n w') (d : ℕ)
         (level : LevelIsRight w d) (below : (e : ℕ) → e < d → LevelIsRight w' e) (best : System) (v p u q : ℕ)
@@ -47,7 +50,7 @@ module _ (says : Spelling) (n : Network) (net : IsSettlingNetwork n) (near : All
       Right = IsRightOf n v p
 
       abbrev Stages : ℕ → Held → List AnnounceFrame → Type 0
-      Stages = RightStage says Right (times.until d) (right_from (suc d))
+      Stages = RightStage says Right (right_until d) (right_from (suc d))
 
       -- Another system answers, and the hearer's port stays. Or the hearer answers, and its port takes that step.
       abbrev Hearing : Port → (touch : StationTouch) (mid w' : MachineState) → StationAnswers says touch mid w' → Port
@@ -98,7 +101,7 @@ module _ (says : Spelling) (n : Network) (net : IsSettlingNetwork n) (near : All
                   let at_port : port_of call.s'.clock y.port ≡ port_of v (suc p) =
                   (λ j. port_of (call.reacts.clock j) y.port) ∙ sym leaves ∙ from in
                   subst (λ z. IsSoundSent g z a) at_port
-                  (tells_right says n net near times w' x' d late' below v best call.s'
+                  (tells_right says n net near base w' x' d late' below v best call.s'
                   (subst (λ j. slice_get w'.stations j ≡ Some call.s') place call.there) leads.is_best leads.here close
                   y.port a own)
 
@@ -211,12 +214,12 @@ module _ (says : Spelling) (n : Network) (net : IsSettlingNetwork n) (near : All
                   subst (Stages pv'.announce pu'.held) (sym step.behind) (elim teller.so [
                     | inl same ↦
                         subst (λ t. Stages t pu'.held (l.frames ++ step.news)) (sym same)
-                        (right_enters says Right (times.until d) (right_from (suc d)) teller.pv.announce
+                        (right_enters says Right (right_until d) (right_from (suc d)) teller.pv.announce
                         pu'.held l.frames step.news news now)
                     | inr (f, new, said) ↦
-                        right_tells says Right (times.until d) (right_from (suc d)) n.most w'.time
+                        right_tells says Right (right_until d) (right_from (suc d)) n.most w'.time
                         teller.pv.announce pv'.announce pu'.held l.frames step.news f news new said (due f new) timer
-                        (times.fits d teller.pv.announce) now
+                        (right_fits n base d teller.pv.announce) now
                   ])
                 where
                   is_lane' : IsLaneOf k l'
@@ -276,7 +279,7 @@ module _ (says : Spelling) (n : Network) (net : IsSettlingNetwork n) (near : All
             let same : lane_was.lane ≡ l =
             same_there w.lanes k.lane lane_was.lane l lane_was.there there in
             let time = act.call.time in
-            right_holds says Right (times.until d) (right_from (suc d)) pv.announce pu.held pu'.held
+            right_holds says Right (right_until d) (right_from (suc d)) pv.announce pu.held pu'.held
             l.frames
             (λ holds r is. elim (hears_so act.touch w w' act.call pu pu' hearing r is) [
               | inl before ↦ holds r before
@@ -307,7 +310,7 @@ module _ (says : Spelling) (n : Network) (net : IsSettlingNetwork n) (near : All
               answered act.touch act.mid act.pops.time act.pops.stations act.call lane_was.lane lane_was.there
               (λ pv pu l stand there hearing.
               let facts = link_facts says n net near w x d best v p u q close leads pv pu lane_was.lane stand in
-              right_holds says Right (times.until d) (right_from (suc d)) pv.announce pu.held pu'.held
+              right_holds says Right (right_until d) (right_from (suc d)) pv.announce pu.held pu'.held
               l.frames
               (λ holds r is. elim (hears_so act.touch act.mid w' act.call pu pu' hearing r is) [
                 | inl before ↦ holds r before
@@ -411,7 +414,7 @@ module _ (says : Spelling) (n : Network) (net : IsSettlingNetwork n) (near : All
                 goes : (l : Lane) → slice_get act.mid.lanes k.lane ≡ Some l → Stages pv.announce pu'.held l.frames
                 goes l there =
                     subst (Stages pv.announce pu'.held) (sym (frames_are l there))
-                    (right_goes says Right (times.until d) (right_from (suc d)) pv.announce pu.held pu'.held
+                    (right_goes says Right (right_until d) (right_from (suc d)) pv.announce pu.held pu'.held
                     act.f act.fs takes keeps
                     (subst (Stages pv.announce pu.held) act.pops.frames
                     (level best v p u q close leads late_then pv pu act.l stand)))
@@ -452,7 +455,7 @@ module _ (says : Spelling) (n : Network) (net : IsSettlingNetwork n) (near : All
               here : k.lane ≡ act.j → l' ≡ record act.l { frames = act.fs } → Stages pv'.announce pu'.held l'.frames
               here same is =
                   subst (λ (z : Lane). Stages pv'.announce pu'.held z.frames) (sym is)
-                  (right_goes says Right (times.until d) (right_from (suc d)) pv'.announce pu'.held pu'.held
+                  (right_goes says Right (right_until d) (right_from (suc d)) pv'.announce pu'.held pu'.held
                   act.f act.fs (λ said all. absurd (unheard said)) (λ holds all. holds)
                   (subst (Stages pv'.announce pu'.held) act.pops.frames
                   (level best v p u q close leads late_drop pv' pu' act.l (stand_was act.l lane_at))))
@@ -485,7 +488,7 @@ module _ (says : Spelling) (n : Network) (net : IsSettlingNetwork n) (near : All
             let facts = link_facts says n net near w x d best v p u q close leads pv' pu' l' stand in
             let soon = facts.timer.1 in
             let interval = short (port_of v (suc p)) (port_of u (suc q), leads.joins) in
-            inl (times.waits d w.time pv'.announce before (omega (arith, soon, interval)))
+            inl (right_waits n base d w.time pv'.announce before (omega (arith, soon, interval)))
       ]
         where
           later : Stand k (record w { time = time }) pv' pu' l'

@@ -16,24 +16,24 @@ use Rattle.gptp_bmca_machine.proofs.LevelLemmas.{places_of}
 use Rattle.gptp_bmca_machine.proofs.PlaceLemmas.{same_there}
 use Rattle.gptp_settling_time.proofs.AtRestLemmas.{at_rest, close_to, either, leads_by}
 use Rattle.gptp_settling_time.proofs.SoundButOldLemmas.{IsOldOn, IsSoundButOld}
-use Rattle.gptp_settling_time.proofs.TellsRightLemmas.{IsSettledState, LevelTellsRight, RightTimes, few, held_right, link_right}
+use Rattle.gptp_settling_time.proofs.TellsRightLemmas.{IsSettledState, LevelTellsRight, few, held_right, link_right, right_later, tells_right_from}
 
 module _ (says : Spelling) (n : Network) (net : IsSettlingNetwork n) (near : AllAreNear n.graph) where
   abbrev g : Snapshot
   g = n.graph
 
-  module _ (times : RightTimes n) where
+  module _ (base : ℕ) where
     abbrev right_from : ℕ → ℕ
-    right_from = times.from
+    right_from = tells_right_from n base
 
     abbrev LevelIsRight : MachineState → ℕ → Type 0
-    LevelIsRight = LevelTellsRight says n times
+    LevelIsRight = LevelTellsRight says n base
 
     module _ (w : MachineState) (x : IsSettledState says n w) (levels : (d : ℕ) → LevelIsRight w d)
         (late : right_from (pred n.reach) ≤ w.time) where
       by_then : (f : ℕ) → suc (suc f) ≤ n.reach → right_from (suc f) ≤ w.time
       by_then f less =
-          let later = times.later (suc f) (pred n.reach) (below n.reach less) in
+          let later = right_later n base (suc f) (pred n.reach) (below n.reach less) in
           omega (arith, later, late)
         where
           below : (m : ℕ) → suc (suc f) ≤ m → suc f ≤ pred m
@@ -42,7 +42,7 @@ module _ (says : Spelling) (n : Network) (net : IsSettlingNetwork n) (near : All
 
       all_held_right : (i : ℕ) (s : Station) → slice_get w.stations i ≡ Some s → s.live ≡ true → StationIsSound g s
       all_held_right i s at live place r holds =
-          held_right says n net near times w x i s place r at live holds (λ from f joins tells less.
+          held_right says n net near base w x i s place r at live holds (λ from f joins tells less.
           (by_then f less, levels f))
 
       -- what is held, and what is in flight to who is farther
@@ -79,7 +79,7 @@ module _ (says : Spelling) (n : Network) (net : IsSettlingNetwork n) (near : All
                   let link = at_rest says n net w x.calm x.invariant x.late near e from_far.best l.from.clock p
                   l.to.clock q close leads in
                   let short = few says n net near w x e from_far.best l.from.clock p l.to.clock q close leads in
-                  let (held, all) = link_right says n net near times w x e from_far.best l.from.clock p l.to.clock q
+                  let (held, all) = link_right says n net near base w x e from_far.best l.from.clock p l.to.clock q
                   close leads (levels e) (by_then e short) link.pv link.pu link.lane link.stand in
                   let has = x.calm.lanes (port_of l.from.clock (suc p)) (port_of l.to.clock (suc q)) leads.joins in
                   let one_place = x.calm.apart j (n.lane (port_of l.from.clock (suc p))) l has.lane at has.there

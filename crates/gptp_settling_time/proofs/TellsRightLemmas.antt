@@ -54,95 +54,57 @@ pub record LinkFacts (says : Spelling) (k : Wiring) (w : MachineState) (pv pu : 
 
 -- ---- what is claimed
 
--- From when on systems at a distance tell what is right, and until when their timers run out. What they tell comes
--- before those who are one farther have to.
-pub record RightTimes (n : Network) : Type 0 where
-  pub from : ℕ → ℕ
-  pub until : ℕ → ℕ
-  pub later : (d e : ℕ) → d ≤ e → from d ≤ from e
-  pub fits : (d announce : ℕ) → announce < until d → until d + n.most ≤ from (suc d)
-  pub waits : (d now announce : ℕ) → (from d ≤ now → ⊥) → announce ≤ now + n.interval → announce < until d
+-- From when on systems at a distance tell what is right. The best always does, and so its neighbours do from a time on,
+-- and all others an announce interval and the greatest delay later than those who are one nearer.
+abbrev pub tells_right_from : Network → ℕ → ℕ → ℕ
+tells_right_from n base zero = 0
+tells_right_from n base (suc d) = base + d * (n.interval + n.most)
 
--- each does an announce interval and the greatest delay later than the one before, the best from a time on
-pub echo_times : (n : Network) → ℕ → RightTimes n
-echo_times n base = record {
-  from = λ d. base + d * (n.interval + n.most);
-  until = λ d. base + d * (n.interval + n.most) + n.interval;
-  later = λ d e less.
-      let more : d * (n.interval + n.most) ≤ e * (n.interval + n.most) =
-      mul-le-mul_right (n.interval + n.most) less in
-      omega (arith, more);
-  fits = λ d announce waits. omega arith;
-  waits = λ d now announce not soon. omega (arith, not, soon);
-}
+-- by then they have told it
+abbrev pub tells_right_until : Network → ℕ → ℕ → ℕ
+tells_right_until n base zero = 0
+tells_right_until n base (suc d) = tells_right_from n base (suc d) + n.interval
 
-pub echo_from : (n : Network) (base d : ℕ) → (echo_times n base).from d ≡ base + d * (n.interval + n.most)
-unfolding echo_times
-echo_from n base d = refl
-
--- So it is where the best always tells what is right, but that its neighbours do from that time on.
-abbrev told_from : Network → ℕ → ℕ → ℕ
-told_from n base zero = 0
-told_from n base (suc d) = base + d * (n.interval + n.most)
-
-abbrev told_until : Network → ℕ → ℕ → ℕ
-told_until n base zero = 0
-told_until n base (suc d) = base + d * (n.interval + n.most) + n.interval
-
-told_later : (n : Network) (base d e : ℕ) → d ≤ e → told_from n base d ≤ told_from n base e
-told_later n base zero e less = omega arith
-told_later n base (suc d) zero less = absurd (omega (arith, less))
-told_later n base (suc d) (suc e) less =
+pub right_later : (n : Network) (base d e : ℕ) → d ≤ e → tells_right_from n base d ≤ tells_right_from n base e
+right_later n base zero e less = omega arith
+right_later n base (suc d) zero less = absurd (omega (arith, less))
+right_later n base (suc d) (suc e) less =
     let more : d * (n.interval + n.most) ≤ e * (n.interval + n.most) =
     mul-le-mul_right (n.interval + n.most) (omega (arith, less)) in
     omega (arith, more)
 
-told_fits : (n : Network) (base d announce : ℕ) → announce < told_until n base d
-    → told_until n base d + n.most ≤ told_from n base (suc d)
-told_fits n base zero announce waits = absurd (omega (arith, waits))
-told_fits n base (suc d) announce waits = omega arith
+-- what they tell comes before those who are one farther tell it
+pub right_fits : (n : Network) (base d announce : ℕ) → announce < tells_right_until n base d
+    → tells_right_until n base d + n.most ≤ tells_right_from n base (suc d)
+right_fits n base zero announce waits = absurd (omega (arith, waits))
+right_fits n base (suc d) announce waits = omega arith
 
-told_waits : (n : Network) (base d now announce : ℕ) → (told_from n base d ≤ now → ⊥) → announce ≤ now + n.interval
-    → announce < told_until n base d
-told_waits n base zero now announce not soon = absurd (not (omega arith))
-told_waits n base (suc d) now announce not soon = omega (arith, not, soon)
+-- until then they tell within an interval
+pub right_waits : (n : Network) (base d now announce : ℕ) → (tells_right_from n base d ≤ now → ⊥)
+    → announce ≤ now + n.interval → announce < tells_right_until n base d
+right_waits n base zero now announce not soon = absurd (not (omega arith))
+right_waits n base (suc d) now announce not soon = omega (arith, not, soon)
 
-pub told_times : (n : Network) → ℕ → RightTimes n
-told_times n base = record {
-  from = told_from n base;
-  until = told_until n base;
-  later = told_later n base;
-  fits = told_fits n base;
-  waits = told_waits n base;
-}
-
--- before a time nothing is claimed but of what the best tells
-pub told_begins : (n : Network) (base now d : ℕ) → now < base → (told_times n base).from (suc d) ≤ now → ⊥
-unfolding told_times
-told_begins n base now d early late = omega (arith, early, late)
-
-told_by : (n : Network) (base d : ℕ) → told_from n base d ≤ base + pred d * (n.interval + n.most)
-told_by n base zero = omega arith
-told_by n base (suc d) = omega arith
-
-pub told_last : (n : Network) (base d : ℕ) → (told_times n base).from d ≤ base + pred d * (n.interval + n.most)
-unfolding told_times
-told_last n base d = told_by n base d
+-- so all tell it an interval and a delay later for each system but the best and its neighbours
+pub right_last : (n : Network) (base d : ℕ) → tells_right_from n base d ≤ base + pred d * (n.interval + n.most)
+right_last n base zero = omega arith
+right_last n base (suc d) = omega arith
 
 -- an Announce of this port is right
 abbrev pub IsRightOf : Network → ℕ → ℕ → Announce → Type 0
 IsRightOf n v p a = IsSoundSent n.graph (port_of v (suc p)) a
 
 -- a link from a system at a distance is at its stage, from when on that tells what is right
-abbrev pub LinkTellsRight : Spelling → (n : Network) → RightTimes n → ℕ → System → ℕ → ℕ → ℕ → ℕ → MachineState → Type 0
-LinkTellsRight says n times d best v p u q w = times.from d ≤ w.time → (pv pu : Port) (l : Lane)
+abbrev pub LinkTellsRight : Spelling → Network → ℕ → ℕ → System → ℕ → ℕ → ℕ → ℕ → MachineState → Type 0
+LinkTellsRight says n base d best v p u q w = tells_right_from n base d ≤ w.time → (pv pu : Port) (l : Lane)
     → Stand (wiring n d best v p u q) w pv pu l
-    → RightStage says (IsRightOf n v p) (times.until d) (times.from (suc d)) pv.announce pu.held l.frames
+    → RightStage says (IsRightOf n v p) (tells_right_until n base d) (tells_right_from n base (suc d)) pv.announce
+    pu.held l.frames
 
 -- each link that leads farther from there is
-abbrev pub LevelTellsRight : Spelling → (n : Network) → RightTimes n → MachineState → ℕ → Type 0
-LevelTellsRight says n times w d = (best : System) (v p u q : ℕ) → d < 255 → LeadsFarther n.graph d best v p u q
-    → LinkTellsRight says n times d best v p u q w
+abbrev pub LevelTellsRight : Spelling → Network → ℕ → MachineState → ℕ → Type 0
+LevelTellsRight says n base w d = (best : System) (v p u q : ℕ) → d < 255 → LeadsFarther n.graph d best v p u q
+    → LinkTellsRight says n base d best v p u q w
 
 module _ (says : Spelling) (n : Network) (net : IsSettlingNetwork n) (near : AllAreNear n.graph) where
   abbrev g : Snapshot
@@ -216,18 +178,18 @@ module _ (says : Spelling) (n : Network) (net : IsSettlingNetwork n) (near : All
 
   -- ---- levels
 
-  module _ (times : RightTimes n) where
+  module _ (base : ℕ) where
     abbrev right_from : ℕ → ℕ
-    right_from = times.from
+    right_from = tells_right_from n base
 
     abbrev IsRightFrom : ℕ → ℕ → Announce → Type 0
     IsRightFrom = IsRightOf n
 
     abbrev LinkIsRight : ℕ → System → ℕ → ℕ → ℕ → ℕ → MachineState → Type 0
-    LinkIsRight = LinkTellsRight says n times
+    LinkIsRight = LinkTellsRight says n base
 
     abbrev LevelIsRight : MachineState → ℕ → Type 0
-    LevelIsRight = LevelTellsRight says n times
+    LevelIsRight = LevelTellsRight says n base
 
     -- ---- what is held from a system that tells what is right
 
@@ -239,9 +201,10 @@ module _ (says : Spelling) (n : Network) (net : IsSettlingNetwork n) (near : All
           → HoldsRight (IsRightFrom v p) pu.held × AllRight says (IsRightFrom v p) l.frames
       link_right d best v p u q close leads level late pv pu l stand =
           let facts = link_facts w x d best v p u q close leads pv pu l stand in
-          let until = times.later d (suc d) (omega arith) in
-          right_over says (IsRightFrom v p) (times.until d) (right_from (suc d)) n.most w.time pv.announce pu.held
-          l.frames facts.timer.0 (λ f among. (facts.is.frames l f stand.lane among).left) (times.fits d pv.announce) late
+          let until = right_later n base d (suc d) (omega arith) in
+          right_over says (IsRightFrom v p) (tells_right_until n base d) (right_from (suc d)) n.most w.time pv.announce
+          pu.held l.frames facts.timer.0 (λ f among. (facts.is.frames l f stand.lane among).left)
+          (right_fits n base d pv.announce) late
           (level best v p u q close leads (omega (arith, until, late)) pv pu l stand)
 
       -- so is what a system received from who is so far
@@ -330,7 +293,7 @@ module _ (says : Spelling) (n : Network) (net : IsSettlingNetwork n) (near : All
             let more = port.steps in
             let own = chosen.steps in
             let below : f < d = omega (arith, told, more, own) in
-            let until = times.later (suc f) d (omega (arith, below)) in
+            let until = right_later n base (suc f) d (omega (arith, below)) in
             (omega (arith, until, late), levels f below))
 
         pub tells_right : (port : ℕ) (a : Announce) → IsOwn s port a → IsSoundSent g (port_of s.clock port) a

@@ -6,7 +6,6 @@ use Rattle.gptp_lists.specs.Members.{In}
 use Rattle.gptp_graph.specs.Distance.{IsDistance}
 use Rattle.gptp_graph.specs.PathBound.{path_bound}
 use Rattle.gptp_graph.specs.Snapshot.{Snapshot, clocks}
-use Rattle.gptp_graph.proofs.LinkLemmas.{Joins-clock}
 use Rattle.gptp_graph.proofs.PathBoundLemmas.{IsDistance-within}
 use Rattle.gptp_links.specs.Fate.{Draw}
 use Rattle.gptp_scenario.specs.Calm.{NothingLapses}
@@ -20,7 +19,7 @@ use Rattle.gptp_model.specs.declared.done.Done.{Done}
 use Rattle.gptp_bmca_machine.specs.Acts.{MachineSteps, MomentComes}
 use Rattle.gptp_bmca_machine.specs.Calm.{Calm}
 use Rattle.gptp_bmca_machine.specs.LossLaws.{EverythingFits}
-use Rattle.gptp_bmca_machine.specs.Network.{Network}
+use Rattle.gptp_bmca_machine.specs.Network.{IsSettlingNetwork, Network}
 use Rattle.gptp_bmca_machine.specs.RestLaws.{SameWiring}
 use Rattle.gptp_bmca_machine.specs.SoundLaws.{AllAreNear}
 use Rattle.gptp_bmca_machine.specs.Station.{MachineState}
@@ -31,22 +30,23 @@ use Rattle.gptp_invariants.specs.ChoiceView.{says_announce, view}
 use Rattle.gptp_invariants.specs.WorldEncodableLaws.{SetsAnOctet}
 use Rattle.gptp_invariants.specs.WorldNews.{AreSilentBy}
 use Rattle.gptp_invariants.specs.WorldStanding.{snapshot_of}
-use Rattle.gptp_invariants.proofs.ChoiceCalmKeptLemmas.{KeepsNetwork, acts_keep, delay_kept, links_quiet, same_paths, same_snapshot}
+use Rattle.gptp_invariants.proofs.ChoiceCalmKeptLemmas.{KeepsNetwork, acts_keep, links_quiet, same_paths, same_snapshot}
 use Rattle.gptp_invariants.proofs.ChoiceCalmLemmas.{linked_interval}
 use Rattle.gptp_invariants.proofs.ChoiceSeenActLemmas.{acts_seen}
 use Rattle.gptp_invariants.proofs.ChoiceSettlesAsMachineLemmas.{kept_back, paths_bound}
 use Rattle.gptp_invariants.proofs.WorldNewsCourseLemmas.{later_keeps}
-use Rattle.gptp_invariants.proofs.WorldStandsLemmas.{stands_well}
 use Rattle.gptp_settling_time.proofs.AlwaysClaimedLemmas.{IsClaimedAlways}
-use Rattle.gptp_settling_time.proofs.ClearedLemmas.{BecomesSound, GoesBy, IsCleared, cleared_claimed, cleared_step, same_time}
-use Rattle.gptp_settling_time.proofs.DueLemmas.{AreDueBy, due_by_interval, due_in_use, use_kept}
-use Rattle.gptp_settling_time.proofs.LeftClaimedLemmas.{HaveAskedBy, IsLeftAlways, asked_acts, asked_later, left_calm, left_net, left_network, same_left}
+use Rattle.gptp_settling_time.proofs.ClearedLemmas.{BecomesSound, IsCleared, cleared_claimed, cleared_step, same_time}
+use Rattle.gptp_settling_time.proofs.ClearsLemmas.{nearer_echo}
+use Rattle.gptp_settling_time.proofs.DueLemmas.{AreDueBy, due_by_interval}
+use Rattle.gptp_settling_time.proofs.LeftClaimedLemmas.{HaveAskedBy, IsLeftAlways, asked_acts, asked_later, left_calm, left_itself, left_net, left_network, same_left}
 use Rattle.gptp_settling_time.proofs.MovedAlwaysLemmas.{IsMovedAlways, calm_now, moved_acts, moved_later, moved_seen, nothing_held, turned_by}
 use Rattle.gptp_settling_time.proofs.MovedFlightLemmas.{FlightsFit, fits_then, flights_begin, flights_kept}
-use Rattle.gptp_settling_time.proofs.RightBeginLemmas.{right_enters}
+use Rattle.gptp_settling_time.proofs.MovedLemmas.{best_before}
+use Rattle.gptp_settling_time.proofs.RightBeginLemmas.{right_enters, root_right}
 use Rattle.gptp_settling_time.proofs.RightLemmas.{all_right}
 use Rattle.gptp_settling_time.proofs.SettledSeenLemmas.{IsSettledSeen, stage_settled}
-use Rattle.gptp_settling_time.proofs.TellsRightLemmas.{IsSettledState, LevelTellsRight, echo_from, echo_times}
+use Rattle.gptp_settling_time.proofs.TellsRightLemmas.{IsSettledState, LevelTellsRight, right_last, tells_right_from}
 use Rattle.gptp_settling_time.proofs.TurnLemmas.{starts_far}
 use Rattle.gptp_settling_time.proofs.UnlinkedLemmas.{IsLeftSeen}
 
@@ -54,10 +54,9 @@ use Rattle.gptp_settling_time.proofs.UnlinkedLemmas.{IsLeftSeen}
 abbrev pub way_in : WorldState → ℕ
 way_in w = pred (path_bound (snapshot_of w)) * delay_in w
 
--- Since a time the network has settled, and then traces were told anew: an announce interval and the greatest delay
--- later for each system of a path but one.
+-- Since a time the network has settled, and then traces were told anew by all but the best and its neighbours.
 abbrev pub told_anew : SettlingParams → ℕ → WorldState → ℕ
-told_anew p start w = start + way_in w + pred (path_bound (snapshot_of w)) * (largest_interval p + delay_in w)
+told_anew p start w = start + way_in w + nearer_echo p w
 
 -- What is claimed of a world since a link went down at a time by which one system is moved. What is in flight was told
 -- before the network has settled, or it fits. From then on all becomes sound but for what is old.
@@ -66,9 +65,8 @@ pub record IsTurnedAlways (p : SettlingParams) (g : Snapshot) (silent start : �
   pub asked : HaveAskedBy start w
   pub flights : HaveQuietLinks p.params w → NothingLapses p.params
       → FlightsFit says_announce (left_network p silent w) (start + way_in w) (view w)
-  pub sound : HaveQuietLinks p.params w → NothingLapses p.params → (gone : ℕ) → GoesBy p gone w
-      → start + way_in w < w.time
-      → BecomesSound p silent (suc (told_anew p start w)) (told_anew p start w + gone) w
+  pub sound : HaveQuietLinks p.params w → NothingLapses p.params → start + way_in w < w.time
+      → BecomesSound p silent (suc (told_anew p start w)) (told_anew p start w + largest_interval p) w
 
 -- ---- once it has settled
 
@@ -83,16 +81,17 @@ module _ (p : SettlingParams) (g : Snapshot) (silent start : ℕ) (w : WorldStat
   world : IsWorld p w
   world = is.standing.world
 
+  pub reaches : is.e < path_bound (snapshot_of w)
+  reaches =
+      IsDistance-within (snapshot_of w) (path_bound (snapshot_of w)) is.x is.e (paths_bound p w world)
+      (subst (λ (z : Network). IsDistance z.graph is.x is.e) (sym is.same) is.turns.is)
+
   -- the system that is moved is no neighbour of the best, so that the way takes two delays at least
   pub two_delays : 2 * delay_in w ≤ way_in w
   two_delays =
-      let t = is.turns in
-      let first = starts_far g is.n is.x is.d is.e is.best t in
-      let more = t.more in
-      let here = subst (λ (z : Network). IsDistance z.graph is.x is.e) (sym is.same) t.is in
-      let within = IsDistance-within (snapshot_of w) (path_bound (snapshot_of w)) is.x is.e (paths_bound p w world)
-      here in
-      two_at_least (path_bound (snapshot_of w)) (delay_in w) is.e (omega (arith, first, more)) within
+      let first = starts_far g is.n is.x is.d is.e is.best is.turns in
+      let more = is.turns.more in
+      two_at_least (path_bound (snapshot_of w)) (delay_in w) is.e (omega (arith, first, more)) reaches
 
   most : is.n.most ≡ delay_in w
   most = ap (λ (z : Network). z.most) (sym is.same)
@@ -138,21 +137,8 @@ module _ (p : SettlingParams) (g : Snapshot) (silent start : ℕ) (w : WorldStat
     -- all fits what is left of it, as after a loss that moved no system
     pub moved_left : IsLeftAlways p (snapshot_of w) silent w
     moved_left =
-        let well = stands_well w world.sound world.between world.encodable in
-        record {
-          standing = is.standing;
-          asked = is.asked;
-          well = well;
-          left = record {
-            systems = λ s member. member;
-            links = λ a b joins. joins;
-            unmoved = λ v known. inl (record { best = λ b of. of; far = λ d there. there });
-          };
-          near = subst (λ (z : Network). AllAreNear z.graph) (sym is.same) is.turns.near;
-          farther = λ a b joins known gone. absurd (gone (Joins-clock (snapshot_of w) a b well joins));
-          late = omega (arith, late);
-          seen = left_so;
-        }
+        left_itself p silent w is.standing is.asked
+        (subst (λ (z : Network). AllAreNear z.graph) (sym is.same) is.turns.near) (omega (arith, late)) left_so
 
 -- ---- it goes on
 
@@ -168,7 +154,8 @@ module _ (p : SettlingParams) (g : Snapshot) (silent start : ℕ) (w w' : WorldS
 
   same_told : told_anew p start w' ≡ told_anew p start w
   same_told =
-      ap (λ (u : SyncPaths). start + pred u.systems * u.delay + pred u.systems * (largest_interval p + u.delay))
+      ap (λ (u : SyncPaths).
+      start + pred u.systems * u.delay + pred (pred u.systems) * (largest_interval p + u.delay))
       (same_paths w w' keeps)
 
   module _ (quiet' : HaveQuietLinks p.params w') (off : NothingLapses p.params) where
@@ -191,15 +178,12 @@ module _ (p : SettlingParams) (g : Snapshot) (silent start : ℕ) (w w' : WorldS
         (subst (λ z. FlightsFit says_announce z until (view w)) (sym (same_left p silent w w' keeps) ∙ moved'.same)
         was))
 
-    module _ (gone : ℕ) (goes' : GoesBy p gone w') (late' : start + way_in w' < w'.time) where
+    module _ (late' : start + way_in w' < w'.time) where
+      abbrev gone : ℕ
+      gone = largest_interval p
+
       left' : IsLeftAlways p (snapshot_of w') silent w'
       left' = moved_left p g silent start w' moved' late' (λ links none. flights_then)
-
-      goes : GoesBy p gone w
-      goes = elim goes' [
-        | inl (used, delay) ↦ inl (use_kept w' w (kept_back w w' keeps) used, delay ∙ delay_kept w w' keeps)
-        | inr interval ↦ inr interval
-      ]
 
       -- it had settled before
       goes_on : start + way_in w < w.time
@@ -210,7 +194,7 @@ module _ (p : SettlingParams) (g : Snapshot) (silent start : ℕ) (w w' : WorldS
           record {
             left = moved_left p g silent start w is.moved late is.flights;
             asked = is.asked;
-            sound = λ links none. is.sound links none gone goes late;
+            sound = λ links none. is.sound links none late;
           } in
           let then = cleared_step p (snapshot_of w) start silent (suc (told_anew p start w))
           (told_anew p start w + gone) w w' cleared
@@ -236,50 +220,58 @@ module _ (p : SettlingParams) (g : Snapshot) (silent start : ℕ) (w w' : WorldS
         world_then : IsWorld p w
         world_then = is.moved.standing.world
 
-        due : AreDueBy (w.time + gone) w
-        due = elim goes [
-          | inl (used, delay) ↦
-              subst (λ t. AreDueBy (w.time + t) w) (sym delay)
-              (due_in_use p w world_then (left_network p silent w) calm_then refl (omega arith) used)
-          | inr interval ↦
-              subst (λ t. AreDueBy (w.time + t) w) (sym interval) (due_by_interval p w world_then)
-        ]
-
         due' : AreDueBy (told_anew p start w' + gone) w'
         due' j l f a at among said =
-            let soon = due j l f a (subst (λ (y : MachineState). slice_get y.lanes j ≡ Some l) wait.is at) among said in
+            let soon = due_by_interval p w world_then j l f a
+            (subst (λ (y : MachineState). slice_get y.lanes j ≡ Some l) wait.is at) among said in
             let same = same_told in
             omega (arith, soon, early, same)
 
         abbrev base : ℕ
         base = suc (start + way_in w')
 
-        from : (echo_times n' base).from (pred n'.reach) ≡ base + pred n'.reach * (n'.interval + n'.most)
-        from = echo_from n' base (pred n'.reach)
+        world' : IsWorld p w'
+        world' = moved'.standing.world
 
-        levels : (d : ℕ) → LevelTellsRight says_announce n' (echo_times n' base) (view w') d
+        net : IsSettlingNetwork n'
+        net = left_net p silent w' world'
+
+        -- the best is no other than before
+        first : LevelTellsRight says_announce n' base (view w') 0
+        first =
+            subst (λ (z : Network). IsSettlingNetwork z → AllAreNear z.graph → IsSettledState says_announce z (view w')
+            → LevelTellsRight says_announce z base (view w') 0) (sym moved'.same)
+            (λ is_net near state.
+            root_right says_announce g moved'.n is_net near (view w') state
+            (λ v u best joined is here.
+            best_before says_announce g moved'.n moved'.x moved'.d moved'.e moved'.best moved'.turns v best is)
+            (moved'.seen quiet' off).0.itself base)
+            net left'.near x'
+
+        levels : (d : ℕ) → LevelTellsRight says_announce n' base (view w') d
         levels =
             let same = same_way in
-            right_enters says_announce n' (left_net p silent w' moved'.standing.world) left'.near base wait.time (view w)
-            (view w')
+            right_enters says_announce n' net left'.near base wait.time (view w) (view w')
             (subst (λ z. Calm z (view w)) (sym (same_left p silent w w' keeps)) calm_then)
             (omega (arith, early, same)) wait.is x'
-            (λ port linked.
-            linked_interval p w' moved'.standing.world.sound moved'.standing.world.known port linked)
+            (λ port linked. linked_interval p w' world'.sound world'.known port linked) first
+
+        last : tells_right_from n' base (pred n'.reach) ≤ suc (told_anew p start w')
+        last = let by = right_last n' base (pred n'.reach) in omega (arith, by)
 
         enters : BecomesSound p silent (suc (told_anew p start w')) (told_anew p start w' + gone) w'
         enters = elim (dec_le (suc (told_anew p start w')) w'.time) [
           | yes by_now ↦
-              let last = from in
-              inl (all_right says_announce n' (left_net p silent w' moved'.standing.world) left'.near
-              (echo_times n' base) (view w') x' levels (omega (arith, by_now, last)) (told_anew p start w' + gone) due')
+              let is = last in
+              inl (all_right says_announce n' net left'.near base (view w') x' levels (omega (arith, by_now, is))
+              (told_anew p start w' + gone) due')
           | no not ↦ inr (
             gone,
             record {
-              times = echo_times n' base;
-              goes = goes';
+              base = base;
+              goes = inr refl;
               levels = levels;
-              is = let last = from in omega (arith, last);
+              is = last;
               early = omega (arith, not);
               by = omega arith;
             },
@@ -344,21 +336,39 @@ anew_begins p g silent start w moved now last stays = record {
       (flights_begin says_announce g moved.n moved.x moved.d moved.e moved.best moved.turns (start + way_in w) (view w)
       m (omega (arith, now, two, same))
       (λ v known. subst (λ (z : Network). In v (clocks z.graph)) moved.same (stays v known)));
-  sound = λ quiet off gone goes late. absurd (omega (arith, late, now));
+  sound = λ quiet off late. absurd (omega (arith, late, now));
 }
 
 -- ---- rest
 
--- once traces have been told anew, and what was in flight is gone
-pub turned_claimed : (p : SettlingParams) (g : Snapshot) (silent start : ℕ) (w : WorldState)
-    → IsTurnedAlways p g silent start w → HaveQuietLinks p.params w → NothingLapses p.params → (gone : ℕ)
-    → GoesBy p gone w → told_anew p start w + gone < w.time → (begin : ℕ) → start ≤ begin → AreSilentBy p begin w
-    → IsClaimedAlways p begin w
-turned_claimed p g silent start w is quiet off gone goes over begin later silent_by =
-    let late : start + way_in w < w.time = omega (arith, over) in
-    cleared_claimed p (snapshot_of w) start silent (suc (told_anew p start w)) (told_anew p start w + gone) w
-    (record {
-      left = moved_left p g silent start w is.moved late is.flights;
-      asked = is.asked;
-      sound = λ links none. is.sound links none gone goes late;
-    }) quiet off over begin later silent_by
+-- all have told traces anew by then, and what was in flight is gone too
+nearer_fits : (systems hop gone e : ℕ) → 0 < e → e < systems → gone ≤ hop
+    → pred (pred systems) * hop + gone ≤ pred systems * hop
+nearer_fits zero hop gone e more less soon = absurd (omega (arith, less))
+nearer_fits (suc zero) hop gone e more less soon = absurd (omega (arith, more, less))
+nearer_fits (suc (suc k)) hop gone e more less soon = omega (arith, soon)
+
+module _ (p : SettlingParams) (g : Snapshot) (silent start : ℕ) (w : WorldState)
+    (is : IsTurnedAlways p g silent start w) (quiet : HaveQuietLinks p.params w) (off : NothingLapses p.params)
+    (over : start + way_in w + pred (path_bound (snapshot_of w)) * (largest_interval p + delay_in w) < w.time) where
+  within : told_anew p start w + largest_interval p
+      ≤ start + way_in w + pred (path_bound (snapshot_of w)) * (largest_interval p + delay_in w)
+  within =
+      let t = is.moved.turns in
+      let first = starts_far g is.moved.n is.moved.x is.moved.d is.moved.e is.moved.best t in
+      let more = t.more in
+      let fits = nearer_fits (path_bound (snapshot_of w)) (largest_interval p + delay_in w) (largest_interval p)
+      is.moved.e (omega (arith, first, more)) (reaches p g silent start w is.moved) (omega arith) in
+      omega (arith, fits)
+
+  pub turned_claimed : (begin : ℕ) → start ≤ begin → AreSilentBy p begin w → IsClaimedAlways p begin w
+  turned_claimed begin later silent_by =
+      let less = within in
+      let late : start + way_in w < w.time = omega (arith, over) in
+      cleared_claimed p (snapshot_of w) start silent (suc (told_anew p start w))
+      (told_anew p start w + largest_interval p) w
+      (record {
+        left = moved_left p g silent start w is.moved late is.flights;
+        asked = is.asked;
+        sound = λ links none. is.sound links none late;
+      }) quiet off (omega (arith, over, less)) begin later silent_by

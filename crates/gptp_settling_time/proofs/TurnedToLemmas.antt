@@ -1,5 +1,5 @@
 -- Worlds of documents since a link went down by which one system was moved.
-use Rattle.std.proofs.Common.{◌≡◌, ◌<◌, ◌≤◌, ◌+◌, ◌*◌, ℕ, pred, Option, List, refl, subst, inl, inr, arith}
+use Rattle.std.proofs.Common.{◌≡◌, ◌<◌, ◌≤◌, ◌+◌, ◌*◌, ℕ, pred, Option, List, subst, arith}
 use Rattle.gptp_graph.specs.PathBound.{path_bound}
 use Rattle.gptp_graph.specs.Snapshot.{Snapshot}
 use Rattle.gptp_links.specs.declared.bounds.Bounds.{Bounds}
@@ -26,14 +26,11 @@ use Rattle.gptp_theorem.specs.PlayedLaws.{IsPlayable}
 use Rattle.gptp_theorem.proofs.CalmLemmas.{quiet_stands}
 use Rattle.gptp_theorem.proofs.PlayedLemmas.{no_change}
 use Rattle.gptp_theorem.proofs.SyncPathLemmas.{paths_stand}
-use Rattle.gptp_settling_time.specs.InTurn.{HasToldAnew, turned_echo_span}
-use Rattle.gptp_settling_time.proofs.AlwaysClaimedLemmas.{IsClaimedAlways}
+use Rattle.gptp_settling_time.specs.InTurn.{HasToldAnew}
 use Rattle.gptp_settling_time.proofs.ClaimedToLemmas.{IsClaimedTo}
-use Rattle.gptp_settling_time.proofs.ClearedLemmas.{GoesBy}
 use Rattle.gptp_settling_time.proofs.KeptToLemmas.{KeepsTo, keeps_act, keeps_later}
-use Rattle.gptp_settling_time.proofs.LeftToLemmas.{up_in_use}
 use Rattle.gptp_settling_time.proofs.MovedAlwaysLemmas.{moved_settles}
-use Rattle.gptp_settling_time.proofs.ToldAnewLemmas.{IsTurnedAlways, told_anew, turned_acts, turned_claimed, turned_later, two_delays}
+use Rattle.gptp_settling_time.proofs.ToldAnewLemmas.{IsTurnedAlways, turned_acts, turned_claimed, turned_later, way_in}
 
 -- A world of a document after these events, by the last of which a system turned at a time; ports without a link aren't
 -- capable from a time on.
@@ -87,32 +84,18 @@ module _ (d : DocumentState) (events : List Timed) (silent time : ℕ) where
     abbrev echo : SyncPaths → ℕ
     echo x = 2 * (pred x.systems * x.delay) + pred x.systems * (largest_interval pace + x.delay)
 
-    claimed : (gone : ℕ) → GoesBy pace gone w → told_anew pace time w + gone < w.time → IsClaimedAlways pace start w
-    claimed gone goes over =
-        turned_claimed pace so.before silent time w so.since
-        (quiet_stands d.network events w playable.network so.keeps.stands so.keeps.claim.world.sound
-        rest.calm).links rest.off gone goes over start rest.later
-        (silent_by_later pace silent start w rest.unlinked so.since.moved.standing.silent)
-
-    by_delay : time + turned_echo_span d.network events < w.time → told_anew pace time w + delay_in w < w.time
-    by_delay told =
+    over : time + way_in w + pred (path_bound (snapshot_of w)) * (largest_interval pace + delay_in w) < w.time
+    over =
+        let told = rest.told in
         let late : time + echo (sync_paths_of w) < w.time = subst (λ x. time + echo x < w.time) paths told in
-        let two = two_delays pace so.before silent time w so.since.moved in
-        omega (arith, late, two)
-
-    by_interval : time + turned_echo_span d.network events + largest_interval pace < w.time
-        → told_anew pace time w + largest_interval pace < w.time
-    by_interval told =
-        let late : time + echo (sync_paths_of w) + largest_interval pace < w.time =
-        subst (λ x. time + echo x + largest_interval pace < w.time) paths told in
         omega (arith, late)
 
     -- claims are made of all links always
     pub turned_to_claimed : IsClaimedTo d events start w
     turned_to_claimed = record {
       keeps = so.keeps;
-      since = elim rest.told [
-        | inl (used, told) ↦ claimed (delay_in w) (inl (up_in_use d events w so.keeps used, refl)) (by_delay told)
-        | inr told ↦ claimed (largest_interval pace) (inr refl) (by_interval told)
-      ];
+      since = turned_claimed pace so.before silent time w so.since
+          (quiet_stands d.network events w playable.network so.keeps.stands so.keeps.claim.world.sound
+          rest.calm).links rest.off over start rest.later
+          (silent_by_later pace silent start w rest.unlinked so.since.moved.standing.silent);
     }

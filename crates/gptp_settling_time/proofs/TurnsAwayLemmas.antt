@@ -34,6 +34,7 @@ use Rattle.gptp_bmca_machine.proofs.StillLemmas.{LeadsOn, StillSettles, capable_
 use Rattle.gptp_settling_time.proofs.BesideLemmas.{IsDark, IsMoving}
 use Rattle.gptp_settling_time.proofs.ClaimLemmas.{EachAnnounce, HoldsOnly}
 use Rattle.gptp_settling_time.proofs.FitsLemmas.{everything_fits}
+use Rattle.gptp_settling_time.proofs.NamesItselfLemmas.{AllNameItself, own_itself, sound_itself}
 use Rattle.gptp_settling_time.proofs.ReducedLemmas.{IsReducedStation}
 use Rattle.gptp_settling_time.proofs.RestNamesLemmas.{flight_late, held_late}
 use Rattle.gptp_settling_time.proofs.TurnLemmas.{ComesLate, NamesLate, TurnsOne, own_names}
@@ -408,5 +409,28 @@ module _ (says : Spelling) (n0 n : Network) (x d e : ℕ) (best : System) (t : T
             (held_names (n.place x) a.s' a.there live') own master)
       ]
 
+  -- what names the best in no steps names it alone
+  itself' : AllNameItself says n g w'
+  itself' = record {
+    lanes = λ j l' f c at among said known. elim (flew j l' f c at among said) [
+      | inl o ↦
+          let sent = sound0.lanes j o.l o.at f c o.among said in sound_itself g o.l.from c sent.source sent.sound
+      | inr sent ↦
+          own_itself g a.s' sent.own.0 c sent.own.1
+          (kept'.calm.facts.stations (n.place x) a.s' a.there live').follows
+    ];
+    stations = λ i m at live place r holds.
+        let o = held_before i m place r at live holds in
+        let came = sound0.stations o.i o.old o.at o.live place r o.holds in
+        sound_itself g came.from r.said came.source came.sound;
+  }
+
   pub moving' : IsMoving says g n x e best w'
-  moving' = record { kept = kept'; fits = fits'; levels = levels'; dark = dark'; names = names' }
+  moving' = record {
+    kept = kept';
+    fits = fits';
+    levels = levels';
+    dark = dark';
+    names = names';
+    itself = itself';
+  }

@@ -11,8 +11,9 @@
 --   system of a path but one later. It has come to rest, as if all had been heard, once right traces have been told by
 --   distance since.
 -- - Cleared: a system was lost that was the far end of its links, so that nobody holds what names it. Or another link
---   went down that moved none, and right traces have been told by distance since. When what was in flight is gone, and
---   ports without a link aren't capable, the network has come to rest as if all had been heard.
+--   went down that moved none, or a system that others heard lost its power, and right traces have been told by distance
+--   since. When what was in flight is gone, and ports without a link aren't capable, the network has come to rest as if
+--   all had been heard.
 -- - Aging: a system failed that others heard. What they hold of it ages, and the choice stands once that is gone.
 -- - Lost: anything was taken away at one time, whatever was moved. The network settles as one that has gained, once all
 --   that is held is told by live systems over links in use. It has come to rest then, as if all had been heard.
@@ -276,10 +277,28 @@ ClearsTraces n before event start silent right old =
     × ((gone : ℕ) × FlightIsGone n (before ++ event ∷ []) gone
     × (old ≡ event.at + nearer_echo_span n (before ++ event ∷ []) + gone))
 
+-- In a network that had settled a system fails that others hear. What they hold of it ages.
+pub record FailsNow (n : NetworkState) (before : List Timed) (event : Timed) (aged silent : ℕ) : Type 0 where
+  pub fails : FailsHeard n before event
+  pub calm : IsCalm n before
+  pub off : NothingLapses n.params
+  pub gone : aged ≡ suc (event.at + aging_span (pace_of n) (sync_paths n before))
+  pub unanswered : silent ≡ suc (event.at + silence_span (pace_of n))
+
+-- Each link that is up then is in use: from now on right traces are told, first by the best and its neighbours.
+abbrev pub TellsAnew : NetworkState → List Timed → ℕ → ℕ → ℕ → ℕ → Type 0
+TellsAnew n events time since right old =
+    UpIsUsed n events × (since ≡ time)
+    × (right ≡ time + 1 + nearer_echo_span n events)
+    × (old ≡ time + nearer_echo_span n events + (sync_paths n events).delay)
+
+-- So a far end goes, or another link goes down; or a system fails that others hear, as it loses its power.
 abbrev pub ClearsBy : NetworkState → List Timed → Timed → ℕ → ℕ → ℕ → ℕ → ℕ → Type 0
 ClearsBy n before event start since silent right old =
-    (since ≡ start)
-    × (ClearsFarEnd n before event start silent right old ⊎ ClearsTraces n before event start silent right old)
+    ((since ≡ start)
+    × (ClearsFarEnd n before event start silent right old ⊎ ClearsTraces n before event start silent right old))
+    ⊎ ((aged : ℕ) × FailsNow n before event aged silent
+    × TellsAnew n (before ++ event ∷ []) event.at since right old)
 
 -- By this time the network has settled from any past; or from a start from which its ports are capable, where something
 -- may not be heard at once; or from such a start where all is heard.
@@ -373,7 +392,8 @@ LeadsToTurned n before (Cleared since start right old) event silent time = ⊥
 LeadsToTurned n before (Aging aged start) event silent time = ⊥
 LeadsToTurned n before (Lost since most start) event silent time = ⊥
 
--- a network that had settled is cleared, and one that is so stays so
+-- A network that had settled is cleared, and one that is so stays so. One in which something ages is cleared as the last
+-- link goes down of which an end has failed.
 abbrev pub LeadsToCleared : NetworkState → List Timed → Past → Timed → ℕ → ℕ → ℕ → ℕ → Type 0
 LeadsToCleared n before AnyPast event since silent right old =
     HasSettledAnyhow n before event.at
@@ -388,16 +408,9 @@ LeadsToCleared n before (Turned start now) event since silent right old = ⊥
 LeadsToCleared n before (Cleared start dark clean last) event since silent right old =
     LowersUnusedCalm n before event × (clean ≤ event.at)
     × ((since ≡ start) × (silent ≡ dark) × (right ≡ clean) × (old ≡ last))
-LeadsToCleared n before (Aging aged start) event since silent right old = ⊥
+LeadsToCleared n before (Aging aged dark) event since silent right old =
+    LowersUnusedCalm n before event × (silent ≡ dark) × TellsAnew n (before ++ event ∷ []) event.at since right old
 LeadsToCleared n before (Lost start most dark) event since silent right old = ⊥
-
--- In a network that had settled a system fails that others hear. What they hold of it ages.
-pub record FailsNow (n : NetworkState) (before : List Timed) (event : Timed) (aged silent : ℕ) : Type 0 where
-  pub fails : FailsHeard n before event
-  pub calm : IsCalm n before
-  pub off : NothingLapses n.params
-  pub gone : aged ≡ suc (event.at + aging_span (pace_of n) (sync_paths n before))
-  pub unanswered : silent ≡ suc (event.at + silence_span (pace_of n))
 
 -- It goes on to age where a link goes down of which an end has failed.
 abbrev pub LeadsToAging : NetworkState → List Timed → Past → Timed → ℕ → ℕ → Type 0
@@ -515,14 +528,12 @@ turned_echo_span n events =
     2 * (pred (sync_paths n events).systems * (sync_paths n events).delay) + echo_span n events
 
 -- A network in which a system turned at a time has come to rest by another, as one whose ports are capable from a start
--- on. Traces are told anew. What was in flight is gone then, or an announce interval later where a link is up that
--- isn't in use. Ports without a link aren't capable from the start on. And the greatest delay has passed for each
--- system of a path but one.
+-- on. Traces are told anew, and what was in flight is gone by then. Ports without a link aren't capable from the start
+-- on. And the greatest delay has passed for each system of a path but one.
 pub record HasToldAnew (n : NetworkState) (events : List Timed) (silent turned start time : ℕ) : Type 0 where
   pub calm : IsCalm n events
   pub off : NothingLapses n.params
-  pub told : (UpIsUsed n events × (turned + turned_echo_span n events < time))
-      ⊎ (turned + turned_echo_span n events + largest_interval (pace_of n) < time)
+  pub told : turned + turned_echo_span n events < time
   pub later : turned ≤ start
   pub unlinked : silent ≤ start
   pub over : HasSettledHeard n events start time
