@@ -90,7 +90,8 @@ module _ (p : SettlingParams) (g : Snapshot) (aged silent : ℕ) (w w' : WorldSt
     (is : IsAgingAlways p g aged silent w) (is' : IsAgingAlways p g aged silent w') (keeps : KeepsNetwork w w')
     (step : MachineSteps says_announce (view w) (view w')) (on : w.time ≤ w'.time) where
   same_echo : nearer_echo p w' ≡ nearer_echo p w
-  same_echo = λ i. pred (pred (path_bound (same_snapshot w w' keeps i))) * (largest_interval p + delay_kept w w' keeps i)
+  same_echo =
+      λ i. pred (pred (path_bound (same_snapshot w w' keeps i))) * (largest_interval p + delay_kept w w' keeps i)
 
   goes_before : (gone : ℕ) → GoesBy p gone w' → GoesBy p gone w
   goes_before gone (inl (used, is_delay)) =
