@@ -122,6 +122,8 @@ pub mod RightKeptLemmas
 pub mod RightLemmas
 pub mod AgingLemmas
 pub mod AgingStillLemmas
+pub mod AgesByLemmas
+pub mod NamesIntervalLemmas
 pub mod AgingClaimedLemmas
 pub mod AgingDownLemmas
 pub mod AgingToLemmas
