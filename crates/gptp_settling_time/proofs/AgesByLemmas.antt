@@ -52,48 +52,51 @@ by_all says g stay By aged w most all = record {
 
 -- ---- how it begins
 
--- What is held in a network that has settled, and what is in flight, came over its link. What the port at the other end
--- tells stays so long, and the link is as slow as that, by what is said of that port and of the one to which it leads.
+-- What came over the link that was at the port ages before this time: it comes within the delay of the link, and stays
+-- so long.
+abbrev pub ByLink : ℕ → (PortIdentity → ℕ → Type 0) → (PortIdentity → PortIdentity → ℕ → Type 0) → PortIdentity → ℕ
+    → Type 0
+ByLink time Stays Over port aged = (from : PortIdentity) × (most : ℕ) × Over from port most × (span : ℕ)
+    × Stays from span × (aged ≡ suc (time + (most + span)))
+
+-- What is held in a network that has settled, and what is in flight, came over its link. What a port tells stays so
+-- long, and a link is as slow as that, by what is said of the port, and of the ports of the link.
 module _ (says : Spelling) (n : Network) (w : MachineState) (calm : Calm n w) (sound : IsSoundEverywhere says n.graph w)
-    (stay : ℤ → ℕ) (named : StaysAsNamed stay w) (SpanOf MostAt : PortIdentity → ℕ → Type 0)
+    (stay : ℤ → ℕ) (named : StaysAsNamed stay w) (Stays : PortIdentity → ℕ → Type 0)
+    (Over : PortIdentity → PortIdentity → ℕ → Type 0)
     (held_stays : (i : ℕ) (s : Station) (place : ℕ) (r : Reception) → slice_get w.stations i ≡ Some s → s.live ≡ true
-    → HoldsAt s place r → (span : ℕ) × SpanOf r.said.source span × (stay r.said.log ≤ span))
+    → HoldsAt s place r → (span : ℕ) × Stays r.said.source span × (stay r.said.log ≤ span))
     (flight_stays : (j : ℕ) (l : Lane) (f : AnnounceFrame) (a : Announce) → slice_get w.lanes j ≡ Some l
     → In f l.frames → says f.octets a → In l.to.clock (clocks n.graph)
-    → (span : ℕ) × SpanOf a.source span × (stay a.log ≤ span))
-    (link_most : (from to : PortIdentity) → Joins n.graph from to → (most : ℕ) × MostAt to most)
+    → (span : ℕ) × Stays a.source span × (stay a.log ≤ span))
     (joined : (j : ℕ) (l : Lane) (f : AnnounceFrame) (a : Announce) → slice_get w.lanes j ≡ Some l → In f l.frames
     → says f.octets a → In l.to.clock (clocks n.graph) → Joins n.graph l.from l.to)
+    (over : (from to : PortIdentity) → Joins n.graph from to → (most : ℕ) × Over from to most)
     (soon : (j : ℕ) (l : Lane) (f : AnnounceFrame) → slice_get w.lanes j ≡ Some l → In f l.frames
-    → Joins n.graph l.from l.to → (most : ℕ) × MostAt l.to most × (f.due ≤ w.time + most)) where
-  -- what came over the link that was at the port ages before this time
-  abbrev pub ByLink : PortIdentity → ℕ → Type 0
-  ByLink port aged = (from : PortIdentity) × Joins n.graph from port × (span : ℕ) × SpanOf from span
-      × (most : ℕ) × MostAt port most × (aged ≡ suc (w.time + (most + span)))
-
+    → Joins n.graph l.from l.to → (most : ℕ) × Over l.from l.to most × (f.due ≤ w.time + most)) where
   module _ (g : Snapshot) (lived : (v : ℕ) → In v (clocks g) → In v (clocks n.graph)) (w' : MachineState)
       (emptied : IsEmptied w w') where
-    pub by_begins : UnlinkedAgeBy says g stay ByLink w'
+    pub by_begins : UnlinkedAgeBy says g stay (ByLink w.time Stays Over) w'
     by_begins = record {
       held = λ i s place r at live holds unlinked.
           let stood = emptied.stations i s at live in
           let came = sound.stations i s stood live place r holds in
-          let (span, of, less) = held_stays i s place r stood live holds in
-          let (most, has) = link_most came.from (port_of s.clock (suc place)) came.joins in
+          let (span, stays, less) = held_stays i s place r stood live holds in
+          let (most, is_over) = over came.from (port_of s.clock (suc place)) came.joins in
           let now = ((calm.facts.stations i s stood live).held place r holds).came in
-          let stays = named i s place r stood live holds in (
+          let named_span = named i s place r stood live holds in (
             suc (w.time + (most + span)),
-            (came.from, came.joins, span, subst (λ q. SpanOf q span) came.source of, most, has, refl),
-            omega (arith, now, stays, less),
+            (came.from, most, is_over, span, subst (λ q. Stays q span) came.source stays, refl),
+            omega (arith, now, named_span, less),
           );
       flight = λ j l f a at among said known unlinked. elim (emptied.lanes j l at) [
         | inl stood ↦
             let source = (sound.lanes j l stood f a among said).source in
-            let (span, of, less) = flight_stays j l f a stood among said (lived l.to.clock known) in
-            let joins = joined j l f a stood among said (lived l.to.clock known) in
-            let (most, has, due) = soon j l f stood among joins in (
+            let (span, stays, less) = flight_stays j l f a stood among said (lived l.to.clock known) in
+            let (most, is_over, due) = soon j l f stood among
+            (joined j l f a stood among said (lived l.to.clock known)) in (
               suc (w.time + (most + span)),
-              (l.from, joins, span, subst (λ q. SpanOf q span) source of, most, has, refl),
+              (l.from, most, is_over, span, subst (λ q. Stays q span) source stays, refl),
               omega (arith, due, less),
             )
         | inr (none, off) ↦ absurd (subst (In f) none among)

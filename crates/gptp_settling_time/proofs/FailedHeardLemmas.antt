@@ -6,7 +6,7 @@ use Rattle.gptp_graph.specs.Best.{IsBest}
 use Rattle.gptp_graph.specs.Distance.{IsDistance}
 use Rattle.gptp_graph.specs.Path.{IsPath}
 use Rattle.gptp_graph.specs.PathBound.{path_bound}
-use Rattle.gptp_graph.specs.Snapshot.{IsWellFormed, Joins, Snapshot, System, clocks}
+use Rattle.gptp_graph.specs.Snapshot.{IsWellFormed, Joins, PortIdentity, Snapshot, System, clocks}
 use Rattle.gptp_graph.proofs.ExistenceLemmas.{distance_exists}
 use Rattle.gptp_graph.proofs.LinkLemmas.{Joins-clock}
 use Rattle.gptp_links.specs.declared.link.Direction.TheVariants.{FromA}
@@ -20,9 +20,11 @@ use Rattle.gptp_model.specs.Acts.{Acts, AtSystem}
 use Rattle.gptp_model.specs.Changing.{FailsIf}
 use Rattle.gptp_model.specs.declared.done.Done.{Done}
 use Rattle.gptp_model.specs.World.{Channel, WorldState, receiver, sender}
+use Rattle.gptp_bmca_machine.specs.Frame.{AnnounceFrame, Lane}
 use Rattle.gptp_bmca_machine.specs.LossLaws.{EverythingFits, Unmoved}
 use Rattle.gptp_bmca_machine.specs.Network.{Network}
 use Rattle.gptp_bmca_machine.specs.RestLaws.{SameWiring}
+use Rattle.gptp_bmca_machine.specs.SoundEverywhere.{IsSoundEverywhere}
 use Rattle.gptp_bmca_machine.specs.SoundLaws.{AllAreNear}
 use Rattle.gptp_bmca_machine.proofs.StillLemmas.{StillSettles}
 use Rattle.gptp_invariants.specs.ChoiceCalm.{HaveQuietLinks, delay_in, greatest_channel_delay}
@@ -35,12 +37,16 @@ use Rattle.gptp_invariants.specs.WorldStanding.{channel_is_used, live_stations, 
 use Rattle.gptp_invariants.specs.FailedUnanswered.{silence_span}
 use Rattle.gptp_invariants.proofs.ChoiceSettlesAsMachineLemmas.{paths_bound}
 use Rattle.gptp_invariants.proofs.WorldStandsLemmas.{stands_well}
-use Rattle.gptp_invariants.proofs.WorldWayLemmas.{used_joins}
+use Rattle.gptp_invariants.proofs.ChoiceCalmFactLemmas.{frame_from}
+use Rattle.gptp_invariants.proofs.WorldWayLemmas.{IsWay, one_way, used_joins, way_of}
 use Rattle.gptp_settling_time.specs.Losses.{IsUnmovedOrCutOff}
 use Rattle.gptp_settling_time.proofs.AgingLemmas.{UnlinkedAge}
 use Rattle.gptp_settling_time.proofs.AgingClaimedLemmas.{IsAgingAlways, aging_after, aging_network, named_in, stay_of}
 use Rattle.gptp_settling_time.proofs.AgingStillLemmas.{IsEmptied, ages_begin, still_emptied, still_settled}
-use Rattle.gptp_settling_time.proofs.AlwaysClaimedLemmas.{IsStanding}
+use Rattle.gptp_settling_time.proofs.AgesByLemmas.{ByLink, by_begins}
+use Rattle.gptp_settling_time.proofs.AgesByWorldLemmas.{OverWay, StaysLongest, WorldAgesBy}
+use Rattle.gptp_settling_time.proofs.AlwaysClaimedLemmas.{AreHeard, IsStanding, due_by_link}
+use Rattle.gptp_settling_time.proofs.ClearsLemmas.{ready_asked}
 use Rattle.gptp_settling_time.proofs.FailedAloneLemmas as alone
 use Rattle.gptp_settling_time.proofs.FitsLemmas.{IsLeftUnmoved, at_zero, lived}
 use Rattle.gptp_settling_time.proofs.LeftClaimedLemmas.{HaveAskedLong}
@@ -229,3 +235,40 @@ module _ (p : SettlingParams) (number : ℕ) (w : WorldState) (draws : List Draw
               (alone.less p number w draws done w' is is' acts lives) sound);
         };
       }
+
+      -- ---- link by link
+
+      heard : AreHeard p next w
+      heard at stands =
+          let (first, by, before, x) = ready_asked p next w is past ready at stands in inr (inr (inr (first, by, x)))
+
+      stood_then : IsStanding p next w
+      stood_then = record { pace = pace; world = is; measured = measured; silent = silent_before }
+
+      sound_seen : IsSoundEverywhere says_announce seen.n.graph (view w)
+      sound_seen = subst (λ h. IsSoundEverywhere says_announce h (view w)) (sym seen.graph) sound
+
+      soon_by_link : (j : ℕ) (l : Lane) (f : AnnounceFrame) → slice_get (view w).lanes j ≡ Some l → In f l.frames
+          → Joins seen.n.graph l.from l.to → (most : ℕ) × OverWay w l.from l.to most × (f.due ≤ w.time + most)
+      soon_by_link j l f there member joins =
+          let joined : Joins g l.from l.to = subst (λ h. Joins h l.from l.to) seen.graph joins in
+          let way = way_of w l.from l.to joined in
+          let at = frame_from w j l f there member in
+          let one = one_way w is.sound is.encodable way.link at.link way.direction at.direction way.channel at.channel
+          way.here at.here (way.from ∙ ap (λ (z : Lane). z.from) at.lane_is) in
+          let most : at.channel.bounds.max ≡ way.channel.bounds.max =
+          ap (λ (c : Channel). c.bounds.max) (sym one.same_channel) in
+          let due = due_by_link p next w stood_then heard quiet j l f there member joined in
+          (way.channel.bounds.max, (way, refl), omega (arith, due, most))
+
+      pub failed_by : WorldAgesBy p (ByLink w.time (StaysLongest p) (OverWay w)) w'
+      failed_by quiet' =
+          by_begins says_announce seen.n (view w) seen.calm sound_seen (stay_of p) (named_in p w is) (StaysLongest p)
+          (OverWay w)
+          (λ i s place r at live holds. (longest_span p, refl, span_longest p r.said.log pace.largest))
+          (λ j l f a at among said known. (longest_span p, refl, span_longest p a.log pace.largest))
+          (λ j l f a at among said known. (fits.lanes j l f a at among said known).joins)
+          (λ from to joins.
+          let way = way_of w from to (subst (λ h. Joins h from to) seen.graph joins) in
+          (way.channel.bounds.max, (way, refl)))
+          soon_by_link g' back_known (view w') emptied

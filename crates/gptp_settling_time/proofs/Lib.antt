@@ -125,6 +125,8 @@ pub mod AgingStillLemmas
 pub mod AgesByLemmas
 pub mod NamesIntervalLemmas
 pub mod AgingClaimedLemmas
+pub mod AgesByWorldLemmas
+pub mod NamedWorldLemmas
 pub mod AgingDownLemmas
 pub mod AgingToLemmas
 pub mod FailedHeardLemmas
