@@ -12,7 +12,7 @@ use Rattle.gptp_model.specs.declared.done.Done.{Done}
 use Rattle.gptp_bmca_machine.specs.Acts.{MachineSteps}
 use Rattle.gptp_bmca_machine.specs.Facts.{StationFacts}
 use Rattle.gptp_bmca_machine.specs.Network.{Network, network_setting}
-use Rattle.gptp_invariants.specs.ChoiceCalm.{HaveQuietLinks}
+use Rattle.gptp_invariants.specs.ChoiceCalm.{HaveQuietLinks, log_of}
 use Rattle.gptp_invariants.specs.ChoiceSeenLaws.{IsNoChange}
 use Rattle.gptp_invariants.specs.ChoiceView.{says_announce, view}
 use Rattle.gptp_invariants.specs.WorldEncodableLaws.{SetsAnOctet}
@@ -36,6 +36,10 @@ OverWay w from to most = (way : IsWay w from to) × (most ≡ way.channel.bounds
 -- what is told stays for the longest span of the network, whoever told it
 abbrev pub StaysLongest : SettlingParams → PortIdentity → ℕ → Type 0
 StaysLongest p from span = span ≡ longest_span p
+
+-- or it stays as its port's interval says
+abbrev pub StaysNamed : SettlingParams → WorldState → PortIdentity → ℕ → Type 0
+StaysNamed p w from span = span ≡ stay_of p (log_of w.stations from)
 
 module _ (p : SettlingParams) (g : Snapshot) (aged silent : ℕ) (By : PortIdentity → ℕ → Type 0) where
   by_step : (w w' : WorldState) → IsAgingAlways p g aged silent w → IsAgingAlways p g aged silent w'

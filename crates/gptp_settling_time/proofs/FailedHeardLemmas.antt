@@ -20,12 +20,13 @@ use Rattle.gptp_model.specs.Acts.{Acts, AtSystem}
 use Rattle.gptp_model.specs.Changing.{FailsIf}
 use Rattle.gptp_model.specs.declared.done.Done.{Done}
 use Rattle.gptp_model.specs.World.{Channel, WorldState, receiver, sender}
-use Rattle.gptp_bmca_machine.specs.Frame.{AnnounceFrame, Lane}
+use Rattle.gptp_bmca_machine.specs.Frame.{Announce, AnnounceFrame, Lane}
 use Rattle.gptp_bmca_machine.specs.LossLaws.{EverythingFits, Unmoved}
-use Rattle.gptp_bmca_machine.specs.Network.{Network}
+use Rattle.gptp_bmca_machine.specs.Network.{Network, network_setting}
 use Rattle.gptp_bmca_machine.specs.RestLaws.{SameWiring}
 use Rattle.gptp_bmca_machine.specs.SoundEverywhere.{IsSoundEverywhere}
 use Rattle.gptp_bmca_machine.specs.SoundLaws.{AllAreNear}
+use Rattle.gptp_bmca_machine.specs.Station.{HoldsAt, Reception, Station as SeenStation}
 use Rattle.gptp_bmca_machine.proofs.StillLemmas.{StillSettles}
 use Rattle.gptp_invariants.specs.ChoiceCalm.{HaveQuietLinks, delay_in, greatest_channel_delay}
 use Rattle.gptp_invariants.specs.ChoiceSettlesAsMachine.{IsWorld}
@@ -44,7 +45,7 @@ use Rattle.gptp_settling_time.proofs.AgingLemmas.{UnlinkedAge}
 use Rattle.gptp_settling_time.proofs.AgingClaimedLemmas.{IsAgingAlways, aging_after, aging_network, named_in, stay_of}
 use Rattle.gptp_settling_time.proofs.AgingStillLemmas.{IsEmptied, ages_begin, still_emptied, still_settled}
 use Rattle.gptp_settling_time.proofs.AgesByLemmas.{ByLink, by_begins}
-use Rattle.gptp_settling_time.proofs.AgesByWorldLemmas.{OverWay, StaysLongest, WorldAgesBy}
+use Rattle.gptp_settling_time.proofs.AgesByWorldLemmas.{OverWay, StaysLongest, StaysNamed, WorldAgesBy}
 use Rattle.gptp_settling_time.proofs.AlwaysClaimedLemmas.{AreHeard, IsStanding, due_by_link}
 use Rattle.gptp_settling_time.proofs.ClearsLemmas.{ready_asked}
 use Rattle.gptp_settling_time.proofs.FailedAloneLemmas as alone
@@ -52,6 +53,8 @@ use Rattle.gptp_settling_time.proofs.FitsLemmas.{IsLeftUnmoved, at_zero, lived}
 use Rattle.gptp_settling_time.proofs.LeftClaimedLemmas.{HaveAskedLong}
 use Rattle.gptp_settling_time.proofs.MovedAlwaysLemmas.{at_least}
 use Rattle.gptp_settling_time.proofs.LostEndLemmas.{sound_reduced}
+use Rattle.gptp_settling_time.proofs.NamedWorldLemmas.{IsNamedWorld, old_by, set_facts, set_network}
+use Rattle.gptp_settling_time.proofs.NamesIntervalLemmas.{flight_named, held_named}
 use Rattle.gptp_settling_time.proofs.NamesItselfLemmas.{itself_begins}
 use Rattle.gptp_settling_time.proofs.ReducedLemmas.{fits_reduced}
 use Rattle.gptp_settling_time.proofs.SettledSeenLemmas.{IsSettledSeen, sound_fits}
@@ -261,14 +264,43 @@ module _ (p : SettlingParams) (number : ℕ) (w : WorldState) (draws : List Draw
           let due = due_by_link p next w stood_then heard quiet j l f there member joined in
           (way.channel.bounds.max, (way, refl), omega (arith, due, most))
 
+      -- What a port tells stays so long. So it ages within that and the delay of the link.
+      module _ (Stays : PortIdentity → ℕ → Type 0)
+          (held_stays : (i : ℕ) (s : SeenStation) (place : ℕ) (r : Reception) → slice_get (view w).stations i ≡ Some s
+          → s.live ≡ true → HoldsAt s place r → (span : ℕ) × Stays r.said.source span × (stay_of p r.said.log ≤ span))
+          (flight_stays : (j : ℕ) (l : Lane) (f : AnnounceFrame) (a : Announce) → slice_get (view w).lanes j ≡ Some l
+          → In f l.frames → says_announce f.octets a → In l.to.clock (clocks seen.n.graph)
+          → (span : ℕ) × Stays a.source span × (stay_of p a.log ≤ span)) where
+        failed_ages : WorldAgesBy p (ByLink w.time Stays (OverWay w)) w'
+        failed_ages quiet' =
+            by_begins says_announce seen.n (view w) seen.calm sound_seen (stay_of p) (named_in p w is) Stays (OverWay w)
+            held_stays flight_stays (λ j l f a at among said known. (fits.lanes j l f a at among said known).joins)
+            (λ from to joins.
+            let way = way_of w from to (subst (λ h. Joins h from to) seen.graph joins) in
+            (way.channel.bounds.max, (way, refl)))
+            soon_by_link g' back_known (view w') emptied
+
+      -- that is the longest span of the network
       pub failed_by : WorldAgesBy p (ByLink w.time (StaysLongest p) (OverWay w)) w'
-      failed_by quiet' =
-          by_begins says_announce seen.n (view w) seen.calm sound_seen (stay_of p) (named_in p w is) (StaysLongest p)
-          (OverWay w)
+      failed_by =
+          failed_ages (StaysLongest p)
           (λ i s place r at live holds. (longest_span p, refl, span_longest p r.said.log pace.largest))
           (λ j l f a at among said known. (longest_span p, refl, span_longest p a.log pace.largest))
-          (λ j l f a at among said known. (fits.lanes j l f a at among said known).joins)
-          (λ from to joins.
-          let way = way_of w from to (subst (λ h. Joins h from to) seen.graph joins) in
-          (way.channel.bounds.max, (way, refl)))
-          soon_by_link g' back_known (view w') emptied
+
+      -- or that of the port's own interval, once all that was held or in flight at the last change has aged
+      pub failed_by_interval : IsNamedWorld p w → old_by p w ≤ w.time
+          → WorldAgesBy p (ByLink w.time (StaysNamed p w) (OverWay w)) w'
+      failed_by_interval names old =
+          failed_ages (StaysNamed p w)
+          (λ i s place r at live holds.
+          let log = held_named says_announce n_set (stay_of p) (old_by p w) (view w) (network_setting n_set)
+          (set_facts p w is) seen.calm.left old names i s place r at live holds in
+          (stay_of p (n_set.log_of r.said.source), refl, omega (arith, ap (stay_of p) log)))
+          (λ j l f a at among said known.
+          let log = flight_named says_announce n_set (stay_of p) (old_by p w) (view w) (network_setting n_set)
+          (set_facts p w is) seen.calm.left old names j l f a at among said
+          (subst (λ h. In l.to.clock (clocks h)) seen.graph known) in
+          (stay_of p (n_set.log_of a.source), refl, omega (arith, ap (stay_of p) log)))
+        where
+          n_set : Network
+          n_set = set_network p w
