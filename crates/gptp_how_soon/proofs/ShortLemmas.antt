@@ -32,7 +32,7 @@ use Rattle.gptp_setup.specs.SettlingParams.{largest_interval, longest_span}
 use Rattle.gptp_setup.proofs.IntervalLemmas.{interval_most}
 use Rattle.gptp_topology.specs.Times.{times_from, times_of}
 use Rattle.gptp_topology.specs.declared.course.Cable.{Cable}
-use Rattle.gptp_how_soon.specs.Bounds.{asked_again, echo_span, exact_span, gone_by, is_again, loss_span, needed_watch, ready, roles_after_losses, roles_by, roles_of_row, set_span, settling_by, silence_span, sound_by, sound_of_row, two_exchanges, watch, way_span}
+use Rattle.gptp_how_soon.specs.Bounds.{aged_echo_span, asked_again, echo_span, exact_span, gone_by, is_again, loss_span, needed_watch, ready, roles_after_losses, roles_by, roles_of_row, set_span, settling_by, silence_span, sound_by, sound_of_row, two_exchanges, watch, way_span}
 use Rattle.gptp_how_soon.specs.Kinds.{sets_bounds, sets_link}
 use Rattle.gptp_how_soon.specs.Rest.{leaves_silent}
 use Rattle.gptp_how_soon.specs.Times.{IsWatchedShortly, View, events_at, events_before, gained_at, heard_at, last_set, row_at, settling_time, settling_times, settling_times_from, time_at, view_at}
@@ -156,6 +156,9 @@ module _ (n : NetworkState) (network : IsNetwork n) (paths : SyncPaths) (few : p
           mul-le (pred paths.systems) (largest_interval (pace_of n) + paths.delay) 512 32000000000
           (pred_few paths.systems 512 few) (omega (arith, l, short))
 
+      aged : aged_echo_span n paths ≤ 195000000000000
+      aged = let s = silence_most in let e = echo in let l = largest in omega (arith, s, e, l)
+
       by : (r : Row) → sound_of_row n before paths silent used r gained ≤ 195000000000000
       by AnyPast = at_once
       by Unchanged = omega arith
@@ -165,8 +168,8 @@ module _ (n : NetworkState) (network : IsNetwork n) (paths : SyncPaths) (few : p
       by FailedEnd = let s = silence_most in let g = gone in omega (arith, s, g)
       by LostPower = let e = echo in omega (arith, e, short)
       by PowerCutsOff = let w = way in let e = echo in omega (arith, w, e, short)
-      by FailedHeard = at_once
-      by FailureCutsOff = at_once
+      by FailedHeard = aged
+      by FailureCutsOff = let w = way in let s = silence_most in let a = aged in omega (arith, w, s, a)
       by OneTurned = let w = way in let e = echo in omega (arith, w, e)
       by AnyLosses = roles_lost before silent soon
       by Gained = early

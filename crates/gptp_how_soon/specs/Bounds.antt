@@ -140,12 +140,19 @@ gone_by n paths used_before = if used_before then paths.delay else largest_inter
 abbrev pub echo_span : NetworkState → SyncPaths → ℕ
 echo_span n paths = pred paths.systems * (largest_interval (pace_of n) + paths.delay)
 
+-- How much later than a system fails that others heard each tells a right trace, where a link may be left silent. They
+-- do once nobody holds what names it, 1 ns later than the choice stands, and what was in flight is gone by then. Roles
+-- have to stand too.
+abbrev pub aged_echo_span : NetworkState → SyncPaths → ℕ
+aged_echo_span n paths =
+    max (silence_span n.params) (held_span n paths + 1 + max (echo_span n paths) (largest_interval (pace_of n)))
+
 -- By when all that is held and in flight is sound: as soon as the choice stands, but after a loss it may name what is
 -- gone. After a far end is cut off, or loses its power, only what was in flight does. Where a far end fails, and ports
 -- beside it may still be capable, roles have to stand too. After a link goes down by which no system is moved, or a
--- system that others heard loses its power, traces have to be told anew first. So they do where one system turns, once
--- the choice stands. After losses without a row of their own all is sound once roles stand. After others it is as soon
--- as the choice stands from any past.
+-- system that others heard loses its power, traces have to be told anew first. So they do once the choice stands where
+-- one system turns, or one fails that others heard. After losses without a row of their own all is sound once roles
+-- stand. After others it is as soon as the choice stands from any past.
 abbrev pub sound_of_row : NetworkState → SyncPaths → SyncPaths → Bool → Bool → Row → ℕ → ℕ
 sound_of_row n before paths silent used_before AnyPast gained = settling_span_at_once (pace_of n) paths
 sound_of_row n before paths silent used_before Unchanged gained = 0
@@ -157,8 +164,9 @@ sound_of_row n before paths silent used_before FailedEnd gained =
 sound_of_row n before paths silent used_before LostPower gained = max (echo_span n paths) paths.delay
 sound_of_row n before paths silent used_before PowerCutsOff gained =
     max (2 * way_span paths) (max (echo_span n paths) paths.delay)
-sound_of_row n before paths silent used_before FailedHeard gained = settling_span_at_once (pace_of n) paths
-sound_of_row n before paths silent used_before FailureCutsOff gained = settling_span_at_once (pace_of n) paths
+sound_of_row n before paths silent used_before FailedHeard gained = aged_echo_span n paths
+sound_of_row n before paths silent used_before FailureCutsOff gained =
+    max (held_span n paths + 2 * way_span paths) (aged_echo_span n paths)
 sound_of_row n before paths silent used_before OneTurned gained = 2 * way_span paths + echo_span n paths
 sound_of_row n before paths silent used_before AnyLosses gained = roles_after_losses n before paths silent
 sound_of_row n before paths silent used_before Gained gained = gained

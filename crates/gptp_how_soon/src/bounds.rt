@@ -6,7 +6,7 @@ ghost use Rattle.gptp_network.specs.declared.keys.TheConstants.{LATEST_EVENT};
 ghost use Rattle.gptp_scenario.specs.Network.{pace_of};
 ghost use Rattle.gptp_scenario.specs.SettlingAtOnce.{settling_span_at_once};
 ghost use Rattle.gptp_scenario.specs.SettlingTime.{capability_span};
-ghost use Rattle.gptp_how_soon.specs.Bounds.{aging_span, asked_again, choice_by, echo_span, exact_from, exact_span, gone_by, heard_by, held_span, is_again, is_hard_to_hear, loss_span, ready, roles_after_losses, roles_by, set_span, settled, silence_span, sound_by, times_by, two_exchanges, watch, way_span};
+ghost use Rattle.gptp_how_soon.specs.Bounds.{aged_echo_span, aging_span, asked_again, choice_by, echo_span, exact_from, exact_span, gone_by, heard_by, held_span, is_again, is_hard_to_hear, loss_span, ready, roles_after_losses, roles_by, set_span, settled, silence_span, sound_by, times_by, two_exchanges, watch, way_span};
 
 use crate::kinds::{Told, recovers};
 use crate::links::varies;
@@ -329,6 +329,19 @@ fn gone_by(network: &Network, paths: SyncPaths, used_before: bool) -> u64
     }
 }
 
+/// By how much later than a system fails that others heard each tells a trace without it, in ns, where a link may be left
+/// silent.
+fn aged_echo_span(network: &Network, paths: SyncPaths) -> u64
+    requires few { paths.systems ≤ 512 }
+    requires short { paths.delay ≤ 16000000000 }
+    ensures is { result ≡ aged_echo_span network.now paths }
+    ensures bound { result ≤ 18000000000000 }
+{
+    network.well_formed();
+    let echo = echo_span(network, paths).max(interval_of(network.largest()));
+    silence_span(network).max(held_span(network, paths) + 1 + echo)
+}
+
 /// The bound of what is held and in flight, in ns.
 fn sound_by(
     network: &Network,
@@ -350,9 +363,7 @@ fn sound_by(
         return network.settling_span_with(paths);
     }
     match row {
-        Row::AnyPast | Row::FailedHeard | Row::FailureCutsOff => {
-            settling_span_at_once(network, paths)
-        }
+        Row::AnyPast => settling_span_at_once(network, paths),
         Row::Unchanged => 0,
         Row::Lowered => echo_span(network, paths).max(gone_by(network, paths, used_before)),
         Row::CutOff => (2 * way_span(paths)).max(gone_by(network, paths, used_before)),
@@ -360,6 +371,10 @@ fn sound_by(
         Row::FailedEnd => silence_span(network).max(gone_by(network, paths, used_before)),
         Row::LostPower => echo_span(network, paths).max(paths.delay),
         Row::PowerCutsOff => (2 * way_span(paths)).max(echo_span(network, paths).max(paths.delay)),
+        Row::FailedHeard => aged_echo_span(network, paths),
+        Row::FailureCutsOff => {
+            (held_span(network, paths) + 2 * way_span(paths)).max(aged_echo_span(network, paths))
+        }
         Row::OneTurned => 2 * way_span(paths) + echo_span(network, paths),
         Row::AnyLosses => roles_after_losses(network, before, paths, silent),
         Row::Gained => gained,

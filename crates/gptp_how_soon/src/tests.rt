@@ -697,6 +697,28 @@ fn events_come_from_rest_soon_after_lost_power(rt: HostRuntime) -> Result<(), Fa
 }
 
 #[test]
+fn events_come_from_rest_once_nobody_holds_who_hangs(rt: HostRuntime) -> Result<(), Fail> {
+    // It is noticed soon, and traces are told anew then. d recovers as the network rests, or 1 ns later.
+    for (case, again, choice) in [
+        ("too soon", 32_375_001_231, 15_000_002_870),
+        ("from rest", 32_375_001_232, 1_250_003_050),
+    ] {
+        let mut text = String::new(rt.alloc());
+        writeln!(
+            text,
+            "[[event]]\nat = 30000000000\nkind = \"fail\"\nclock = \"000000000000000d\"\n[[event]]\nat = {again}\nkind = \"recover\"\nclock = \"000000000000000d\"\n[network]\npdelay = -3\nlost = 1"
+        )?;
+        let times = ring(rt.alloc(), text.as_str())?;
+        assert_eq!(rt;
+            rests(&times, 30_000_000_000, again),
+            Some((2_375_001_231, choice)),
+            "{case}"
+        );
+    }
+    Ok(())
+}
+
+#[test]
 fn a_system_recovers_behind_its_links(rt: HostRuntime) -> Result<(), Fail> {
     let times = ring(
         rt.alloc(),

@@ -16,7 +16,7 @@ use Rattle.gptp_network.specs.Document.{DocumentState}
 use Rattle.gptp_network.specs.Snapshot.{events_by}
 use Rattle.gptp_network.proofs.SnapshotLemmas.{from_filter}
 use Rattle.gptp_theorem.specs.PlayedLaws.{IsPlayable}
-use Rattle.gptp_how_soon.specs.Bounds.{choice_by, choice_of_row, echo_span, gone_by, held_span, loss_span, roles_of_row, sound_by}
+use Rattle.gptp_how_soon.specs.Bounds.{aged_echo_span, choice_by, choice_of_row, echo_span, gone_by, held_span, loss_span, roles_of_row, sound_by}
 use Rattle.gptp_how_soon.specs.Rest.{leaves_silent}
 use Rattle.gptp_how_soon.specs.Times.{View, events_at, gained_at, last_set, ready_at, row_at, settling_time, settling_times, settling_times_from, time_at, view_at}
 use Rattle.gptp_how_soon.specs.declared.bounds.Row.{Row}
@@ -179,6 +179,11 @@ module _ (d : DocumentState) (playable : IsPlayable d) where
               (sym (parted all b.at at playable.events.in_order late between)) bound,
         )
 
+    -- what is heard is held for as long by the delay of before
+    held_as : v.paths.delay ≡ (sync_paths n made).delay
+        → held_span n v.paths ≡ min (aging_span (pace_of n) (sync_paths n made)) (silence_span (pace_of n))
+    held_as delay = ap (λ d. min (longest_span (pace_of n) + d) (silence_span (pace_of n))) delay
+
     -- it has come to rest by that, or sooner after a loss by which no system is moved
     rest_so : (s : Settling) → IsTelling n v s → IsChoiceBoundAfter n all (b.at ∷ earlier) at settled_by
         → IsRestBoundAfter n all (b.at ∷ earlier) at s.sound
@@ -214,8 +219,17 @@ module _ (d : DocumentState) (playable : IsPlayable d) where
             let (rest, fails, used) = lost_power n playable.network all b at late well row in
             let late : max (echo_span n v.paths) v.paths.delay ≤ s.sound =
             subst (λ t. max (echo_span n v.paths) v.paths.delay ≤ t) (sym it.sound) long in
-            (rest, inl (inr (inr (inr (inr (fails, used, late))))))
-        by (inr (inr (inr (inr (inr (inr (row, is))))))) =
+            (rest, inl (inr (inr (inr (inr (fails, inl (used, late)))))))
+        by (inr (inr (inr (inr (inr (inr (inl (row, long)))))))) =
+            let (rest, fails, delay) = heard n playable.network all b at late well row in
+            let late : aged_echo_span n v.paths ≤ s.sound =
+            subst (λ t. aged_echo_span n v.paths ≤ t) (sym it.sound) long in
+            let told : max (silence_span (pace_of n)) (min (aging_span (pace_of n) (sync_paths n made))
+            (silence_span (pace_of n)) + 1 + max (echo_span n v.paths) (largest_interval (pace_of n))) ≤ s.sound =
+            subst (λ held. max (silence_span (pace_of n)) (held + 1 + max (echo_span n v.paths)
+            (largest_interval (pace_of n))) ≤ s.sound) (held_as delay) late in
+            (rest, inl (inr (inr (inr (inr (fails, inr (largest_interval (pace_of n), inr refl, told)))))))
+        by (inr (inr (inr (inr (inr (inr (inr (row, is)))))))) =
             let (rest, loses, roles) = any_losses n playable.network all b at late row in (
               rest,
               inr (
@@ -257,11 +271,6 @@ module _ (d : DocumentState) (playable : IsPlayable d) where
     no_later choice roles (inr (inr (inr (inr (loses, is, inl (quiet, same)))))) = omega (arith, same)
     no_later choice roles (inr (inr (inr (inr (loses, is, inr later))))) =
         greater choice roles (silence_span (pace_of n)) later
-
-    -- what is heard is held for as long by the delay of before
-    held_as : v.paths.delay ≡ (sync_paths n made).delay
-        → held_span n v.paths ≡ min (aging_span (pace_of n) (sync_paths n made)) (silence_span (pace_of n))
-    held_as delay = ap (λ d. min (longest_span (pace_of n) + d) (silence_span (pace_of n))) delay
 
     -- what is lost at this time asks for what its row says
     loses_by : (r : Row) → row_at v ≡ r → HasOwnBounds r

@@ -13,7 +13,7 @@ use Rattle.gptp_scenario.specs.SyncWait.{sync_paths}
 use Rattle.gptp_scenario.specs.declared.change.Timed.{Timed}
 use Rattle.gptp_scenario.specs.declared.sync_wait.SyncPaths.{SyncPaths}
 use Rattle.gptp_topology.specs.After.{is_calm}
-use Rattle.gptp_how_soon.specs.Bounds.{choice_by, choice_of_row, echo_span, gone_by, roles_after_losses, roles_by, roles_of_row, settled, sound_by, sound_of_row}
+use Rattle.gptp_how_soon.specs.Bounds.{aged_echo_span, choice_by, choice_of_row, echo_span, gone_by, roles_after_losses, roles_by, roles_of_row, settled, sound_by, sound_of_row}
 use Rattle.gptp_how_soon.specs.Kinds.{sets_link}
 use Rattle.gptp_how_soon.specs.Rest.{leaves_silent}
 use Rattle.gptp_how_soon.specs.Times.{View, gained_at, row_at, settling_time}
@@ -132,6 +132,7 @@ IsSoundSooner n before paths silent used_before row sound =
     ⊎ (((row ≡ CutOff) × (sound ≡ max (2 * way_span paths) (gone_by n paths used_before)))
     ⊎ (((row ≡ OneTurned) × (sound ≡ 2 * way_span paths + echo_span n paths))
     ⊎ ((((row ≡ LostPower) ⊎ (row ≡ PowerCutsOff)) × (max (echo_span n paths) paths.delay ≤ sound))
+    ⊎ ((((row ≡ FailedHeard) ⊎ (row ≡ FailureCutsOff)) × (aged_echo_span n paths ≤ sound))
     ⊎ ((row ≡ AnyLosses) × (sound ≡ roles_after_losses n before paths silent)))))))
 
 pub sound_or_sooner : (n : NetworkState) (before paths : SyncPaths) (silent used_before : Bool) (row : Row)
@@ -154,8 +155,6 @@ sound_or_sooner n before paths silent used_before row gained = by (n.params.sync
     by true is AnyPast = inl refl
     by true is Unchanged = inl refl
     by true is Gained = inl refl
-    by true is FailedHeard = inl refl
-    by true is FailureCutsOff = inl refl
     by true is LostEnd = inr (eqb-true n.params.sync_timeout 0 is, inl (refl, refl))
     by true is FailedEnd = inr (eqb-true n.params.sync_timeout 0 is, inr (inl (refl, refl)))
     by true is Lowered = inr (eqb-true n.params.sync_timeout 0 is, inr (inr (inl (refl, refl))))
@@ -165,7 +164,12 @@ sound_or_sooner n before paths silent used_before row gained = by (n.params.sync
         inr (eqb-true n.params.sync_timeout 0 is, inr (inr (inr (inr (inr (inl (inl refl, omega arith)))))))
     by true is PowerCutsOff =
         inr (eqb-true n.params.sync_timeout 0 is, inr (inr (inr (inr (inr (inl (inr refl, omega arith)))))))
-    by true is AnyLosses = inr (eqb-true n.params.sync_timeout 0 is, inr (inr (inr (inr (inr (inr (refl, refl)))))))
+    by true is FailedHeard =
+        inr (eqb-true n.params.sync_timeout 0 is, inr (inr (inr (inr (inr (inr (inl (inl refl, omega arith))))))))
+    by true is FailureCutsOff =
+        inr (eqb-true n.params.sync_timeout 0 is, inr (inr (inr (inr (inr (inr (inl (inr refl, omega arith))))))))
+    by true is AnyLosses =
+        inr (eqb-true n.params.sync_timeout 0 is, inr (inr (inr (inr (inr (inr (inr (refl, refl))))))))
 
 -- what is told of a calm network
 pub record IsTelling (n : NetworkState) (v : View) (s : Settling) : Type 0 where

@@ -33,7 +33,7 @@ use Rattle.gptp_theorem.proofs.SyncPathLemmas.{paths_stand}
 use Rattle.gptp_settling_time.specs.ChoiceAlone.{ChoiceStands}
 use Rattle.gptp_settling_time.specs.Exactly.{SettlesBy}
 use Rattle.gptp_settling_time.specs.InTurn.{Aging, AnyPast, BeginsBy, ChoosesAfter, Cleared, Gained, Heard, IsTakenAs, Left, Lost, Past, RestsAs, SettlesAfter, Starting, Turned}
-use Rattle.gptp_settling_time.proofs.AgingToLemmas.{IsAgingTo, aging_to_act, aging_to_chooses, aging_to_later, aging_to_settled}
+use Rattle.gptp_settling_time.proofs.AgingToLemmas.{IsAgingTo, aging_to_act, aging_to_chooses, aging_to_claimed, aging_to_later, aging_to_settled}
 use Rattle.gptp_settling_time.proofs.BegunLemmas.{begun_keeps}
 use Rattle.gptp_settling_time.proofs.ClaimedToLemmas.{IsClaimedTo, claimed_act, claimed_later, claimed_settled}
 use Rattle.gptp_settling_time.proofs.ClearedToLemmas.{IsClearedTo, cleared_left, cleared_to_act, cleared_to_claimed, cleared_to_later}
@@ -133,7 +133,16 @@ module _ (d : DocumentState) (playable : IsPlayable d) (events : List Timed) (w 
   rests_as (Cleared since silent right old) (Cleared start dark clean last) none so = absurd none
   rests_as (Cleared since silent right old) (Aging gone start) none so = absurd none
   rests_as (Cleared since silent right old) (Lost begun most start) none so = absurd none
-  rests_as (Aging aged silent) seen none so = absurd none
+  rests_as (Aging aged silent) AnyPast none so = absurd none
+  rests_as (Aging aged silent) Starting none so = absurd none
+  rests_as (Aging aged silent) (Gained start) none so = absurd none
+  rests_as (Aging aged silent) (Heard start) rest so =
+      aging_to_claimed d events aged silent w start so playable rest
+  rests_as (Aging aged silent) (Left start) none so = absurd none
+  rests_as (Aging aged silent) (Turned start now) none so = absurd none
+  rests_as (Aging aged silent) (Cleared start dark clean last) none so = absurd none
+  rests_as (Aging aged silent) (Aging gone start) none so = absurd none
+  rests_as (Aging aged silent) (Lost since most start) none so = absurd none
   rests_as (Lost since most silent) AnyPast none so = absurd none
   rests_as (Lost since most silent) Starting none so = absurd none
   rests_as (Lost since most silent) (Gained start) none so = absurd none

@@ -22,8 +22,13 @@ use Rattle.gptp_theorem.proofs.PlayedLemmas.{no_change}
 use Rattle.gptp_settling_time.specs.ChoiceAlone.{ChoiceStands}
 use Rattle.gptp_settling_time.specs.Losses.{UpIsUsed}
 use Rattle.gptp_settling_time.proofs.AgingClaimedLemmas.{IsAgingAlways, aging_acts, aging_chooses, aging_later, aging_now, aging_settles}
+use Rattle.gptp_settling_time.specs.InTurn.{HasAged}
+use Rattle.gptp_settling_time.proofs.AgedLemmas.{AgedIsSound, aged_claimed, aged_sound_acts, aged_sound_later}
+use Rattle.gptp_settling_time.proofs.ClaimedToLemmas.{IsClaimedTo}
+use Rattle.gptp_settling_time.proofs.GoesToLemmas.{echo_to, goes_to}
 use Rattle.gptp_settling_time.proofs.KeptToLemmas.{KeepsTo, keeps_act, keeps_later}
 use Rattle.gptp_settling_time.proofs.LeftToLemmas.{none_unanswered}
+use Rattle.gptp_invariants.proofs.WorldNewsLemmas.{silent_from_now}
 
 -- A world of a document after these events, the last of which was such a failure: what is held at ports without a link
 -- ages before a time, and from another on they aren't capable.
@@ -31,6 +36,7 @@ pub record IsAgingTo (d : DocumentState) (events : List Timed) (aged silent : �
   pub keeps : KeepsTo d events w
   pub before : Snapshot
   pub since : IsAgingAlways (pace_of d.network) before aged silent w
+  pub sound : AgedIsSound (pace_of d.network) aged silent w
 
 module _ (d : DocumentState) (events : List Timed) (aged silent : ℕ) where
   pub aging_to_later : (w : WorldState) (time : ℕ) → w.time ≤ time → NothingBefore time w.net.pending
@@ -39,6 +45,7 @@ module _ (d : DocumentState) (events : List Timed) (aged silent : ℕ) where
     keeps = keeps_later d events w time later first so.keeps;
     before = so.before;
     since = aging_later (pace_of d.network) so.before aged silent time w later first so.since;
+    sound = aged_sound_later (pace_of d.network) so.before aged silent time w later first so.since so.sound;
   }
 
   pub aging_to_act : {F : Type 0} (answers : Bounds → ℕ → F → Option ℕ → F → Type 0) (t : ActTrace) (fate drawn : F)
@@ -47,12 +54,17 @@ module _ (d : DocumentState) (events : List Timed) (aged silent : ℕ) where
   aging_to_act answers t fate drawn w next was so =
       let timed = t.told.timed in
       let p = pace_of d.network in
-      let then = aging_later p so.before aged silent timed.at w was.ready.timely.now was.ready.timely.first so.since in
+      let now = was.ready.timely.now in
+      let first = was.ready.timely.first in
+      let then = aging_later p so.before aged silent timed.at w now first so.since in
       record {
         keeps = keeps_act d events answers t fate drawn w next was so.keeps;
         before = so.before;
         since = aging_acts p so.before aged silent timed.act (at timed.at w) was.draws t.told.done t.after
             (no_change next.item timed.act w next.act) (next_octet next.item timed.act w next.act) was.acts then;
+        sound = aged_sound_acts p so.before aged silent timed.act (at timed.at w) was.draws t.told.done t.after
+            (no_change next.item timed.act w next.act) (next_octet next.item timed.act w next.act) was.acts then
+            (aged_sound_later p so.before aged silent timed.at w now first so.since so.sound);
       }
 
   module _ (w : WorldState) (so : IsAgingTo d events aged silent w) (playable : IsPlayable d)
@@ -82,3 +94,22 @@ module _ (d : DocumentState) (events : List Timed) (aged silent : ℕ) where
     aging_to_settled (inr used) =
         let now : w.time ≤ w.time = omega arith in
         aging_settles (pace_of d.network) so.before aged w.time w (unanswered used) quiet off (inr now) now
+
+  -- once it has come to rest claims are made of all links always
+  pub aging_to_claimed : (w : WorldState) (start : ℕ) → IsAgingTo d events aged silent w → IsPlayable d
+      → HasAged d.network events aged silent start w.time → IsClaimedTo d events start w
+  aging_to_claimed w start so playable rest =
+      let p = pace_of d.network in
+      let last = so.keeps.stands.last in
+      let since = rest.since in
+      let later = rest.later in
+      let told = rest.told in
+      let echo = echo_to d playable events w so.keeps in
+      record {
+        keeps = so.keeps;
+        since = aged_claimed p so.before aged silent rest.by rest.flight w so.since so.sound rest.gone
+            (omega (arith, last, since)) (omega (arith, told)) (goes_to d playable events w so.keeps rest.flight
+            rest.is_gone) (omega (arith, told, echo)) (quiet w so playable rest.calm rest.off) rest.off start
+            (omega (arith, last, later))
+            (silent_from_now p start silent w so.since.standing.world so.since.standing.silent rest.unlinked);
+      }

@@ -68,6 +68,7 @@ use Rattle.gptp_settling_time.proofs.LostToLemmas.{IsLostTo, lost_to_later}
 use Rattle.gptp_settling_time.proofs.WorldMovesLemmas.{near_so, stays_unmoved}
 use Rattle.gptp_graph.specs.Snapshot.{Snapshot}
 use Rattle.gptp_settling_time.specs.Losses.{LowersUnused}
+use Rattle.gptp_settling_time.proofs.AgedLemmas.{aged_begins}
 use Rattle.gptp_settling_time.proofs.ClearedLemmas.{IsCleared}
 use Rattle.gptp_settling_time.proofs.ClearedToLemmas.{IsClearedTo, cleared_to_later}
 use Rattle.gptp_settling_time.proofs.ClearsLemmas.{cleared_reduced}
@@ -560,13 +561,15 @@ module _ {F : Type 0} (answers : Bounds → ℕ → F → Option ℕ → F → T
         let came : Acts (Changing (LinkDown x.clock x.port)) then k.draws done w' =
         subst (λ act. Acts act then k.draws done w') x.act k.acts in
         let quiet = (quiet_stands n made then playable.network keeps_then.stands world.sound falls.calm).links in
+        let since = down_aging p then_so.before aged silent x.clock x.port then k.draws done w' after.claim.world
+        after.claim.measured came then_so.since quiet falls.off
+        (up_so n made then keeps_then.stands end x.up came.1.place came.1.channel came.1.is)
+        (unused_so n made then keeps_then.stands world.sound end x.failed) in
         record {
           keeps = after;
           before = then_so.before;
-          since = down_aging p then_so.before aged silent x.clock x.port then k.draws done w' after.claim.world
-              after.claim.measured came then_so.since quiet falls.off
-              (up_so n made then keeps_then.stands end x.up came.1.place came.1.channel came.1.is)
-              (unused_so n made then keeps_then.stands world.sound end x.failed);
+          since = since;
+          sound = aged_begins p then_so.before aged silent w' since last_now;
         }
 
     leads_to_cleared : (past : Past) (since silent right old : ℕ)

@@ -107,6 +107,9 @@ pub mod TurnsBeginLemmas
 pub mod TurnsDownLemmas
 pub mod TurnedToLemmas
 pub mod AtRestLemmas
+pub mod BecomesSoundLemmas
+pub mod AgedLemmas
+pub mod GoesToLemmas
 pub mod ClearedLemmas
 pub mod ClearedToLemmas
 pub mod ClearsLemmas

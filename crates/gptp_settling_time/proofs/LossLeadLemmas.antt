@@ -1,15 +1,17 @@
 -- A loss leads a network that has settled to what is left, or in which a system turns, or that is cleared.
-use Rattle.std.proofs.Common.{List, [], ap, append-nil, append_assoc, arith, inl, inr, max, pred, refl, subst, suc, sym, zero, ℕ, ◌*◌, ◌++◌, ◌+◌, ◌∙◌, ◌∷◌, ◌≡◌, ◌≤◌, ◌⊎◌}
+use Rattle.std.proofs.Common.{List, [], ap, append-nil, append_assoc, arith, inl, inr, max, min, pred, refl, subst, suc, sym, zero, ℕ, ◌*◌, ◌++◌, ◌+◌, ◌∙◌, ◌∷◌, ◌≡◌, ◌≤◌, ◌⊎◌}
 use Rattle.std.specs.List.{AllByRecursion}
 use Rattle.std.proofs.Math.Nat.{le-max_left, le-max_right, mul-le-mul_left}
 use Rattle.gptp_setup.specs.SettlingParams.{largest_interval, longest_span}
+use native.Mathlib.Decide.{dec_le}
 use Rattle.gptp_scenario.specs.Calm.{IsCalm, NothingLapses, last_change}
 use Rattle.gptp_scenario.specs.Network.{NetworkState, pace_of}
 use Rattle.gptp_scenario.specs.SettlingTime.{capability_span}
 use Rattle.gptp_scenario.specs.SyncWait.{sync_paths}
 use Rattle.gptp_scenario.specs.declared.change.Timed.{Timed}
 use Rattle.gptp_scenario.specs.declared.sync_wait.SyncPaths.{SyncPaths}
-use Rattle.gptp_settling_time.specs.HowSoon.{CutsOneEnd, EachEvent, FailsEndFirst, FailsHeardFirst, LowersOneLink, RestsAfterOneLoss, TurnsOneLink, TurnsUnused, way_span}
+use Rattle.gptp_theorem.proofs.EventLemmas.{last_behind}
+use Rattle.gptp_settling_time.specs.HowSoon.{CutsOneEnd, EachEvent, FailsEndFirst, FailsHeardFirst, LowersOneLink, RestsAfterOneLoss, RestsOnceTold, TurnsOneLink, TurnsUnused, way_span}
 use Rattle.gptp_settling_time.specs.InTurn.{Aging, AnyPast, ChoosesAfter, Cleared, CutsCalm, EventLeads, FailsCalm, FailsNow, FlightIsGone, Gained, Heard, LeadOn, Left, LosesNow, Lost, LowersCalm, Past, SettlesAfter, Starting, Turned, TurnsCalm, echo_span, nearer_echo_span, turned_echo_span}
 use Rattle.gptp_settling_time.specs.Losses.{CutsFarEnd, FailsFarEnd, FailsHeard, LowersLink, LowersUnused, TurnsLink, UpIsUsed, aging_span}
 use Rattle.gptp_settling_time.proofs.CalmLessLemmas.{failure_calm, fails_calm, lowers_calm}
@@ -354,6 +356,13 @@ power_lead n made (event ∷ now) other time aged silent off calm (at, later) (l
           (lowers_calm n made other off calm lowers) later others (subst (UpIsUsed n) (sym all) used)),
     )
 
+-- the last of events of one time is of that time
+last_at : (made : List Timed) (event : Timed) (now : List Timed) (time : ℕ)
+    → AllByRecursion (λ (t : Timed). t.at ≡ time) (event ∷ now) → last_change (made ++ event ∷ now) ≡ time
+last_at made event [] time (here, at) = last_behind made event ∙ here
+last_at made event (next ∷ now) time (here, at) =
+    ap last_change (sym (append_assoc made (event ∷ []) (next ∷ now))) ∙ last_at (made ++ event ∷ []) next now time at
+
 -- What was in flight as all but the neighbours of the best tell what is right is gone once they do too.
 nearer_within : (systems hop gone : ℕ) → gone ≤ hop → pred (pred systems) * hop + gone ≤ max (pred systems * hop) gone
 nearer_within zero hop gone soon = let least = le-max_right (0 * hop) gone in omega (arith, least)
@@ -427,6 +436,21 @@ module _ (n : NetworkState) (off : NothingLapses n.params) (time : ℕ) (made no
         (Cleared x.since x.silent 0 (event.at + gone))) (sym alone) refl) (omega (arith, before, is, gone_most))
         (inl (omega (arith, over, before))) (omega (arith, early, before, less))
 
+    -- what was in flight is gone as right traces are told
+    gone_within : (gone : ℕ) → FlightIsGone n (made ++ now) gone
+        → nearer_echo_span n (made ++ now) + gone ≤ max (echo_span n (made ++ now)) gone
+    gone_within gone flight =
+        nearer_within (sync_paths n (made ++ now)).systems
+        (largest_interval (pace_of n) + (sync_paths n (made ++ now)).delay) gone (soon flight)
+      where
+        soon : FlightIsGone n (made ++ now) gone → gone ≤ largest_interval (pace_of n) + (sync_paths n (made ++ now)).delay
+        soon (inl (used, delay)) = omega (arith, delay)
+        soon (inr interval) = omega (arith, interval)
+
+    -- the way is part of what they take
+    way_short : way_span (sync_paths n (made ++ now)) ≤ echo_span n (made ++ now)
+    way_short = mul-le-mul_left (pred (sync_paths n (made ++ now)).systems) (omega arith)
+
     -- another such link goes down
     right_led : LowersLink n made event → others ≡ [] → (gone : ℕ) → FlightIsGone n (made ++ now) gone
         → rest ≡ max (echo_span n (made ++ now)) gone → IsLed n made now past (suc (time + rest))
@@ -440,9 +464,7 @@ module _ (n : NetworkState) (off : NothingLapses n.params) (time : ℕ) (made no
         let last : Past = Cleared x.since x.since (event.at + 1 + nearer_echo_span n (made ++ event ∷ []))
         (event.at + nearer_echo_span n (made ++ event ∷ []) + gone) in
         let within : nearer_echo_span n (made ++ event ∷ []) + gone ≤ max (echo_span n (made ++ now)) gone =
-        subst (λ es. nearer_echo_span n es + gone ≤ max (echo_span n (made ++ now)) gone) one
-        (nearer_within (sync_paths n (made ++ now)).systems
-        (largest_interval (pace_of n) + (sync_paths n (made ++ now)).delay) gone (gone_soon flight)) in
+        subst (λ es. nearer_echo_span n es + gone ≤ max (echo_span n (made ++ now)) gone) one (gone_within gone flight) in
         let before = here in
         let early = x.early in
         led x.since x.since (event.at + 1 + nearer_echo_span n (made ++ event ∷ []))
@@ -450,11 +472,6 @@ module _ (n : NetworkState) (off : NothingLapses n.params) (time : ℕ) (made no
         (subst (λ es. LeadOn n (made ++ event ∷ []) last es last) (sym alone) refl)
         (omega (arith, before, is, within)) (inl (omega (arith, early, before)))
         (omega (arith, early, before, less))
-      where
-        gone_soon : FlightIsGone n (made ++ now) gone
-            → gone ≤ largest_interval (pace_of n) + (sync_paths n (made ++ now)).delay
-        gone_soon (inl (used, delay)) = omega (arith, delay)
-        gone_soon (inr interval) = omega (arith, interval)
 
     fail_led : FailsFarEnd n made event → EachEvent (LowersUnused n) (made ++ event ∷ []) others
         → (UpIsUsed n (made ++ now) × FlightIsGone n made rest)
@@ -537,15 +554,11 @@ module _ (n : NetworkState) (off : NothingLapses n.params) (time : ℕ) (made no
 
         within : nearer_echo_span n (made ++ now) + (sync_paths n (made ++ now)).delay ≤ rest
         within =
-            let hop = largest_interval (pace_of n) + (sync_paths n (made ++ now)).delay in
-            let most = nearer_within (sync_paths n (made ++ now)).systems hop (sync_paths n (made ++ now)).delay
-            (omega arith) in
-            omega (arith, long, most)
+            let most = gone_within (sync_paths n (made ++ now)).delay (inl (used, refl)) in omega (arith, long, most)
 
         ends : LeadOn n made past now (Cleared time silent right old) → IsLed n made now past (suc (time + rest))
         ends lead =
-            let way : way_span (sync_paths n (made ++ now)) ≤ echo_span n (made ++ now) =
-            mul-le-mul_left (pred (sync_paths n (made ++ now)).systems) (omega arith) in
+            let way = way_short in
             let over : time + way_span (sync_paths n (made ++ now)) ≤ suc (time + rest) = omega (arith, way, long) in
             record {
               last = Cleared time silent right old;
@@ -601,6 +614,79 @@ module _ (n : NetworkState) (off : NothingLapses n.params) (time : ℕ) (made no
                   (subst (UpIsUsed n) all used)),
             ))
 
+    -- else it is taken as heard from now on once right traces are told since what is held of it has aged
+    heard_led : FailsHeard n made event → EachEvent (LowersUnused n) (made ++ event ∷ []) others
+        → RestsOnceTold n made now rest → IsLed n made now past (suc (time + rest))
+    heard_led fails lowers (inl (used, long)) = power_led fails lowers used long
+    heard_led fails lowers (inr (gone, flight, long)) = record {
+      last = Aging aged silent;
+      lead = subst (λ es. LeadOn n made past es (Aging aged silent)) (sym same) (
+            past,
+            inl refl,
+            Aging aged silent,
+            ages_leads n made event past aged silent settled_then
+                (record { fails = fails; calm = calm_then; off = off; gone = refl; unanswered = refl }),
+            aging_lead n (made ++ event ∷ []) others aged silent off
+                (failure_calm n made event off calm_then fails.clock fails.act) lowers,
+          );
+      settles = (
+        Heard time,
+        inr (record {
+          calm = calm;
+          off = off;
+          by = suc (time + min a b);
+          since = omega (arith, last);
+          gone = elim (dec_le a b) [
+            | yes less ↦ inl (omega (arith, before, less))
+            | no over ↦ inr (omega (arith, before, over))
+          ];
+          flight = gone;
+          is_gone = flight;
+          told = let within = gone_within gone flight in omega (arith, long, within, told_most);
+          later = omega (arith, last);
+          unlinked = omega (arith, before, long, silent_most);
+          over = over_way;
+        }),
+        over_way,
+      );
+    }
+      where
+        a : ℕ
+        a = aging_span (pace_of n) (sync_paths n made)
+
+        b : ℕ
+        b = silence_span (pace_of n)
+
+        aged : ℕ
+        aged = suc (event.at + a)
+
+        silent : ℕ
+        silent = suc (event.at + b)
+
+        before : event.at ≡ time
+        before = here
+
+        last : last_change (made ++ now) ≡ time
+        last =
+            ap (λ es. last_change (made ++ es)) same
+            ∙ last_at made event others time (subst (AllByRecursion (λ (t : Timed). t.at ≡ time)) same at)
+
+        more : ℕ
+        more = min a b + 1 + max (echo_span n (made ++ now)) gone
+
+        silent_most : b ≤ max b more
+        silent_most = le-max_left b more
+
+        told_most : more ≤ max b more
+        told_most = le-max_right b more
+
+        over_way : time + way_span (sync_paths n (made ++ now)) ≤ suc (time + rest)
+        over_way =
+            let way = way_short in
+            let echo = le-max_left (echo_span n (made ++ now)) gone in
+            let most = told_most in
+            omega (arith, way, echo, most, long)
+
   lost_led : (es : List Timed) → now ≡ es
       → (CutsOneEnd n made es
       × ((gone : ℕ) × FlightIsGone n made gone × (rest ≡ max (2 * way_span (sync_paths n (made ++ now))) gone)))
@@ -610,14 +696,13 @@ module _ (n : NetworkState) (off : NothingLapses n.params) (time : ℕ) (made no
       ⊎ ((LowersOneLink n made es
       × ((gone : ℕ) × FlightIsGone n (made ++ now) gone × (rest ≡ max (echo_span n (made ++ now)) gone)))
       ⊎ ((TurnsOneLink n made es × (rest ≡ turned_echo_span n (made ++ now)))
-      ⊎ (FailsHeardFirst n made es × UpIsUsed n (made ++ now)
-      × (max (echo_span n (made ++ now)) (sync_paths n (made ++ now)).delay ≤ rest)))))
+      ⊎ (FailsHeardFirst n made es × RestsOnceTold n made now rest))))
       → IsLed n made now past (suc (time + rest))
   lost_led [] same (inl (none, flight)) = absurd none
   lost_led [] same (inr (inl (none, after))) = absurd none
   lost_led [] same (inr (inr (inl (none, after)))) = absurd none
   lost_led [] same (inr (inr (inr (inl (none, after))))) = absurd none
-  lost_led [] same (inr (inr (inr (inr (none, used, long))))) = absurd none
+  lost_led [] same (inr (inr (inr (inr (none, by))))) = absurd none
   lost_led (event ∷ other ∷ others) same (inl (none, flight)) = absurd none
   lost_led (event ∷ other ∷ others) same (inr (inr (inl (none, after)))) = absurd none
   lost_led (event ∷ other ∷ others) same (inr (inr (inr (inl (none, after))))) = absurd none
@@ -626,8 +711,8 @@ module _ (n : NetworkState) (off : NothingLapses n.params) (time : ℕ) (made no
       right_led event [] same lowers refl gone flight is
   lost_led (event ∷ []) same (inr (inr (inr (inl (turns, is))))) = turned_led event [] same turns refl is
   lost_led (event ∷ others) same (inr (inl ((fails, lowers), by))) = fail_led event others same fails lowers by
-  lost_led (event ∷ others) same (inr (inr (inr (inr ((fails, lowers), used, long))))) =
-      power_led event others same fails lowers used long
+  lost_led (event ∷ others) same (inr (inr (inr (inr ((fails, lowers), by))))) =
+      heard_led event others same fails lowers by
 
   pub cleared_led : RestsAfterOneLoss n made now rest → IsLed n made now past (suc (time + rest))
   cleared_led loses = lost_led now refl loses

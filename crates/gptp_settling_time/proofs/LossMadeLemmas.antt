@@ -5,7 +5,7 @@ use Rattle.gptp_graph.specs.PathBound.{path_bound}
 use Rattle.gptp_links.specs.declared.link.Direction.{Direction}
 use Rattle.gptp_links.specs.declared.link.Direction.TheVariants.{FromA, FromB}
 use Rattle.gptp_links.specs.Fate.{Draw}
-use Rattle.gptp_setup.specs.SettlingParams.{SettlingParams, largest_interval}
+use Rattle.gptp_setup.specs.SettlingParams.{SettlingParams}
 use Rattle.gptp_scenario.specs.Calm.{IsCalm, NothingLapses, IsUsed}
 use Rattle.gptp_scenario.specs.Network.{NetworkState, pace_of, IsEnd}
 use Rattle.gptp_scenario.specs.SyncWait.{sync_paths}
@@ -34,8 +34,10 @@ use Rattle.gptp_theorem.proofs.SyncPathLemmas.{paths_stand}
 use Rattle.gptp_settling_time.specs.InTurn.{ClearsBy, ClearsFarEnd, ClearsTraces, CutsCalm, FailsCalm, FailsNow, FlightIsGone, LeavesStanding, LowersCalm, TurnsCalm, TurnsNow, nearer_echo_span}
 use Rattle.gptp_settling_time.proofs.GainLemmas.{lives_so, up_so}
 use Rattle.gptp_settling_time.proofs.FailedAloneLemmas.{all_but, failed_left, less as failed_reduced, none_joined, ready_on as failed_ready}
+use Rattle.gptp_settling_time.proofs.AgedLemmas.{aged_begins}
 use Rattle.gptp_settling_time.proofs.AgingToLemmas.{IsAgingTo}
 use Rattle.gptp_settling_time.proofs.FailedHeardLemmas.{failed_aging}
+use Rattle.gptp_settling_time.proofs.GoesToLemmas.{echo_to, goes_to}
 use Rattle.gptp_settling_time.proofs.KeptToLemmas.{KeepsTo}
 use Rattle.gptp_settling_time.proofs.LeftToLemmas.{IsLeftTo, less_way, up_in_use}
 use Rattle.gptp_settling_time.proofs.LostEndLemmas.{sound_reduced}
@@ -51,9 +53,10 @@ use Rattle.gptp_bmca_machine.specs.SoundLaws.{AllAreNear}
 use Rattle.gptp_invariants.specs.ChoiceView.{says_announce, view}
 use Rattle.gptp_invariants.specs.FailedUnanswered.{silence_span}
 use Rattle.gptp_settling_time.specs.Losses.{FailsFarEnd, IsCutOff, IsFarEnd, LowersLink}
-use Rattle.gptp_settling_time.proofs.ClearedLemmas.{GoesBy, IsCleared}
+use Rattle.gptp_settling_time.proofs.BecomesSoundLemmas.{nearer_echo}
+use Rattle.gptp_settling_time.proofs.ClearedLemmas.{IsCleared}
 use Rattle.gptp_settling_time.proofs.ClearedToLemmas.{IsClearedTo}
-use Rattle.gptp_settling_time.proofs.ClearsLemmas.{all_but_cut, clears, cut_joins_none, nearer_echo, ready_asked, rights, was_best}
+use Rattle.gptp_settling_time.proofs.ClearsLemmas.{all_but_cut, clears, cut_joins_none, ready_asked, rights, was_best}
 use Rattle.gptp_settling_time.proofs.DueLemmas.{AreDueBy, due_by_delay, due_by_interval}
 use Rattle.gptp_settling_time.proofs.LeftClaimedLemmas.{HaveAskedBy, IsLeftAlways, left_network}
 use Rattle.gptp_settling_time.proofs.NamesItselfLemmas.{itself_begins}
@@ -263,18 +266,12 @@ module _ (d : DocumentState) (playable : IsPlayable d) (made : List Timed) (even
     gone_by gone calm off (inr is) =
         subst (λ t. AreDueBy t then) (omega (arith, is, at_time)) (due_by_interval p then world_then)
 
-    goes_by : (gone : ℕ) → FlightIsGone n more gone → GoesBy p gone w'
-    goes_by gone (inl (used, is)) =
-        inl (up_in_use d more w' after used, is ∙ ap (λ (u : SyncPaths). u.delay) paths_after)
-    goes_by gone (inr is) = inr is
-
     -- links begin to tell right traces
     rights_to : (right gone old : ℕ) → LowersCalm n made event → right ≡ event.at + 1 + nearer_echo_span n more
         → FlightIsGone n more gone → old ≡ event.at + nearer_echo_span n more + gone
         → IsClearedTo d more start start right old w'
     rights_to right gone old lowers right_is flight old_is =
-        let echo : nearer_echo_span n more ≡ nearer_echo p w' =
-        ap (λ (u : SyncPaths). pred (pred u.systems) * (largest_interval p + u.delay)) paths_after in
+        let echo : nearer_echo_span n more ≡ nearer_echo p w' = echo_to d playable more w' after in
         subst (λ t. IsClearedTo d more start start t old w') (sym (right_is ∙ omega (arith, echo, time)))
         (subst (λ t. IsClearedTo d more start start (suc (w'.time + nearer_echo p w')) t w')
         (sym (old_is ∙ omega (arith, echo, time)))
@@ -282,7 +279,7 @@ module _ (d : DocumentState) (playable : IsPlayable d) (made : List Timed) (even
           keeps = after;
           before = snapshot_of then;
           is = rights p (snapshot_of then) start start gone w' (lowered_since lowers) (lowered_asked lowers)
-              (goes_by gone flight) (snapshot_of then)
+              (goes_to d playable more w' after gone flight) (snapshot_of then)
               (was_best (snapshot_of then) (snapshot_of w') (lowered_since lowers).well
               (stands_well w' after.claim.world.sound after.claim.world.between after.claim.world.encodable)
               (lowered_since lowers).left)
@@ -314,19 +311,21 @@ module _ (d : DocumentState) (playable : IsPlayable d) (made : List Timed) (even
         let delay : (sync_paths n made).delay ≡ delay_in then = ap (λ (y : SyncPaths). y.delay) paths_then in
         let came : Acts (Changing (Fail x.clock)) then draws done w' =
         subst (λ act. Acts act then draws done w') x.act acts in
+        let unanswered = now.unanswered in
+        let since = failed_aging p x.clock then draws done w' world_then after.claim.world came
+        (lives_so n made then keeps.stands world_then.sound x.clock x.live came.1.place came.1.station
+        (record { here = came.1.is.here; named = came.1.is.named }))
+        (seen_then now.calm now.off) (near_so d playable made then keeps x.few)
+        (stays_joined d playable made event then w' keeps after x.moves) rest.sound start aged silent
+        keeps.claim.pace keeps.claim.measured after.claim.measured (omega (arith, over, at_time))
+        (same_delay x.delay) (way_over x.delay x.paths) rest.ready
+        (quiet_stands n made then playable.network keeps.stands world_then.sound now.calm).links rest.silent
+        (omega (arith, at_time, unanswered)) (omega (arith, gone, delay, at_time)) in
         record {
           keeps = after;
           before = snapshot_of then;
-          since = failed_aging p x.clock then draws done w' world_then after.claim.world came
-              (lives_so n made then keeps.stands world_then.sound x.clock x.live came.1.place came.1.station
-              (record { here = came.1.is.here; named = came.1.is.named }))
-              (seen_then now.calm now.off) (near_so d playable made then keeps x.few)
-              (stays_joined d playable made event then w' keeps after x.moves) rest.sound start aged silent
-              keeps.claim.pace keeps.claim.measured after.claim.measured (omega (arith, over, at_time))
-              (same_delay x.delay) (way_over x.delay x.paths) rest.ready
-              (quiet_stands n made then playable.network keeps.stands world_then.sound now.calm).links rest.silent
-              (let unanswered = now.unanswered in omega (arith, at_time, unanswered))
-              (omega (arith, gone, delay, at_time));
+          since = since;
+          sound = aged_begins p (snapshot_of then) aged silent w' since last;
         }
 
     pub cleared_to : (since silent right old : ℕ) → ClearsBy n made event start since silent right old

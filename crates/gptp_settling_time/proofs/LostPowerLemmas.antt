@@ -22,7 +22,8 @@ use Rattle.gptp_settling_time.specs.Losses.{UpIsUsed}
 use Rattle.gptp_settling_time.proofs.AgingClaimedLemmas.{IsAgingAlways, aging_left, aging_now}
 use Rattle.gptp_settling_time.proofs.AgingToLemmas.{IsAgingTo}
 use Rattle.gptp_settling_time.proofs.ClearedToLemmas.{IsClearedTo}
-use Rattle.gptp_settling_time.proofs.ClearsLemmas.{nearer_echo, rights, was_best}
+use Rattle.gptp_settling_time.proofs.BecomesSoundLemmas.{nearer_echo}
+use Rattle.gptp_settling_time.proofs.ClearsLemmas.{rights, was_best}
 use Rattle.gptp_settling_time.proofs.DueLemmas.{UpIsInUse, in_use_joins}
 use Rattle.gptp_settling_time.proofs.FitsLemmas.{flight_still}
 use Rattle.gptp_settling_time.proofs.KeptToLemmas.{KeepsTo}

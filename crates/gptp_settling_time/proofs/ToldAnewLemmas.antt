@@ -36,8 +36,8 @@ use Rattle.gptp_invariants.proofs.ChoiceSeenActLemmas.{acts_seen}
 use Rattle.gptp_invariants.proofs.ChoiceSettlesAsMachineLemmas.{kept_back, paths_bound}
 use Rattle.gptp_invariants.proofs.WorldNewsCourseLemmas.{later_keeps}
 use Rattle.gptp_settling_time.proofs.AlwaysClaimedLemmas.{IsClaimedAlways}
-use Rattle.gptp_settling_time.proofs.ClearedLemmas.{BecomesSound, IsCleared, cleared_claimed, cleared_step, same_time}
-use Rattle.gptp_settling_time.proofs.ClearsLemmas.{nearer_echo}
+use Rattle.gptp_settling_time.proofs.BecomesSoundLemmas.{BecomesSound, nearer_echo, same_time}
+use Rattle.gptp_settling_time.proofs.ClearedLemmas.{IsCleared, cleared_claimed, cleared_step}
 use Rattle.gptp_settling_time.proofs.DueLemmas.{AreDueBy, due_by_interval}
 use Rattle.gptp_settling_time.proofs.LeftClaimedLemmas.{HaveAskedBy, IsLeftAlways, asked_acts, asked_later, left_calm, left_itself, left_net, left_network, same_left}
 use Rattle.gptp_settling_time.proofs.MovedAlwaysLemmas.{IsMovedAlways, calm_now, moved_acts, moved_later, moved_seen, nothing_held, turned_by}

@@ -336,11 +336,21 @@ LosesNext n events Then last time Asks =
 
 -- ---- rest
 
+-- How much later a network has come to rest after a system failed that others hear. At once right traces are told where
+-- each link that is up is in use. Else they are 1 ns later than what they hold of it has aged, or no port beside it is
+-- capable; and roles have to stand.
+abbrev pub RestsOnceTold : NetworkState → List Timed → List Timed → ℕ → Type 0
+RestsOnceTold n made now rest =
+    (UpIsUsed n (made ++ now) × (max (echo_span n (made ++ now)) (sync_paths n (made ++ now)).delay ≤ rest))
+    ⊎ ((gone : ℕ) × FlightIsGone n (made ++ now) gone
+    × (max (silence_span (pace_of n))
+    (min (aging_span (pace_of n) (sync_paths n made)) (silence_span (pace_of n)) + 1
+    + max (echo_span n (made ++ now)) gone) ≤ rest))
+
 -- How much later a network has come to rest after a loss by which one system is moved at most, but for such as are cut
 -- off. After the loss of a far end what was in flight has to be gone. Where it fails and a link is up then that isn't in
 -- use, roles have to stand too. After another link goes down that moves no system right traces have to be told first.
--- Where it so moves one system the network settles before, within two ways. Right traces have to be told, too, where a
--- system fails that others hear, and each link that is up then is in use.
+-- Where it so moves one system the network settles before, within two ways.
 abbrev pub RestsAfterOneLoss : NetworkState → List Timed → List Timed → ℕ → Type 0
 RestsAfterOneLoss n made now rest =
     (CutsOneEnd n made now
@@ -351,8 +361,7 @@ RestsAfterOneLoss n made now rest =
     ⊎ ((LowersOneLink n made now
     × ((gone : ℕ) × FlightIsGone n (made ++ now) gone × (rest ≡ max (echo_span n (made ++ now)) gone)))
     ⊎ ((TurnsOneLink n made now × (rest ≡ turned_echo_span n (made ++ now)))
-    ⊎ (FailsHeardFirst n made now × UpIsUsed n (made ++ now)
-    × (max (echo_span n (made ++ now)) (sync_paths n (made ++ now)).delay ≤ rest)))))
+    ⊎ (FailsHeardFirst n made now × RestsOnceTold n made now rest))))
 
 -- After any loss it has once roles stand: what is in flight by then is told by live systems over links in use, as all
 -- that is held is.

@@ -14,7 +14,9 @@
 --   went down that moved none, or a system that others heard lost its power, and right traces have been told by distance
 --   since. When what was in flight is gone, and ports without a link aren't capable, the network has come to rest as if
 --   all had been heard.
--- - Aging: a system failed that others heard. What they hold of it ages, and the choice stands once that is gone.
+-- - Aging: a system failed that others heard. What they hold of it ages, and the choice stands once that is gone. The
+--   network has come to rest, as if all had been heard, once right traces have been told by distance since, what was in
+--   flight is gone, and ports without a link aren't capable.
 -- - Lost: anything was taken away at one time, whatever was moved. The network settles as one that has gained, once all
 --   that is held is told by live systems over links in use. It has come to rest then, as if all had been heard.
 --
@@ -538,6 +540,23 @@ pub record HasToldAnew (n : NetworkState) (events : List Timed) (silent turned s
   pub unlinked : silent ≤ start
   pub over : HasSettledHeard n events start time
 
+-- A network in which a system failed that others heard has come to rest by a time, as one whose ports are capable from a
+-- start on. What they held of it had aged by a moment, or ports without a link weren't capable. Right traces have been
+-- told by distance since then, and what was in flight is gone. Ports without a link aren't capable. And the greatest
+-- delay has passed since the start for each system of a path but one.
+pub record HasAged (n : NetworkState) (events : List Timed) (aged silent start time : ℕ) : Type 0 where
+  pub calm : IsCalm n events
+  pub off : NothingLapses n.params
+  pub by : ℕ
+  pub since : last_change events ≤ by
+  pub gone : (aged ≤ by) ⊎ (silent ≤ by)
+  pub flight : ℕ
+  pub is_gone : FlightIsGone n events flight
+  pub told : by + nearer_echo_span n events + flight < time
+  pub later : last_change events ≤ start
+  pub unlinked : silent ≤ time
+  pub over : HasSettledHeard n events start time
+
 -- A network that has lost at a time has come to rest by another, as one whose ports are capable from a start on: its
 -- choice stands. Ports without a link aren't capable then, or no link is up that isn't in use. And the greatest delay
 -- has passed since the start for each system of a path but one.
@@ -552,6 +571,7 @@ pub record HasToldAll (n : NetworkState) (events : List Timed) (since most silen
 abbrev pub RestsAs : NetworkState → List Timed → Past → ℕ → Past → Type 0
 RestsAs n events (Turned silent turned) time (Heard start) = HasToldAnew n events silent turned start time
 RestsAs n events (Cleared since silent right old) time (Heard start) = HasCleared n events since silent old start time
+RestsAs n events (Aging aged silent) time (Heard start) = HasAged n events aged silent start time
 RestsAs n events (Lost since most silent) time (Heard start) = HasToldAll n events since most silent start time
 RestsAs n events past time seen = ⊥
 
