@@ -35,6 +35,19 @@ pub by_reduced : (says : Spelling) (g : Snapshot) (stay : ℤ → ℕ) (By : Por
     → IsReduced w w' → UnlinkedAgeBy says g stay By w → UnlinkedAgeBy says g stay By w'
 by_reduced says g stay By = each_reduced says g stay (AgesAt g By)
 
+-- so it does before other times that are as late
+pub by_map : (says : Spelling) (g : Snapshot) (stay : ℤ → ℕ) (By By' : PortIdentity → ℕ → Type 0) (w : MachineState)
+    → ((port : PortIdentity) (until : ℕ) → (IsLinked g port → ⊥) → By port until → By' port until)
+    → UnlinkedAgeBy says g stay By w → UnlinkedAgeBy says g stay By' w
+by_map says g stay By By' w more all = record {
+  held = λ i s place r at live holds unlinked.
+      let (until, by, over) = all.held i s place r at live holds unlinked in
+      (until, more (port_of s.clock (suc place)) until unlinked by, over);
+  flight = λ j l f a at among said known unlinked.
+      let (until, by, over) = all.flight j l f a at among said known unlinked in
+      (until, more l.to until unlinked by, over);
+}
+
 -- before the greatest of these times all has aged
 pub by_all : (says : Spelling) (g : Snapshot) (stay : ℤ → ℕ) (By : PortIdentity → ℕ → Type 0) (aged : ℕ)
     (w : MachineState) → ((port : PortIdentity) (until : ℕ) → By port until → until ≤ aged)

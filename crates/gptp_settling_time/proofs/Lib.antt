@@ -133,6 +133,7 @@ pub mod NamedWorldLemmas
 pub mod AgingDownLemmas
 pub mod AgingToLemmas
 pub mod FailedHeardLemmas
+pub mod SilentLinksLemmas
 pub mod LostPowerLemmas
 pub mod EmptiedLemmas
 pub mod LiveTracesLemmas

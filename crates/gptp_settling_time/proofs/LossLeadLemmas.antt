@@ -621,14 +621,14 @@ module _ (n : NetworkState) (off : NothingLapses n.params) (time : ℕ) (made no
     heard_led fails lowers (inr (gone, flight, long)) = record {
       last = Aging aged silent;
       lead = subst (λ es. LeadOn n made past es (Aging aged silent)) (sym same) (
-            past,
-            inl refl,
-            Aging aged silent,
-            ages_leads n made event past aged silent settled_then
-                (record { fails = fails; calm = calm_then; off = off; gone = refl; unanswered = refl }),
-            aging_lead n (made ++ event ∷ []) others aged silent off
-                (failure_calm n made event off calm_then fails.clock fails.act) lowers,
-          );
+        past,
+        inl refl,
+        Aging aged silent,
+        ages_leads n made event past aged silent settled_then
+            (record { fails = fails; calm = calm_then; off = off; gone = refl; unanswered = refl }),
+        aging_lead n (made ++ event ∷ []) others aged silent off
+            (failure_calm n made event off calm_then fails.clock fails.act) lowers,
+      );
       settles = (
         Heard time,
         inr (record {
