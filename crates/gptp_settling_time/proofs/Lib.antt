@@ -134,6 +134,9 @@ pub mod AgingDownLemmas
 pub mod AgingToLemmas
 pub mod FailedHeardLemmas
 pub mod SilentLinksLemmas
+pub mod UpPortsLemmas
+pub mod SilentDownLemmas
+pub mod SilentSpanLemmas
 pub mod LostPowerLemmas
 pub mod EmptiedLemmas
 pub mod LiveTracesLemmas
