@@ -1,6 +1,6 @@
 -- What came over silent links has aged within the longest receipt timeout and the greatest delay of the links that were
 -- in use.
-use Rattle.std.proofs.Common.{◌≡◌, ◌≤◌, ◌+◌, ◌==◌, ◌&&◌, ◌∷◌, ◌++◌, max, cond, ℕ, zero, suc, Bool, true, false, List, [], Some, slice_get, refl, sym, ap, ◌∙◌, arith}
+use Rattle.std.proofs.Common.{◌≡◌, ◌≤◌, ◌+◌, ◌==◌, ◌&&◌, ◌∷◌, ◌++◌, max, cond, ℕ, zero, suc, Bool, true, false, List, [], Some, slice_get, append-nil, append_assoc, refl, sym, ap, ◌∙◌, arith}
 use Rattle.std.proofs.lemmas.Bool.{eq-eqb}
 use Rattle.std.proofs.lemmas.Option.{same_Some}
 use Rattle.gptp_roles.specs.Selection.{clock_of}
@@ -16,7 +16,8 @@ use Rattle.gptp_scenario.specs.declared.network.SystemSpec.{SystemSpec}
 use Rattle.gptp_lists.proofs.SystemSpecLemmas.{In-slice_get}
 use Rattle.gptp_network.proofs.PassLemmas.{passes_at}
 use Rattle.gptp_theorem.proofs.EventLemmas.{link_behind}
-use Rattle.gptp_settling_time.specs.Losses.{AgesWithin, FailsHeard, aging_span}
+use Rattle.gptp_settling_time.specs.HowSoon.{EachEvent, FailsHeardFirst}
+use Rattle.gptp_settling_time.specs.Losses.{AgesWithin, FailsHeard, LowersUnused, aging_span}
 
 module _ (systems : List SystemSpec) (events : List Timed) where
   lives_from : (clock : ℕ) → IsLive systems events clock → lives systems events clock ≡ true
@@ -73,4 +74,29 @@ pub failure_within : (n : NetworkState) (made : List Timed) (event : Timed) → 
 failure_within n made event fails =
     within_delay n made (made ++ event ∷ []) (λ v.
     ap (λ (u : LinkSpec). u.bounds.max)
+    (link_behind made event v ∙ ap (λ act. link_acted act (link_after made v)) fails.act))
+
+-- and where then links go down
+lowers_stay : (n : NetworkState) (made now : List Timed) → EachEvent (LowersUnused n) made now → (v : LinkSpec)
+    → (link_after (made ++ now) v).bounds.max ≡ (link_after made v).bounds.max
+lowers_stay n made [] each v = ap (λ es. (link_after es v).bounds.max) (append-nil made)
+lowers_stay n made (event ∷ now) (lowers, others) v =
+    ap (λ es. (link_after es v).bounds.max) (sym (append_assoc made (event ∷ []) now))
+    ∙ lowers_stay n (made ++ event ∷ []) now others v
+    ∙ ap (λ (u : LinkSpec). u.bounds.max)
+    (link_behind made event v ∙ ap (λ act. link_acted act (link_after made v)) lowers.act)
+    ∙ by (is_at lowers.clock lowers.port (link_after made v)) (link_after made v)
+  where
+    by : (test : Bool) (u : LinkSpec) → (cond test (with_up false u) u).bounds.max ≡ u.bounds.max
+    by true u = refl
+    by false u = refl
+
+pub failures_within : (n : NetworkState) (made now : List Timed) → FailsHeardFirst n made now
+    → AgesWithin n made (made ++ now) (aging_span (pace_of n) (sync_paths n made))
+failures_within n made [] none = absurd none
+failures_within n made (event ∷ now) (fails, lowers) =
+    within_delay n made (made ++ event ∷ now) (λ v.
+    ap (λ es. (link_after es v).bounds.max) (sym (append_assoc made (event ∷ []) now))
+    ∙ lowers_stay n (made ++ event ∷ []) now lowers v
+    ∙ ap (λ (u : LinkSpec). u.bounds.max)
     (link_behind made event v ∙ ap (λ act. link_acted act (link_after made v)) fails.act))
