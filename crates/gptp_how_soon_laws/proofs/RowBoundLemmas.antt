@@ -133,7 +133,7 @@ IsSoundSooner n before paths silent used_before row sound =
     ⊎ (((row ≡ OneTurned) × (sound ≡ 2 * way_span paths + echo_span n paths))
     ⊎ ((((row ≡ LostPower) ⊎ (row ≡ PowerCutsOff)) × (max (echo_span n paths) paths.delay ≤ sound))
     ⊎ ((((row ≡ FailedHeard) ⊎ (row ≡ FailureCutsOff)) × (aged_echo_span n paths ≤ sound))
-    ⊎ ((row ≡ AnyLosses) × (sound ≡ roles_after_losses n before paths silent)))))))
+    ⊎ ((row ≡ AnyLosses) × (sound ≡ roles_after_losses n before paths silent))))))))
 
 pub sound_or_sooner : (n : NetworkState) (before paths : SyncPaths) (silent used_before : Bool) (row : Row)
     (gained : ℕ)
