@@ -75,7 +75,7 @@ module _ (n : NetworkState) (made : List Timed) (event : Timed) (number : ℕ)
       let end = receiver way.direction channel in
       let is_end : IsEnd end (link_after more v) = subst (IsEnd end) (sym wire) (lead_end way.direction channel) in
       let used = used_as n made w stands sound channel way.used in
-      let max : (link_after more v).bounds.max ≡ most = ap (λ (u : LinkSpec). u.bounds.max) wire ∙ sym most_is in (
+      let most_now : (link_after more v).bounds.max ≡ most = ap (λ (u : LinkSpec). u.bounds.max) wire ∙ sym most_is in (
         way.link,
         v,
         there,
@@ -91,5 +91,5 @@ module _ (n : NetworkState) (made : List Timed) (event : Timed) (number : ℕ)
               (subst (IsEnd end) (sym same') is_end))),
         ),
         (end, is_end, sym way.to),
-        omega (arith, is, max, span_is),
+        omega (arith, is, most_now, span_is),
       )
