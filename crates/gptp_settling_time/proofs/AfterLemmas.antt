@@ -141,7 +141,7 @@ module _ (d : DocumentState) (playable : IsPlayable d) (events : List Timed) (w 
   rests_as (Aging ago aged silent) (Left start) none so = absurd none
   rests_as (Aging ago aged silent) (Turned start now) none so = absurd none
   rests_as (Aging ago aged silent) (Cleared start dark clean last) none so = absurd none
-  rests_as (Aging ago aged silent) (Aging ago gone start) none so = absurd none
+  rests_as (Aging ago aged silent) (Aging once gone start) none so = absurd none
   rests_as (Aging ago aged silent) (Lost since most start) none so = absurd none
   rests_as (Lost since most silent) AnyPast none so = absurd none
   rests_as (Lost since most silent) Starting none so = absurd none
