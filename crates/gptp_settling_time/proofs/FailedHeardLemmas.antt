@@ -39,7 +39,7 @@ use Rattle.gptp_invariants.specs.FailedUnanswered.{silence_span}
 use Rattle.gptp_invariants.proofs.ChoiceSettlesAsMachineLemmas.{paths_bound}
 use Rattle.gptp_invariants.proofs.WorldStandsLemmas.{stands_well}
 use Rattle.gptp_invariants.proofs.ChoiceCalmFactLemmas.{frame_from}
-use Rattle.gptp_invariants.proofs.WorldWayLemmas.{IsWay, one_way, used_joins, way_of}
+use Rattle.gptp_invariants.proofs.WorldWayLemmas.{one_way, used_joins, way_of}
 use Rattle.gptp_settling_time.specs.Losses.{IsUnmovedOrCutOff}
 use Rattle.gptp_settling_time.proofs.AgingLemmas.{UnlinkedAge}
 use Rattle.gptp_settling_time.proofs.AgingClaimedLemmas.{IsAgingAlways, aging_after, aging_network, named_in, stay_of}

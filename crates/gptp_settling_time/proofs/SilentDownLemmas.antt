@@ -1,5 +1,5 @@
 -- Links go down of which an end has failed: what was told over the silent ones that are left ages as it did.
-use Rattle.std.proofs.Common.{◌≡◌, Bool, true, false, cond, ◌∙◌, ◌+◌, ◌∷◌, ◌++◌, ℕ, suc, List, [], Some, slice_get, refl, sym, ap, subst, inl, inr}
+use Rattle.std.proofs.Common.{◌≡◌, Bool, true, false, cond, ◌∙◌, ◌+◌, ◌∷◌, ◌++◌, ℕ, suc, List, [], refl, sym, ap, subst, inl, inr}
 use Rattle.gptp_lists.proofs.MappedLemmas.{alike}
 use Rattle.gptp_graph.specs.Snapshot.{PortIdentity}
 use Rattle.gptp_vector.specs.declared.port.PortId.{PortId}
@@ -12,7 +12,6 @@ use Rattle.gptp_setup.specs.SettlingParams.{longest_span}
 use Rattle.gptp_scenario.specs.Network.{IsEnd, NetworkState, pace_of}
 use Rattle.gptp_scenario.specs.declared.change.Timed.{Timed}
 use Rattle.gptp_scenario.specs.declared.network.LinkSpec.{LinkSpec}
-use Rattle.gptp_scenario.specs.declared.network.SystemSpec.{SystemSpec}
 use Rattle.gptp_model.specs.Sound.{IsSound}
 use Rattle.gptp_model.specs.World.{Channel, WorldState, sender}
 use Rattle.gptp_invariants.specs.ChoiceView.{port_identity_number}

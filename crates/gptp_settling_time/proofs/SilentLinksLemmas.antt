@@ -14,7 +14,7 @@ use Rattle.gptp_scenario.specs.declared.change.Change.TheVariants.{Fail}
 use Rattle.gptp_scenario.specs.declared.change.Timed.{Timed}
 use Rattle.gptp_scenario.specs.declared.network.LinkSpec.{LinkSpec}
 use Rattle.gptp_model.specs.Sound.{IsSound}
-use Rattle.gptp_model.specs.World.{Channel, WorldState, receiver, sender}
+use Rattle.gptp_model.specs.World.{Channel, WorldState, receiver}
 use Rattle.gptp_invariants.specs.ChoiceView.{port_identity_number}
 use Rattle.gptp_invariants.specs.WorldStanding.{channel_is_used, live_stations, snapshot_of}
 use Rattle.gptp_invariants.proofs.WorldWayLemmas.{used_joins}

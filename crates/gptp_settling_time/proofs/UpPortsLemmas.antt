@@ -1,5 +1,5 @@
 -- What is received is held at ports at which a link is up, and what is in flight comes over such a link.
-use Rattle.std.proofs.Common.{◌≡◌, ℕ, suc, true, false, List, Option, Some, None, slice_get, refl, sym, ap, subst, ◌∙◌}
+use Rattle.std.proofs.Common.{◌≡◌, ℕ, suc, true, false, Option, Some, None, slice_get, refl, sym, ap, subst, ◌∙◌}
 use Rattle.gptp_lists.specs.Members.{In}
 use Rattle.gptp_graph.specs.Snapshot.{PortIdentity, port_of}
 use Rattle.gptp_vector.specs.declared.port.PortId.{PortId}
