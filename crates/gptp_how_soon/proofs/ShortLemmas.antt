@@ -147,8 +147,8 @@ module _ (n : NetworkState) (network : IsNetwork n) (paths : SyncPaths) (few : p
   sound_most before silent used row gained soon early =
       either_most (not (n.params.sync_timeout == 0)) _ _ 195000000000000 span (by row)
     where
-      gone : gone_by n paths used ≤ 16000000000
-      gone = either_most used paths.delay (largest_interval (pace_of n)) 16000000000 short largest
+      gone : (x : SyncPaths) → x.delay ≤ 16000000000 → gone_by n x used ≤ 16000000000
+      gone x most = either_most used x.delay (largest_interval (pace_of n)) 16000000000 most largest
 
       echo : echo_span n paths ≤ 16384000000000
       echo =
@@ -156,16 +156,16 @@ module _ (n : NetworkState) (network : IsNetwork n) (paths : SyncPaths) (few : p
           mul-le (pred paths.systems) (largest_interval (pace_of n) + paths.delay) 512 32000000000
           (pred_few paths.systems 512 few) (omega (arith, l, short))
 
-      aged : aged_echo_span n paths ≤ 195000000000000
+      aged : aged_echo_span n before paths ≤ 195000000000000
       aged = let s = silence_most in let e = echo in let l = largest in omega (arith, s, e, l)
 
       by : (r : Row) → sound_of_row n before paths silent used r gained ≤ 195000000000000
       by AnyPast = at_once
       by Unchanged = omega arith
-      by Lowered = let e = echo in let g = gone in omega (arith, e, g)
-      by CutOff = let w = way in let g = gone in omega (arith, w, g)
-      by LostEnd = let g = gone in omega (arith, g)
-      by FailedEnd = let s = silence_most in let g = gone in omega (arith, s, g)
+      by Lowered = let e = echo in let g = gone paths short in omega (arith, e, g)
+      by CutOff = let w = way in let g = gone paths short in omega (arith, w, g)
+      by LostEnd = let g = gone before soon in omega (arith, g)
+      by FailedEnd = let s = silence_most in let g = gone before soon in omega (arith, s, g)
       by LostPower = let e = echo in omega (arith, e, short)
       by PowerCutsOff = let w = way in let e = echo in omega (arith, w, e, short)
       by FailedHeard = aged

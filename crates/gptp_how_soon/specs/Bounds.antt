@@ -33,14 +33,14 @@ asked_again p paths = interval_of p.pdelay + two_exchanges p paths
 abbrev pub silence_span : Params → ℕ
 silence_span p = (p.lost + 2) * interval_of p.pdelay
 
--- How long others hold what they heard of a system that fails: it comes within the greatest delay, and stays for the
--- longest receipt timeout.
+-- How long others hold what they heard of a system that fails: it comes within the greatest delay of before, and stays
+-- for the longest receipt timeout.
 abbrev pub aging_span : NetworkState → SyncPaths → ℕ
-aging_span n paths = longest_span (pace_of n) + paths.delay
+aging_span n before = longest_span (pace_of n) + before.delay
 
 -- how long it counts: no longer than the ports beside that system stay capable
 abbrev pub held_span : NetworkState → SyncPaths → ℕ
-held_span n paths = min (aging_span n paths) (silence_span n.params)
+held_span n before = min (aging_span n before) (silence_span n.params)
 
 -- the greatest delay for each system of a path but one
 abbrev pub way_span : SyncPaths → ℕ
@@ -90,8 +90,8 @@ choice_of_row n before paths LostEnd gained = 0
 choice_of_row n before paths FailedEnd gained = 0
 choice_of_row n before paths LostPower gained = 0
 choice_of_row n before paths PowerCutsOff gained = 2 * way_span paths
-choice_of_row n before paths FailedHeard gained = held_span n paths
-choice_of_row n before paths FailureCutsOff gained = held_span n paths + 2 * way_span paths
+choice_of_row n before paths FailedHeard gained = held_span n before
+choice_of_row n before paths FailureCutsOff gained = held_span n before + 2 * way_span paths
 choice_of_row n before paths OneTurned gained = 2 * way_span paths
 choice_of_row n before paths AnyLosses gained = loss_span n before paths
 choice_of_row n before paths Gained gained = gained
@@ -143,13 +143,14 @@ echo_span n paths = pred paths.systems * (largest_interval (pace_of n) + paths.d
 -- How much later than a system fails that others heard each tells a right trace, where a link may be left silent. They
 -- do once nobody holds what names it, 1 ns later than the choice stands, and what was in flight is gone by then. Roles
 -- have to stand too.
-abbrev pub aged_echo_span : NetworkState → SyncPaths → ℕ
-aged_echo_span n paths =
-    max (silence_span n.params) (held_span n paths + 1 + max (echo_span n paths) (largest_interval (pace_of n)))
+abbrev pub aged_echo_span : NetworkState → SyncPaths → SyncPaths → ℕ
+aged_echo_span n before paths =
+    max (silence_span n.params) (held_span n before + 1 + max (echo_span n paths) (largest_interval (pace_of n)))
 
 -- By when all that is held and in flight is sound: as soon as the choice stands, but after a loss it may name what is
--- gone. After a far end is cut off, or loses its power, only what was in flight does. Where a far end fails, and ports
--- beside it may still be capable, roles have to stand too. After a link goes down by which no system is moved, or a
+-- gone. After a far end is cut off, or fails, only what was in flight does; of one that fails by links of before too.
+-- Where ports beside it may still be capable roles have to stand too. After a link goes down by which no system is
+-- moved, or a
 -- system that others heard loses its power, traces have to be told anew first. So they do once the choice stands where
 -- one system turns, or one fails that others heard. After losses without a row of their own all is sound once roles
 -- stand. After others it is as soon as the choice stands from any past.
@@ -158,15 +159,15 @@ sound_of_row n before paths silent used_before AnyPast gained = settling_span_at
 sound_of_row n before paths silent used_before Unchanged gained = 0
 sound_of_row n before paths silent used_before Lowered gained = max (echo_span n paths) (gone_by n paths used_before)
 sound_of_row n before paths silent used_before CutOff gained = max (2 * way_span paths) (gone_by n paths used_before)
-sound_of_row n before paths silent used_before LostEnd gained = gone_by n paths used_before
+sound_of_row n before paths silent used_before LostEnd gained = gone_by n before used_before
 sound_of_row n before paths silent used_before FailedEnd gained =
-    max (silence_span n.params) (gone_by n paths used_before)
+    max (silence_span n.params) (gone_by n before used_before)
 sound_of_row n before paths silent used_before LostPower gained = max (echo_span n paths) paths.delay
 sound_of_row n before paths silent used_before PowerCutsOff gained =
     max (2 * way_span paths) (max (echo_span n paths) paths.delay)
-sound_of_row n before paths silent used_before FailedHeard gained = aged_echo_span n paths
+sound_of_row n before paths silent used_before FailedHeard gained = aged_echo_span n before paths
 sound_of_row n before paths silent used_before FailureCutsOff gained =
-    max (held_span n paths + 2 * way_span paths) (aged_echo_span n paths)
+    max (held_span n before + 2 * way_span paths) (aged_echo_span n before paths)
 sound_of_row n before paths silent used_before OneTurned gained = 2 * way_span paths + echo_span n paths
 sound_of_row n before paths silent used_before AnyLosses gained = roles_after_losses n before paths silent
 sound_of_row n before paths silent used_before Gained gained = gained

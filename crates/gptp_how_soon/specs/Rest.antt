@@ -2,7 +2,7 @@
 --
 -- Each word that ends in `followed` says where this is proved, and no more: elsewhere the network may come from any
 -- past.
-use Rattle.std.specs.Prelude.{ℕ, ◌+◌, ◌*◌, ◌==◌, ◌&&◌, ◌||◌, nat_le, nat_lt, not, Bool, false, if◌then◌else◌, List, Option, Some, None}
+use Rattle.std.specs.Prelude.{ℕ, ◌+◌, ◌*◌, ◌&&◌, ◌||◌, nat_le, nat_lt, not, Bool, false, if◌then◌else◌, List, Option, Some, None}
 use Rattle.std.specs.List.{list_all, list_any}
 use Rattle.gptp_scenario.specs.declared.sync_wait.SyncPaths.{SyncPaths}
 use Rattle.gptp_how_soon.specs.Bounds.{way_span}
@@ -52,11 +52,11 @@ is_wider_followed b at paths_before paths told =
 abbrev pub are_losses_followed : SyncPaths → List Told → Bool
 are_losses_followed paths_before told = nat_le paths_before.systems 255 && list_all leaves_links told
 
--- Other losses are followed where they leave paths as they are: the greatest delay of a link in use stays, no path gets
--- longer, and none had more than 255 systems before.
+-- Other losses are followed where paths get no longer: neither does the greatest delay of a link in use, nor any path,
+-- and none had more than 255 systems before.
 abbrev pub keeps_paths : SyncPaths → SyncPaths → Bool
 keeps_paths paths_before paths =
-    nat_le paths_before.systems 255 && (paths.delay == paths_before.delay)
+    nat_le paths_before.systems 255 && nat_le paths.delay paths_before.delay
     && nat_le paths.systems paths_before.systems
 
 -- Then a link that goes down by the one event of a time is followed. So is a system that fails, alone or as it loses

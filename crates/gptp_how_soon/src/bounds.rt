@@ -181,22 +181,22 @@ fn silence_span(network: &Network) -> u64
 
 /// By how much later than a system fails others don't hold any more what they heard of it, in ns.
 #[tactic(auto, using(gptp_scenario::proofs::SpanLemmas::few_spans))]
-fn aging_span(network: &Network, paths: SyncPaths) -> u64
-    requires { paths.delay ≤ 16000000000 }
-    ensures is { result ≡ aging_span network.now paths }
+fn aging_span(network: &Network, before: SyncPaths) -> u64
+    requires { before.delay ≤ 16000000000 }
+    ensures is { result ≡ aging_span network.now before }
     ensures bound { result ≤ 176000000000 }
 {
     network.well_formed();
-    u64::from(network.params().timeout) * interval_of(network.largest()) + paths.delay
+    u64::from(network.params().timeout) * interval_of(network.largest()) + before.delay
 }
 
 /// By how much later than a system fails what others heard of it doesn't count any more, in ns.
-fn held_span(network: &Network, paths: SyncPaths) -> u64
-    requires { paths.delay ≤ 16000000000 }
-    ensures is { result ≡ held_span network.now paths }
+fn held_span(network: &Network, before: SyncPaths) -> u64
+    requires { before.delay ≤ 16000000000 }
+    ensures is { result ≡ held_span network.now before }
     ensures bound { result ≤ 176000000000 }
 {
-    aging_span(network, paths).min(silence_span(network))
+    aging_span(network, before).min(silence_span(network))
 }
 
 /// How long the network takes at most to settle from any past where nothing lapses for want of Sync, in ns.
@@ -248,8 +248,8 @@ fn choice_by(network: &Network, before: SyncPaths, paths: SyncPaths, row: Row, g
     match row {
         Row::AnyPast => settling_span_at_once(network, paths),
         Row::Unchanged | Row::Lowered | Row::LostEnd | Row::FailedEnd | Row::LostPower => 0,
-        Row::FailedHeard => held_span(network, paths),
-        Row::FailureCutsOff => held_span(network, paths) + 2 * way_span(paths),
+        Row::FailedHeard => held_span(network, before),
+        Row::FailureCutsOff => held_span(network, before) + 2 * way_span(paths),
         Row::CutOff | Row::PowerCutsOff | Row::OneTurned => 2 * way_span(paths),
         Row::AnyLosses => loss_span(network, before, paths),
         Row::Gained => gained,
@@ -296,7 +296,7 @@ fn roles_by(
         Row::Unchanged | Row::Lowered | Row::LostEnd | Row::LostPower => 0,
         Row::FailedEnd | Row::FailedHeard => silence_span(network),
         Row::FailureCutsOff => {
-            (held_span(network, paths) + 2 * way_span(paths)).max(silence_span(network))
+            (held_span(network, before) + 2 * way_span(paths)).max(silence_span(network))
         }
         Row::CutOff | Row::PowerCutsOff | Row::OneTurned => 2 * way_span(paths),
         Row::AnyLosses => roles_after_losses(network, before, paths, silent),
@@ -331,15 +331,16 @@ fn gone_by(network: &Network, paths: SyncPaths, used_before: bool) -> u64
 
 /// By how much later than a system fails that others heard each tells a trace without it, in ns, where a link may be left
 /// silent.
-fn aged_echo_span(network: &Network, paths: SyncPaths) -> u64
+fn aged_echo_span(network: &Network, before: SyncPaths, paths: SyncPaths) -> u64
     requires few { paths.systems ≤ 512 }
     requires short { paths.delay ≤ 16000000000 }
-    ensures is { result ≡ aged_echo_span network.now paths }
+    requires short_before { before.delay ≤ 16000000000 }
+    ensures is { result ≡ aged_echo_span network.now before paths }
     ensures bound { result ≤ 18000000000000 }
 {
     network.well_formed();
     let echo = echo_span(network, paths).max(interval_of(network.largest()));
-    silence_span(network).max(held_span(network, paths) + 1 + echo)
+    silence_span(network).max(held_span(network, before) + 1 + echo)
 }
 
 /// The bound of what is held and in flight, in ns.
@@ -367,13 +368,14 @@ fn sound_by(
         Row::Unchanged => 0,
         Row::Lowered => echo_span(network, paths).max(gone_by(network, paths, used_before)),
         Row::CutOff => (2 * way_span(paths)).max(gone_by(network, paths, used_before)),
-        Row::LostEnd => gone_by(network, paths, used_before),
-        Row::FailedEnd => silence_span(network).max(gone_by(network, paths, used_before)),
+        Row::LostEnd => gone_by(network, before, used_before),
+        Row::FailedEnd => silence_span(network).max(gone_by(network, before, used_before)),
         Row::LostPower => echo_span(network, paths).max(paths.delay),
         Row::PowerCutsOff => (2 * way_span(paths)).max(echo_span(network, paths).max(paths.delay)),
-        Row::FailedHeard => aged_echo_span(network, paths),
+        Row::FailedHeard => aged_echo_span(network, before, paths),
         Row::FailureCutsOff => {
-            (held_span(network, paths) + 2 * way_span(paths)).max(aged_echo_span(network, paths))
+            let aged = held_span(network, before) + 2 * way_span(paths);
+            aged.max(aged_echo_span(network, before, paths))
         }
         Row::OneTurned => 2 * way_span(paths) + echo_span(network, paths),
         Row::AnyLosses => roles_after_losses(network, before, paths, silent),

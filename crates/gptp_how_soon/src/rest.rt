@@ -135,12 +135,12 @@ fn are_losses_followed(paths_before: SyncPaths, told: &[Told]) -> bool
     paths_before.systems <= 255 && all_leave_links(told)
 }
 
-/// Whether no path had more than 255 systems, none gets longer, and the greatest delay of a link in use stays.
+/// Whether no path had more than 255 systems, none gets longer, and the greatest delay of a link in use gets no greater.
 fn keeps_paths(paths_before: SyncPaths, paths: SyncPaths) -> bool
     ensures { result ≡ keeps_paths paths_before paths }
 {
     paths_before.systems <= 255
-        && paths.delay == paths_before.delay
+        && paths.delay <= paths_before.delay
         && paths.systems <= paths_before.systems
 }
 

@@ -549,11 +549,6 @@ fn other_losses_cost_a_turn_for_each_system_of_a_path(rt: HostRuntime) -> Result
             (13_000_003_500, 13_000_003_500),
         ),
         (
-            "the widest link goes down",
-            "[[event]]\nat = 60000000000\nkind = \"link_down\"\nclock = \"000000000000000a\"\nport = 1\n",
-            (13_000_003_230, 13_000_003_230),
-        ),
-        (
             "two links go down, and one that is down",
             "[[event]]\nat = 60000000000\nkind = \"link_down\"\nclock = \"000000000000000a\"\nport = 1\n[[event]]\nat = 60000000000\nkind = \"link_down\"\nclock = \"000000000000000c\"\nport = 2\n[[event]]\nat = 60000000000\nkind = \"link_down\"\nclock = \"000000000000000a\"\nport = 1\n",
             (7_000_001_410, 7_000_001_410),
@@ -571,6 +566,64 @@ fn other_losses_cost_a_turn_for_each_system_of_a_path(rt: HostRuntime) -> Result
         text.push_str(events)?;
         let times = ring(rt.alloc(), text.as_str())?;
         assert_eq!(rt; bounds(&times, 60_000_000_000), Some(bound), "{case}");
+    }
+    Ok(())
+}
+
+#[test]
+fn the_slowest_link_may_go_down(rt: HostRuntime) -> Result<(), Fail> {
+    // It is wider first. The one moves no system; by the other one turns, and ways take what links take that are left.
+    for (case, port, bound) in [
+        ("none is moved", "b\"\nport = 2", (0, 0)),
+        ("one turns", "a\"\nport = 1", (2_460, 2_460)),
+    ] {
+        let mut text = String::new(rt.alloc());
+        writeln!(
+            text,
+            "[[event]]\nat = 30000000000\nkind = \"link_set\"\nclock = \"000000000000000{port}\nmin = 380\nmax = 500\nloss = 0\n[[event]]\nat = 60000000000\nkind = \"link_down\"\nclock = \"000000000000000{port}"
+        )?;
+        let times = ring(rt.alloc(), text.as_str())?;
+        assert_eq!(rt; bounds(&times, 60_000_000_000), Some(bound), "{case}");
+    }
+    Ok(())
+}
+
+#[test]
+fn an_end_station_may_be_left_without_a_link(rt: HostRuntime) -> Result<(), Fail> {
+    // No link is left, so nothing has a way to go. What b heard of a ages.
+    for (case, events, bound) in [
+        (
+            "the link goes down",
+            "[[event]]\nat = 30000000000\nkind = \"link_down\"\nclock = \"000000000000000a\"\nport = 1\n",
+            (0, 0),
+        ),
+        (
+            "b loses its power",
+            "[[event]]\nat = 30000000000\nkind = \"fail\"\nclock = \"000000000000000b\"\n[[event]]\nat = 30000000000\nkind = \"link_down\"\nclock = \"000000000000000a\"\nport = 1\n",
+            (0, 0),
+        ),
+        (
+            "b hangs",
+            "[[event]]\nat = 30000000000\nkind = \"fail\"\nclock = \"000000000000000b\"\n",
+            (0, 11_000_000_000),
+        ),
+        (
+            "a loses its power",
+            "[[event]]\nat = 30000000000\nkind = \"fail\"\nclock = \"000000000000000a\"\n[[event]]\nat = 30000000000\nkind = \"link_down\"\nclock = \"000000000000000a\"\nport = 1\n",
+            (0, 0),
+        ),
+        (
+            "a hangs",
+            "[[event]]\nat = 30000000000\nkind = \"fail\"\nclock = \"000000000000000a\"\n",
+            (3_000_000_500, 11_000_000_000),
+        ),
+    ] {
+        let mut text = String::new(rt.alloc());
+        text.push_str(PAIR)?;
+        text.push_str("min = 500\nmax = 500\n")?;
+        text.push_str(events)?;
+        let times = times_of(rt.alloc(), text.as_str())?;
+        assert_eq!(rt; bounds(&times, 30_000_000_000), Some(bound), "{case}");
     }
     Ok(())
 }

@@ -6,7 +6,7 @@ use Rattle.std.proofs.lemmas.Bool.{eqb-false, eqb-true}
 use Rattle.std.proofs.lemmas.Bool.Decides.{nat_tests}
 use Rattle.gptp_lists.specs.Members.{In}
 use Rattle.gptp_lists.proofs.SystemSpecLemmas.{In-left, In-parts}
-use Rattle.gptp_setup.specs.SettlingParams.{largest_interval, longest_span}
+use Rattle.gptp_setup.specs.SettlingParams.{largest_interval}
 use Rattle.gptp_scenario.specs.Calm.{NothingLapses}
 use Rattle.gptp_scenario.specs.Network.{NetworkState, pace_of}
 use Rattle.gptp_scenario.specs.SettlingTime.{window_span}
@@ -179,11 +179,6 @@ module _ (d : DocumentState) (playable : IsPlayable d) where
               (sym (parted all b.at at playable.events.in_order late between)) bound,
         )
 
-    -- what is heard is held for as long by the delay of before
-    held_as : v.paths.delay ≡ (sync_paths n made).delay
-        → held_span n v.paths ≡ min (aging_span (pace_of n) (sync_paths n made)) (silence_span (pace_of n))
-    held_as delay = ap (λ d. min (longest_span (pace_of n) + d) (silence_span (pace_of n))) delay
-
     -- it has come to rest by that, or sooner after a loss by which no system is moved
     rest_so : (s : Settling) → IsTelling n v s → IsChoiceBoundAfter n all (b.at ∷ earlier) at settled_by
         → IsRestBoundAfter n all (b.at ∷ earlier) at s.sound
@@ -205,7 +200,7 @@ module _ (d : DocumentState) (playable : IsPlayable d) where
             (x.rested, inl (inr (inl (x.fails, inl (x.used, flight)))))
         by (inr (inl (row, is))) =
             let (rest, fails, flight) = failed n playable.network all b at late well row in
-            (rest, inl (inr (inl (fails, inr (gone_by n v.paths v.used_before, flight, it.sound ∙ is)))))
+            (rest, inl (inr (inl (fails, inr (gone_by n v.paths_before v.used_before, flight, it.sound ∙ is)))))
         by (inr (inr (inl (row, is)))) =
             let (rest, lowers, flight) = lowered n playable.network all b at late well row in
             (rest, inl (inr (inr (inl (lowers, (gone_by n v.paths v.used_before, flight, it.sound ∙ is))))))
@@ -221,13 +216,9 @@ module _ (d : DocumentState) (playable : IsPlayable d) where
             subst (λ t. max (echo_span n v.paths) v.paths.delay ≤ t) (sym it.sound) long in
             (rest, inl (inr (inr (inr (inr (fails, inl (used, late)))))))
         by (inr (inr (inr (inr (inr (inr (inl (row, long)))))))) =
-            let (rest, fails, delay) = heard n playable.network all b at late well row in
-            let late : aged_echo_span n v.paths ≤ s.sound =
-            subst (λ t. aged_echo_span n v.paths ≤ t) (sym it.sound) long in
-            let told : max (silence_span (pace_of n)) (min (aging_span (pace_of n) (sync_paths n made))
-            (silence_span (pace_of n)) + 1 + max (echo_span n v.paths) (largest_interval (pace_of n))) ≤ s.sound =
-            subst (λ held. max (silence_span (pace_of n)) (held + 1 + max (echo_span n v.paths)
-            (largest_interval (pace_of n))) ≤ s.sound) (held_as delay) late in
+            let (rest, fails) = heard n playable.network all b at late well row in
+            let told : aged_echo_span n v.paths_before v.paths ≤ s.sound =
+            subst (λ t. aged_echo_span n v.paths_before v.paths ≤ t) (sym it.sound) long in
             (rest, inl (inr (inr (inr (inr (fails, inr (largest_interval (pace_of n), inr refl, told)))))))
         by (inr (inr (inr (inr (inr (inr (inr (row, is)))))))) =
             let (rest, loses, roles) = any_losses n playable.network all b at late row in (
@@ -302,19 +293,19 @@ module _ (d : DocumentState) (playable : IsPlayable d) where
         let (rest, turns) = turned n playable.network all b at late well row in
         (rest, inr (inr (inl (turns, refl, refl))))
     loses_by FailedHeard row own =
-        let (rest, fails, delay) = heard n playable.network all b at late well (inl row) in (
+        let (rest, fails) = heard n playable.network all b at late well (inl row) in (
           rest,
           inr (inr (inr (inl (
             fails,
-            (held_span n v.paths, silence_span (pace_of n), inr (held_as delay, refl), inl (refl, refl)),
+            (held_span n v.paths_before, silence_span (pace_of n), inr (refl, refl), inl (refl, refl)),
           )))),
         )
     loses_by FailureCutsOff row own =
-        let (rest, fails, delay) = heard n playable.network all b at late well (inr row) in (
+        let (rest, fails) = heard n playable.network all b at late well (inr row) in (
           rest,
           inr (inr (inr (inl (
             fails,
-            (held_span n v.paths, silence_span (pace_of n), inr (held_as delay, refl), inr (refl, refl)),
+            (held_span n v.paths_before, silence_span (pace_of n), inr (refl, refl), inr (refl, refl)),
           )))),
         )
     loses_by AnyLosses row own =

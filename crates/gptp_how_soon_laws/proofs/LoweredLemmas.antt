@@ -136,7 +136,7 @@ module _ (n : NetworkState) (network : IsNetwork n) (made : List Timed) (event :
         by g h v stands stands' known false is = inr (cut_off g h v stands stands' known is)
 
   module _ (well : AreWell n later) (unmoved : moves_joined n made later ≡ false)
-      (delay : (sync_paths n later).delay ≡ (sync_paths n made).delay)
+      (delay : (sync_paths n later).delay ≤ (sync_paths n made).delay)
       (paths : (sync_paths n later).systems ≤ (sync_paths n made).systems)
       (few : (sync_paths n made).systems ≤ 255) (is : is_lowering (told_at n made event.act) ≡ true) where
     pub lowers_link : LowersLink n made event
@@ -156,7 +156,7 @@ module _ (n : NetworkState) (network : IsNetwork n) (made : List Timed) (event :
 -- the events of a time
 pub lowers_one_link : (n : NetworkState) (network : IsNetwork n) (made now : List Timed) → AreWell n (made ++ now)
     → moves_joined n made (made ++ now) ≡ false
-    → (sync_paths n (made ++ now)).delay ≡ (sync_paths n made).delay
+    → (sync_paths n (made ++ now)).delay ≤ (sync_paths n made).delay
     → (sync_paths n (made ++ now)).systems ≤ (sync_paths n made).systems
     → (sync_paths n made).systems ≤ 255
     → lowers_one (told_of n made now) ≡ true

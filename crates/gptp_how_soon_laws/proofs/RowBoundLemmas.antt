@@ -126,13 +126,13 @@ choice_or_own n before paths silent row gained = by (n.params.sync_timeout == 0)
 -- All is sound by that bound. Or nothing lapses, and it is sooner after a loss.
 abbrev pub IsSoundSooner : NetworkState → SyncPaths → SyncPaths → Bool → Bool → Row → ℕ → Type 0
 IsSoundSooner n before paths silent used_before row sound =
-    ((row ≡ LostEnd) × (sound ≡ gone_by n paths used_before))
-    ⊎ (((row ≡ FailedEnd) × (sound ≡ max (silence_span (pace_of n)) (gone_by n paths used_before)))
+    ((row ≡ LostEnd) × (sound ≡ gone_by n before used_before))
+    ⊎ (((row ≡ FailedEnd) × (sound ≡ max (silence_span (pace_of n)) (gone_by n before used_before)))
     ⊎ (((row ≡ Lowered) × (sound ≡ max (echo_span n paths) (gone_by n paths used_before)))
     ⊎ (((row ≡ CutOff) × (sound ≡ max (2 * way_span paths) (gone_by n paths used_before)))
     ⊎ (((row ≡ OneTurned) × (sound ≡ 2 * way_span paths + echo_span n paths))
     ⊎ ((((row ≡ LostPower) ⊎ (row ≡ PowerCutsOff)) × (max (echo_span n paths) paths.delay ≤ sound))
-    ⊎ ((((row ≡ FailedHeard) ⊎ (row ≡ FailureCutsOff)) × (aged_echo_span n paths ≤ sound))
+    ⊎ ((((row ≡ FailedHeard) ⊎ (row ≡ FailureCutsOff)) × (aged_echo_span n before paths ≤ sound))
     ⊎ ((row ≡ AnyLosses) × (sound ≡ roles_after_losses n before paths silent))))))))
 
 pub sound_or_sooner : (n : NetworkState) (before paths : SyncPaths) (silent used_before : Bool) (row : Row)

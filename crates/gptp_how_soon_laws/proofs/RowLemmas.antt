@@ -1,8 +1,8 @@
 -- What is told of a time after the first one, by its row, is so by its events.
 use Rattle.std.proofs.Common.{◌≡◌, ◌<◌, ◌≤◌, ◌⊎◌, inl, inr, ◌+◌, ◌*◌, ℕ, Bool, true, false, cond, List, [], ◌∷◌, ◌++◌, Option, Some, None, map, refl, sym, ap, subst, ◌∙◌, arith}
-use Rattle.std.specs.Prelude.{◌==◌, ◌&&◌, ◌||◌, not, if◌then◌else◌, nat_le, nat_lt, max}
+use Rattle.std.specs.Prelude.{◌&&◌, ◌||◌, not, if◌then◌else◌, nat_le, nat_lt, max}
 use Rattle.std.specs.List.{AllByRecursion, list_all, list_any}
-use Rattle.std.proofs.lemmas.Bool.{and_parts, eqb-true, not-true, or_cases, or_from, or_parts}
+use Rattle.std.proofs.lemmas.Bool.{and_parts, not-true, or_cases, or_from, or_parts}
 use Rattle.std.proofs.lemmas.Bool.Decides.{nat_tests}
 use Rattle.gptp_lists.specs.Members.{In}
 use Rattle.gptp_lists.proofs.MappedLemmas.{some_same}
@@ -364,21 +364,21 @@ module _ (n : NetworkState) (network : IsNetwork n) (events : List Timed) (b : S
         refl,
       )
 
-  -- the greatest delay of a link in use stays, no path gets longer, and none had more than 255 systems
+  -- the greatest delay of a link in use gets no greater, no path gets longer, and none had more than 255 systems
   record KeepsPaths : Type 0 where
-    pub delay : (sync_paths n (made ++ now)).delay ≡ (sync_paths n made).delay
+    pub delay : (sync_paths n (made ++ now)).delay ≤ (sync_paths n made).delay
     pub paths : (sync_paths n (made ++ now)).systems ≤ (sync_paths n made).systems
     pub few : (sync_paths n made).systems ≤ 255
 
   keeps_so : keeps_paths v.paths_before v.paths ≡ true → KeepsPaths
   keeps_so keeps =
       let few_test : Bool = nat_le v.paths_before.systems 255 in
-      let delay_test : Bool = v.paths.delay == v.paths_before.delay in
+      let delay_test : Bool = nat_le v.paths.delay v.paths_before.delay in
       let paths_test : Bool = nat_le v.paths.systems v.paths_before.systems in
       let (two, paths) = and_parts (few_test && delay_test) paths_test keeps in
       let (few, delay) = and_parts few_test delay_test two in
       record {
-        delay = eqb-true v.paths.delay v.paths_before.delay delay;
+        delay = at_most v.paths.delay v.paths_before.delay delay;
         paths = at_most v.paths.systems v.paths_before.systems paths;
         few = at_most v.paths_before.systems 255 few;
       }
@@ -436,12 +436,11 @@ module _ (n : NetworkState) (network : IsNetwork n) (events : List Timed) (b : S
       cuts_one_end n network made now well x.unmoved cut x.keeps.delay x.keeps.paths x.keeps.few x.one
 
   -- what was in flight is gone by then
-  flight_so : (sync_paths n (made ++ now)).delay ≡ (sync_paths n made).delay
-      → FlightIsGone n made (gone_by n v.paths v.used_before)
-  flight_so delay = by v.used_before refl
+  flight_so : FlightIsGone n made (gone_by n v.paths_before v.used_before)
+  flight_so = by v.used_before refl
     where
-      by : (used : Bool) → v.used_before ≡ used → FlightIsGone n made (gone_by n v.paths used)
-      by true is = inl (used_up n network made is, delay)
+      by : (used : Bool) → v.used_before ≡ used → FlightIsGone n made (gone_by n v.paths_before used)
+      by true is = inl (used_up n network made is, refl)
       by false is = inr refl
 
   -- so it is after a link goes down
@@ -476,15 +475,17 @@ module _ (n : NetworkState) (network : IsNetwork n) (events : List Timed) (b : S
     pub rested : HasComeToRest b at
     pub cuts : CutsOneEnd n made now
     pub lowers : LowersOneLink n made now
-    pub flight : FlightIsGone n made (gone_by n v.paths v.used_before)
+    pub flight : FlightIsGone n (made ++ now) (gone_by n v.paths v.used_before)
 
   pub cut_off : AreWell n (made ++ now) → row_at v ≡ CutOff → CutsEnd
   cut_off well row =
-      let (from, lowers, cut) = why CutOff row in record {
+      let (from, lowers, cut) = why CutOff row in
+      let one = lowers_so well lowers in
+      record {
         rested = (from_rest from).rested;
         cuts = cuts_so well lowers cut;
-        lowers = lowers_so well lowers;
-        flight = flight_so (goes_down lowers).keeps.delay;
+        lowers = one;
+        flight = flight_on one;
       }
 
   -- or a far end loses its power
@@ -492,7 +493,7 @@ module _ (n : NetworkState) (network : IsNetwork n) (events : List Timed) (b : S
     pub rested : HasComeToRest b at
     pub fails : FailsEndFirst n made now
     pub used : UpIsUsed n (made ++ now)
-    pub flight : FlightIsGone n made (gone_by n v.paths v.used_before)
+    pub flight : FlightIsGone n made (gone_by n v.paths_before v.used_before)
 
   pub lost_end : AreWell n (made ++ now) → row_at v ≡ LostEnd → LosesEnd
   lost_end well row =
@@ -500,7 +501,7 @@ module _ (n : NetworkState) (network : IsNetwork n) (events : List Timed) (b : S
         rested = (from_rest from).rested;
         fails = failing_end well fails far;
         used = used_up n network (made ++ now) used;
-        flight = flight_so (fails_so fails).keeps.delay;
+        flight = flight_so;
       }
 
   -- or one system turns
@@ -515,18 +516,17 @@ module _ (n : NetworkState) (network : IsNetwork n) (events : List Timed) (b : S
 
   -- or a far end hangs
   pub failed : AreWell n (made ++ now) → row_at v ≡ FailedEnd
-      → HasComeToRest b at × FailsEndFirst n made now × FlightIsGone n made (gone_by n v.paths v.used_before)
+      → HasComeToRest b at × FailsEndFirst n made now × FlightIsGone n made (gone_by n v.paths_before v.used_before)
   failed well row =
       let (from, fails, far) = why FailedEnd row in
-      ((from_rest from).rested, failing_end well fails far, flight_so (fails_so fails).keeps.delay)
+      ((from_rest from).rested, failing_end well fails far, flight_so)
 
   -- or a system that others heard
   pub heard : AreWell n (made ++ now) → (row_at v ≡ FailedHeard) ⊎ (row_at v ≡ FailureCutsOff)
       → HasComeToRest b at × FailsHeardFirst n made now
-      × ((sync_paths n (made ++ now)).delay ≡ (sync_paths n made).delay)
   heard well which =
       let (from, fails) = by which in
-      ((from_rest from).rested, failing_heard well fails, (fails_so fails).keeps.delay)
+      ((from_rest from).rested, failing_heard well fails)
     where
       by : (row_at v ≡ FailedHeard) ⊎ (row_at v ≡ FailureCutsOff) → Why FailedHeard
       by (inl row) = why FailedHeard row

@@ -559,7 +559,7 @@ module _ (n : NetworkState) (network : IsNetwork n) (made : List Timed) (event :
         ]
 
   module _ (well : AreWell n later) (turned_one : turns_one_after n made later ≡ true)
-      (delay : (sync_paths n later).delay ≡ (sync_paths n made).delay)
+      (delay : (sync_paths n later).delay ≤ (sync_paths n made).delay)
       (paths : (sync_paths n later).systems ≤ (sync_paths n made).systems)
       (few : (sync_paths n made).systems ≤ 255) (is : is_lowering (told_at n made event.act) ≡ true) where
     turns_link : TurnsLink n made event
@@ -582,7 +582,7 @@ module _ (n : NetworkState) (network : IsNetwork n) (made : List Timed) (event :
 -- the events of a time
 pub turns_one_link : (n : NetworkState) (network : IsNetwork n) (made now : List Timed) → AreWell n (made ++ now)
     → turns_one_after n made (made ++ now) ≡ true
-    → (sync_paths n (made ++ now)).delay ≡ (sync_paths n made).delay
+    → (sync_paths n (made ++ now)).delay ≤ (sync_paths n made).delay
     → (sync_paths n (made ++ now)).systems ≤ (sync_paths n made).systems
     → (sync_paths n made).systems ≤ 255
     → lowers_one (told_of n made now) ≡ true

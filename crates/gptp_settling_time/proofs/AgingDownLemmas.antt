@@ -170,7 +170,6 @@ module _ (p : SettlingParams) (before : Snapshot) (aged silent owner port : ℕ)
     alike : IsAlike n n'
     alike =
         let same = same_aging p aged silent taken w' keeps in
-        let delays = delay_now in
         record {
           graph = snapshot_now;
           wiring = record {
@@ -180,7 +179,6 @@ module _ (p : SettlingParams) (before : Snapshot) (aged silent owner port : ℕ)
                 ∙ lane_set w.net.channels k.place k.channel (lost k.channel) q k.is.here refl refl;
             log = λ q. ap (λ (x : Network). x.log_of q) same;
             interval = λ q. ap (λ (x : Network). x.interval_of q) same;
-            most = omega (arith, delays);
           };
           most = delay_now;
           interval = refl;
@@ -304,7 +302,7 @@ module _ (p : SettlingParams) (before : Snapshot) (aged silent owner port : ℕ)
       fits = fits_taken;
       still = still_emptied says_announce before n n' well' alike.wiring
           (λ a b joins. subst (λ h. Joins h a b) snapshot_now joins) same_unmoved less (view w) (view taken) is_emptied
-          after_taken fits_taken claims.still;
+          aging.late after_taken fits_taken claims.still;
       itself = record {
         lanes = λ j l f a there flies said known. elim (is_emptied.lanes j l there) [
           | inl stood ↦

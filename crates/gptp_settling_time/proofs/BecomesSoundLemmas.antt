@@ -16,6 +16,7 @@ use Rattle.gptp_bmca_machine.specs.Calm.{Calm}
 use Rattle.gptp_bmca_machine.specs.Network.{IsSettlingNetwork, Network, settled_from}
 use Rattle.gptp_bmca_machine.specs.SoundLaws.{AllAreNear}
 use Rattle.gptp_invariants.specs.ChoiceCalm.{HaveQuietLinks, delay_in, paths_with}
+use Rattle.gptp_invariants.specs.ChoiceSettlesAsMachine.{IsWorld}
 use Rattle.gptp_invariants.specs.ChoiceView.{says_announce, view}
 use Rattle.gptp_invariants.specs.WorldNews.{AreSilentBy, IsNews}
 use Rattle.gptp_invariants.specs.WorldSound.{IsSoundWorld}
@@ -76,6 +77,14 @@ module _ (p : SettlingParams) (g : Snapshot) (silent : ℕ) (w : WorldState) (is
 -- use; else by an announce interval.
 abbrev pub GoesBy : SettlingParams → ℕ → WorldState → Type 0
 GoesBy p gone w = (UpIsInUse w × (gone ≡ delay_in w)) ⊎ (gone ≡ largest_interval p)
+
+-- so it is in a network that has settled
+pub goes_due : (p : SettlingParams) (gone : ℕ) (w : WorldState) → IsWorld p w → IsSettledSeen p w → GoesBy p gone w
+    → AreDueBy (w.time + gone) w
+goes_due p gone w is seen goes = elim goes [
+  | inl (used, delay) ↦ subst (λ t. AreDueBy (w.time + t) w) (sym delay) (due_by_delay p w is seen used)
+  | inr interval ↦ subst (λ t. AreDueBy (w.time + t) w) (sym interval) (due_by_interval p w is)
+]
 
 -- links tell right traces by distance, and what they told before is gone by a time
 pub record IsBecomingRight (p : SettlingParams) (n : Network) (right gone old : ℕ) (w : WorldState) : Type 0 where
@@ -205,13 +214,7 @@ module _ (p : SettlingParams) (g : Snapshot) (silent right old : ℕ) (w w' : Wo
       ]
 
       due : AreDueBy (w.time + gone) w
-      due = elim becomes.goes [
-        | inl (used, delay) ↦
-            subst (λ t. AreDueBy (w.time + t) w) (sym delay)
-            (due_by_delay p w is.standing.world (settled_now p g silent w is quiet off) used)
-        | inr interval ↦
-            subst (λ t. AreDueBy (w.time + t) w) (sym interval) (due_by_interval p w is.standing.world)
-      ]
+      due = goes_due p gone w is.standing.world (settled_now p g silent w is quiet off) becomes.goes
 
       -- a moment comes by which all is right
       all_by_now : right ≤ w'.time

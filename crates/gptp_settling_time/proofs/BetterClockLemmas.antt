@@ -130,21 +130,17 @@ module _ (p : SettlingParams) (w w' : WorldState) (r : Reacts w w') where
       (r.lives number ∙ clock_there (live_stations w.stations) number known)
 
   -- a network of the world has the wiring of one that it had before
-  pub wiring_same : (n n' : Network) → SameWiring n (start_network p 0 0 w) → n.most ≡ delay_in w
+  pub wiring_same : (n n' : Network) → SameWiring n (start_network p 0 0 w)
       → n' ≡ wired_as n' (start_network p 0 0 w') → SameWiring n n'
-  wiring_same n n' same most is =
-      let delay = delay_same in
-      let delays : n'.most ≡ delay_in w' = ap (λ (x : Network). x.most) is in
-      record {
-        place = λ v. ap (λ (x : Network). x.place v) is ∙ r.places v ∙ same.place v;
-        lane = λ q.
-            ap (λ (x : Network). x.lane q) is
-            ∙ of_bare (λ channels. lane_of channels q) (lane_bare q) w.net.channels w'.net.channels r.links
-            ∙ same.lane q;
-        log = λ q. ap (λ (x : Network). x.log_of q) is ∙ r.logs q ∙ same.log q;
-        interval = λ q. ap (λ (x : Network). x.interval_of q) is ∙ ap interval_of (r.logs q) ∙ same.interval q;
-        most = omega (arith, delay, delays, most);
-      }
+  wiring_same n n' same is = record {
+    place = λ v. ap (λ (x : Network). x.place v) is ∙ r.places v ∙ same.place v;
+    lane = λ q.
+        ap (λ (x : Network). x.lane q) is
+        ∙ of_bare (λ channels. lane_of channels q) (lane_bare q) w.net.channels w'.net.channels r.links
+        ∙ same.lane q;
+    log = λ q. ap (λ (x : Network). x.log_of q) is ∙ r.logs q ∙ same.log q;
+    interval = λ q. ap (λ (x : Network). x.interval_of q) is ∙ ap interval_of (r.logs q) ∙ same.interval q;
+  }
 
 -- ---- the change
 
@@ -190,7 +186,7 @@ module _ (p : SettlingParams) (start next owner value : ℕ) (w : WorldState) (d
     seen = settled (quiet_before p w w' r quiet') off
 
     wired : SameWiring seen.n n
-    wired = wiring_same p w w' r seen.n n seen.same seen.most refl
+    wired = wiring_same p w w' r seen.n n seen.same refl
 
     -- the port that hears is on
     lasts : (d : ℕ) (best : System) (v pp u q : ℕ) → LeadsFarther n.graph d best v pp u q

@@ -53,7 +53,8 @@ module _ (p : SettlingParams) (since silent old : ℕ) (w w' : WorldState) (is' 
     (left : IsLeftAlways p (snapshot_of w) silent w') (asked : HaveAskedBy since w')
     (x : ℕ) (far : IsFarEnd (snapshot_of w) x)
     (has : HasAllBut (snapshot_of w) (snapshot_of w') x)
-    (gone : (a b : PortIdentity) → Joins (snapshot_of w') a b → a.clock ≢ x) (due : AreDueBy old w) where
+    (gone : (a b : PortIdentity) → Joins (snapshot_of w') a b → a.clock ≢ x)
+    (due : HaveQuietLinks p.params w' → NothingLapses p.params → AreDueBy old w') where
   pub clears : IsCleared p (snapshot_of w) since silent 0 old w'
   clears = record {
     left = left;
@@ -64,7 +65,7 @@ module _ (p : SettlingParams) (since silent old : ℕ) (w w' : WorldState) (is' 
         (snapshot_of w') (stands_well w' is'.sound is'.between is'.encodable)
         (subst (λ h. IsLeftUnmoved h (snapshot_of w')) same left.left) x (subst (λ h. IsFarEnd h x) same far)
         (subst (λ h. HasAllBut h (snapshot_of w') x) same has) gone (view w') less (left.seen quiet off).unlinked old
-        due);
+        (due quiet off));
   }
     where
       same : snapshot_of w ≡ seen.n.graph

@@ -431,22 +431,16 @@ module _ (p : SettlingParams) (number : ℕ) (w : WorldState) (draws : List Draw
             ∙ places_set w.stations k.place k.station dead k.is.here refl v
 
     module _ (seen : IsSettledSeen p w) where
-      pub wires : (n : Network) → delay_in w' ≡ delay_in w → n ≡ wired_as n (start_network p 0 0 w')
-          → SameWiring seen.n n
-      wires n delay wired =
-          let most = seen.most in
-          let delays : n.most ≡ delay_in w' = ap (λ (x : Network). x.most) wired in
-          record {
-            place = λ v.
-                ap (λ (x : Network). x.place v) wired ∙ ap (λ xs. clock_place xs v) stations_now
-                ∙ places_set w.stations k.place k.station dead k.is.here refl v ∙ seen.same.place v;
-            lane = λ q.
-                ap (λ (x : Network). x.lane q) wired ∙ ap (λ cs. lane_of cs q) channels_now ∙ seen.same.lane q;
-            log = λ q. ap (λ (x : Network). x.log_of q) wired ∙ log_kept q ∙ seen.same.log q;
-            interval = λ q.
-                ap (λ (x : Network). x.interval_of q) wired ∙ ap interval_of (log_kept q) ∙ seen.same.interval q;
-            most = omega (arith, delay, delays, most);
-          }
+      pub wires : (n : Network) → n ≡ wired_as n (start_network p 0 0 w') → SameWiring seen.n n
+      wires n wired = record {
+        place = λ v.
+            ap (λ (x : Network). x.place v) wired ∙ ap (λ xs. clock_place xs v) stations_now
+            ∙ places_set w.stations k.place k.station dead k.is.here refl v ∙ seen.same.place v;
+        lane = λ q. ap (λ (x : Network). x.lane q) wired ∙ ap (λ cs. lane_of cs q) channels_now ∙ seen.same.lane q;
+        log = λ q. ap (λ (x : Network). x.log_of q) wired ∙ log_kept q ∙ seen.same.log q;
+        interval = λ q.
+            ap (λ (x : Network). x.interval_of q) wired ∙ ap interval_of (log_kept q) ∙ seen.same.interval q;
+      }
 
     module _ (next silent : ℕ) (pace : KeepPace p) (measured : LinkIsMeasured w) (measured' : LinkIsMeasured w')
         (past : next ≤ w.time) (ready : AreReadyBy p next w) (quiet : HaveQuietLinks p.params w)
@@ -569,14 +563,13 @@ module _ (p : SettlingParams) (number : ℕ) (w : WorldState) (draws : List Draw
           ]
 
       module _ (next silent : ℕ) (pace : KeepPace p) (measured : LinkIsMeasured w) (measured' : LinkIsMeasured w')
-          (past : next ≤ w.time) (delay : delay_in w' ≡ delay_in w)
-          (way : pred (path_bound g') * delay_in w' ≤ w'.time) (ready : AreReadyBy p next w)
+          (past : next ≤ w.time) (way : pred (path_bound g') * delay_in w' ≤ w'.time) (ready : AreReadyBy p next w)
           (quiet : HaveQuietLinks p.params w) (silent_before : AreSilentBy p next w)
           (long : w.time + silence_span p < silent) where
         pub failed_left : IsLeftAlways p g silent w'
         failed_left =
-            begins_left p g silent w w' is' well seen less left left
-            (wires seen (left_network p silent w') delay refl) (sound_fits p w seen sound)
+            begins_left p g silent w w' is' well seen less left left (wires seen (left_network p silent w') refl)
+            (sound_fits p w seen sound)
             (standing_then next silent pace measured measured' past ready quiet silent_before long)
             (asked_then next silent pace measured measured' past ready quiet silent_before long)
             (λ quiet'. unlinked_then) near_then

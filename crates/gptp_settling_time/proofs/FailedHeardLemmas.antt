@@ -157,7 +157,7 @@ module _ (p : SettlingParams) (number : ℕ) (w : WorldState) (draws : List Draw
     back_known v known = subst (λ h. In v (clocks h)) (sym seen.graph) (lived_before v known)
 
     module _ (next aged silent : ℕ) (pace : KeepPace p) (measured : LinkIsMeasured w)
-        (measured' : LinkIsMeasured w') (past : next ≤ w.time) (delay : delay_in w' ≡ delay_in w)
+        (measured' : LinkIsMeasured w') (past : next ≤ w.time) (over : pred (path_bound g) * delay_in w ≤ w.time)
         (way : pred (path_bound g') * delay_in w' ≤ w'.time) (ready : AreReadyBy p next w)
         (quiet : HaveQuietLinks p.params w) (silent_before : AreSilentBy p next w)
         (long : w.time + silence_span p < silent) (soon : w.time + longest_span p + delay_in w < aged) where
@@ -177,6 +177,13 @@ module _ (p : SettlingParams) (number : ℕ) (w : WorldState) (draws : List Draw
       late : delay_in w' ≤ w'.time
       late = delay_within p w' w'.time is' way
 
+      -- a greatest delay had passed before too
+      come : seen.n.most ≤ w.time
+      come =
+          let most = seen.most in
+          let within = delay_within p w w.time is over in
+          omega (arith, most, within)
+
       ages : UnlinkedAge says_announce g' (stay_of p) aged (view w')
       ages =
           let begun = seen.net.begun in
@@ -194,7 +201,7 @@ module _ (p : SettlingParams) (number : ℕ) (w : WorldState) (draws : List Draw
           (alone.less p number w draws done w' is is' acts lives) (sound_fits p w seen sound)
 
       same : SameWiring seen.n n'
-      same = alone.wires p number w draws done w' is is' acts lives seen n' delay refl
+      same = alone.wires p number w draws done w' is is' acts lives seen n' refl
 
       back : (v : ℕ) → Unmoved g n' v → Unmoved g seen.n v
       back v x = record {
@@ -222,7 +229,7 @@ module _ (p : SettlingParams) (number : ℕ) (w : WorldState) (draws : List Draw
           fits = fits';
           still = still_emptied says_announce g seen.n n' well' same
               (λ a b joins. subst (λ h. Joins h a b) (sym seen.graph) (left.links a b joins)) back
-              (record { graph = well; systems = left.systems; links = left.links }) (view w) (view w') emptied
+              (record { graph = well; systems = left.systems; links = left.links }) (view w) (view w') emptied come
               (aging_after p aged silent w' standing asked quiet' ages off late) fits' tells;
           itself = itself_begins says_announce n' g (view w')
               (sound_reduced says_announce g (view w) (view w')

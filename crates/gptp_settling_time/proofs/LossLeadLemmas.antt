@@ -182,7 +182,7 @@ aging_lead n made (event ∷ now) aged silent off calm (lowers, others) = (
 )
 
 -- after the loss of a far end it is cleared
-module _ (n : NetworkState) (made : List Timed) (event : Timed) (gone : ℕ) (flight : FlightIsGone n made gone) where
+module _ (n : NetworkState) (made : List Timed) (event : Timed) (gone : ℕ) where
   record IsClearedBy (past : Past) (by : ℕ) : Type 0 where
     since : ℕ
     silent : ℕ
@@ -191,74 +191,74 @@ module _ (n : NetworkState) (made : List Timed) (event : Timed) (gone : ℕ) (fl
     over : silent ≤ by
 
   -- by a link that cuts it off, as ports without a link were off
-  cut_leads : (past : Past) → HasSettled n made past event.at → CutsCalm n made event
-      → IsClearedBy past event.at
-  cut_leads AnyPast settled cuts =
+  cut_leads : FlightIsGone n (made ++ event ∷ []) gone → (past : Past) → HasSettled n made past event.at
+      → CutsCalm n made event → IsClearedBy past event.at
+  cut_leads flight AnyPast settled cuts =
       let passed = settled.passed in
       let over = le-max_left (capability_span (pace_of n)) (2 * largest_interval (pace_of n)
       + (sync_paths n made).systems * (longest_span (pace_of n) + (sync_paths n made).delay)) in
       record {
         since = last_change made + capability_span (pace_of n);
         silent = last_change made + capability_span (pace_of n);
-        leads = (settled, inl (refl, inl (inl (cuts, refl), refl, (gone, flight, refl))));
+        leads = (settled, inl (refl, inl (refl, inl (cuts, refl, (gone, flight, refl)))));
         early = omega (arith, passed, over);
         over = omega (arith, passed, over);
       }
-  cut_leads Starting settled cuts = absurd settled
-  cut_leads (Gained start) settled cuts = record {
+  cut_leads flight Starting settled cuts = absurd settled
+  cut_leads flight (Gained start) settled cuts = record {
     since = start;
     silent = start;
-    leads = (settled, inl (refl, inl (inl (cuts, refl), refl, (gone, flight, refl))));
+    leads = (settled, inl (refl, inl (refl, inl (cuts, refl, (gone, flight, refl)))));
     early = omega (arith, settled);
     over = omega (arith, settled);
   }
-  cut_leads (Heard start) settled cuts = record {
+  cut_leads flight (Heard start) settled cuts = record {
     since = start;
     silent = start;
-    leads = (settled, inl (refl, inl (inl (cuts, refl), refl, (gone, flight, refl))));
+    leads = (settled, inl (refl, inl (refl, inl (cuts, refl, (gone, flight, refl)))));
     early = omega (arith, settled);
     over = omega (arith, settled);
   }
-  cut_leads (Left silent) settled cuts = absurd settled
-  cut_leads (Turned silent now) settled cuts = absurd settled
-  cut_leads (Cleared begun silent right last) settled cuts = absurd settled
-  cut_leads (Aging aged silent) settled cuts = absurd settled
-  cut_leads (Lost since most silent) settled cuts = absurd settled
+  cut_leads flight (Left silent) settled cuts = absurd settled
+  cut_leads flight (Turned silent now) settled cuts = absurd settled
+  cut_leads flight (Cleared begun silent right last) settled cuts = absurd settled
+  cut_leads flight (Aging aged silent) settled cuts = absurd settled
+  cut_leads flight (Lost since most silent) settled cuts = absurd settled
 
   -- or as it fails, once the ports beside it have been unanswered for long enough
-  fail_leads : (past : Past) → HasSettled n made past event.at → FailsCalm n made event
+  fail_leads : FlightIsGone n made gone → (past : Past) → HasSettled n made past event.at → FailsCalm n made event
       → IsClearedBy past (suc (event.at + silence_span (pace_of n)))
-  fail_leads AnyPast settled fails =
+  fail_leads flight AnyPast settled fails =
       let passed = settled.passed in
       let over = le-max_left (capability_span (pace_of n)) (2 * largest_interval (pace_of n)
       + (sync_paths n made).systems * (longest_span (pace_of n) + (sync_paths n made).delay)) in
       record {
         since = last_change made + capability_span (pace_of n);
         silent = suc (event.at + silence_span (pace_of n));
-        leads = (settled, inl (refl, inl (inr (fails, refl), refl, (gone, flight, refl))));
+        leads = (settled, inl (refl, inl (refl, inr (fails, refl, (gone, flight, refl)))));
         early = omega (arith, passed, over);
         over = omega arith;
       }
-  fail_leads Starting settled fails = absurd settled
-  fail_leads (Gained start) settled fails = record {
+  fail_leads flight Starting settled fails = absurd settled
+  fail_leads flight (Gained start) settled fails = record {
     since = start;
     silent = suc (event.at + silence_span (pace_of n));
-    leads = (settled, inl (refl, inl (inr (fails, refl), refl, (gone, flight, refl))));
+    leads = (settled, inl (refl, inl (refl, inr (fails, refl, (gone, flight, refl)))));
     early = omega (arith, settled);
     over = omega arith;
   }
-  fail_leads (Heard start) settled fails = record {
+  fail_leads flight (Heard start) settled fails = record {
     since = start;
     silent = suc (event.at + silence_span (pace_of n));
-    leads = (settled, inl (refl, inl (inr (fails, refl), refl, (gone, flight, refl))));
+    leads = (settled, inl (refl, inl (refl, inr (fails, refl, (gone, flight, refl)))));
     early = omega (arith, settled);
     over = omega arith;
   }
-  fail_leads (Left silent) settled fails = absurd settled
-  fail_leads (Turned silent now) settled fails = absurd settled
-  fail_leads (Cleared begun silent right last) settled fails = absurd settled
-  fail_leads (Aging aged silent) settled fails = absurd settled
-  fail_leads (Lost since most silent) settled fails = absurd settled
+  fail_leads flight (Left silent) settled fails = absurd settled
+  fail_leads flight (Turned silent now) settled fails = absurd settled
+  fail_leads flight (Cleared begun silent right last) settled fails = absurd settled
+  fail_leads flight (Aging aged silent) settled fails = absurd settled
+  fail_leads flight (Lost since most silent) settled fails = absurd settled
 
 -- after another such link goes down it is, once right traces are told
 module _ (n : NetworkState) (made : List Timed) (event : Timed) (gone : ℕ)
@@ -408,7 +408,7 @@ module _ (n : NetworkState) (off : NothingLapses n.params) (time : ℕ) (made no
 
     -- the way that is left is no longer
     module _ (others_lower : EachEvent (LowersUnused n) (made ++ event ∷ []) others)
-        (delay : (sync_paths n (made ++ event ∷ [])).delay ≡ (sync_paths n made).delay)
+        (delay : (sync_paths n (made ++ event ∷ [])).delay ≤ (sync_paths n made).delay)
         (fewer : (sync_paths n (made ++ event ∷ [])).systems ≤ (sync_paths n made).systems) where
       way_then : way_span (sync_paths n (made ++ now)) ≤ way_span (sync_paths n made)
       way_then =
@@ -420,10 +420,12 @@ module _ (n : NetworkState) (off : NothingLapses n.params) (time : ℕ) (made no
           (less_way (sync_paths n made).systems (sync_paths n (made ++ event ∷ [])).systems (sync_paths n made).delay
           (sync_paths n (made ++ event ∷ [])).delay fewer delay)
 
-    cut_led : CutsFarEnd n made event → others ≡ [] → (gone : ℕ) → FlightIsGone n made gone
+    cut_led : CutsFarEnd n made event → others ≡ [] → (gone : ℕ) → FlightIsGone n (made ++ now) gone
         → rest ≡ max (2 * way_span (sync_paths n (made ++ now))) gone → IsLed n made now past (suc (time + rest))
     cut_led cuts alone gone flight is =
-        let x = cut_leads n made event gone flight past settled_then
+        let one : made ++ now ≡ made ++ event ∷ [] =
+        ap (λ es. made ++ es) (same ∙ ap (λ es. event ∷ es) alone) in
+        let x = cut_leads n made event gone (subst (λ es. FlightIsGone n es gone) one flight) past settled_then
         (record { cuts = cuts; calm = calm_then; off = off }) in
         let l = cuts.lowers in
         let less = way_then (subst (EachEvent (LowersUnused n) (made ++ event ∷ [])) (sym alone) tt) l.delay l.paths in
@@ -689,7 +691,8 @@ module _ (n : NetworkState) (off : NothingLapses n.params) (time : ℕ) (made no
 
   lost_led : (es : List Timed) → now ≡ es
       → (CutsOneEnd n made es
-      × ((gone : ℕ) × FlightIsGone n made gone × (rest ≡ max (2 * way_span (sync_paths n (made ++ now))) gone)))
+      × ((gone : ℕ) × FlightIsGone n (made ++ now) gone
+      × (rest ≡ max (2 * way_span (sync_paths n (made ++ now))) gone)))
       ⊎ ((FailsEndFirst n made es
       × ((UpIsUsed n (made ++ now) × FlightIsGone n made rest)
       ⊎ ((gone : ℕ) × FlightIsGone n made gone × (rest ≡ max (silence_span (pace_of n)) gone))))

@@ -53,12 +53,12 @@ use Rattle.gptp_bmca_machine.specs.SoundLaws.{AllAreNear}
 use Rattle.gptp_invariants.specs.ChoiceView.{says_announce, view}
 use Rattle.gptp_invariants.specs.FailedUnanswered.{silence_span}
 use Rattle.gptp_settling_time.specs.Losses.{FailsFarEnd, IsCutOff, IsFarEnd, LowersLink}
-use Rattle.gptp_settling_time.proofs.BecomesSoundLemmas.{nearer_echo}
+use Rattle.gptp_settling_time.proofs.BecomesSoundLemmas.{GoesBy, goes_due, nearer_echo}
 use Rattle.gptp_settling_time.proofs.ClearedLemmas.{IsCleared}
 use Rattle.gptp_settling_time.proofs.ClearedToLemmas.{IsClearedTo}
 use Rattle.gptp_settling_time.proofs.ClearsLemmas.{all_but_cut, clears, cut_joins_none, ready_asked, rights, was_best}
-use Rattle.gptp_settling_time.proofs.DueLemmas.{AreDueBy, due_by_delay, due_by_interval}
-use Rattle.gptp_settling_time.proofs.LeftClaimedLemmas.{HaveAskedBy, IsLeftAlways, left_network}
+use Rattle.gptp_settling_time.proofs.DueLemmas.{AreDueBy, due_by_delay, due_by_interval, due_reduced}
+use Rattle.gptp_settling_time.proofs.LeftClaimedLemmas.{HaveAskedBy, IsLeftAlways, left_network, left_seen}
 use Rattle.gptp_settling_time.proofs.NamesItselfLemmas.{itself_begins}
 use Rattle.gptp_settling_time.proofs.ReducedLemmas.{IsReduced}
 
@@ -97,20 +97,19 @@ module _ (d : DocumentState) (playable : IsPlayable d) (made : List Timed) (even
     paths_after : sync_paths n more ≡ sync_paths_of w'
     paths_after = paths_stand n more w' playable.network after.stands after.claim.world.sound
 
-    same_delay : (sync_paths n more).delay ≡ (sync_paths n made).delay → delay_in w' ≡ delay_in then
-    same_delay same =
-        sym (ap (λ (y : SyncPaths). y.delay) paths_after) ∙ same ∙ ap (λ (y : SyncPaths). y.delay) paths_then
-
     -- the way that is left is no longer
-    way_over : (sync_paths n more).delay ≡ (sync_paths n made).delay
+    way_over : (sync_paths n more).delay ≤ (sync_paths n made).delay
         → (sync_paths n more).systems ≤ (sync_paths n made).systems
         → pred (path_bound (snapshot_of w')) * delay_in w' ≤ w'.time
-    way_over same fewer =
-        let shorter : path_bound (snapshot_of w') ≤ path_bound (snapshot_of then) =
-        subst (λ (x : SyncPaths). path_bound (snapshot_of w') ≤ x.systems) paths_then
-        (subst (λ (x : SyncPaths). x.systems ≤ (sync_paths n made).systems) paths_after fewer) in
-        let less = less_way (path_bound (snapshot_of then)) (path_bound (snapshot_of w')) (delay_in then) (delay_in w')
-        shorter (same_delay same) in
+    way_over least fewer =
+        let less : pred (path_bound (snapshot_of w')) * delay_in w'
+        ≤ pred (path_bound (snapshot_of then)) * delay_in then =
+        subst (λ (x : SyncPaths). pred x.systems * x.delay
+        ≤ pred (path_bound (snapshot_of then)) * delay_in then) paths_after
+        (subst (λ (x : SyncPaths). pred (sync_paths n more).systems * (sync_paths n more).delay
+        ≤ pred x.systems * x.delay) paths_then
+        (less_way (sync_paths n made).systems (sync_paths n more).systems (sync_paths n made).delay
+        (sync_paths n more).delay fewer least)) in
         let over = rest.over in
         omega (arith, over, less, time)
 
@@ -143,8 +142,8 @@ module _ (d : DocumentState) (playable : IsPlayable d) (made : List Timed) (even
       lowered_since =
           act_left p start x.clock x.port then draws done w' keeps.claim.pace world_then after.claim.world
           keeps.claim.measured after.claim.measured came was_up lowered_seen lowered_near lowered_quiet past rest.ready
-          rest.silent (stays_joined d playable made event then w' keeps after x.moves) (same_delay x.delay)
-          (way_over x.delay x.paths) rest.sound
+          rest.silent (stays_joined d playable made event then w' keeps after x.moves) (way_over x.delay x.paths)
+          rest.sound
 
       lowered_asked : HaveAskedBy start w'
       lowered_asked =
@@ -167,8 +166,9 @@ module _ (d : DocumentState) (playable : IsPlayable d) (made : List Timed) (even
           rest.silent (stays_joined d playable made event then w' keeps after x.moves))
 
       -- it cuts off a far end
-      module _ (lost old : ℕ) (far : IsFarEnd (snapshot_of then) lost) (cut : IsCutOff (snapshot_of w') lost)
-          (lost_end : (came.1.channel.a.clock ≡ lost) ⊎ (came.1.channel.b.clock ≡ lost)) (due : AreDueBy old then) where
+      module _ (lost gone old : ℕ) (far : IsFarEnd (snapshot_of then) lost) (cut : IsCutOff (snapshot_of w') lost)
+          (lost_end : (came.1.channel.a.clock ≡ lost) ⊎ (came.1.channel.b.clock ≡ lost)) (goes : GoesBy p gone w')
+          (is : old ≡ event.at + gone) where
         cut_since : IsCleared p (snapshot_of then) start start 0 old w'
         cut_since =
             clears p start start old then w' after.claim.world lowered_seen lowered_near rest.sound lowered_less
@@ -176,13 +176,18 @@ module _ (d : DocumentState) (playable : IsPlayable d) (made : List Timed) (even
             (all_but_cut p then world_then came.1.place came.1.channel came.1.is.here draws w' after.claim.world
             (ends p start x.clock x.port then draws done w' keeps.claim.pace world_then after.claim.world
             keeps.claim.measured after.claim.measured came was_up) lowered_seen lowered_near lost lost_end)
-            (cut_joins_none (snapshot_of w') lost cut) due
+            (cut_joins_none (snapshot_of w') lost cut)
+            (λ quiet off.
+            subst (λ t. AreDueBy t w') (omega (arith, is, time))
+            (goes_due p gone w' after.claim.world
+            (left_seen p (snapshot_of then) start w' lowered_since quiet off) goes))
 
     abbrev lowers_by : CutsCalm n made event → LowersCalm n made event
     lowers_by cuts = record { lowers = cuts.cuts.lowers; calm = cuts.calm; off = cuts.off }
 
-    cut_to : (old : ℕ) → CutsCalm n made event → AreDueBy old then → IsClearedTo d more start start 0 old w'
-    cut_to old calm due =
+    cut_to : (gone old : ℕ) → CutsCalm n made event → GoesBy p gone w' → old ≡ event.at + gone
+        → IsClearedTo d more start start 0 old w'
+    cut_to gone old calm goes by =
         let lowers = lowers_by calm in
         let y = calm.cuts in
         let channel = (came lowers).1.channel in
@@ -194,8 +199,8 @@ module _ (d : DocumentState) (playable : IsPlayable d) (made : List Timed) (even
         record {
           keeps = after;
           before = snapshot_of then;
-          is = cut_since lowers y.lost old (far_end_so d playable made then keeps y.lost y.far)
-              (cut_off_so d playable more w' after y.lost y.cut) lost_end due;
+          is = cut_since lowers y.lost gone old (far_end_so d playable made then keeps y.lost y.far)
+              (cut_off_so d playable more w' after y.lost y.cut) lost_end goes by;
         }
 
     -- a system fails that is the far end of its links
@@ -221,8 +226,8 @@ module _ (d : DocumentState) (playable : IsPlayable d) (made : List Timed) (even
           (seen_then fails.calm fails.off) (near_so d playable made then keeps y.few)
           (far_end_so d playable made then keeps y.clock y.far)
           (stays_joined d playable made event then w' keeps after y.moves) rest.sound start next keeps.claim.pace
-          keeps.claim.measured after.claim.measured (omega (arith, over, at_time)) (same_delay y.delay)
-          (way_over y.delay y.paths) rest.ready failed_quiet rest.silent (omega (arith, at_time, long))
+          keeps.claim.measured after.claim.measured (omega (arith, over, at_time)) (way_over y.delay y.paths)
+          rest.ready failed_quiet rest.silent (omega (arith, at_time, long))
 
       failed_asked : HaveAskedBy start w'
       failed_asked =
@@ -244,7 +249,10 @@ module _ (d : DocumentState) (playable : IsPlayable d) (made : List Timed) (even
             (failed_reduced p y.clock then draws done w' world_then after.claim.world came_fail lived) failed_since
             failed_asked y.clock (far_end_so d playable made then keeps y.clock y.far)
             (all_but p y.clock then draws done w' world_then after.claim.world came_fail lived)
-            (none_joined p y.clock then draws done w' world_then after.claim.world came_fail lived) due;
+            (none_joined p y.clock then draws done w' world_then after.claim.world came_fail lived)
+            (λ quiet off.
+            due_reduced old then w'
+            (failed_reduced p y.clock then draws done w' world_then after.claim.world came_fail lived) due);
       }
 
     -- so each number may stand for what it is
@@ -291,10 +299,9 @@ module _ (d : DocumentState) (playable : IsPlayable d) (made : List Timed) (even
     ends_to : (since silent right old : ℕ) → since ≡ start
         → ClearsFarEnd n made event start silent right old ⊎ ClearsTraces n made event start silent right old
         → IsClearedTo d more since silent right old w'
-    ends_to since silent right old begun (inl (inl (cuts, same), zero, (gone, flight, is))) =
-        cleared_so start 0 since silent right old begun same zero
-        (cut_to old cuts (subst (λ t. AreDueBy t then) (sym is) (gone_by gone cuts.calm cuts.off flight)))
-    ends_to since silent right old begun (inl (inr (fails, same), zero, (gone, flight, is))) =
+    ends_to since silent right old begun (inl (zero, inl (cuts, same, (gone, flight, is)))) =
+        cleared_so start 0 since silent right old begun same zero (cut_to gone old cuts (goes_by gone flight) is)
+    ends_to since silent right old begun (inl (zero, inr (fails, same, (gone, flight, is)))) =
         cleared_so silent 0 since silent right old begun refl zero
         (failed_cleared fails silent (omega (arith, same)) old
         (subst (λ t. AreDueBy t then) (sym is) (gone_by gone fails.calm fails.off flight)))
@@ -318,7 +325,7 @@ module _ (d : DocumentState) (playable : IsPlayable d) (made : List Timed) (even
         (seen_then now.calm now.off) (near_so d playable made then keeps x.few)
         (stays_joined d playable made event then w' keeps after x.moves) rest.sound start aged silent
         keeps.claim.pace keeps.claim.measured after.claim.measured (omega (arith, over, at_time))
-        (same_delay x.delay) (way_over x.delay x.paths) rest.ready
+        (omega (arith, over, at_time)) (way_over x.delay x.paths) rest.ready
         (quiet_stands n made then playable.network keeps.stands world_then.sound now.calm).links rest.silent
         (omega (arith, at_time, unanswered)) (omega (arith, gone, delay, at_time)) in
         record {
@@ -366,7 +373,7 @@ module _ (d : DocumentState) (playable : IsPlayable d) (made : List Timed) (even
               (near_so d playable made then keeps x.few)
               (live_ends channel used) x.moved was far best turns
               (near_so d playable more w' after (omega (arith, few, fewer)))
-              (end_of channel x.moved moved) (same_delay x.delay) (way_over x.delay x.paths) rest.sound)
+              (end_of channel x.moved moved) (way_over x.delay x.paths) rest.sound)
               (time ∙ sym at_time) (last ∙ time ∙ sym at_time)
               (told_lives channel _ draws w'
               (ends p start x.clock x.port then draws done w' keeps.claim.pace world_then after.claim.world

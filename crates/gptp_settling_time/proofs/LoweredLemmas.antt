@@ -430,11 +430,9 @@ module _ (p : SettlingParams) (w : WorldState) (is : IsWorld p w) (place : ℕ) 
   still_b = second_still PortDown channel taken draws w' k (is.between place channel here).apart
 
   -- a network of the world then has the wiring of one that it had
-  pub wires : (n : Network) → delay_in w' ≡ delay_in w → n ≡ wired_as n (start_network p 0 0 w') → SameWiring seen.n n
-  wires n delay wired =
+  pub wires : (n : Network) → n ≡ wired_as n (start_network p 0 0 w') → SameWiring seen.n n
+  wires n wired =
       let started = same_start p 0 0 taken w' keeps in
-      let most = seen.most in
-      let delays : n.most ≡ delay_in w' = ap (λ (x : Network). x.most) wired in
       record {
         place = λ v. ap (λ (x : Network). x.place v) wired ∙ keeps.places v ∙ seen.same.place v;
         lane = λ q.
@@ -445,7 +443,6 @@ module _ (p : SettlingParams) (w : WorldState) (is : IsWorld p w) (place : ℕ) 
         interval = λ q.
             ap (λ (x : Network). x.interval_of q) wired ∙ ap (λ (x : Network). x.interval_of q) started
             ∙ seen.same.interval q;
-        most = omega (arith, delay, delays, most);
       }
 
   module _ (stay : StayOrAreAlone w w') where
@@ -531,8 +528,8 @@ module _ (p : SettlingParams) (w : WorldState) (is : IsWorld p w) (place : ℕ) 
         (sym keeps.systems) (Joins-clock g p q well joins)))
 
     module _ (next : ℕ) (pace : KeepPace p) (measured' : LinkIsMeasured w') (past : next ≤ w.time)
-        (delay : delay_in w' ≡ delay_in w) (way : pred (path_bound g') * delay_in w' ≤ w'.time)
-        (sound : IsSoundWorld w) (ready' : AreReadyBy p next w') (silent : AreSilentBy p next w) where
+        (way : pred (path_bound g') * delay_in w' ≤ w'.time) (sound : IsSoundWorld w) (ready' : AreReadyBy p next w')
+        (silent : AreSilentBy p next w) where
       by_now : next ≤ w'.time
       by_now = let time = told.time in omega (arith, past, time)
 
@@ -560,7 +557,7 @@ module _ (p : SettlingParams) (w : WorldState) (is : IsWorld p w) (place : ℕ) 
 
       pub lowered_left : IsLeftAlways p g next w'
       lowered_left =
-          begins_left p g next w w' is' well seen less left left (wires (left_network p next w') delay refl)
+          begins_left p g next w w' is' well seen less left left (wires (left_network p next w') refl)
           (sound_fits p w seen sound) standing_then asked_then unlinked_then near_then farther_then way
 
 -- ---- the act
@@ -624,8 +621,8 @@ module _ (p : SettlingParams) (next owner port : ℕ) (w : WorldState) (draws : 
         pub stay : StayOrAreAlone w w'
         stay v known = elim (unmoved v known) [ inl is ↦ inl is | inr cut ↦ inr (cut, dark) ]
 
-        pub act_left : delay_in w' ≡ delay_in w → pred (path_bound (snapshot_of w')) * delay_in w' ≤ w'.time
-            → IsSoundWorld w → IsLeftAlways p (snapshot_of w) next w'
-        act_left delay way sound =
+        pub act_left : pred (path_bound (snapshot_of w')) * delay_in w' ≤ w'.time → IsSoundWorld w
+            → IsLeftAlways p (snapshot_of w) next w'
+        act_left way sound =
             lowered_left p w is at_link.place at_link.channel at_link.is.here draws w' is' ends seen near stay next
-            pace measured' past delay way sound (ready_on ready) silent
+            pace measured' past way sound (ready_on ready) silent

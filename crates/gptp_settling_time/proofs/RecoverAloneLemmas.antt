@@ -530,7 +530,6 @@ module _ (p : SettlingParams) (start next number : ℕ) (w : WorldState) (draws 
         lane = λ q. refl;
         log = logs;
         interval = λ q. ap interval_of (logs q);
-        most = delay_more;
       }
 
       later_since : (d : ℕ) → since n (suc d) ≤ since n_v (suc d)

@@ -113,15 +113,12 @@ module _ (p : SettlingParams) (g : Snapshot) (silent start : ℕ) (w : WorldStat
           (subst (λ z. FlightsFit says_announce z (start + way_in w) (view w)) is.same (flights quiet off)))
 
       wired : SameWiring seen.n (left_network p silent w)
-      wired =
-          let delay = seen.most in
-          record {
-            place = seen.same.place;
-            lane = seen.same.lane;
-            log = seen.same.log;
-            interval = seen.same.interval;
-            most = omega (arith, delay);
-          }
+      wired = record {
+        place = seen.same.place;
+        lane = seen.same.lane;
+        log = seen.same.log;
+        interval = seen.same.interval;
+      }
 
       left_so : IsLeftSeen says_announce (snapshot_of w) (left_network p silent w) (view w)
       left_so = record {

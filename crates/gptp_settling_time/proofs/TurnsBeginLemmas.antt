@@ -66,8 +66,7 @@ module _ (p : SettlingParams) (w : WorldState) (is : IsWorld p w) (place : ℕ) 
     (here : slice_get w.net.channels place ≡ Some channel) (draws : List Draw) (w' : WorldState) (is' : IsWorld p w')
     (k : TellsEnds PortDown channel (record w { net = taken_down place channel w.net; last_change = w.time }) draws w')
     (seen : IsSettledSeen p w) (near : AllAreNear (snapshot_of w))
-    (next x d e : ℕ) (best : System) (turns : TurnsOne (snapshot_of w) (left_network p next w') x d e best)
-    (delay : delay_in w' ≡ delay_in w) where
+    (next x d e : ℕ) (best : System) (turns : TurnsOne (snapshot_of w) (left_network p next w') x d e best) where
   abbrev taken : WorldState
   taken = record w { net = taken_down place channel w.net; last_change = w.time }
 
@@ -75,7 +74,7 @@ module _ (p : SettlingParams) (w : WorldState) (is : IsWorld p w) (place : ℕ) 
   n = left_network p next w'
 
   wired : SameWiring seen.n n
-  wired = wires p w is place channel here draws w' is' k seen near n delay refl
+  wired = wires p w is place channel here draws w' is' k seen near n refl
 
   placed : (i : ℕ) (m : SeenStation) → slice_get (view w).stations i ≡ Some m → i ≡ n.place m.clock
   placed i m at = seen.calm.placed i m at ∙ sym (wired.place m.clock)
@@ -313,7 +312,6 @@ module _ (p : SettlingParams) (next owner port : ℕ) (w : WorldState) (draws : 
       (x d e : ℕ) (best : System) (so : IsTurned (snapshot_of w) (snapshot_of w') x d e best)
       (near_then : AllAreNear (snapshot_of w'))
       (moved : (direction : Direction) × ((sender direction acts.1.channel).clock ≡ x))
-      (delay : delay_in w' ≡ delay_in w)
       (way : pred (path_bound (snapshot_of w')) * delay_in w' ≤ w'.time) (sound : IsSoundWorld w) where
     turns : TurnsOne (snapshot_of w) (left_network p next w') x d e best
     turns =
@@ -347,24 +345,24 @@ module _ (p : SettlingParams) (next owner port : ℕ) (w : WorldState) (draws : 
     begins_so : (lost : ℕ) → TurnsAway says_announce (left_network p next w') x lost (view w) (view w')
         → IsMovedAlways p (snapshot_of w) next w.time w'
     begins_so lost a =
-        turned_begins p w is place channel here draws w' is' told seen near next x d e best turns delay lost a
-        pace measured' past way sound still_ready silent
+        turned_begins p w is place channel here draws w' is' told seen near next x d e best turns lost a pace measured'
+        past way sound still_ready silent
 
     by_a : channel.a.clock ≡ x → (n : ℕ) → channel.a.port ≡ n → HasPortNumber told.station_a.system n
         → IsMovedAlways p (snapshot_of w) next w.time w'
     by_a is_a zero number of = absurd (let least = of.least in omega (arith, least))
     by_a is_a (suc i) number of =
         begins_so i
-        (turns_a p w is place channel here draws w' is' told seen near next x d e best turns delay live_a
-        live_b is_a i number)
+        (turns_a p w is place channel here draws w' is' told seen near next x d e best turns live_a live_b is_a i
+        number)
 
     by_b : channel.b.clock ≡ x → (n : ℕ) → channel.b.port ≡ n → HasPortNumber told.station_b.system n
         → IsMovedAlways p (snapshot_of w) next w.time w'
     by_b is_b zero number of = absurd (let least = of.least in omega (arith, least))
     by_b is_b (suc i) number of =
         begins_so i
-        (turns_b p w is place channel here draws w' is' told seen near next x d e best turns delay live_a
-        live_b is_b i number)
+        (turns_b p w is place channel here draws w' is' told seen near next x d e best turns live_a live_b is_b i
+        number)
 
     by_end : (direction : Direction) → (sender direction channel).clock ≡ x
         → IsMovedAlways p (snapshot_of w) next w.time w'

@@ -421,13 +421,7 @@ module _ (says : Spelling) (n0 n : Network) (x d e : ℕ) (best : System) (t : T
                 let long = hears_y.long stays.what stays.holds stays.final.log in
                 inl (omega (arith, soon, now, long))
             | inr (f, among, said, due) ↦
-                let long = hears_y.long stays.what stays.holds stays.final.log in
-                inr (
-                  f,
-                  subst (In f) (sym step.behind) (In-left f old_l.frames step.news among),
-                  said,
-                  omega (arith, due, long),
-                )
+                inr (f, subst (In f) (sym step.behind) (In-left f old_l.frames step.news among), said, due)
           ];
           tail = subst (TurnTail says k from e best (w.time + n.most)) (sym step.behind)
               (tail_behind says k from e best (w.time + n.most) old_l.frames step.news stays.flight

@@ -251,13 +251,18 @@ abbrev pub FlightIsGone : NetworkState → List Timed → ℕ → Type 0
 FlightIsGone n events gone =
     (UpIsUsed n events × (gone ≡ (sync_paths n events).delay)) ⊎ (gone ≡ largest_interval (pace_of n))
 
+-- what is in flight at this time is gone by another
+abbrev pub FlightIsGoneBy : NetworkState → List Timed → ℕ → ℕ → Type 0
+FlightIsGoneBy n events time old = (gone : ℕ) × FlightIsGone n events gone × (old ≡ time + gone)
+
 -- A far end is cut off, or it fails. Nothing that is held names what is gone, nor does anything that is still taken.
+-- What is in flight over a link that goes down is lost. What a system that fails has sent still comes.
 abbrev pub ClearsFarEnd : NetworkState → List Timed → Timed → ℕ → ℕ → ℕ → ℕ → Type 0
 ClearsFarEnd n before event start silent right old =
-    ((CutsCalm n before event × (silent ≡ start))
-    ⊎ (FailsCalm n before event × (silent ≡ suc (event.at + silence_span (pace_of n)))))
-    × (right ≡ 0)
-    × ((gone : ℕ) × FlightIsGone n before gone × (old ≡ event.at + gone))
+    (right ≡ 0)
+    × ((CutsCalm n before event × (silent ≡ start) × FlightIsGoneBy n (before ++ event ∷ []) event.at old)
+    ⊎ (FailsCalm n before event × (silent ≡ suc (event.at + silence_span (pace_of n)))
+    × FlightIsGoneBy n before event.at old))
 
 -- An announce interval and the greatest delay for each system of a path but one: so much later who is told a right
 -- trace holds it, and tells it.

@@ -60,7 +60,7 @@ pub record LeavesChoice (n : NetworkState) (before : List Timed) (event : Timed)
   pub few : (sync_paths n before).systems ≤ 255
 
 -- After these events this one takes down a link in use, and no system is moved but such as it cuts off. The greatest
--- delay of a link in use stays, and no path gets longer. None had more than 255 systems.
+-- delay of a link in use gets no greater, and no path longer. None had more than 255 systems.
 pub record LowersLink (n : NetworkState) (before : List Timed) (event : Timed) : Type 0 where
   pub clock : ℕ
   pub port : ℕ
@@ -69,7 +69,7 @@ pub record LowersLink (n : NetworkState) (before : List Timed) (event : Timed) :
       → IsEnd (port_id clock port) (link_after before v)
       → IsUsed n.systems before (link_after before v)
   pub moves : MovesNoneJoined n before event
-  pub delay : (sync_paths n (before ++ event ∷ [])).delay ≡ (sync_paths n before).delay
+  pub delay : (sync_paths n (before ++ event ∷ [])).delay ≤ (sync_paths n before).delay
   pub paths : (sync_paths n (before ++ event ∷ [])).systems ≤ (sync_paths n before).systems
   pub few : (sync_paths n before).systems ≤ 255
 
@@ -104,25 +104,25 @@ pub record CutsFarEnd (n : NetworkState) (before : List Timed) (event : Timed) :
 
 -- After these events this one lets a live system fail that is the far end of each of its links. No shortest path leads
 -- through it, so no system is moved by that; what `moves` says of systems that are cut off isn't needed here. The
--- greatest delay of a link in use stays, and no path gets longer. None had more than 255 systems.
+-- greatest delay of a link in use gets no greater, and no path longer. None had more than 255 systems.
 pub record FailsFarEnd (n : NetworkState) (before : List Timed) (event : Timed) : Type 0 where
   pub clock : ℕ
   pub act : event.act ≡ Changing (Fail clock)
   pub live : IsLive n.systems before clock
   pub far : (g : Snapshot) → StandsAfter n before g → IsFarEnd g clock
   pub moves : MovesNoneJoined n before event
-  pub delay : (sync_paths n (before ++ event ∷ [])).delay ≡ (sync_paths n before).delay
+  pub delay : (sync_paths n (before ++ event ∷ [])).delay ≤ (sync_paths n before).delay
   pub paths : (sync_paths n (before ++ event ∷ [])).systems ≤ (sync_paths n before).systems
   pub few : (sync_paths n before).systems ≤ 255
 
 -- After these events this one lets a live system fail, whoever hears it, and no system is moved but such as are cut
--- off. The greatest delay of a link in use stays, and no path gets longer. None had more than 255 systems.
+-- off. The greatest delay of a link in use gets no greater, and no path longer. None had more than 255 systems.
 pub record FailsHeard (n : NetworkState) (before : List Timed) (event : Timed) : Type 0 where
   pub clock : ℕ
   pub act : event.act ≡ Changing (Fail clock)
   pub live : IsLive n.systems before clock
   pub moves : MovesNoneJoined n before event
-  pub delay : (sync_paths n (before ++ event ∷ [])).delay ≡ (sync_paths n before).delay
+  pub delay : (sync_paths n (before ++ event ∷ [])).delay ≤ (sync_paths n before).delay
   pub paths : (sync_paths n (before ++ event ∷ [])).systems ≤ (sync_paths n before).systems
   pub few : (sync_paths n before).systems ≤ 255
 
@@ -153,7 +153,7 @@ TurnsSystem n before event x = (g g' : Snapshot) → StandsAfter n before g → 
     → (d : ℕ) × (e : ℕ) × (best : System) × IsTurned g g' x d e best
 
 -- After these events this one takes down a link in use and so moves the system at one of its ends. The greatest delay
--- of a link in use stays, and no path gets longer. None had more than 255 systems.
+-- of a link in use gets no greater, and no path longer. None had more than 255 systems.
 pub record TurnsLink (n : NetworkState) (before : List Timed) (event : Timed) : Type 0 where
   pub clock : ℕ
   pub port : ℕ
@@ -166,7 +166,7 @@ pub record TurnsLink (n : NetworkState) (before : List Timed) (event : Timed) : 
       → IsEnd (port_id clock port) (link_after before v)
       → ((link_after before v).a.clock ≡ moved) ⊎ ((link_after before v).b.clock ≡ moved)
   pub turns : TurnsSystem n before event moved
-  pub delay : (sync_paths n (before ++ event ∷ [])).delay ≡ (sync_paths n before).delay
+  pub delay : (sync_paths n (before ++ event ∷ [])).delay ≤ (sync_paths n before).delay
   pub paths : (sync_paths n (before ++ event ∷ [])).systems ≤ (sync_paths n before).systems
   pub few : (sync_paths n before).systems ≤ 255
 
