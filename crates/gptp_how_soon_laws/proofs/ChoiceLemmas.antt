@@ -23,10 +23,11 @@ use Rattle.gptp_how_soon.specs.declared.bounds.Row.{Row}
 use Rattle.gptp_how_soon.specs.declared.bounds.Row.TheVariants.{AnyLosses, AnyPast, CutOff, FailedEnd, FailedHeard, FailureCutsOff, Gained, LostEnd, LostPower, Lowered, OneTurned, PowerCutsOff, Unchanged}
 use Rattle.gptp_how_soon.specs.declared.bounds.Settling.{Settling}
 use Rattle.gptp_how_soon.specs.declared.bounds.SettlingTime.{SettlingTime}
-use Rattle.gptp_settling_time.specs.HowSoon.{BoundsAging, BoundsAnyLoss, BoundsChoice, BoundsEvents, BoundsLoss, BoundsStart, IsChoiceBoundAfter, IsLossBoundAfter, IsRestBoundAfter, NoneBetween, RestsAfterLoss}
+use Rattle.gptp_settling_time.specs.HowSoon.{BoundsAging, BoundsAnyLoss, BoundsChoice, BoundsEvents, BoundsLoss, BoundsStart, FailsHeardFirst, HeldFor, IsChoiceBoundAfter, IsLossBoundAfter, IsRestBoundAfter, NoneBetween, RestsAfterLoss}
 use Rattle.gptp_settling_time.specs.InTurn.{FlightIsGone}
 use Rattle.gptp_settling_time.specs.Losses.{aging_span}
 use Rattle.gptp_settling_time.proofs.MomentLemmas.{parted}
+use Rattle.gptp_settling_time.proofs.SilentSpanLemmas.{failures_within}
 use Rattle.gptp_settling_time.proofs.WellFormedLemmas.{after_well}
 use Rattle.gptp_how_soon_laws.specs.Choice.{SettlingsAreChoiceBounds}
 use Rattle.gptp_how_soon_laws.proofs.RowBoundLemmas.{HasOwnBounds, IsSoundSooner, IsTelling, bounds_choice, choice_or_own, past_row, sound_or_sooner, tells}
@@ -179,6 +180,14 @@ module _ (d : DocumentState) (playable : IsPlayable d) where
               (sym (parted all b.at at playable.events.in_order late between)) bound,
         )
 
+    -- what is heard is held for no longer by the delay of before
+    held_for : FailsHeardFirst n made now → HeldFor n made now (held_span n v.paths_before)
+    held_for fails = (
+      aging_span (pace_of n) (sync_paths n made),
+      failures_within n made now fails,
+      ap (λ d. min (longest_span (pace_of n) + d) (silence_span (pace_of n))) delay,
+    )
+
     -- it has come to rest by that, or sooner after a loss by which no system is moved
     rest_so : (s : Settling) → IsTelling n v s → IsChoiceBoundAfter n all (b.at ∷ earlier) at settled_by
         → IsRestBoundAfter n all (b.at ∷ earlier) at s.sound
@@ -217,9 +226,14 @@ module _ (d : DocumentState) (playable : IsPlayable d) where
             (rest, inl (inr (inr (inr (inr (fails, inl (used, late)))))))
         by (inr (inr (inr (inr (inr (inr (inl (row, long)))))))) =
             let (rest, fails) = heard n playable.network all b at late well row in
-            let told : aged_echo_span n v.paths_before v.paths ≤ s.sound =
-            subst (λ t. aged_echo_span n v.paths_before v.paths ≤ t) (sym it.sound) long in
-            (rest, inl (inr (inr (inr (inr (fails, inr (largest_interval (pace_of n), inr refl, told)))))))
+            let late : aged_echo_span n v.paths_before v.paths ≤ s.sound =
+            subst (λ t. aged_echo_span n v.paths_before v.paths ≤ t) (sym it.sound) long in (
+              rest,
+              inl (inr (inr (inr (inr (
+                fails,
+                inr (largest_interval (pace_of n), inr refl, (held_span n v.paths_before, held_for fails, late)),
+              ))))),
+            )
         by (inr (inr (inr (inr (inr (inr (inr (row, is)))))))) =
             let (rest, loses, roles) = any_losses n playable.network all b at late row in (
               rest,
@@ -248,8 +262,8 @@ module _ (d : DocumentState) (playable : IsPlayable d) where
     -- what ages does no later than ports beside a failed system are off
     ages_first : (aged quiet : ℕ) → BoundsAging n made now aged quiet → aged ≤ quiet
     ages_first aged quiet (inl (used, none, no_roles)) = omega (arith, none)
-    ages_first aged quiet (inr (is, is_roles)) =
-        lesser aged quiet (aging_span (pace_of n) (sync_paths n made)) (silence_span (pace_of n)) is is_roles
+    ages_first aged quiet (inr ((span, within, is), is_roles)) =
+        lesser aged quiet span (silence_span (pace_of n)) is is_roles
 
     no_later : (choice roles : ℕ) → BoundsLoss n made now choice roles → choice ≤ roles
     no_later choice roles (inl (lowers, same, which)) = omega (arith, same)
@@ -297,7 +311,7 @@ module _ (d : DocumentState) (playable : IsPlayable d) where
           rest,
           inr (inr (inr (inl (
             fails,
-            (held_span n v.paths_before, silence_span (pace_of n), inr (refl, refl), inl (refl, refl)),
+            (held_span n v.paths_before, silence_span (pace_of n), inr (held_for fails, refl), inl (refl, refl)),
           )))),
         )
     loses_by FailureCutsOff row own =
@@ -305,7 +319,7 @@ module _ (d : DocumentState) (playable : IsPlayable d) where
           rest,
           inr (inr (inr (inl (
             fails,
-            (held_span n v.paths_before, silence_span (pace_of n), inr (refl, refl), inr (refl, refl)),
+            (held_span n v.paths_before, silence_span (pace_of n), inr (held_for fails, refl), inr (refl, refl)),
           )))),
         )
     loses_by AnyLosses row own =

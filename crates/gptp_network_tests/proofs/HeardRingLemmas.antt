@@ -32,6 +32,7 @@ use Rattle.gptp_invariants.specs.FailedUnanswered.{silence_span}
 use Rattle.gptp_theorem.specs.PlayedLaws.{IsPlayable}
 use Rattle.gptp_settling_time.specs.HowSoon.{IsChoiceAloneBound, IsChoiceBound, IsLossBoundAfter, NoneBetween}
 use Rattle.gptp_settling_time.specs.Losses.{FailsHeard, IsUnmoved, MovesNone, aging_span}
+use Rattle.gptp_settling_time.proofs.SilentSpanLemmas.{failure_within}
 use Rattle.gptp_network_tests.specs.Ring.{bridge, heard_document, ring_network, ring_paths}
 use Rattle.gptp_network_tests.proofs.FarLemmas.{below_all, cable, first, fourth, fourth_line, parent, ring, ring_choice, ring_stands, second, states, third, third_line, unmoved_by}
 use Rattle.gptp_network_tests.proofs.RingLemmas.{pace_is, paths_are, ring_begun}
@@ -165,7 +166,22 @@ lost = (
   record { links = links_rest; lapses = inl refl },
   refl,
   (1000003050, (refl, ring_begun), omega arith),
-  inr (inr (inr (inl ((fails, tt), (3000000410, 11000000000, inr (ages, span), inl (refl, refl)))))),
+  inr (inr (inr (inl (
+    (fails, tt),
+    (
+      3000000410,
+      11000000000,
+      inr (
+        (
+          aging_span (pace_of ring_network) (sync_paths ring_network []),
+          failure_within ring_network [] event fails,
+          ages,
+        ),
+        span,
+      ),
+      inl (refl, refl),
+    ),
+  )))),
 )
   where
     span : 11000000000 ≡ silence_span (pace_of ring_network)

@@ -53,7 +53,7 @@ IsAfter d events (Heard start) w = IsClaimedTo d events start w
 IsAfter d events (Left start) w = IsLeftTo d events start w
 IsAfter d events (Turned silent now) w = IsTurnedTo d events silent now w
 IsAfter d events (Cleared since silent right old) w = IsClearedTo d events since silent right old w
-IsAfter d events (Aging aged silent) w = IsAgingTo d events aged silent w
+IsAfter d events (Aging ago aged silent) w = IsAgingTo d ago events aged silent w
 IsAfter d events (Lost since most silent) w = IsLostTo d events since most silent w
 
 module _ (d : DocumentState) (events : List Timed) where
@@ -65,7 +65,7 @@ module _ (d : DocumentState) (events : List Timed) where
   after_keeps (Left start) w so = so.keeps
   after_keeps (Turned silent now) w so = so.keeps
   after_keeps (Cleared since silent right old) w so = so.keeps
-  after_keeps (Aging aged silent) w so = so.keeps
+  after_keeps (Aging ago aged silent) w so = so.keeps
   after_keeps (Lost since most silent) w so = so.keeps
 
   pub after_later : (past : Past) (w : WorldState) (time : ℕ) → w.time ≤ time → NothingBefore time w.net.pending
@@ -78,7 +78,7 @@ module _ (d : DocumentState) (events : List Timed) where
   after_later (Turned silent now) w time later first so = turned_to_later d events silent now w time later first so
   after_later (Cleared since silent right old) w time later first so = cleared_to_later d events since silent right old
       w time later first so
-  after_later (Aging aged silent) w time later first so = aging_to_later d events aged silent w time later first so
+  after_later (Aging ago aged silent) w time later first so = aging_to_later d ago events aged silent w time later first so
   after_later (Lost since most silent) w time later first so =
       lost_to_later d events since most silent w time later first so
 
@@ -98,8 +98,8 @@ module _ (d : DocumentState) (events : List Timed) where
       turned_to_act d events silent now answers t fate drawn w next was so
   after_act answers (Cleared since silent right old) t fate drawn w next was so =
       cleared_to_act d events since silent right old answers t fate drawn w next was so
-  after_act answers (Aging aged silent) t fate drawn w next was so =
-      aging_to_act d events aged silent answers t fate drawn w next was so
+  after_act answers (Aging ago aged silent) t fate drawn w next was so =
+      aging_to_act d ago events aged silent answers t fate drawn w next was so
   after_act answers (Lost since most silent) t fate drawn w next was so =
       lost_to_act d events since most silent answers t fate drawn w next was so
 
@@ -121,7 +121,7 @@ module _ (d : DocumentState) (playable : IsPlayable d) (events : List Timed) (w 
   rests_as (Turned silent now) (Left start) none so = absurd none
   rests_as (Turned silent now) (Turned start was) none so = absurd none
   rests_as (Turned silent now) (Cleared start dark clean last) none so = absurd none
-  rests_as (Turned silent now) (Aging gone start) none so = absurd none
+  rests_as (Turned silent now) (Aging ago gone start) none so = absurd none
   rests_as (Turned silent now) (Lost begun most start) none so = absurd none
   rests_as (Cleared since silent right old) AnyPast none so = absurd none
   rests_as (Cleared since silent right old) Starting none so = absurd none
@@ -131,18 +131,18 @@ module _ (d : DocumentState) (playable : IsPlayable d) (events : List Timed) (w 
   rests_as (Cleared since silent right old) (Left start) none so = absurd none
   rests_as (Cleared since silent right old) (Turned start now) none so = absurd none
   rests_as (Cleared since silent right old) (Cleared start dark clean last) none so = absurd none
-  rests_as (Cleared since silent right old) (Aging gone start) none so = absurd none
+  rests_as (Cleared since silent right old) (Aging ago gone start) none so = absurd none
   rests_as (Cleared since silent right old) (Lost begun most start) none so = absurd none
-  rests_as (Aging aged silent) AnyPast none so = absurd none
-  rests_as (Aging aged silent) Starting none so = absurd none
-  rests_as (Aging aged silent) (Gained start) none so = absurd none
-  rests_as (Aging aged silent) (Heard start) rest so =
-      aging_to_claimed d events aged silent w start so playable rest
-  rests_as (Aging aged silent) (Left start) none so = absurd none
-  rests_as (Aging aged silent) (Turned start now) none so = absurd none
-  rests_as (Aging aged silent) (Cleared start dark clean last) none so = absurd none
-  rests_as (Aging aged silent) (Aging gone start) none so = absurd none
-  rests_as (Aging aged silent) (Lost since most start) none so = absurd none
+  rests_as (Aging ago aged silent) AnyPast none so = absurd none
+  rests_as (Aging ago aged silent) Starting none so = absurd none
+  rests_as (Aging ago aged silent) (Gained start) none so = absurd none
+  rests_as (Aging ago aged silent) (Heard start) rest so =
+      aging_to_claimed d ago events aged silent w start so playable rest
+  rests_as (Aging ago aged silent) (Left start) none so = absurd none
+  rests_as (Aging ago aged silent) (Turned start now) none so = absurd none
+  rests_as (Aging ago aged silent) (Cleared start dark clean last) none so = absurd none
+  rests_as (Aging ago aged silent) (Aging once gone start) none so = absurd none
+  rests_as (Aging ago aged silent) (Lost since most start) none so = absurd none
   rests_as (Lost since most silent) AnyPast none so = absurd none
   rests_as (Lost since most silent) Starting none so = absurd none
   rests_as (Lost since most silent) (Gained start) none so = absurd none
@@ -151,7 +151,7 @@ module _ (d : DocumentState) (playable : IsPlayable d) (events : List Timed) (w 
   rests_as (Lost since most silent) (Left start) none so = absurd none
   rests_as (Lost since most silent) (Turned start now) none so = absurd none
   rests_as (Lost since most silent) (Cleared start dark clean last) none so = absurd none
-  rests_as (Lost since most silent) (Aging gone start) none so = absurd none
+  rests_as (Lost since most silent) (Aging ago gone start) none so = absurd none
   rests_as (Lost since most silent) (Lost begun more start) none so = absurd none
 
   pub taken_as : (past seen : Past) → IsTakenAs d.network events past w.time seen → IsAfter d events past w
@@ -179,7 +179,7 @@ begins_after answers d playable fate until first w ts k (Heard start) (little, b
 begins_after answers d playable fate until first w ts k (Left start) none = absurd none
 begins_after answers d playable fate until first w ts k (Turned silent now) none = absurd none
 begins_after answers d playable fate until first w ts k (Cleared since silent right old) none = absurd none
-begins_after answers d playable fate until first w ts k (Aging aged silent) none = absurd none
+begins_after answers d playable fate until first w ts k (Aging ago aged silent) none = absurd none
 begins_after answers d playable fate until first w ts k (Lost since most silent) none = absurd none
 
 -- ---- it settles
@@ -271,10 +271,10 @@ module _ (d : DocumentState) (playable : IsPlayable d) (all : List Timed) (calm 
       (inl (omega (arith, passed, on)))
   after_settles (Cleared since silent right old) so (off, inr used) =
       left_to_settled d all silent w (cleared_left d all since silent right old w so) playable calm off (inr used)
-  after_settles (Aging aged silent) so (off, inl passed) =
-      aging_to_settled d all aged silent w so playable calm off (inl (omega (arith, passed, on)))
-  after_settles (Aging aged silent) so (off, inr used) =
-      aging_to_settled d all aged silent w so playable calm off (inr used)
+  after_settles (Aging ago aged silent) so (off, inl passed) =
+      aging_to_settled d ago all aged silent w so playable calm off (inl (omega (arith, passed, on)))
+  after_settles (Aging ago aged silent) so (off, inr used) =
+      aging_to_settled d ago all aged silent w so playable calm off (inr used)
   after_settles (Lost since most silent) so (off, passed, inl late) =
       lost_to_settled d all since most silent w so playable (omega (arith, passed, on)) (inl (omega (arith, late, on)))
   after_settles (Lost since most silent) so (off, passed, inr used) =
@@ -295,11 +295,11 @@ module _ (d : DocumentState) (playable : IsPlayable d) (all : List Timed) (calm 
   after_chooses (Turned silent now) so settles = chooses_so (after_settles (Turned silent now) so settles).0
   after_chooses (Cleared since silent right old) so off =
       left_to_chooses d all silent w (cleared_left d all since silent right old w so) playable calm off
-  after_chooses (Aging aged silent) so (off, inl gone) =
-      aging_to_chooses d all aged silent w so playable calm off (inl (omega (arith, gone, on)))
-  after_chooses (Aging aged silent) so (off, inr (inl late)) =
-      aging_to_chooses d all aged silent w so playable calm off (inr (inl (omega (arith, late, on))))
-  after_chooses (Aging aged silent) so (off, inr (inr used)) =
-      aging_to_chooses d all aged silent w so playable calm off (inr (inr used))
+  after_chooses (Aging ago aged silent) so (off, inl gone) =
+      aging_to_chooses d ago all aged silent w so playable calm off (inl (omega (arith, gone, on)))
+  after_chooses (Aging ago aged silent) so (off, inr (inl late)) =
+      aging_to_chooses d ago all aged silent w so playable calm off (inr (inl (omega (arith, late, on))))
+  after_chooses (Aging ago aged silent) so (off, inr (inr used)) =
+      aging_to_chooses d ago all aged silent w so playable calm off (inr (inr used))
   after_chooses (Lost since most silent) so (off, passed) =
       lost_to_chooses d all since most silent w so playable (omega (arith, passed, on))

@@ -298,7 +298,7 @@ module _ (says : Spelling) (n : Network) (w : MachineState) (calm : Calm n w) (b
     (lived : (v : ℕ) → In v (clocks g) → In v (clocks n.graph)) (w' : MachineState) (emptied : IsEmptied w w') where
   pub ages_begin : UnlinkedAge says g stay aged w'
   ages_begin = record {
-    held = λ i s place r at live unlinked holds.
+    held = λ i s place r at live holds unlinked.
         let stood = emptied.stations i s at live in
         let came = ((calm.facts.stations i s stood live).held place r holds).came in
         let span = named i s place r stood live holds in

@@ -99,8 +99,8 @@ module _ (d : DocumentState) (playable : IsPlayable d) (all : List Timed) (calm 
   have_measured (Turned silent time) w so settles links on =
       let change = (after_keeps d all (Turned silent time) w so).stands.last in
       moved_measured p so.before silent time w so.since.moved links (omega (arith, behind, on, change))
-  have_measured (Aging aged silent) w so settles links on =
-      let change = (after_keeps d all (Aging aged silent) w so).stands.last in
+  have_measured (Aging ago aged silent) w so settles links on =
+      let change = (after_keeps d all (Aging ago aged silent) w so).stands.last in
       aging_measured p so.before aged silent w so.since links (omega (arith, behind, on, change))
   have_measured (Lost since most silent) w so settles links on =
       let change = (after_keeps d all (Lost since most silent) w so).stands.last in

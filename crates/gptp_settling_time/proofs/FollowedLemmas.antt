@@ -1,6 +1,5 @@
 -- A choice bound of a time gives what the network came from then, and when it has settled by that.
 use Rattle.std.proofs.Common.{◌≡◌, ◌⊎◌, inl, inr, ◌<◌, ◌≤◌, ◌+◌, ◌*◌, ℕ, suc, List, [], ◌∷◌, ◌++◌, refl, sym, ap, subst, ◌∙◌, append_assoc, arith}
-use Rattle.std.specs.Prelude.{min}
 use Rattle.std.specs.List.{AllByRecursion}
 use Rattle.std.proofs.Math.Nat.{le-max_right}
 use native.Mathlib.Decide.{dec_le}
@@ -16,13 +15,13 @@ use Rattle.gptp_network.specs.Events.{AreInOrder}
 use Rattle.gptp_network.specs.Snapshot.{events_by}
 use Rattle.gptp_settling_time.specs.HowSoon.{AreGainEvents, AreHeardEvents, AreReadyAtStart, AreStartEvents, BoundsAging, BoundsAnyLoss, BoundsEvents, BoundsLoss, BoundsStart, IsChoiceAloneBound, IsChoiceBound, IsChoiceBoundAfter, IsLossBoundAfter, IsRestBoundAfter, EachEvent, NoneBetween, OneEvent, RestsAfterLoss, events_at, way_span}
 use Rattle.gptp_settling_time.specs.InTurn.{Aging, AnyPast, AreCapableSoon, BeginsBy, ChoosesAfter, ChoosesByEvents, ComesByEvents, EventLeads, Gained, Heard, LeadOn, Left, Lost, Past, SettlesAfter, SettlesByEvents, Starting, StartsWith, TellsNothing, Turned, UsedVaryLittle}
-use Rattle.gptp_settling_time.specs.Losses.{FailsHeard, LowersLink, LowersUnused, TurnsLink, UpIsUsed, aging_span, loss_span}
-use Rattle.gptp_settling_time.proofs.CalmLessLemmas.{failure_calm, fails_calm}
+use Rattle.gptp_settling_time.specs.Losses.{AgesWithin, FailsHeard, LowersLink, LowersUnused, TurnsLink, UpIsUsed, loss_span}
+use Rattle.gptp_settling_time.proofs.CalmLessLemmas.{fails_calm}
 use Rattle.gptp_settling_time.proofs.CutLemmas.{IsBy, all_by}
 use Rattle.gptp_settling_time.proofs.MomentLemmas.{all_at, last_by, parted}
 use Rattle.gptp_settling_time.proofs.LeadOnLemmas.{HasRested, HasSettled, IsLed, after_idle, any_leads, gains_led, heard_led, idle_led, lead_as, leads_on, led_as, next, rested_so, settled_later, taken_later, wider_led}
 use Rattle.gptp_settling_time.proofs.LosesLeadLemmas.{LosesBy, any_rests, loses_by}
-use Rattle.gptp_settling_time.proofs.LossLeadLemmas.{IsLeftBy, ages_leads, aging_lead, cleared_led, dead_lead, loss_leads, settles_chooses, turn_leads}
+use Rattle.gptp_settling_time.proofs.LossLeadLemmas.{IsLeftBy, cleared_led, dead_lead, heard_lead, loss_leads, settles_chooses, turn_leads}
 use Rattle.gptp_invariants.specs.FailedUnanswered.{silence_span}
 
 -- ---- a document
@@ -341,50 +340,48 @@ module _ (d : DocumentState) (network : IsNetwork d.network) (order : AreInOrder
             }
 
         -- by the first a system fails that others hear, and what they hold of it ages on
+        aging : (span : ℕ) → FailsHeard n earlier event → EachEvent (LowersUnused n) (earlier ++ event ∷ []) now
+            → AgesWithin n earlier (earlier ++ event ∷ now) span
+            → LeadOn n [] before.first (events_by time d.events)
+            (Aging earlier (suc (event.at + span)) (suc (event.at + silence_span (pace_of n))))
+        aging span fails others within =
+            let past : Past = Aging earlier (suc (event.at + span)) (suc (event.at + silence_span (pace_of n))) in
+            subst (λ es. LeadOn n [] before.first es past) (sym parts)
+            (leads_on n [] before.first before.last past earlier (event ∷ now) before.lead
+            (lead_as n earlier event now before.last seen past
+            (taken_later n earlier before.last seen (suc (last + choice_then)) event.at
+            (omega (arith, soon, here)) before.settles.1)
+            (heard_lead n earlier event now seen span off calm_then then fails others within)))
+
         heard : (held quiet : ℕ) → held ≤ choice → quiet ≤ roles → FailsHeard n earlier event
             → EachEvent (LowersUnused n) (earlier ++ event ∷ []) now → BoundsAging n earlier (event ∷ now) held quiet
             → IsLost
-        heard held quiet less quiet_less fails others bounds =
-            let p = pace_of n in
-            let span : ℕ = aging_span p (sync_paths n earlier) in
-            let aged : ℕ = suc (event.at + span) in
-            let silent : ℕ = suc (event.at + silence_span p) in
+        heard held quiet less quiet_less fails others (inl (used, is_choice, is_roles)) =
+            let used_so : UpIsUsed n (events_by time d.events) = subst (UpIsUsed n) (sym parts) used in
             record {
               first = before.first;
               begins = before.begins;
-              last = Aging aged silent;
-              lead = led (Aging aged silent) (Aging aged silent)
-                  (ages_leads n earlier event seen aged silent then
-                  (record { fails = fails; calm = calm_then; off = off; gone = refl; unanswered = refl }))
-                  (aging_lead n (earlier ++ event ∷ []) now aged silent off
-                  (failure_calm n earlier event off calm_then fails.clock fails.act) others);
+              last = Aging earlier (suc (event.at + 0)) (suc (event.at + silence_span (pace_of n)));
+              lead = aging 0 fails others (λ place v there (was, up, unused). absurd (unused (used place v there up)));
               calm = calm;
-              settles = λ settled late. (off, settles bounds settled late);
-              chooses = λ settled late. (off, chooses bounds settled late);
+              settles = λ settled late. (off, inr used_so);
+              chooses = λ settled late. (off, inr (inr used_so));
             }
-          where
-            used_so : UpIsUsed n (earlier ++ event ∷ now) → UpIsUsed n (events_by time d.events)
-            used_so = subst (UpIsUsed n) (sym parts)
-
-            settles : BoundsAging n earlier (event ∷ now) held quiet → (settled : ℕ) → time + roles < settled
-                → (suc (event.at + silence_span (pace_of n)) ≤ settled) ⊎ UpIsUsed n (events_by time d.events)
-            settles (inl (used, is_choice, is_roles)) settled late = inr (used_so used)
-            settles (inr (is_choice, is_roles)) settled late = inl (omega (arith, here, is_roles, late, quiet_less))
-
-            chooses : BoundsAging n earlier (event ∷ now) held quiet → (settled : ℕ) → time + choice < settled
-                → (suc (event.at + aging_span (pace_of n) (sync_paths n earlier)) ≤ settled)
-                ⊎ ((suc (event.at + silence_span (pace_of n)) ≤ settled) ⊎ UpIsUsed n (events_by time d.events))
-            chooses (inl (used, is_choice, is_roles)) settled late = inr (inr (used_so used))
-            chooses (inr (is_choice, is_roles)) settled late =
-                lesser (aging_span (pace_of n) (sync_paths n earlier)) (silence_span (pace_of n)) is_choice
-              where
-                lesser : (a b : ℕ) → held ≡ min a b
-                    → (suc (event.at + a) ≤ settled)
-                    ⊎ ((suc (event.at + b) ≤ settled) ⊎ UpIsUsed n (events_by time d.events))
-                lesser a b is = elim (dec_le a b) [
-                  | yes first ↦ inl (omega (arith, here, is, late, less, first))
-                  | no over ↦ inr (inl (omega (arith, here, is, late, less, over)))
-                ]
+        heard held quiet less quiet_less fails others (inr ((span, within, is_choice), is_roles)) = record {
+          first = before.first;
+          begins = before.begins;
+          last = Aging earlier (suc (event.at + span)) (suc (event.at + silence_span (pace_of n)));
+          lead = aging span fails others within;
+          calm = calm;
+          settles = λ settled late. (off, inl (omega (arith, here, is_roles, late, quiet_less)));
+          chooses = λ settled late. (
+            off,
+            elim (dec_le span (silence_span (pace_of n))) [
+              | yes first ↦ inl (omega (arith, here, is_choice, late, less, first))
+              | no over ↦ inr (inl (omega (arith, here, is_choice, late, less, over)))
+            ],
+          );
+        }
 
         -- whatever is taken away
         any_lost : BoundsAnyLoss n earlier (event ∷ now) choice roles → IsLost

@@ -51,7 +51,7 @@ HasSettled n events (Heard start) time = HasSettledHeard n events start time
 HasSettled n events (Left start) time = ⊥
 HasSettled n events (Turned silent now) time = ⊥
 HasSettled n events (Cleared begun silent right old) time = ⊥
-HasSettled n events (Aging aged silent) time = ⊥
+HasSettled n events (Aging ago aged silent) time = ⊥
 HasSettled n events (Lost since most silent) time = ⊥
 
 pub settled_later : (n : NetworkState) (events : List Timed) (past : Past) (time later : ℕ) → time ≤ later
@@ -64,7 +64,7 @@ settled_later n events (Heard start) time later less is = omega (arith, is, less
 settled_later n events (Left start) time later less is = absurd is
 settled_later n events (Turned silent now) time later less is = absurd is
 settled_later n events (Cleared begun silent right old) time later less is = absurd is
-settled_later n events (Aging aged silent) time later less is = absurd is
+settled_later n events (Aging ago aged silent) time later less is = absurd is
 settled_later n events (Lost since most silent) time later less is = absurd is
 
 -- or it has so as it may be taken
@@ -98,7 +98,7 @@ taken_later n events past seen time later less (inr rests) = inr (by past seen r
     by (Turned silent now) (Left start) none = absurd none
     by (Turned silent now) (Turned start was) none = absurd none
     by (Turned silent now) (Cleared start dark clean last) none = absurd none
-    by (Turned silent now) (Aging gone start) none = absurd none
+    by (Turned silent now) (Aging ago gone start) none = absurd none
     by (Turned silent now) (Lost begun most start) none = absurd none
     by (Cleared begun silent right old) AnyPast none = absurd none
     by (Cleared begun silent right old) Starting none = absurd none
@@ -117,12 +117,12 @@ taken_later n events past seen time later less (inr rests) = inr (by past seen r
     by (Cleared begun silent right old) (Left start) none = absurd none
     by (Cleared begun silent right old) (Turned start now) none = absurd none
     by (Cleared begun silent right old) (Cleared start dark clean last) none = absurd none
-    by (Cleared begun silent right old) (Aging gone start) none = absurd none
+    by (Cleared begun silent right old) (Aging ago gone start) none = absurd none
     by (Cleared begun silent right old) (Lost since most start) none = absurd none
-    by (Aging aged silent) AnyPast none = absurd none
-    by (Aging aged silent) Starting none = absurd none
-    by (Aging aged silent) (Gained start) none = absurd none
-    by (Aging aged silent) (Heard start) is =
+    by (Aging ago aged silent) AnyPast none = absurd none
+    by (Aging ago aged silent) Starting none = absurd none
+    by (Aging ago aged silent) (Gained start) none = absurd none
+    by (Aging ago aged silent) (Heard start) is =
         let told = is.told in
         let unlinked = is.unlinked in
         let over = is.over in
@@ -139,11 +139,11 @@ taken_later n events past seen time later less (inr rests) = inr (by past seen r
           unlinked = omega (arith, unlinked, less);
           over = omega (arith, over, less);
         }
-    by (Aging aged silent) (Left start) none = absurd none
-    by (Aging aged silent) (Turned start now) none = absurd none
-    by (Aging aged silent) (Cleared start dark clean last) none = absurd none
-    by (Aging aged silent) (Aging gone start) none = absurd none
-    by (Aging aged silent) (Lost since most start) none = absurd none
+    by (Aging ago aged silent) (Left start) none = absurd none
+    by (Aging ago aged silent) (Turned start now) none = absurd none
+    by (Aging ago aged silent) (Cleared start dark clean last) none = absurd none
+    by (Aging ago aged silent) (Aging once gone start) none = absurd none
+    by (Aging ago aged silent) (Lost since most start) none = absurd none
     by (Lost since most silent) AnyPast none = absurd none
     by (Lost since most silent) Starting none = absurd none
     by (Lost since most silent) (Gained start) none = absurd none
@@ -160,7 +160,7 @@ taken_later n events past seen time later less (inr rests) = inr (by past seen r
     by (Lost since most silent) (Left start) none = absurd none
     by (Lost since most silent) (Turned start now) none = absurd none
     by (Lost since most silent) (Cleared start dark clean last) none = absurd none
-    by (Lost since most silent) (Aging gone start) none = absurd none
+    by (Lost since most silent) (Aging ago gone start) none = absurd none
     by (Lost since most silent) (Lost begun more start) none = absurd none
 
 -- what is taken so is taken as nothing else
@@ -184,7 +184,7 @@ taken_on n events past seen other time (inr rests) (inr again) = absurd (by past
     by (Turned silent now) (Left start) none again = none
     by (Turned silent now) (Turned start was) none again = none
     by (Turned silent now) (Cleared start dark clean last) none again = none
-    by (Turned silent now) (Aging gone start) none again = none
+    by (Turned silent now) (Aging ago gone start) none again = none
     by (Turned silent now) (Lost begun most start) none again = none
     by (Cleared begun silent right old) AnyPast none again = none
     by (Cleared begun silent right old) Starting none again = none
@@ -193,17 +193,17 @@ taken_on n events past seen other time (inr rests) (inr again) = absurd (by past
     by (Cleared begun silent right old) (Left start) none again = none
     by (Cleared begun silent right old) (Turned start now) none again = none
     by (Cleared begun silent right old) (Cleared start dark clean last) none again = none
-    by (Cleared begun silent right old) (Aging gone start) none again = none
+    by (Cleared begun silent right old) (Aging ago gone start) none again = none
     by (Cleared begun silent right old) (Lost since most start) none again = none
-    by (Aging aged silent) AnyPast none again = none
-    by (Aging aged silent) Starting none again = none
-    by (Aging aged silent) (Gained start) none again = none
-    by (Aging aged silent) (Heard start) rests again = again
-    by (Aging aged silent) (Left start) none again = none
-    by (Aging aged silent) (Turned start now) none again = none
-    by (Aging aged silent) (Cleared start dark clean last) none again = none
-    by (Aging aged silent) (Aging gone start) none again = none
-    by (Aging aged silent) (Lost since most start) none again = none
+    by (Aging ago aged silent) AnyPast none again = none
+    by (Aging ago aged silent) Starting none again = none
+    by (Aging ago aged silent) (Gained start) none again = none
+    by (Aging ago aged silent) (Heard start) rests again = again
+    by (Aging ago aged silent) (Left start) none again = none
+    by (Aging ago aged silent) (Turned start now) none again = none
+    by (Aging ago aged silent) (Cleared start dark clean last) none again = none
+    by (Aging ago aged silent) (Aging once gone start) none again = none
+    by (Aging ago aged silent) (Lost since most start) none again = none
     by (Lost since most silent) AnyPast none again = none
     by (Lost since most silent) Starting none again = none
     by (Lost since most silent) (Gained start) none again = none
@@ -211,7 +211,7 @@ taken_on n events past seen other time (inr rests) (inr again) = absurd (by past
     by (Lost since most silent) (Left start) none again = none
     by (Lost since most silent) (Turned start now) none again = none
     by (Lost since most silent) (Cleared start dark clean last) none again = none
-    by (Lost since most silent) (Aging gone start) none again = none
+    by (Lost since most silent) (Aging ago gone start) none again = none
     by (Lost since most silent) (Lost begun more start) none again = none
 
 settled_so : (n : NetworkState) (events : List Timed) (past : Past) (time : ℕ) → NothingLapses n.params
@@ -223,7 +223,7 @@ settled_so n events (Heard start) time off is = (off, is)
 settled_so n events (Left start) time off is = absurd is
 settled_so n events (Turned silent now) time off is = absurd is
 settled_so n events (Cleared begun silent right old) time off is = absurd is
-settled_so n events (Aging aged silent) time off is = absurd is
+settled_so n events (Aging ago aged silent) time off is = absurd is
 settled_so n events (Lost since most silent) time off is = absurd is
 
 -- what has come to rest has settled
@@ -246,7 +246,7 @@ rested_so n events past time off (seen, inr rests, is) = by past seen rests
     by (Turned silent now) (Left start) none = absurd none
     by (Turned silent now) (Turned start was) none = absurd none
     by (Turned silent now) (Cleared start dark clean last) none = absurd none
-    by (Turned silent now) (Aging gone start) none = absurd none
+    by (Turned silent now) (Aging ago gone start) none = absurd none
     by (Turned silent now) (Lost begun most start) none = absurd none
     by (Cleared begun silent right old) AnyPast none = absurd none
     by (Cleared begun silent right old) Starting none = absurd none
@@ -255,17 +255,17 @@ rested_so n events past time off (seen, inr rests, is) = by past seen rests
     by (Cleared begun silent right old) (Left start) none = absurd none
     by (Cleared begun silent right old) (Turned start now) none = absurd none
     by (Cleared begun silent right old) (Cleared start dark clean last) none = absurd none
-    by (Cleared begun silent right old) (Aging gone start) none = absurd none
+    by (Cleared begun silent right old) (Aging ago gone start) none = absurd none
     by (Cleared begun silent right old) (Lost since most start) none = absurd none
-    by (Aging aged silent) AnyPast none = absurd none
-    by (Aging aged silent) Starting none = absurd none
-    by (Aging aged silent) (Gained start) none = absurd none
-    by (Aging aged silent) (Heard start) rest = (off, inl rest.unlinked)
-    by (Aging aged silent) (Left start) none = absurd none
-    by (Aging aged silent) (Turned start now) none = absurd none
-    by (Aging aged silent) (Cleared start dark clean last) none = absurd none
-    by (Aging aged silent) (Aging gone start) none = absurd none
-    by (Aging aged silent) (Lost since most start) none = absurd none
+    by (Aging ago aged silent) AnyPast none = absurd none
+    by (Aging ago aged silent) Starting none = absurd none
+    by (Aging ago aged silent) (Gained start) none = absurd none
+    by (Aging ago aged silent) (Heard start) rest = (off, inl rest.unlinked)
+    by (Aging ago aged silent) (Left start) none = absurd none
+    by (Aging ago aged silent) (Turned start now) none = absurd none
+    by (Aging ago aged silent) (Cleared start dark clean last) none = absurd none
+    by (Aging ago aged silent) (Aging once gone start) none = absurd none
+    by (Aging ago aged silent) (Lost since most start) none = absurd none
     by (Lost since most silent) AnyPast none = absurd none
     by (Lost since most silent) Starting none = absurd none
     by (Lost since most silent) (Gained start) none = absurd none
@@ -273,7 +273,7 @@ rested_so n events past time off (seen, inr rests, is) = by past seen rests
     by (Lost since most silent) (Left start) none = absurd none
     by (Lost since most silent) (Turned start now) none = absurd none
     by (Lost since most silent) (Cleared start dark clean last) none = absurd none
-    by (Lost since most silent) (Aging gone start) none = absurd none
+    by (Lost since most silent) (Aging ago gone start) none = absurd none
     by (Lost since most silent) (Lost begun more start) none = absurd none
 
 -- ---- an event leads from a network that has settled
@@ -329,7 +329,7 @@ module _ (n : NetworkState) (made : List Timed) (event : Timed) where
   gain_leads (Left start) next settled less gain = absurd settled
   gain_leads (Turned silent now) next settled less gain = absurd settled
   gain_leads (Cleared begun silent right old) next settled less gain = absurd settled
-  gain_leads (Aging aged silent) next settled less gain = absurd settled
+  gain_leads (Aging ago aged silent) next settled less gain = absurd settled
   gain_leads (Lost since most silent) next settled less gain = absurd settled
 
   heard_leads : (past : Past) (next : ℕ) → HasSettled n made past event.at → IsHeardEvent n next made event
@@ -345,7 +345,7 @@ module _ (n : NetworkState) (made : List Timed) (event : Timed) where
   heard_leads (Left start) next settled heard = absurd settled
   heard_leads (Turned silent now) next settled heard = absurd settled
   heard_leads (Cleared begun silent right old) next settled heard = absurd settled
-  heard_leads (Aging aged silent) next settled heard = absurd settled
+  heard_leads (Aging ago aged silent) next settled heard = absurd settled
   heard_leads (Lost since most silent) next settled heard = absurd settled
 
   -- what makes nothing of what stands leads from a network that has settled to one that has settled by then, as if its
@@ -368,7 +368,7 @@ module _ (n : NetworkState) (made : List Timed) (event : Timed) where
     way_over (Left start) settled = absurd settled
     way_over (Turned silent now) settled = absurd settled
     way_over (Cleared begun silent right old) settled = absurd settled
-    way_over (Aging aged silent) settled = absurd settled
+    way_over (Aging ago aged silent) settled = absurd settled
     way_over (Lost begun most silent) settled = absurd settled
 
     pub same_paths : IsStillEvent n made event → sync_paths n more ≡ sync_paths n made
@@ -392,7 +392,7 @@ module _ (n : NetworkState) (made : List Timed) (event : Timed) where
       idle_leads (Left start) settled = absurd settled
       idle_leads (Turned silent now) settled = absurd settled
       idle_leads (Cleared begun silent right old) settled = absurd settled
-      idle_leads (Aging aged silent) settled = absurd settled
+      idle_leads (Aging ago aged silent) settled = absurd settled
       idle_leads (Lost begun most silent) settled = absurd settled
 
       pub idle_settled : (past : Past) → HasSettled n made past event.at → HasSettled n more (Heard since) event.at
@@ -559,7 +559,7 @@ module _ (n : NetworkState) (network : IsNetwork n) where
     widens_leads made event (Left start) settled by here calm is late widens soon = absurd is
     widens_leads made event (Turned silent now) settled by here calm is late widens soon = absurd is
     widens_leads made event (Cleared begun silent right old) settled by here calm is late widens soon = absurd is
-    widens_leads made event (Aging aged silent) settled by here calm is late widens soon = absurd is
+    widens_leads made event (Aging ago aged silent) settled by here calm is late widens soon = absurd is
     widens_leads made event (Lost begun most silent) settled by here calm is late widens soon = absurd is
 
     pub wider_led : (made now : List Timed) (past : Past) (settled : ℕ) → AllNow now → IsCalm n made

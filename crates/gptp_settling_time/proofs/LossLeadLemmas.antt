@@ -12,12 +12,13 @@ use Rattle.gptp_scenario.specs.declared.change.Timed.{Timed}
 use Rattle.gptp_scenario.specs.declared.sync_wait.SyncPaths.{SyncPaths}
 use Rattle.gptp_theorem.proofs.EventLemmas.{last_behind}
 use Rattle.gptp_settling_time.specs.HowSoon.{CutsOneEnd, EachEvent, FailsEndFirst, FailsHeardFirst, LowersOneLink, RestsAfterOneLoss, RestsOnceTold, TurnsOneLink, TurnsUnused, way_span}
-use Rattle.gptp_settling_time.specs.InTurn.{Aging, AnyPast, ChoosesAfter, Cleared, CutsCalm, EventLeads, FailsCalm, FailsNow, FlightIsGone, Gained, Heard, LeadOn, Left, LosesNow, Lost, LowersCalm, Past, SettlesAfter, Starting, Turned, TurnsCalm, echo_span, nearer_echo_span, turned_echo_span}
-use Rattle.gptp_settling_time.specs.Losses.{CutsFarEnd, FailsFarEnd, FailsHeard, LowersLink, LowersUnused, TurnsLink, UpIsUsed, aging_span}
+use Rattle.gptp_settling_time.specs.InTurn.{AgesSooner, Aging, AnyPast, ChoosesAfter, Cleared, CutsCalm, EventLeads, FailsCalm, FailsNow, FlightIsGone, Gained, Heard, LeadOn, Left, LosesNow, Lost, LowersCalm, Past, SettlesAfter, Starting, Turned, TurnsCalm, echo_span, nearer_echo_span, turned_echo_span}
+use Rattle.gptp_settling_time.specs.Losses.{AgesWithin, CutsFarEnd, FailsFarEnd, FailsHeard, LowersLink, LowersUnused, TurnsLink, UpIsUsed, aging_span}
 use Rattle.gptp_settling_time.proofs.CalmLessLemmas.{failure_calm, fails_calm, lowers_calm}
 use Rattle.gptp_settling_time.proofs.SamePathsLemmas.{turned_paths}
 use Rattle.gptp_settling_time.proofs.LeftToLemmas.{less_way}
 use Rattle.gptp_settling_time.proofs.LeadOnLemmas.{HasSettled, IsLed}
+use Rattle.gptp_settling_time.proofs.SilentSpanLemmas.{failure_within}
 use Rattle.gptp_invariants.specs.FailedUnanswered.{silence_span}
 
 module _ (n : NetworkState) (made : List Timed) (event : Timed) (roles : ℕ) where
@@ -64,7 +65,7 @@ module _ (n : NetworkState) (made : List Timed) (event : Timed) (roles : ℕ) wh
   loss_leads (Left silent) settled loses = absurd settled
   loss_leads (Turned silent now) settled loses = absurd settled
   loss_leads (Cleared begun silent right old) settled loses = absurd settled
-  loss_leads (Aging aged silent) settled loses = absurd settled
+  loss_leads (Aging ago aged silent) settled loses = absurd settled
   loss_leads (Lost since most silent) settled loses = absurd settled
 
 -- after one by which a system turns it has turned
@@ -92,20 +93,20 @@ module _ (n : NetworkState) (made : List Timed) (event : Timed) where
   turn_leads (Left silent) settled turns = absurd settled
   turn_leads (Turned silent now) settled turns = absurd settled
   turn_leads (Cleared begun silent right old) settled turns = absurd settled
-  turn_leads (Aging aged silent) settled turns = absurd settled
+  turn_leads (Aging ago aged silent) settled turns = absurd settled
   turn_leads (Lost since most silent) settled turns = absurd settled
 
   -- after one of a system that others hear what they hold of it ages
   pub ages_leads : (past : Past) (aged silent : ℕ) → HasSettled n made past event.at → FailsNow n made event aged silent
-      → EventLeads n made past event (Aging aged silent)
-  ages_leads AnyPast aged silent settled now = (settled, now)
+      → EventLeads n made past event (Aging made aged silent)
+  ages_leads AnyPast aged silent settled now = (settled, refl, now)
   ages_leads Starting aged silent settled now = absurd settled
-  ages_leads (Gained start) aged silent settled now = (settled, now)
-  ages_leads (Heard start) aged silent settled now = (settled, now)
+  ages_leads (Gained start) aged silent settled now = (settled, refl, now)
+  ages_leads (Heard start) aged silent settled now = (settled, refl, now)
   ages_leads (Left start) aged silent settled now = absurd settled
   ages_leads (Turned start was) aged silent settled now = absurd settled
   ages_leads (Cleared begun start right old) aged silent settled now = absurd settled
-  ages_leads (Aging gone start) aged silent settled now = absurd settled
+  ages_leads (Aging ago gone start) aged silent settled now = absurd settled
   ages_leads (Lost since most start) aged silent settled now = absurd settled
 
   -- after any other it has lost
@@ -118,7 +119,7 @@ module _ (n : NetworkState) (made : List Timed) (event : Timed) where
   loses_leads (Left start) since most silent settled now = absurd settled
   loses_leads (Turned start was) since most silent settled now = absurd settled
   loses_leads (Cleared begun start right old) since most silent settled now = absurd settled
-  loses_leads (Aging aged start) since most silent settled now = absurd settled
+  loses_leads (Aging ago aged start) since most silent settled now = absurd settled
   loses_leads (Lost begun delay start) since most silent settled now = absurd settled
 
 -- what settles has its choice
@@ -131,7 +132,7 @@ settles_chooses n events (Heard start) settled is = is
 settles_chooses n events (Left silent) settled (off, late) = off
 settles_chooses n events (Turned silent now) settled so = so
 settles_chooses n events (Cleared begun silent right old) settled (off, late) = off
-settles_chooses n events (Aging aged silent) settled (off, late) = (off, inr late)
+settles_chooses n events (Aging ago aged silent) settled (off, late) = (off, inr late)
 settles_chooses n events (Lost since most silent) settled (off, passed, late) = (off, passed)
 
 -- a network that is left stays so where links go down of which an end has failed
@@ -170,16 +171,76 @@ dead_paths n made (event ∷ now) (lowers, others) =
     (subst (TurnsUnused n made) (sym lowers.act) lowers.failed)
 
 -- and what ages goes on to age
-pub aging_lead : (n : NetworkState) (made now : List Timed) (aged silent : ℕ) → NothingLapses n.params → IsCalm n made
-    → EachEvent (LowersUnused n) made now → LeadOn n made (Aging aged silent) now (Aging aged silent)
-aging_lead n made [] aged silent off calm each = refl
-aging_lead n made (event ∷ now) aged silent off calm (lowers, others) = (
-  Aging aged silent,
+aging_lead : (n : NetworkState) (ago made now : List Timed) (other : Timed) (gone aged silent : ℕ)
+    → NothingLapses n.params → IsCalm n made → EachEvent (LowersUnused n) made (other ∷ now)
+    → AgesSooner n ago (made ++ other ∷ now) aged silent
+    → LeadOn n made (Aging ago gone silent) (other ∷ now) (Aging ago aged silent)
+aging_lead n ago made [] other gone aged silent off calm (lowers, others) sooner = (
+  Aging ago gone silent,
   inl refl,
-  Aging aged silent,
-  (record { lowers = lowers; calm = calm; off = off }, refl, refl),
-  aging_lead n (made ++ event ∷ []) now aged silent off (lowers_calm n made event off calm lowers) others,
+  Aging ago aged silent,
+  (record { lowers = lowers; calm = calm; off = off }, refl, refl, inr sooner),
+  refl,
 )
+aging_lead n ago made (event ∷ now) other gone aged silent off calm (lowers, others) sooner = (
+  Aging ago gone silent,
+  inl refl,
+  Aging ago gone silent,
+  (record { lowers = lowers; calm = calm; off = off }, refl, refl, inl refl),
+  aging_lead n ago (made ++ other ∷ []) now event gone aged silent off (lowers_calm n made other off calm lowers) others
+      (subst (λ es. AgesSooner n ago es aged silent) (sym (append_assoc made (other ∷ []) (event ∷ now))) sooner),
+)
+
+-- So it does from when a system fails that others hear, as long as what came over the links that are silent after all of
+-- the events.
+pub heard_lead : (n : NetworkState) (made : List Timed) (event : Timed) (now : List Timed) (past : Past) (span : ℕ)
+    → NothingLapses n.params → IsCalm n made → HasSettled n made past event.at → FailsHeard n made event
+    → EachEvent (LowersUnused n) (made ++ event ∷ []) now → AgesWithin n made (made ++ event ∷ now) span
+    → LeadOn n made past (event ∷ now)
+    (Aging made (suc (event.at + span)) (suc (event.at + silence_span (pace_of n))))
+heard_lead n made event [] past span off calm settled fails lowers within =
+    let aged = suc (event.at + span) in
+    let silent = suc (event.at + silence_span (pace_of n)) in (
+      past,
+      inl refl,
+      Aging made aged silent,
+      ages_leads n made event past aged silent settled (record {
+        fails = fails;
+        calm = calm;
+        off = off;
+        span = span;
+        within = within;
+        gone = refl;
+        unanswered = refl;
+      }),
+      refl,
+    )
+heard_lead n made event (other ∷ now) past span off calm settled fails lowers within =
+    let aged = suc (event.at + span) in
+    let silent = suc (event.at + silence_span (pace_of n)) in
+    let most = aging_span (pace_of n) (sync_paths n made) in
+    let gone = suc (event.at + most) in (
+      past,
+      inl refl,
+      Aging made gone silent,
+      ages_leads n made event past gone silent settled (record {
+        fails = fails;
+        calm = calm;
+        off = off;
+        span = most;
+        within = failure_within n made event fails;
+        gone = refl;
+        unanswered = refl;
+      }),
+      aging_lead n made (made ++ event ∷ []) now other gone aged silent off
+          (failure_calm n made event off calm fails.clock fails.act) lowers (
+            event.at,
+            span,
+            refl,
+            subst (λ es. AgesWithin n made es span) (sym (append_assoc made (event ∷ []) (other ∷ now))) within,
+            refl,
+          ),
+    )
 
 -- after the loss of a far end it is cleared
 module _ (n : NetworkState) (made : List Timed) (event : Timed) (gone : ℕ) where
@@ -222,7 +283,7 @@ module _ (n : NetworkState) (made : List Timed) (event : Timed) (gone : ℕ) whe
   cut_leads flight (Left silent) settled cuts = absurd settled
   cut_leads flight (Turned silent now) settled cuts = absurd settled
   cut_leads flight (Cleared begun silent right last) settled cuts = absurd settled
-  cut_leads flight (Aging aged silent) settled cuts = absurd settled
+  cut_leads flight (Aging ago aged silent) settled cuts = absurd settled
   cut_leads flight (Lost since most silent) settled cuts = absurd settled
 
   -- or as it fails, once the ports beside it have been unanswered for long enough
@@ -257,7 +318,7 @@ module _ (n : NetworkState) (made : List Timed) (event : Timed) (gone : ℕ) whe
   fail_leads flight (Left silent) settled fails = absurd settled
   fail_leads flight (Turned silent now) settled fails = absurd settled
   fail_leads flight (Cleared begun silent right last) settled fails = absurd settled
-  fail_leads flight (Aging aged silent) settled fails = absurd settled
+  fail_leads flight (Aging ago aged silent) settled fails = absurd settled
   fail_leads flight (Lost since most silent) settled fails = absurd settled
 
 -- after another such link goes down it is, once right traces are told
@@ -295,7 +356,7 @@ module _ (n : NetworkState) (made : List Timed) (event : Timed) (gone : ℕ)
   right_leads (Left silent) settled lowers = absurd settled
   right_leads (Turned silent now) settled lowers = absurd settled
   right_leads (Cleared begun silent right last) settled lowers = absurd settled
-  right_leads (Aging aged silent) settled lowers = absurd settled
+  right_leads (Aging ago aged silent) settled lowers = absurd settled
   right_leads (Lost since most silent) settled lowers = absurd settled
 
 -- as a system fails that others hear it is, where each link that is up then is in use
@@ -314,20 +375,20 @@ module _ (n : NetworkState) (made : List Timed) (event : Timed) (aged silent : �
   power_leads (Left start) settled = absurd settled
   power_leads (Turned start was) settled = absurd settled
   power_leads (Cleared begun start right last) settled = absurd settled
-  power_leads (Aging gone start) settled = absurd settled
+  power_leads (Aging ago gone start) settled = absurd settled
   power_leads (Lost since most start) settled = absurd settled
 
 -- Else it goes on to age until the last link goes down of which an end has failed, at this time.
-power_lead : (n : NetworkState) (made now : List Timed) (other : Timed) (time aged silent : ℕ) → NothingLapses n.params
+power_lead : (n : NetworkState) (ago made now : List Timed) (other : Timed) (time aged silent : ℕ) → NothingLapses n.params
     → IsCalm n made → AllByRecursion (λ (t : Timed). t.at ≡ time) (other ∷ now)
     → EachEvent (LowersUnused n) made (other ∷ now) → UpIsUsed n (made ++ other ∷ now)
-    → LeadOn n made (Aging aged silent) (other ∷ now)
+    → LeadOn n made (Aging ago aged silent) (other ∷ now)
     (Cleared time silent (time + 1 + nearer_echo_span n (made ++ other ∷ now))
     (time + nearer_echo_span n (made ++ other ∷ now) + (sync_paths n (made ++ other ∷ now)).delay))
-power_lead n made [] other time aged silent off calm (at, none) (lowers, others) used =
+power_lead n ago made [] other time aged silent off calm (at, none) (lowers, others) used =
     let last = Cleared time silent (time + 1 + nearer_echo_span n (made ++ other ∷ []))
     (time + nearer_echo_span n (made ++ other ∷ []) + (sync_paths n (made ++ other ∷ [])).delay) in (
-      Aging aged silent,
+      Aging ago aged silent,
       inl refl,
       last,
       (
@@ -342,17 +403,17 @@ power_lead n made [] other time aged silent off calm (at, none) (lowers, others)
       ),
       refl,
     )
-power_lead n made (event ∷ now) other time aged silent off calm (at, later) (lowers, others) used =
+power_lead n ago made (event ∷ now) other time aged silent off calm (at, later) (lowers, others) used =
     let all : (made ++ other ∷ []) ++ event ∷ now ≡ made ++ other ∷ event ∷ now =
     append_assoc made (other ∷ []) (event ∷ now) in (
-      Aging aged silent,
+      Aging ago aged silent,
       inl refl,
-      Aging aged silent,
-      (record { lowers = lowers; calm = calm; off = off }, refl, refl),
-      subst (λ es. LeadOn n (made ++ other ∷ []) (Aging aged silent) (event ∷ now)
+      Aging ago aged silent,
+      (record { lowers = lowers; calm = calm; off = off }, refl, refl, inl refl),
+      subst (λ es. LeadOn n (made ++ other ∷ []) (Aging ago aged silent) (event ∷ now)
           (Cleared time silent (time + 1 + nearer_echo_span n es)
           (time + nearer_echo_span n es + (sync_paths n es).delay))) all
-          (power_lead n (made ++ other ∷ []) now event time aged silent off
+          (power_lead n ago (made ++ other ∷ []) now event time aged silent off
           (lowers_calm n made other off calm lowers) later others (subst (UpIsUsed n) (sym all) used)),
     )
 
@@ -543,7 +604,15 @@ module _ (n : NetworkState) (off : NothingLapses n.params) (time : ℕ) (made no
         silent = suc (event.at + silence_span (pace_of n))
 
         falls : FailsNow n made event aged silent
-        falls = record { fails = fails; calm = calm_then; off = off; gone = refl; unanswered = refl }
+        falls = record {
+          fails = fails;
+          calm = calm_then;
+          off = off;
+          span = aging_span (pace_of n) (sync_paths n made);
+          within = failure_within n made event fails;
+          gone = refl;
+          unanswered = refl;
+        }
 
         less : way_span (sync_paths n (made ++ now)) ≤ way_span (sync_paths n made)
         less = way_then lowers fails.delay fails.paths
@@ -604,12 +673,12 @@ module _ (n : NetworkState) (off : NothingLapses n.params) (time : ℕ) (made no
             ends (subst (λ es. LeadOn n made past es last) (sym (same ∙ ap (λ es. event ∷ es) alone)) (
               past,
               inl refl,
-              Aging aged silent,
+              Aging made aged silent,
               ages_leads n made event past aged silent settled_then falls,
-              subst (λ es. LeadOn n (made ++ event ∷ []) (Aging aged silent) (other ∷ more)
+              subst (λ es. LeadOn n (made ++ event ∷ []) (Aging made aged silent) (other ∷ more)
                   (Cleared time silent (time + 1 + nearer_echo_span n es)
                   (time + nearer_echo_span n es + (sync_paths n es).delay))) (sym all)
-                  (power_lead n (made ++ event ∷ []) more other time aged silent off
+                  (power_lead n made (made ++ event ∷ []) more other time aged silent off
                   (failure_calm n made event off calm_then fails.clock fails.act)
                   (subst (AllByRecursion (λ (t : Timed). t.at ≡ time)) alone at_then)
                   (subst (EachEvent (LowersUnused n) (made ++ event ∷ [])) alone lowers)
@@ -620,31 +689,25 @@ module _ (n : NetworkState) (off : NothingLapses n.params) (time : ℕ) (made no
     heard_led : FailsHeard n made event → EachEvent (LowersUnused n) (made ++ event ∷ []) others
         → RestsOnceTold n made now rest → IsLed n made now past (suc (time + rest))
     heard_led fails lowers (inl (used, long)) = power_led fails lowers used long
-    heard_led fails lowers (inr (gone, flight, long)) = record {
-      last = Aging aged silent;
-      lead = subst (λ es. LeadOn n made past es (Aging aged silent)) (sym same) (
-        past,
-        inl refl,
-        Aging aged silent,
-        ages_leads n made event past aged silent settled_then
-            (record { fails = fails; calm = calm_then; off = off; gone = refl; unanswered = refl }),
-        aging_lead n (made ++ event ∷ []) others aged silent off
-            (failure_calm n made event off calm_then fails.clock fails.act) lowers,
-      );
+    heard_led fails lowers (inr (gone, flight, (held, (span, within, is), long))) = record {
+      last = Aging made aged silent;
+      lead = subst (λ es. LeadOn n made past es (Aging made aged silent)) (sym same)
+          (heard_lead n made event others past span off calm_then settled_then fails lowers
+          (subst (λ es. AgesWithin n made (made ++ es) span) same within));
       settles = (
         Heard time,
         inr (record {
           calm = calm;
           off = off;
-          by = suc (time + min a b);
+          by = suc (time + min span b);
           since = omega (arith, last);
-          gone = elim (dec_le a b) [
+          gone = elim (dec_le span b) [
             | yes less ↦ inl (omega (arith, before, less))
             | no over ↦ inr (omega (arith, before, over))
           ];
           flight = gone;
           is_gone = flight;
-          told = let within = gone_within gone flight in omega (arith, long, within, told_most);
+          told = let within = gone_within gone flight in omega (arith, long, within, told_most, is);
           later = omega (arith, last);
           unlinked = omega (arith, before, long, silent_most);
           over = over_way;
@@ -653,14 +716,11 @@ module _ (n : NetworkState) (off : NothingLapses n.params) (time : ℕ) (made no
       );
     }
       where
-        a : ℕ
-        a = aging_span (pace_of n) (sync_paths n made)
-
         b : ℕ
         b = silence_span (pace_of n)
 
         aged : ℕ
-        aged = suc (event.at + a)
+        aged = suc (event.at + span)
 
         silent : ℕ
         silent = suc (event.at + b)
@@ -674,7 +734,7 @@ module _ (n : NetworkState) (off : NothingLapses n.params) (time : ℕ) (made no
             ∙ last_at made event others time (subst (AllByRecursion (λ (t : Timed). t.at ≡ time)) same at)
 
         more : ℕ
-        more = min a b + 1 + max (echo_span n (made ++ now)) gone
+        more = held + 1 + max (echo_span n (made ++ now)) gone
 
         silent_most : b ≤ max b more
         silent_most = le-max_left b more

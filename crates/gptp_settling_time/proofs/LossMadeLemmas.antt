@@ -35,8 +35,11 @@ use Rattle.gptp_settling_time.specs.InTurn.{ClearsBy, ClearsFarEnd, ClearsTraces
 use Rattle.gptp_settling_time.proofs.GainLemmas.{lives_so, up_so}
 use Rattle.gptp_settling_time.proofs.FailedAloneLemmas.{all_but, failed_left, less as failed_reduced, none_joined, ready_on as failed_ready}
 use Rattle.gptp_settling_time.proofs.AgedLemmas.{aged_begins}
+use Rattle.gptp_settling_time.proofs.AgesByLemmas.{ByLink, by_map}
+use Rattle.gptp_settling_time.proofs.AgesByWorldLemmas.{OverWay, StaysLongest, WorldAgesBy, aging_by}
+use Rattle.gptp_settling_time.proofs.AgingClaimedLemmas.{stay_of}
 use Rattle.gptp_settling_time.proofs.AgingToLemmas.{IsAgingTo}
-use Rattle.gptp_settling_time.proofs.FailedHeardLemmas.{failed_aging}
+use Rattle.gptp_settling_time.proofs.FailedHeardLemmas.{failed_ages_by}
 use Rattle.gptp_settling_time.proofs.GoesToLemmas.{echo_to, goes_to}
 use Rattle.gptp_settling_time.proofs.KeptToLemmas.{KeepsTo}
 use Rattle.gptp_settling_time.proofs.LeftToLemmas.{IsLeftTo, less_way, up_in_use}
@@ -44,6 +47,7 @@ use Rattle.gptp_settling_time.proofs.LostEndLemmas.{sound_reduced}
 use Rattle.gptp_settling_time.proofs.LostPowerLemmas.{told_anew}
 use Rattle.gptp_settling_time.proofs.LoweredLemmas.{act_left, ends, less as lowered_reduced, ready_on as lowered_ready, stay}
 use Rattle.gptp_settling_time.proofs.SettledSeenLemmas.{HasSettledSeen, IsSettledSeen}
+use Rattle.gptp_settling_time.proofs.SilentLinksLemmas.{AgesOver, over_begins, over_within}
 use Rattle.gptp_settling_time.proofs.TakenDownLemmas.{told_lives}
 use Rattle.gptp_settling_time.proofs.ToldAnewLemmas.{IsTurnedAlways, anew_begins}
 use Rattle.gptp_settling_time.proofs.TurnedToLemmas.{IsTurnedTo}
@@ -52,7 +56,7 @@ use Rattle.gptp_settling_time.proofs.WorldMovesLemmas.{cut_off_so, far_end_so, n
 use Rattle.gptp_bmca_machine.specs.SoundLaws.{AllAreNear}
 use Rattle.gptp_invariants.specs.ChoiceView.{says_announce, view}
 use Rattle.gptp_invariants.specs.FailedUnanswered.{silence_span}
-use Rattle.gptp_settling_time.specs.Losses.{FailsFarEnd, IsCutOff, IsFarEnd, LowersLink}
+use Rattle.gptp_settling_time.specs.Losses.{FailsFarEnd, IsCutOff, IsFarEnd, LowersLink, aging_span}
 use Rattle.gptp_settling_time.proofs.BecomesSoundLemmas.{GoesBy, goes_due, nearer_echo}
 use Rattle.gptp_settling_time.proofs.ClearedLemmas.{IsCleared}
 use Rattle.gptp_settling_time.proofs.ClearedToLemmas.{IsClearedTo}
@@ -310,36 +314,49 @@ module _ (d : DocumentState) (playable : IsPlayable d) (made : List Timed) (even
         old_is)
 
     -- a system fails that others hear
-    pub aging_so : (aged silent : ℕ) → FailsNow n made event aged silent → IsAgingTo d more aged silent w'
+    pub aging_so : (aged silent : ℕ) → FailsNow n made event aged silent → IsAgingTo d made more aged silent w'
     aging_so aged silent now =
         let x = now.fails in
         let over = rest.over in
         let gone = now.gone in
+        let late : ℕ = suc (event.at + aging_span p (sync_paths n made)) in
         let delay : (sync_paths n made).delay ≡ delay_in then = ap (λ (y : SyncPaths). y.delay) paths_then in
         let came : Acts (Changing (Fail x.clock)) then draws done w' =
         subst (λ act. Acts act then draws done w') x.act acts in
         let unanswered = now.unanswered in
-        let since = failed_aging p x.clock then draws done w' world_then after.claim.world came
+        let (since_late, by_link) = failed_ages_by p x.clock then draws done w' world_then after.claim.world came
         (lives_so n made then keeps.stands world_then.sound x.clock x.live came.1.place came.1.station
         (record { here = came.1.is.here; named = came.1.is.named }))
         (seen_then now.calm now.off) (near_so d playable made then keeps x.few)
-        (stays_joined d playable made event then w' keeps after x.moves) rest.sound start aged silent
+        (stays_joined d playable made event then w' keeps after x.moves) rest.sound start late silent
         keeps.claim.pace keeps.claim.measured after.claim.measured (omega (arith, over, at_time))
         (omega (arith, over, at_time)) (way_over x.delay x.paths) rest.ready
         (quiet_stands n made then playable.network keeps.stands world_then.sound now.calm).links rest.silent
-        (omega (arith, at_time, unanswered)) (omega (arith, gone, delay, at_time)) in
+        (omega (arith, at_time, unanswered)) (omega (arith, delay, at_time)) in
+        let by : WorldAgesBy p (AgesOver n made more then.time) w' =
+        λ quiet. by_map says_announce (snapshot_of w') (stay_of p) (ByLink then.time (StaysLongest p) (OverWay then))
+        (AgesOver n made more then.time) (view w')
+        (over_begins n made event x.clock x.act then w' keeps.stands world_then.sound after.stands
+        after.claim.world.sound) (by_link quiet) in
+        let since = aging_by p (snapshot_of then) late silent (AgesOver n made more then.time) aged w' since_late by
+        (λ port until is_over.
+        let less = over_within n made more then.time now.span now.within port until is_over in
+        omega (arith, less, gone, at_time)) in
         record {
           keeps = after;
           before = snapshot_of then;
           since = since;
           sound = aged_begins p (snapshot_of then) aged silent w' since last;
+          failed = then.time;
+          unanswered = omega (arith, unanswered, at_time);
+          by = by;
         }
 
     pub cleared_to : (since silent right old : ℕ) → ClearsBy n made event start since silent right old
         → IsClearedTo d more since silent right old w'
     cleared_to since silent right old (inl (begun, which)) = ends_to since silent right old begun which
     cleared_to since silent right old (inr (aged, now, anew)) =
-        told_anew d playable more event.at aged silent since right old w' after time last (aging_so aged silent now) anew
+        told_anew d playable made more event.at aged silent since right old w' after time last (aging_so aged silent now) anew
 
     -- a link goes down that so moves one system
     turned_to : TurnsCalm n made event → IsTurnedTo d more start event.at w'

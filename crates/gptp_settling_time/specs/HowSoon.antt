@@ -50,7 +50,7 @@ use Rattle.gptp_network.specs.Snapshot.{events_by}
 use Rattle.gptp_settling_time.specs.Gains.{ChangesNothing, EndHasFailed, LeavesCapable, TakesNothing}
 use Rattle.gptp_invariants.specs.FailedUnanswered.{silence_span}
 use Rattle.gptp_settling_time.specs.InTurn.{AddsHeard, BettersClock, FlightIsGone, MakesNothing, NoneUsed, TellsNothing, UsedVaryLittle, WidensLink, echo_span, turned_echo_span}
-use Rattle.gptp_settling_time.specs.Losses.{CutsFarEnd, FailsFarEnd, FailsHeard, LeavesChoice, LosesAny, LowersLink, LowersUnused, TurnsLink, UpIsUsed, aging_span, loss_span}
+use Rattle.gptp_settling_time.specs.Losses.{AgesWithin, CutsFarEnd, FailsFarEnd, FailsHeard, LeavesChoice, LosesAny, LowersLink, LowersUnused, TurnsLink, UpIsUsed, loss_span}
 
 -- ---- times
 
@@ -240,13 +240,17 @@ FailsHeardFirst n made [] = ⊥
 FailsHeardFirst n made (event ∷ events) =
     FailsHeard n made event × EachEvent (LowersUnused n) (made ++ event ∷ []) events
 
+-- What others hold of it has aged so much later, or no port beside it is capable, whichever is sooner.
+abbrev pub HeldFor : NetworkState → List Timed → List Timed → ℕ → Type 0
+HeldFor n made now held = (span : ℕ) × AgesWithin n made (made ++ now) span
+    × (held ≡ min span (silence_span (pace_of n)))
+
 -- How soon the choice and the roles stand after them: at once where each link that is up is in use. Else the choice
--- stands once what is held of the failed system has aged, or no port beside it is capable, whichever is sooner.
+-- stands once nothing is held of the failed system.
 abbrev pub BoundsAging : NetworkState → List Timed → List Timed → ℕ → ℕ → Type 0
 BoundsAging n made now choice roles =
     (UpIsUsed n (made ++ now) × (choice ≡ 0) × (roles ≡ 0))
-    ⊎ ((choice ≡ min (aging_span (pace_of n) (sync_paths n made)) (silence_span (pace_of n)))
-    × (roles ≡ silence_span (pace_of n)))
+    ⊎ (HeldFor n made now choice × (roles ≡ silence_span (pace_of n)))
 
 -- ---- any loss
 
@@ -343,9 +347,8 @@ abbrev pub RestsOnceTold : NetworkState → List Timed → List Timed → ℕ �
 RestsOnceTold n made now rest =
     (UpIsUsed n (made ++ now) × (max (echo_span n (made ++ now)) (sync_paths n (made ++ now)).delay ≤ rest))
     ⊎ ((gone : ℕ) × FlightIsGone n (made ++ now) gone
-    × (max (silence_span (pace_of n))
-    (min (aging_span (pace_of n) (sync_paths n made)) (silence_span (pace_of n)) + 1
-    + max (echo_span n (made ++ now)) gone) ≤ rest))
+    × ((held : ℕ) × HeldFor n made now held
+    × (max (silence_span (pace_of n)) (held + 1 + max (echo_span n (made ++ now)) gone) ≤ rest)))
 
 -- How much later a network has come to rest after a loss by which one system is moved at most, but for such as are cut
 -- off. After the loss of a far end what was in flight has to be gone. Where it fails and a link is up then that isn't in

@@ -62,7 +62,7 @@ use Rattle.gptp_settling_time.specs.Documents.{IsSettledAs}
 use Rattle.gptp_settling_time.specs.Exactly.{SettlesBy}
 use Rattle.gptp_settling_time.specs.Gains.{AreCapableAnyway, AreCapableNext, AreCapableStill, ChangesNothing, EndHasFailed, HasRested, IsDownAfter, IsNoWorse, JoinsLive, LeavesCapable, TakesNothing, UsesNoLink, exchanged_from}
 use Rattle.gptp_invariants.specs.FailedUnanswered.{silence_span}
-use Rattle.gptp_settling_time.specs.Losses.{AreSilentAfter, CutsFarEnd, FailsFarEnd, FailsHeard, LeavesChoice, LosesAny, LowersLink, LowersUnused, TurnsLink, UpIsUsed, aging_span, loss_span}
+use Rattle.gptp_settling_time.specs.Losses.{AgesWithin, AreSilentAfter, CutsFarEnd, FailsFarEnd, FailsHeard, LeavesChoice, LosesAny, LowersLink, LowersUnused, TurnsLink, UpIsUsed, loss_span}
 
 -- What a network came from. The numbers are times, but for the second of a loss.
 pub data Past : Type 0 where
@@ -79,7 +79,7 @@ pub data Past : Type 0 where
   -- held is right; and by the fourth what was in flight is gone
   Cleared : ℕ → ℕ → ℕ → ℕ → Past
   -- from the first on what is held of the failed system is gone; from the second on ports without a link aren't capable
-  Aging : ℕ → ℕ → Past
+  Aging : List Timed → ℕ → ℕ → Past
   -- at the first something was taken away; what was in flight is gone so much later as the second says; from the third
   -- on ports without a link aren't capable
   Lost : ℕ → ℕ → ℕ → Past
@@ -289,7 +289,9 @@ pub record FailsNow (n : NetworkState) (before : List Timed) (event : Timed) (ag
   pub fails : FailsHeard n before event
   pub calm : IsCalm n before
   pub off : NothingLapses n.params
-  pub gone : aged ≡ suc (event.at + aging_span (pace_of n) (sync_paths n before))
+  pub span : ℕ
+  pub within : AgesWithin n before (before ++ event ∷ []) span
+  pub gone : aged ≡ suc (event.at + span)
   pub unanswered : silent ≡ suc (event.at + silence_span (pace_of n))
 
 -- Each link that is up then is in use: from now on right traces are told, first by the best and its neighbours.
@@ -337,7 +339,7 @@ LeadsToGain n before (Heard start) event next = AreCapableStill n before start e
 LeadsToGain n before (Left silent) event next = ⊥
 LeadsToGain n before (Turned silent time) event next = ⊥
 LeadsToGain n before (Cleared since silent right old) event next = ⊥
-LeadsToGain n before (Aging aged silent) event next = ⊥
+LeadsToGain n before (Aging ago aged silent) event next = ⊥
 LeadsToGain n before (Lost since most silent) event next = ⊥
 
 abbrev pub LeadsToHeard : NetworkState → List Timed → Past → Timed → ℕ → Type 0
@@ -361,7 +363,7 @@ LeadsToHeard n before (Heard start) event next =
 LeadsToHeard n before (Left silent) event next = ⊥
 LeadsToHeard n before (Turned silent time) event next = ⊥
 LeadsToHeard n before (Cleared since silent right old) event next = ⊥
-LeadsToHeard n before (Aging aged silent) event next = ⊥
+LeadsToHeard n before (Aging ago aged silent) event next = ⊥
 LeadsToHeard n before (Lost since most silent) event next = ⊥
 
 -- a network that had settled is left so
@@ -377,7 +379,7 @@ LeadsToLeft n before (Heard start) event next =
 LeadsToLeft n before (Left silent) event next = LowersUnusedCalm n before event × (next ≡ silent)
 LeadsToLeft n before (Turned silent time) event next = ⊥
 LeadsToLeft n before (Cleared since silent right old) event next = ⊥
-LeadsToLeft n before (Aging aged silent) event next = ⊥
+LeadsToLeft n before (Aging ago aged silent) event next = ⊥
 LeadsToLeft n before (Lost since most silent) event next = ⊥
 
 -- in a network that had settled a system turns by it now
@@ -396,7 +398,7 @@ LeadsToTurned n before (Heard start) event silent time =
 LeadsToTurned n before (Left start) event silent time = ⊥
 LeadsToTurned n before (Turned start now) event silent time = ⊥
 LeadsToTurned n before (Cleared since start right old) event silent time = ⊥
-LeadsToTurned n before (Aging aged start) event silent time = ⊥
+LeadsToTurned n before (Aging ago aged start) event silent time = ⊥
 LeadsToTurned n before (Lost since most start) event silent time = ⊥
 
 -- A network that had settled is cleared, and one that is so stays so. One in which something ages is cleared as the last
@@ -415,25 +417,34 @@ LeadsToCleared n before (Turned start now) event since silent right old = ⊥
 LeadsToCleared n before (Cleared start dark clean last) event since silent right old =
     LowersUnusedCalm n before event × (clean ≤ event.at)
     × ((since ≡ start) × (silent ≡ dark) × (right ≡ clean) × (old ≡ last))
-LeadsToCleared n before (Aging aged dark) event since silent right old =
+LeadsToCleared n before (Aging ago aged dark) event since silent right old =
     LowersUnusedCalm n before event × (silent ≡ dark) × TellsAnew n (before ++ event ∷ []) event.at since right old
 LeadsToCleared n before (Lost start most dark) event since silent right old = ⊥
 
+-- Where a silent link goes down too what came over it is gone. So all has aged sooner by these events, if others were
+-- faster. Ports beside the system are off by a time that says when it failed.
+abbrev pub AgesSooner : NetworkState → List Timed → List Timed → ℕ → ℕ → Type 0
+AgesSooner n ago events aged silent = (failed : ℕ) × (span : ℕ)
+    × (silent ≡ suc (failed + silence_span (pace_of n)))
+    × AgesWithin n ago events span
+    × (aged ≡ suc (failed + span))
+
 -- It goes on to age where a link goes down of which an end has failed.
-abbrev pub LeadsToAging : NetworkState → List Timed → Past → Timed → ℕ → ℕ → Type 0
-LeadsToAging n before AnyPast event aged silent =
-    HasSettledAnyhow n before event.at × FailsNow n before event aged silent
-LeadsToAging n before Starting event aged silent = ⊥
-LeadsToAging n before (Gained start) event aged silent =
-    HasSettledSince n before start event.at × FailsNow n before event aged silent
-LeadsToAging n before (Heard start) event aged silent =
-    HasSettledHeard n before start event.at × FailsNow n before event aged silent
-LeadsToAging n before (Left start) event aged silent = ⊥
-LeadsToAging n before (Turned start now) event aged silent = ⊥
-LeadsToAging n before (Cleared since start right old) event aged silent = ⊥
-LeadsToAging n before (Aging gone start) event aged silent =
-    LowersUnusedCalm n before event × (aged ≡ gone) × (silent ≡ start)
-LeadsToAging n before (Lost since most start) event aged silent = ⊥
+abbrev pub LeadsToAging : NetworkState → List Timed → Past → Timed → List Timed → ℕ → ℕ → Type 0
+LeadsToAging n before AnyPast event ago aged silent =
+    HasSettledAnyhow n before event.at × (ago ≡ before) × FailsNow n before event aged silent
+LeadsToAging n before Starting event ago aged silent = ⊥
+LeadsToAging n before (Gained start) event ago aged silent =
+    HasSettledSince n before start event.at × (ago ≡ before) × FailsNow n before event aged silent
+LeadsToAging n before (Heard start) event ago aged silent =
+    HasSettledHeard n before start event.at × (ago ≡ before) × FailsNow n before event aged silent
+LeadsToAging n before (Left start) event ago aged silent = ⊥
+LeadsToAging n before (Turned start now) event ago aged silent = ⊥
+LeadsToAging n before (Cleared since start right old) event ago aged silent = ⊥
+LeadsToAging n before (Aging old gone start) event ago aged silent =
+    LowersUnusedCalm n before event × (ago ≡ old) × (silent ≡ start)
+    × ((aged ≡ gone) ⊎ AgesSooner n old (before ++ event ∷ []) aged start)
+LeadsToAging n before (Lost since most start) event ago aged silent = ⊥
 
 -- In a network that had settled something is taken away now. What is in flight comes within a greatest delay.
 pub record LosesNow (n : NetworkState) (before : List Timed) (event : Timed) (since most silent : ℕ) : Type 0 where
@@ -461,7 +472,7 @@ LeadsToLost n before (Heard start) event since most silent =
 LeadsToLost n before (Left start) event since most silent = ⊥
 LeadsToLost n before (Turned start now) event since most silent = ⊥
 LeadsToLost n before (Cleared begun start right old) event since most silent = ⊥
-LeadsToLost n before (Aging aged start) event since most silent = ⊥
+LeadsToLost n before (Aging ago aged start) event since most silent = ⊥
 LeadsToLost n before (Lost begun delay start) event since most silent =
     LosesMore n before event since silent × (since ≡ begun) × (most ≡ delay) × (silent ≡ start)
 
@@ -474,7 +485,7 @@ StaysFrom (Heard start) next = next ≡ start
 StaysFrom (Left silent) next = ⊥
 StaysFrom (Turned silent time) next = ⊥
 StaysFrom (Cleared since silent right old) next = ⊥
-StaysFrom (Aging aged silent) next = ⊥
+StaysFrom (Aging ago aged silent) next = ⊥
 StaysFrom (Lost since most silent) next = ⊥
 
 -- nothing is told as the network starts, and this is the last event then
@@ -486,7 +497,7 @@ StartsFrom n before (Heard start) event next = ⊥
 StartsFrom n before (Left silent) event next = ⊥
 StartsFrom n before (Turned silent time) event next = ⊥
 StartsFrom n before (Cleared since silent right old) event next = ⊥
-StartsFrom n before (Aging aged silent) event next = ⊥
+StartsFrom n before (Aging ago aged silent) event next = ⊥
 StartsFrom n before (Lost since most silent) event next = ⊥
 
 -- nothing is told as the network starts, nor after this event
@@ -498,7 +509,7 @@ StartsStill (Heard start) event = ⊥
 StartsStill (Left silent) event = ⊥
 StartsStill (Turned silent time) event = ⊥
 StartsStill (Cleared since silent right old) event = ⊥
-StartsStill (Aging aged silent) event = ⊥
+StartsStill (Aging ago aged silent) event = ⊥
 StartsStill (Lost since most silent) event = ⊥
 
 abbrev pub EventLeads : NetworkState → List Timed → Past → Timed → Past → Type 0
@@ -512,7 +523,7 @@ EventLeads n before past event (Left next) = LeadsToLeft n before past event nex
 EventLeads n before past event (Turned silent time) = LeadsToTurned n before past event silent time
 EventLeads n before past event (Cleared since silent right old) = LeadsToCleared n before past event since silent right
     old
-EventLeads n before past event (Aging aged silent) = LeadsToAging n before past event aged silent
+EventLeads n before past event (Aging ago aged silent) = LeadsToAging n before past event ago aged silent
 EventLeads n before past event (Lost since most silent) = LeadsToLost n before past event since most silent
 
 -- ---- rest
@@ -576,7 +587,7 @@ pub record HasToldAll (n : NetworkState) (events : List Timed) (since most silen
 abbrev pub RestsAs : NetworkState → List Timed → Past → ℕ → Past → Type 0
 RestsAs n events (Turned silent turned) time (Heard start) = HasToldAnew n events silent turned start time
 RestsAs n events (Cleared since silent right old) time (Heard start) = HasCleared n events since silent old start time
-RestsAs n events (Aging aged silent) time (Heard start) = HasAged n events aged silent start time
+RestsAs n events (Aging ago aged silent) time (Heard start) = HasAged n events aged silent start time
 RestsAs n events (Lost since most silent) time (Heard start) = HasToldAll n events since most silent start time
 RestsAs n events past time seen = ⊥
 
@@ -603,7 +614,7 @@ BeginsBy n (Heard start) = UsedVaryLittle n [] × AreCapableSoon n [] start
 BeginsBy n (Left silent) = ⊥
 BeginsBy n (Turned silent time) = ⊥
 BeginsBy n (Cleared since silent right old) = ⊥
-BeginsBy n (Aging aged silent) = ⊥
+BeginsBy n (Aging ago aged silent) = ⊥
 BeginsBy n (Lost since most silent) = ⊥
 
 -- By this time a calm network has settled after these events. From any past the span has to pass, the sharper one where
@@ -627,7 +638,7 @@ SettlesAfter n events (Turned silent time) settled =
     × (time + 1 + pred (sync_paths n events).systems * (sync_paths n events).delay ≤ settled)
 SettlesAfter n events (Cleared since silent right old) settled = NothingLapses n.params ×
     ((silent ≤ settled) ⊎ UpIsUsed n events)
-SettlesAfter n events (Aging aged silent) settled = NothingLapses n.params × ((silent ≤ settled) ⊎ UpIsUsed n events)
+SettlesAfter n events (Aging ago aged silent) settled = NothingLapses n.params × ((silent ≤ settled) ⊎ UpIsUsed n events)
 SettlesAfter n events (Lost since most silent) settled =
     NothingLapses n.params
     × (suc (since + loss_span (pace_of n) (sync_paths n events) most) ≤ settled)
@@ -643,7 +654,7 @@ ChoosesAfter n events (Heard start) settled = SettlesAfter n events (Heard start
 ChoosesAfter n events (Left silent) settled = NothingLapses n.params
 ChoosesAfter n events (Turned silent time) settled = SettlesAfter n events (Turned silent time) settled
 ChoosesAfter n events (Cleared since silent right old) settled = NothingLapses n.params
-ChoosesAfter n events (Aging aged silent) settled =
+ChoosesAfter n events (Aging ago aged silent) settled =
     NothingLapses n.params × ((aged ≤ settled) ⊎ ((silent ≤ settled) ⊎ UpIsUsed n events))
 ChoosesAfter n events (Lost since most silent) settled =
     NothingLapses n.params × (suc (since + loss_span (pace_of n) (sync_paths n events) most) ≤ settled)

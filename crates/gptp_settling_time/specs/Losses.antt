@@ -11,7 +11,7 @@ use Rattle.gptp_graph.specs.Snapshot.{Adjacent, Joins, Snapshot, System, clocks,
 use Rattle.gptp_network.specs.Snapshot.{StandsAfter}
 use Rattle.gptp_scenario.specs.Calm.{IsLive, IsUsed}
 use Rattle.gptp_scenario.specs.Change.{link_after}
-use Rattle.gptp_scenario.specs.Network.{IsEnd, NetworkState}
+use Rattle.gptp_scenario.specs.Network.{IsEnd, NetworkState, pace_of}
 use Rattle.gptp_scenario.specs.SyncWait.{sync_paths}
 use Rattle.gptp_scenario.specs.declared.change.Act.{Act}
 use Rattle.gptp_scenario.specs.declared.change.Act.TheVariants.{Change as Changing}
@@ -130,6 +130,21 @@ pub record FailsHeard (n : NetworkState) (before : List Timed) (event : Timed) :
 -- longest receipt timeout. Then it has aged.
 abbrev pub aging_span : SettlingParams → SyncPaths → ℕ
 aging_span p paths = longest_span p + paths.delay
+
+-- A link was in use after the first events, and after the second ones it is up but isn't: one of its ends has failed. So
+-- its other end may still be capable, and hold what came over it.
+abbrev pub IsSilent : NetworkState → List Timed → List Timed → LinkSpec → Type 0
+IsSilent n made events v =
+    IsUsed n.systems made (link_after made v)
+    × ((link_after events v).up ≡ true)
+    × (IsUsed n.systems events (link_after events v) → ⊥)
+
+-- What came over such a link has aged by so much later than its end failed: it came within the greatest delay of the
+-- link, and is held for the longest receipt timeout.
+abbrev pub AgesWithin : NetworkState → List Timed → List Timed → ℕ → Type 0
+AgesWithin n made events span = (place : ℕ) (v : LinkSpec) → slice_get n.links place ≡ Some v
+    → IsSilent n made events v
+    → (link_after events v).bounds.max + longest_span (pace_of n) ≤ span
 
 -- From the first snapshot to the second one system is moved alone, from one distance of its best to a greater one. What
 -- it isn't joined to any more was nearer than it. It has one link at most with each other system then, and is the far
