@@ -12,6 +12,7 @@ pub mod AnswerLemmas
 pub mod LinkLemmas
 pub mod NearestLemmas
 pub mod RestLemmas
+pub mod ClearLemmas
 pub mod EndsLemmas
 pub mod LevelLemmas
 pub mod SettledLemmas
@@ -24,6 +25,18 @@ pub mod NewsLemmas
 pub mod RestingLemmas
 pub mod ReactionLemmas
 pub mod LossLemmas
+pub mod LinkStepLemmas
+pub mod LinkEndsLemmas
+pub mod TimedLinkLemmas
+pub mod ToldLemmas
+pub mod CutTreeLemmas
+pub mod FallLemmas
+pub mod FallStepLemmas
+pub mod FallLeaveLemmas
+pub mod FallKeptLemmas
+pub mod FallLevelLemmas
+pub mod FallEndLemmas
+pub mod FallBeginLemmas
 pub mod RunLemmas
 pub mod MatchingLemmas
 pub mod SyncStepLemmas

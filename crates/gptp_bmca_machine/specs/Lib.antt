@@ -31,6 +31,7 @@ pub mod SoundEverywhereLaws
 pub mod RestLaws
 pub mod ReactionLaws
 pub mod LossLaws
+pub mod CutTree
 pub mod SyncLaws
 pub mod Example
 pub mod ExampleLaws
