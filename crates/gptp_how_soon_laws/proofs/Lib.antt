@@ -3,7 +3,10 @@ mod NamedLemmas
 mod KindLemmas
 mod ToldLemmas
 mod MoreLemmas
+mod ReadyLemmas
+mod GainLemmas
 mod GainedLemmas
+mod WorseningLemmas
 mod UnmovedLemmas
 mod LoweredLemmas
 mod FailedLemmas

@@ -33,7 +33,8 @@ use Rattle.gptp_settling_time.specs.HowSoon.{LowersOneLink}
 use Rattle.gptp_settling_time.specs.Losses.{IsCutOff, IsUnmoved, IsUnmovedOrCutOff, LowersLink, MovesNoneJoined, UpIsUsed}
 use Rattle.gptp_settling_time.proofs.EventStillLemmas.{at_end}
 use Rattle.gptp_how_soon_laws.proofs.ToldLemmas.{link_down_is, loss_lowers}
-use Rattle.gptp_how_soon_laws.proofs.UnmovedLemmas.{AreWell, clock_over, none_joined_there, unmoved_at}
+use Rattle.gptp_how_soon_laws.proofs.UnmovedLemmas.{AreWell, none_joined_there, unmoved_at}
+use Rattle.gptp_how_soon_laws.proofs.WorseningLemmas.{clock_over}
 
 -- a link that touches a place ends there
 pub joined_by : (n : NetworkState) (events : List Timed) (place i : ℕ) → Touches (used_ends n events) place i
