@@ -147,8 +147,8 @@ fails = record {
   act = refl;
   live = record { place = 1; system = bridge 0xf6f8fe436af80080e1fffe00000b; there = refl; clock = refl; live = refl };
   moves = λ g h v stands stands_then known. inl (moves_none g h v stands stands_then known);
-  delay = subst (λ (x : SyncPaths). x.delay ≡ (sync_paths ring_network []).delay) (sym paths_left)
-      (subst (λ (x : SyncPaths). 410 ≡ x.delay) (sym paths_are) refl);
+  delay = subst (λ (x : SyncPaths). x.delay ≤ (sync_paths ring_network []).delay) (sym paths_left)
+      (subst (λ (x : SyncPaths). 410 ≤ x.delay) (sym paths_are) (omega arith));
   paths = subst (λ (x : SyncPaths). x.systems ≤ (sync_paths ring_network []).systems) (sym paths_left)
       (subst (λ (x : SyncPaths). 3 ≤ x.systems) (sym paths_are) (omega arith));
   few = subst (λ (x : SyncPaths). x.systems ≤ 255) (sym paths_are) (omega arith);

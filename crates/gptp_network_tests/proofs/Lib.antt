@@ -12,4 +12,5 @@ mod PowerLemmas
 mod HeardRingLemmas
 mod RootlessRingLemmas
 mod TurnedRingLemmas
+mod CutLineLemmas
 mod AgeLemmas
