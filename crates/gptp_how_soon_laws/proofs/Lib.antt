@@ -11,7 +11,9 @@ mod UnmovedLemmas
 mod LoweredLemmas
 mod FailedLemmas
 mod CutOffLemmas
+mod TreeTestLemmas
 mod TreeLemmas
+mod TreeEventLemmas
 mod TurnedLemmas
 mod RowBoundLemmas
 mod RowReasonLemmas
