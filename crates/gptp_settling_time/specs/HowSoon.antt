@@ -37,7 +37,7 @@ use Rattle.gptp_setup.specs.SettlingParams.{SettlingParams, largest_interval}
 use Rattle.gptp_scenario.specs.Calm.{IsCalm, IsLive, NothingLapses}
 use Rattle.gptp_scenario.specs.Network.{NetworkState, pace_of}
 use Rattle.gptp_scenario.specs.SettlingAtOnce.{settling_span_at_once}
-use Rattle.gptp_scenario.specs.SettlingTime.{settling_span_with}
+use Rattle.gptp_scenario.specs.SettlingTime.{echo_span, loss_span, settling_span_with, silence_span}
 use Rattle.gptp_scenario.specs.SyncWait.{sync_paths}
 use Rattle.gptp_scenario.specs.declared.change.Act.{Act}
 use Rattle.gptp_scenario.specs.declared.change.Act.TheVariants.{Change as Changing}
@@ -48,9 +48,8 @@ use Rattle.gptp_model.specs.World.{port_id}
 use Rattle.gptp_network.specs.Document.{DocumentState}
 use Rattle.gptp_network.specs.Snapshot.{events_by}
 use Rattle.gptp_settling_time.specs.Gains.{ChangesNothing, EndHasFailed, LeavesCapable, TakesNothing}
-use Rattle.gptp_invariants.specs.FailedUnanswered.{silence_span}
-use Rattle.gptp_settling_time.specs.InTurn.{AddsHeard, BettersClock, FlightIsGone, MakesNothing, NoneUsed, TellsNothing, UsedVaryLittle, WidensLink, echo_span, turned_echo_span}
-use Rattle.gptp_settling_time.specs.Losses.{AgesWithin, CutsFarEnd, FailsFarEnd, FailsHeard, LeavesChoice, LosesAny, LowersLink, LowersUnused, TurnsLink, UpIsUsed, loss_span}
+use Rattle.gptp_settling_time.specs.InTurn.{AddsHeard, BettersClock, FlightIsGone, MakesNothing, NoneUsed, TellsNothing, UsedVaryLittle, WidensLink, turned_echo_span}
+use Rattle.gptp_settling_time.specs.Losses.{AgesWithin, CutsFarEnd, FailsFarEnd, FailsHeard, LeavesChoice, LosesAny, LowersLink, LowersUnused, TurnsLink, UpIsUsed}
 use Rattle.gptp_settling_time.specs.TreeLosses.{LowersTree}
 
 -- ---- times
@@ -62,10 +61,6 @@ events_at time = filter (λ (t : Timed). t.at == time)
 -- no event lies between two times: one that is later than the first is no earlier than the second
 abbrev pub NoneBetween : List Timed → ℕ → ℕ → Type 0
 NoneBetween events last time = (event : Timed) → In event events → last < event.at → time ≤ event.at
-
--- the greatest delay for each system of a path but one
-abbrev pub way_span : SyncPaths → ℕ
-way_span paths = pred paths.systems * paths.delay
 
 -- ---- events that are followed, by what stands just before each
 
@@ -360,10 +355,10 @@ BoundsTree n events Then last time choice roles =
 -- capable; and roles have to stand.
 abbrev pub RestsOnceTold : NetworkState → List Timed → List Timed → ℕ → Type 0
 RestsOnceTold n made now rest =
-    (UpIsUsed n (made ++ now) × (max (echo_span n (made ++ now)) (sync_paths n (made ++ now)).delay ≤ rest))
+    (UpIsUsed n (made ++ now) × (max (echo_span (pace_of n) (sync_paths n (made ++ now))) (sync_paths n (made ++ now)).delay ≤ rest))
     ⊎ ((gone : ℕ) × FlightIsGone n (made ++ now) gone
     × ((held : ℕ) × HeldFor n made now held
-    × (max (silence_span (pace_of n)) (held + 1 + max (echo_span n (made ++ now)) gone) ≤ rest)))
+    × (max (silence_span (pace_of n)) (held + 1 + max (echo_span (pace_of n) (sync_paths n (made ++ now))) gone) ≤ rest)))
 
 -- How much later a network has come to rest after a loss by which one system is moved at most, but for such as are cut
 -- off. After the loss of a far end what was in flight has to be gone. Where it fails and a link is up then that isn't in
@@ -377,7 +372,7 @@ RestsAfterOneLoss n made now rest =
     × ((UpIsUsed n (made ++ now) × FlightIsGone n made rest)
     ⊎ ((gone : ℕ) × FlightIsGone n made gone × (rest ≡ max (silence_span (pace_of n)) gone))))
     ⊎ ((LowersOneLink n made now
-    × ((gone : ℕ) × FlightIsGone n (made ++ now) gone × (rest ≡ max (echo_span n (made ++ now)) gone)))
+    × ((gone : ℕ) × FlightIsGone n (made ++ now) gone × (rest ≡ max (echo_span (pace_of n) (sync_paths n (made ++ now))) gone)))
     ⊎ ((TurnsOneLink n made now × (rest ≡ turned_echo_span n (made ++ now)))
     ⊎ (FailsHeardFirst n made now × RestsOnceTold n made now rest))))
 
