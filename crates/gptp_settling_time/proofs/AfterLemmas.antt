@@ -82,7 +82,8 @@ module _ (d : DocumentState) (events : List Timed) where
   after_later (Fallen silent now) w time later first so = fallen_to_later d events silent now w time later first so
   after_later (Cleared since silent right old) w time later first so = cleared_to_later d events since silent right old
       w time later first so
-  after_later (Aging ago aged silent) w time later first so = aging_to_later d ago events aged silent w time later first so
+  after_later (Aging ago aged silent) w time later first so =
+      aging_to_later d ago events aged silent w time later first so
   after_later (Lost since most silent) w time later first so =
       lost_to_later d events since most silent w time later first so
 

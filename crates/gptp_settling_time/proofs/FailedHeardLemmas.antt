@@ -312,5 +312,6 @@ module _ (p : SettlingParams) (number : ℕ) (w : WorldState) (draws : List Draw
           n_set : Network
           n_set = set_network p w
 
-      pub failed_ages_by : IsAgingAlways p g aged silent w' × WorldAgesBy p (ByLink w.time (StaysLongest p) (OverWay w)) w'
+      pub failed_ages_by : IsAgingAlways p g aged silent w'
+          × WorldAgesBy p (ByLink w.time (StaysLongest p) (OverWay w)) w'
       failed_ages_by = (failed_aging, failed_by)

@@ -350,7 +350,8 @@ led_as n made [] past seen time settled at late taken is = record {
         (other, taken_on n made past seen other settled (taken_later n made past seen time settled late taken) on, has)
 led_as n made (event ∷ now) past seen time settled (here, at) late taken is = record {
   last = is.last;
-  lead = lead_as n made event now past seen is.last (subst (λ t. IsTakenAs n made past t seen) (sym here) taken) is.lead;
+  lead = lead_as n made event now past seen is.last (subst (λ t. IsTakenAs n made past t seen) (sym here) taken)
+      is.lead;
   settles = is.settles;
 }
 

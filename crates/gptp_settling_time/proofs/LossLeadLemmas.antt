@@ -212,8 +212,8 @@ aging_lead n ago made (event ∷ now) other gone aged silent off calm (lowers, o
       (subst (λ es. AgesSooner n ago es aged silent) (sym (append_assoc made (other ∷ []) (event ∷ now))) sooner),
 )
 
--- So it does from when a system fails that others hear, as long as what came over the links that are silent after all of
--- the events.
+-- So it does from when a system fails that others hear, as long as what came over the links that are silent after all
+-- of the events.
 pub heard_lead : (n : NetworkState) (made : List Timed) (event : Timed) (now : List Timed) (past : Past) (span : ℕ)
     → NothingLapses n.params → IsCalm n made → HasSettled n made past event.at → FailsHeard n made event
     → EachEvent (LowersUnused n) (made ++ event ∷ []) now → AgesWithin n made (made ++ event ∷ now) span
@@ -404,7 +404,8 @@ module _ (n : NetworkState) (made : List Timed) (event : Timed) (aged silent : �
   power_leads (Lost since most start) settled = absurd settled
 
 -- Else it goes on to age until the last link goes down of which an end has failed, at this time.
-power_lead : (n : NetworkState) (ago made now : List Timed) (other : Timed) (time aged silent : ℕ) → NothingLapses n.params
+power_lead : (n : NetworkState) (ago made now : List Timed) (other : Timed) (time aged silent : ℕ)
+    → NothingLapses n.params
     → IsCalm n made → AllByRecursion (λ (t : Timed). t.at ≡ time) (other ∷ now)
     → EachEvent (LowersUnused n) made (other ∷ now) → UpIsUsed n (made ++ other ∷ now)
     → LeadOn n made (Aging ago aged silent) (other ∷ now)
@@ -531,7 +532,8 @@ module _ (n : NetworkState) (off : NothingLapses n.params) (time : ℕ) (made no
         nearer_within (sync_paths n (made ++ now)).systems
         (largest_interval (pace_of n) + (sync_paths n (made ++ now)).delay) gone (soon flight)
       where
-        soon : FlightIsGone n (made ++ now) gone → gone ≤ largest_interval (pace_of n) + (sync_paths n (made ++ now)).delay
+        soon : FlightIsGone n (made ++ now) gone
+            → gone ≤ largest_interval (pace_of n) + (sync_paths n (made ++ now)).delay
         soon (inl (used, delay)) = omega (arith, delay)
         soon (inr interval) = omega (arith, interval)
 
@@ -541,7 +543,8 @@ module _ (n : NetworkState) (off : NothingLapses n.params) (time : ℕ) (made no
 
     -- another such link goes down
     right_led : LowersLink n made event → others ≡ [] → (gone : ℕ) → FlightIsGone n (made ++ now) gone
-        → rest ≡ max (echo_span (pace_of n) (sync_paths n (made ++ now))) gone → IsLed n made now past (suc (time + rest))
+        → rest ≡ max (echo_span (pace_of n) (sync_paths n (made ++ now))) gone
+        → IsLed n made now past (suc (time + rest))
     right_led lowers alone gone flight is =
         let one : made ++ now ≡ made ++ event ∷ [] =
         ap (λ es. made ++ es) (same ∙ ap (λ es. event ∷ es) alone) in
@@ -551,8 +554,9 @@ module _ (n : NetworkState) (off : NothingLapses n.params) (time : ℕ) (made no
         lowers.paths in
         let last : Past = Cleared x.since x.since (event.at + 1 + nearer_echo_span n (made ++ event ∷ []))
         (event.at + nearer_echo_span n (made ++ event ∷ []) + gone) in
-        let within : nearer_echo_span n (made ++ event ∷ []) + gone ≤ max (echo_span (pace_of n) (sync_paths n (made ++ now))) gone =
-        subst (λ es. nearer_echo_span n es + gone ≤ max (echo_span (pace_of n) (sync_paths n (made ++ now))) gone) one (gone_within gone flight) in
+        let echo = echo_span (pace_of n) (sync_paths n (made ++ now)) in
+        let within : nearer_echo_span n (made ++ event ∷ []) + gone ≤ max echo gone =
+        subst (λ es. nearer_echo_span n es + gone ≤ max echo gone) one (gone_within gone flight) in
         let before = here in
         let early = x.early in
         led x.since x.since (event.at + 1 + nearer_echo_span n (made ++ event ∷ []))
@@ -619,7 +623,8 @@ module _ (n : NetworkState) (off : NothingLapses n.params) (time : ℕ) (made no
 
     -- a system fails that others hear
     power_led : FailsHeard n made event → EachEvent (LowersUnused n) (made ++ event ∷ []) others
-        → UpIsUsed n (made ++ now) → max (echo_span (pace_of n) (sync_paths n (made ++ now))) (sync_paths n (made ++ now)).delay ≤ rest
+        → UpIsUsed n (made ++ now)
+        → max (echo_span (pace_of n) (sync_paths n (made ++ now))) (sync_paths n (made ++ now)).delay ≤ rest
         → IsLed n made now past (suc (time + rest))
     power_led fails lowers used long = by others refl
       where
@@ -686,7 +691,8 @@ module _ (n : NetworkState) (off : NothingLapses n.params) (time : ℕ) (made no
               last,
               subst (λ t. EventLeads n made past event (Cleared t silent (t + 1 + nearer_echo_span n (made ++ now))
                   (t + nearer_echo_span n (made ++ now) + (sync_paths n (made ++ now)).delay))) here
-                  (subst (λ es. EventLeads n made past event (Cleared event.at silent (event.at + 1 + nearer_echo_span n es)
+                  (subst (λ es. EventLeads n made past event
+                  (Cleared event.at silent (event.at + 1 + nearer_echo_span n es)
                   (event.at + nearer_echo_span n es + (sync_paths n es).delay))) (sym one) leads),
               refl,
             ))
@@ -783,7 +789,8 @@ module _ (n : NetworkState) (off : NothingLapses n.params) (time : ℕ) (made no
       × ((UpIsUsed n (made ++ now) × FlightIsGone n made rest)
       ⊎ ((gone : ℕ) × FlightIsGone n made gone × (rest ≡ max (silence_span (pace_of n)) gone))))
       ⊎ ((LowersOneLink n made es
-      × ((gone : ℕ) × FlightIsGone n (made ++ now) gone × (rest ≡ max (echo_span (pace_of n) (sync_paths n (made ++ now))) gone)))
+      × ((gone : ℕ) × FlightIsGone n (made ++ now) gone
+      × (rest ≡ max (echo_span (pace_of n) (sync_paths n (made ++ now))) gone)))
       ⊎ ((TurnsOneLink n made es × (rest ≡ turned_echo_span n (made ++ now)))
       ⊎ (FailsHeardFirst n made es × RestsOnceTold n made now rest))))
       → IsLed n made now past (suc (time + rest))

@@ -356,7 +356,8 @@ module _ (d : DocumentState) (playable : IsPlayable d) (made : List Timed) (even
         → IsClearedTo d more since silent right old w'
     cleared_to since silent right old (inl (begun, which)) = ends_to since silent right old begun which
     cleared_to since silent right old (inr (aged, now, anew)) =
-        told_anew d playable made more event.at aged silent since right old w' after time last (aging_so aged silent now) anew
+        told_anew d playable made more event.at aged silent since right old w' after time last
+        (aging_so aged silent now) anew
 
     -- a link goes down that so moves one system
     turned_to : TurnsCalm n made event → IsTurnedTo d more start event.at w'

@@ -36,7 +36,8 @@ module _ (systems : List SystemSpec) (events : List Timed) where
 
   -- a link in use is no slower than the greatest delay
   pub greatest_most : (links : List LinkSpec) (place : ℕ) (v : LinkSpec) → slice_get links place ≡ Some v
-      → IsUsed systems events (link_after events v) → (link_after events v).bounds.max ≤ greatest_delay systems events links
+      → IsUsed systems events (link_after events v)
+      → (link_after events v).bounds.max ≤ greatest_delay systems events links
   greatest_most [] place v there used = absurd cc
   greatest_most (w ∷ ws) zero v there used =
       let same : w ≡ v = same_Some w v there in

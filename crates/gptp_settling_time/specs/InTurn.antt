@@ -11,9 +11,9 @@
 --   system of a path but one later. It has come to rest, as if all had been heard, once right traces have been told by
 --   distance since.
 -- - Cleared: a system was lost that was the far end of its links, so that nobody holds what names it. Or another link
---   went down that moved none, or a system that others heard lost its power, and right traces have been told by distance
---   since. When what was in flight is gone, and ports without a link aren't capable, the network has come to rest as if
---   all had been heard.
+--   went down that moved none, or a system that others heard lost its power, and right traces have been told by
+--   distance since. When what was in flight is gone, and ports without a link aren't capable, the network has come to
+--   rest as if all had been heard.
 -- - Fallen: a link went down and so cut a tree off. The network settles 1 ns and twice the greatest delay for each
 --   system of a path but one later.
 -- - Aging: a system failed that others heard. What they hold of it ages, and the choice stands once that is gone. The
@@ -432,8 +432,8 @@ LeadsToFallen n before (Cleared since start right old) event silent time = ⊥
 LeadsToFallen n before (Aging ago aged start) event silent time = ⊥
 LeadsToFallen n before (Lost since most start) event silent time = ⊥
 
--- A network that had settled is cleared, and one that is so stays so. One in which something ages is cleared as the last
--- link goes down of which an end has failed.
+-- A network that had settled is cleared, and one that is so stays so. One in which something ages is cleared as the
+-- last link goes down of which an end has failed.
 abbrev pub LeadsToCleared : NetworkState → List Timed → Past → Timed → ℕ → ℕ → ℕ → ℕ → Type 0
 LeadsToCleared n before AnyPast event since silent right old =
     HasSettledAnyhow n before event.at
@@ -594,8 +594,8 @@ pub record HasToldAnew (n : NetworkState) (events : List Timed) (silent turned s
   pub unlinked : silent ≤ start
   pub over : HasSettledHeard n events start time
 
--- A network in which a system failed that others heard has come to rest by a time, as one whose ports are capable from a
--- start on. What they held of it had aged by a moment, no later than that start, or ports without a link weren't
+-- A network in which a system failed that others heard has come to rest by a time, as one whose ports are capable from
+-- a start on. What they held of it had aged by a moment, no later than that start, or ports without a link weren't
 -- capable. Right traces have been told by distance since the moment, and what was in flight is gone. Ports without a
 -- link aren't capable. And the greatest delay has passed since the start for each system of a path but one.
 pub record HasAged (n : NetworkState) (events : List Timed) (aged silent start time : ℕ) : Type 0 where
@@ -681,7 +681,8 @@ SettlesAfter n events (Fallen silent time) settled =
     × (time + 1 + 2 * way_span (sync_paths n events) ≤ settled)
 SettlesAfter n events (Cleared since silent right old) settled = NothingLapses n.params ×
     ((silent ≤ settled) ⊎ UpIsUsed n events)
-SettlesAfter n events (Aging ago aged silent) settled = NothingLapses n.params × ((silent ≤ settled) ⊎ UpIsUsed n events)
+SettlesAfter n events (Aging ago aged silent) settled =
+    NothingLapses n.params × ((silent ≤ settled) ⊎ UpIsUsed n events)
 SettlesAfter n events (Lost since most silent) settled =
     NothingLapses n.params
     × (suc (since + loss_span (pace_of n) (sync_paths n events) most) ≤ settled)
