@@ -9,7 +9,7 @@ use Rattle.gptp_lists.proofs.SystemSpecLemmas.{In-left, In-parts}
 use Rattle.gptp_setup.specs.SettlingParams.{largest_interval}
 use Rattle.gptp_scenario.specs.Calm.{NothingLapses}
 use Rattle.gptp_scenario.specs.Network.{NetworkState, pace_of}
-use Rattle.gptp_scenario.specs.SettlingTime.{window_span}
+use Rattle.gptp_scenario.specs.SettlingTime.{aging_span, silence_span, window_span}
 use Rattle.gptp_scenario.specs.SyncWait.{sync_paths}
 use Rattle.gptp_scenario.specs.declared.change.Timed.{Timed}
 use Rattle.gptp_network.specs.Document.{DocumentState}
@@ -25,7 +25,6 @@ use Rattle.gptp_how_soon.specs.declared.bounds.Settling.{Settling}
 use Rattle.gptp_how_soon.specs.declared.bounds.SettlingTime.{SettlingTime}
 use Rattle.gptp_settling_time.specs.HowSoon.{BoundsAging, BoundsAnyLoss, BoundsChoice, BoundsEvents, BoundsLoss, BoundsStart, FailsHeardFirst, HeldFor, IsChoiceBoundAfter, IsLossBoundAfter, IsRestBoundAfter, NoneBetween, RestsAfterLoss}
 use Rattle.gptp_settling_time.specs.InTurn.{FlightIsGone}
-use Rattle.gptp_settling_time.specs.Losses.{aging_span}
 use Rattle.gptp_settling_time.proofs.MomentLemmas.{parted}
 use Rattle.gptp_settling_time.proofs.SilentSpanLemmas.{failures_within}
 use Rattle.gptp_settling_time.proofs.WellFormedLemmas.{after_well}
@@ -35,7 +34,6 @@ use Rattle.gptp_how_soon_laws.proofs.RowLemmas.{CutsLate, HasComeToRest, any_los
 use Rattle.gptp_how_soon_laws.proofs.StartRowLemmas.{first_past, first_roles, first_sound, never_unchanged, started}
 use Rattle.gptp_how_soon_laws.proofs.UnmovedLemmas.{AreWell}
 use Rattle.gptp_how_soon_laws.proofs.TimesLemmas.{AreTimes, later_times, times_after, times_parts}
-use Rattle.gptp_invariants.specs.FailedUnanswered.{silence_span}
 
 -- the events up to time 0 are those at it
 begin_at : (events : List Timed) → events_by 0 events ≡ events_at 0 events

@@ -8,7 +8,7 @@ use Rattle.gptp_setup.specs.SettlingParams.{largest_interval}
 use Rattle.gptp_scenario.specs.Calm.{NothingLapses}
 use Rattle.gptp_scenario.specs.Network.{NetworkState, pace_of}
 use Rattle.gptp_scenario.specs.SettlingAtOnce.{settling_span_at_once}
-use Rattle.gptp_scenario.specs.SettlingTime.{settling_span_with, window_span}
+use Rattle.gptp_scenario.specs.SettlingTime.{settling_span_with, silence_span, way_span, window_span}
 use Rattle.gptp_scenario.specs.SyncWait.{sync_paths}
 use Rattle.gptp_scenario.specs.declared.change.Timed.{Timed}
 use Rattle.gptp_scenario.specs.declared.sync_wait.SyncPaths.{SyncPaths}
@@ -20,9 +20,8 @@ use Rattle.gptp_how_soon.specs.Times.{View, gained_at, row_at, settling_time}
 use Rattle.gptp_how_soon.specs.declared.bounds.Row.{Row}
 use Rattle.gptp_how_soon.specs.declared.bounds.Row.TheVariants.{AnyLosses, AnyPast, CutOff, FailedEnd, FailedHeard, FailureCutsOff, Gained, LostEnd, LostPower, Lowered, OneTurned, PowerCutsOff, TreeCutOff, Unchanged}
 use Rattle.gptp_how_soon.specs.declared.bounds.Settling.{Settling}
-use Rattle.gptp_settling_time.specs.HowSoon.{BoundsChoice, way_span}
+use Rattle.gptp_settling_time.specs.HowSoon.{BoundsChoice}
 use Rattle.gptp_topology.proofs.RestLemmas.{calm_from}
-use Rattle.gptp_invariants.specs.FailedUnanswered.{silence_span}
 
 -- what bounds the choice where no loss has a bound of its own
 abbrev pub past_row : Row → Row

@@ -11,6 +11,7 @@ use Rattle.gptp_setup.specs.SettlingParams.{largest_interval}
 use Rattle.gptp_scenario.specs.Calm.{NothingLapses}
 use Rattle.gptp_scenario.specs.Network.{IsNetwork, NetworkState, pace_of}
 use Rattle.gptp_scenario.specs.Prompt.{DelayFitsInterval}
+use Rattle.gptp_scenario.specs.SettlingTime.{silence_span, way_span}
 use Rattle.gptp_scenario.specs.SyncWait.{sync_paths}
 use Rattle.gptp_scenario.specs.declared.change.Act.{Act}
 use Rattle.gptp_scenario.specs.declared.change.Act.TheVariants as acts
@@ -36,9 +37,8 @@ use Rattle.gptp_how_soon.specs.declared.kinds.Told.{Told}
 use Rattle.gptp_how_soon.specs.declared.kinds.What.{What}
 use Rattle.gptp_how_soon.specs.declared.kinds.What.TheVariants as whats
 use Rattle.gptp_settling_time.specs.Gains.{HasDelaysWithin}
-use Rattle.gptp_settling_time.specs.HowSoon.{AreWiderEvents, BoundsGains, CutsOneEnd, EachEvent, FailsEndFirst, FailsHeardFirst, IsStillEvent, LosesEvents, LowersOneLink, OneEvent, RolesAfterLoss, TurnsOneLink, way_span}
+use Rattle.gptp_settling_time.specs.HowSoon.{AreWiderEvents, BoundsGains, CutsOneEnd, EachEvent, FailsEndFirst, FailsHeardFirst, IsStillEvent, LosesEvents, LowersOneLink, OneEvent, RolesAfterLoss, TurnsOneLink}
 use Rattle.gptp_settling_time.specs.InTurn.{FlightIsGone}
-use Rattle.gptp_invariants.specs.FailedUnanswered.{silence_span}
 use Rattle.gptp_settling_time.specs.Losses.{UpIsUsed}
 use Rattle.gptp_settling_time.specs.TreeLosses.{LowersTree}
 use Rattle.gptp_settling_time.proofs.CutLemmas.{IsBy, all_by}

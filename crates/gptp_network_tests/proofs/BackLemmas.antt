@@ -9,6 +9,7 @@ use Rattle.gptp_model.specs.World.{port_id}
 use Rattle.gptp_scenario.specs.Network.{IsNetwork, pace_of, wire}
 use Rattle.gptp_scenario.specs.SyncWait.{sync_paths}
 use Rattle.gptp_scenario.specs.InUse.{path_systems}
+use Rattle.gptp_scenario.specs.SettlingTime.{way_span}
 use Rattle.gptp_scenario.specs.declared.change.Act.TheVariants.{Change as Changing}
 use Rattle.gptp_scenario.specs.declared.change.Change.TheVariants.{LinkDown, LinkUp}
 use Rattle.gptp_scenario.specs.declared.change.Timed.{Timed}
@@ -17,7 +18,7 @@ use Rattle.gptp_scenario.specs.declared.sync_wait.SyncPaths.{SyncPaths}
 use Rattle.gptp_invariants.specs.WorldEncodableLaws.{SetsAnOctet}
 use Rattle.gptp_theorem.specs.PlayedLaws.{IsPlayable}
 use Rattle.gptp_settling_time.specs.Gains.{IsDownAfter, JoinsLive, exchanged_from}
-use Rattle.gptp_settling_time.specs.HowSoon.{IsChoiceBound, IsChoiceBoundAfter, NoneBetween, way_span}
+use Rattle.gptp_settling_time.specs.HowSoon.{IsChoiceBound, IsChoiceBoundAfter, NoneBetween}
 use Rattle.gptp_settling_time.specs.InTurn.{BringsUp, VariesLittleAfter}
 use Rattle.gptp_network_tests.specs.Pair.{end_station, first_member, pair_network, pair_pace, pair_paths, params, second_member}
 use Rattle.gptp_network_tests.specs.Soon.{back_document}

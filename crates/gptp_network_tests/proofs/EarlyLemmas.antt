@@ -7,6 +7,7 @@ use Rattle.gptp_scenario.specs.Change.{link_after}
 use Rattle.gptp_scenario.specs.Network.{IsNetwork, pace_of, wire}
 use Rattle.gptp_scenario.specs.SyncWait.{sync_paths}
 use Rattle.gptp_scenario.specs.InUse.{path_systems}
+use Rattle.gptp_scenario.specs.SettlingTime.{way_span}
 use Rattle.gptp_scenario.specs.declared.change.Act.TheVariants.{Change as Changing}
 use Rattle.gptp_scenario.specs.declared.change.Change.TheVariants.{Priority1}
 use Rattle.gptp_scenario.specs.declared.change.Timed.{Timed}
@@ -15,7 +16,7 @@ use Rattle.gptp_scenario.specs.declared.sync_wait.SyncPaths.{SyncPaths}
 use Rattle.gptp_invariants.specs.WorldEncodableLaws.{SetsAnOctet}
 use Rattle.gptp_model.specs.World.{port_id}
 use Rattle.gptp_theorem.specs.PlayedLaws.{IsPlayable}
-use Rattle.gptp_settling_time.specs.HowSoon.{IsChoiceBound, two_exchanges, way_span}
+use Rattle.gptp_settling_time.specs.HowSoon.{IsChoiceBound, two_exchanges}
 use Rattle.gptp_settling_time.specs.InTurn.{UsedVaryLittle}
 use Rattle.gptp_network_tests.specs.Pair.{pair_network, pair_pace, pair_paths, params}
 use Rattle.gptp_network_tests.specs.Soon.{early_document}

@@ -20,6 +20,7 @@ use Rattle.gptp_setup.specs.SettlingParams.{SettlingParams}
 use Rattle.gptp_scenario.specs.Calm.{AllRest}
 use Rattle.gptp_scenario.specs.InUse.{path_systems}
 use Rattle.gptp_scenario.specs.Network.{IsNetwork, pace_of}
+use Rattle.gptp_scenario.specs.SettlingTime.{aging_span, silence_span}
 use Rattle.gptp_scenario.specs.SyncWait.{sync_paths}
 use Rattle.gptp_scenario.specs.declared.change.Act.TheVariants.{Change as Changing}
 use Rattle.gptp_scenario.specs.declared.change.Change.TheVariants.{Fail}
@@ -28,10 +29,9 @@ use Rattle.gptp_scenario.specs.declared.sync_wait.SyncPaths.{SyncPaths}
 use Rattle.gptp_network.specs.Snapshot.{StandsAfter}
 use Rattle.gptp_network.proofs.LawLemmas.{one_snapshot}
 use Rattle.gptp_invariants.specs.WorldEncodableLaws.{SetsAnOctet}
-use Rattle.gptp_invariants.specs.FailedUnanswered.{silence_span}
 use Rattle.gptp_theorem.specs.PlayedLaws.{IsPlayable}
 use Rattle.gptp_settling_time.specs.HowSoon.{IsChoiceAloneBound, IsChoiceBound, IsLossBoundAfter, NoneBetween}
-use Rattle.gptp_settling_time.specs.Losses.{FailsHeard, IsUnmoved, MovesNone, aging_span}
+use Rattle.gptp_settling_time.specs.Losses.{FailsHeard, IsUnmoved, MovesNone}
 use Rattle.gptp_settling_time.proofs.SilentSpanLemmas.{failure_within}
 use Rattle.gptp_network_tests.specs.Ring.{bridge, heard_document, ring_network, ring_paths}
 use Rattle.gptp_network_tests.proofs.FarLemmas.{below_all, cable, first, fourth, fourth_line, parent, ring, ring_choice, ring_stands, second, states, third, third_line, unmoved_by}

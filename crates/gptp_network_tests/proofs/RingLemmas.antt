@@ -5,6 +5,7 @@ use Rattle.gptp_setup.specs.SettlingParams.{SettlingParams}
 use Rattle.gptp_scenario.specs.Calm.{AllRest}
 use Rattle.gptp_scenario.specs.Network.{IsNetwork, largest_of, pace_of}
 use Rattle.gptp_scenario.specs.InUse.{path_systems}
+use Rattle.gptp_scenario.specs.SettlingTime.{way_span}
 use Rattle.gptp_scenario.specs.SyncWait.{sync_paths}
 use Rattle.gptp_scenario.specs.declared.change.Act.TheVariants.{Change as Changing}
 use Rattle.gptp_scenario.specs.declared.change.Change.TheVariants.{LinkDown}
@@ -13,7 +14,7 @@ use Rattle.gptp_scenario.specs.declared.network.LinkSpec.{LinkSpec}
 use Rattle.gptp_scenario.specs.declared.sync_wait.SyncPaths.{SyncPaths}
 use Rattle.gptp_invariants.specs.WorldEncodableLaws.{SetsAnOctet}
 use Rattle.gptp_theorem.specs.PlayedLaws.{IsPlayable}
-use Rattle.gptp_settling_time.specs.HowSoon.{BoundsChoice, BoundsStart, IsChoiceBound, two_exchanges, way_span}
+use Rattle.gptp_settling_time.specs.HowSoon.{BoundsChoice, BoundsStart, IsChoiceBound, two_exchanges}
 use Rattle.gptp_network_tests.specs.Pair.{pair_pace}
 use Rattle.gptp_network_tests.specs.Ring.{ring_document, ring_network, ring_paths}
 use Rattle.gptp_settling_time.specs.Starts.{LinksVaryLittle}

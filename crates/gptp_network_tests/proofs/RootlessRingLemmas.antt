@@ -6,6 +6,7 @@ use Rattle.gptp_setup.specs.SettlingParams.{SettlingParams}
 use Rattle.gptp_scenario.specs.Calm.{AllRest, IsLive}
 use Rattle.gptp_scenario.specs.InUse.{path_systems}
 use Rattle.gptp_scenario.specs.Network.{IsNetwork, pace_of}
+use Rattle.gptp_scenario.specs.SettlingTime.{loss_span, silence_span}
 use Rattle.gptp_scenario.specs.SyncWait.{sync_paths}
 use Rattle.gptp_scenario.specs.declared.change.Act.TheVariants.{Change as Changing}
 use Rattle.gptp_scenario.specs.declared.change.Change.TheVariants.{Fail}
@@ -14,8 +15,6 @@ use Rattle.gptp_scenario.specs.declared.sync_wait.SyncPaths.{SyncPaths}
 use Rattle.gptp_invariants.specs.WorldEncodableLaws.{SetsAnOctet}
 use Rattle.gptp_theorem.specs.PlayedLaws.{IsPlayable}
 use Rattle.gptp_settling_time.specs.HowSoon.{IsChoiceAloneBound, IsChoiceBound, IsLossBoundAfter, NoneBetween, delay_between}
-use Rattle.gptp_settling_time.specs.Losses.{loss_span}
-use Rattle.gptp_invariants.specs.FailedUnanswered.{silence_span}
 use Rattle.gptp_network_tests.specs.Ring.{bridge, ring_network, ring_paths, rootless_document}
 use Rattle.gptp_network_tests.proofs.RingLemmas.{pace_is, paths_are, ring_begun}
 
@@ -65,7 +64,7 @@ none_between t (inl same) later = subst (λ (x : Timed). 30000000000 ≤ x.at) (
 none_between t (inr none) later = absurd none
 
 lost : IsLossBoundAfter ring_network rootless_document.events (0 ∷ []) 30000000000 10000002050 11000000000
-lost = (
+lost = inl (
   omega arith,
   none_between,
   record { links = links_rest; lapses = inl refl },
