@@ -15,6 +15,7 @@ mod TreeTestLemmas
 mod TreeLemmas
 mod TreeEventLemmas
 mod TurnedLemmas
+mod SilentLemmas
 mod RowBoundLemmas
 mod RowReasonLemmas
 mod StartRowLemmas

@@ -41,7 +41,8 @@ spared_past n most time made (event ∷ events) positive within past =
     )
 
 -- after one event more
-pub spared_more : (n : NetworkState) (time : ℕ) (made events : List Timed) (event : Timed) → AreSparedBy n made events time
+pub spared_more : (n : NetworkState) (time : ℕ) (made events : List Timed) (event : Timed)
+    → AreSparedBy n made events time
     → IsSparedBy n (made ++ events) event time → AreSparedBy n made (events ++ event ∷ []) time
 spared_more n time made [] event spared one =
     (subst (λ es. IsSparedBy n es event time) (append-nil made) one, spared)

@@ -189,7 +189,8 @@ module _ (n : NetworkState) (network : IsNetwork n) (events : List Timed) (b : S
   abbrev Why : Row → Type 0
   Why =
       ReasonOf (is_from_rest v.longest at v.paths_before v.paths v.told (Some b))
-      (list_all makes_nothing v.told || begins_wider v.told) (are_losses_followed v.paths_before v.told && not v.moves.moved)
+      (list_all makes_nothing v.told || begins_wider v.told)
+      (are_losses_followed v.paths_before v.told && not v.moves.moved)
       (is_lowering_followed v.paths_before v.paths v.told && not v.moves.moved) v.moves.cut
       (is_lowering_followed v.paths_before v.paths v.told && v.moves.turned)
       (is_lowering_followed v.paths_before v.paths v.told && v.moves.falls)
@@ -199,7 +200,8 @@ module _ (n : NetworkState) (network : IsNetwork n) (events : List Timed) (b : S
   why : (row : Row) → row_at v ≡ row → Why row
   why row is =
       reason_of (is_from_rest v.longest at v.paths_before v.paths v.told (Some b))
-      (list_all makes_nothing v.told || begins_wider v.told) (are_losses_followed v.paths_before v.told && not v.moves.moved)
+      (list_all makes_nothing v.told || begins_wider v.told)
+      (are_losses_followed v.paths_before v.told && not v.moves.moved)
       (is_lowering_followed v.paths_before v.paths v.told && not v.moves.moved) v.moves.cut
       (is_lowering_followed v.paths_before v.paths v.told && v.moves.turned)
       (is_lowering_followed v.paths_before v.paths v.told && v.moves.falls)
@@ -410,7 +412,8 @@ module _ (n : NetworkState) (network : IsNetwork n) (events : List Timed) (b : S
       let (keeps, one) = and_parts (keeps_paths v.paths_before v.paths) (kind v.told) followed in
       record {
         one = one;
-        unmoved = counts_joined (takes_one v.told) n made (made ++ now) (takes v.told one) (not-true v.moves.moved none);
+        unmoved = counts_joined (takes_one v.told) n made (made ++ now) (takes v.told one)
+            (not-true v.moves.moved none);
         keeps = keeps_so keeps;
       }
 

@@ -72,7 +72,8 @@ module _ (cs : List Chosen) (i j : ℕ) (c d : Chosen) (there : slice_get cs i �
       below : (a b : ℕ) → a < b → nat_lt a b ≡ true
       below a b under = grind (arith, nat_tests)
 
-  pub apart_so : is_one_apart (slice_get cs i) (slice_get cs j) ≡ true → (c.steps ≡ suc d.steps) ⊎ (d.steps ≡ suc c.steps)
+  pub apart_so : is_one_apart (slice_get cs i) (slice_get cs j) ≡ true
+      → (c.steps ≡ suc d.steps) ⊎ (d.steps ≡ suc c.steps)
   apart_so is =
       let told : is_one_apart (Some c) (Some d) ≡ true = (λ k. is_one_apart (sym there k) (sym there' k)) ∙ is in
       elim (or_cases (c.steps - d.steps == 1) (d.steps - c.steps == 1) told) [
