@@ -52,7 +52,6 @@ use Rattle.gptp_settling_time.proofs.CutDeepLemmas.{deep_within}
 use Rattle.gptp_settling_time.proofs.EndAnswersLemmas.{EndAnswers}
 use Rattle.gptp_settling_time.proofs.FallAlwaysLemmas.{IsFallenAlways, fallen_by, settles_by, settles_later}
 use Rattle.gptp_settling_time.proofs.FallDownLemmas.{FlightNames, tree_falls, tree_settles}
-use Rattle.gptp_settling_time.proofs.LastAnsweredLemmas.{silent_are_off}
 use Rattle.gptp_settling_time.proofs.LeftClaimedLemmas.{HaveAskedLong, left_network}
 use Rattle.gptp_settling_time.proofs.LoweredLemmas.{ends, known, less_then, ready_on, wires}
 use Rattle.gptp_settling_time.proofs.MovedAlwaysLemmas.{after_loss, dark_now}
@@ -68,12 +67,12 @@ module _ (p : SettlingParams) (w : WorldState) (is : IsWorld p w) (place : ℕ) 
     (seen : IsSettledSeen p w) (near : AllAreNear (snapshot_of w)) (silent top : ℕ) (best next : System) (base : ℕ)
     (depth : ℕ → ℕ)
     (tree : CutsTree (snapshot_of w) (left_network p silent w') top best next base depth)
-    (in_top : IsBest (snapshot_of w') top next) (delay : delay_in w' ≡ delay_in w) where
+    (in_top : IsBest (snapshot_of w') top next) where
   abbrev n : Network
   n = left_network p silent w'
 
   wired : SameWiring seen.n n
-  wired = wires p w is place channel here draws w' is' k seen near n delay refl
+  wired = wires p w is place channel here draws w' is' k seen near n refl
 
   -- its best is another
   moved_top : Unmoved (snapshot_of w) n top → ⊥
@@ -99,7 +98,7 @@ module _ (p : SettlingParams) (w : WorldState) (is : IsWorld p w) (place : ℕ) 
       pace = pace;
       world = is';
       measured = measured';
-      off = silent_are_off p silent w' (silent_down p w is place channel here draws w' is' k silent quiet_by);
+      silent = silent_down p w is place channel here draws w' is' k silent quiet_by;
     }
 
     asked' : HaveAskedLong w'
@@ -190,8 +189,7 @@ module _ (p : SettlingParams) (silent owner port : ℕ) (w : WorldState) (draws 
       (so : IsCutTree (snapshot_of w) (snapshot_of w') top other best next base depth)
       (few : path_bound (snapshot_of w') ≤ 255)
       (ends_are : ((channel.a.clock ≡ top) × (channel.b.clock ≡ other))
-      ⊎ ((channel.b.clock ≡ top) × (channel.a.clock ≡ other))) (delay : delay_in w' ≡ delay_in w)
-      (late : delay_in w' ≤ w'.time) (sound : IsSoundWorld w)
+      ⊎ ((channel.b.clock ≡ top) × (channel.a.clock ≡ other))) (late : delay_in w' ≤ w'.time) (sound : IsSoundWorld w)
       (named : FlightNames says_announce (snapshot_of w) (view w)) where
     well : IsWellFormed (snapshot_of w)
     well = stands_well w is.sound is.between is.encodable
@@ -280,7 +278,7 @@ module _ (p : SettlingParams) (silent owner port : ℕ) (w : WorldState) (draws 
         → IsBest (snapshot_of w') m.clock next → ⊥) → IsFallenAlways p (snapshot_of w) silent w.time w'
     begins_so lost place a outside =
         fallen_begins p w is acts.1.place channel here draws w' is' told seen near silent top best next base depth tree
-        so.in_top delay lost place a outside pace measured' past late sound named still_ready quiet_by
+        so.in_top lost place a outside pace measured' past late sound named still_ready quiet_by
 
     -- what stands at the other end isn't of the tree
     not_tree : (lost place : ℕ) (station : Station) → slice_get w.stations place ≡ Some station
@@ -307,8 +305,8 @@ module _ (p : SettlingParams) (silent owner port : ℕ) (w : WorldState) (draws 
         → HasPortNumber told.station_a.system i → IsFallenAlways p (snapshot_of w) silent w.time w'
     by_a is_a is_b zero number of = absurd (let least = of.least in omega (arith, least))
     by_a is_a is_b (suc i) number of =
-        let a = turns_a p w is acts.1.place channel here draws w' is' told seen near silent top stays delay live_a
-        live_b is_a i number in
+        let a = turns_a p w is acts.1.place channel here draws w' is' told seen near silent top stays live_a live_b
+        is_a i number in
         begins_so i told.place_b a
         (not_tree i told.place_b told.station_b told.is_b.here (told.is_b.named ∙ is_b) a)
 
@@ -316,8 +314,8 @@ module _ (p : SettlingParams) (silent owner port : ℕ) (w : WorldState) (draws 
         → HasPortNumber told.station_b.system i → IsFallenAlways p (snapshot_of w) silent w.time w'
     by_b is_b is_a zero number of = absurd (let least = of.least in omega (arith, least))
     by_b is_b is_a (suc i) number of =
-        let a = turns_b p w is acts.1.place channel here draws w' is' told seen near silent top stays delay live_a
-        live_b is_b i number in
+        let a = turns_b p w is acts.1.place channel here draws w' is' told seen near silent top stays live_a live_b
+        is_b i number in
         begins_so i told.place_a a
         (not_tree i told.place_a told.station_a told.is_a.here (told.is_a.named ∙ is_a) a)
 

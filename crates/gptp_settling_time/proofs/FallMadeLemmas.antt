@@ -1,5 +1,5 @@
 -- A link goes down that cuts a tree off, in a world of a document whose choice had stood: the tree falls back.
-use Rattle.std.proofs.Common.{List, [], ap, arith, inl, inr, subst, sym, true, ℕ, ◌++◌, ◌+◌, ◌∙◌, ◌∷◌, ◌≡◌, ◌≤◌, ◌⊎◌, slice_get, Some}
+use Rattle.std.proofs.Common.{List, [], arith, inl, inr, subst, sym, true, ℕ, ◌++◌, ◌+◌, ◌∷◌, ◌≡◌, ◌≤◌, ◌⊎◌, slice_get, Some}
 use Rattle.gptp_lists.proofs.MappedLemmas.{alike}
 use Rattle.gptp_graph.specs.Best.{IsBest}
 use Rattle.gptp_graph.specs.PathBound.{path_bound}
@@ -130,10 +130,6 @@ module _ (d : DocumentState) (playable : IsPlayable d) (made : List Timed) (even
   paths_after : sync_paths n more ≡ sync_paths_of w'
   paths_after = paths_stand n more w' playable.network after.stands after.claim.world.sound
 
-  same_delay : delay_in w' ≡ delay_in then
-  same_delay =
-      sym (ap (λ (y : SyncPaths). y.delay) paths_after) ∙ x.delay ∙ ap (λ (y : SyncPaths). y.delay) paths_then
-
   few_then : path_bound (snapshot_of w') ≤ 255
   few_then =
       let few = x.few in
@@ -172,7 +168,7 @@ module _ (d : DocumentState) (playable : IsPlayable d) (made : List Timed) (even
             (up_so n made then keeps.stands end (λ place u u_there u_end. (x.used place u u_there u_end).up)
             came.1.place channel came.1.is) (omega (arith, over, at_time)) rest.ready rest.silent seen_then
             (near_so d playable made then keeps x.few) (live_ends channel used) x.top x.other best next base depth is
-            few_then ends_are same_delay late_then rest.sound names_now);
+            few_then ends_are late_then rest.sound names_now);
       }
     where
       -- a delay is over

@@ -19,7 +19,6 @@ use Rattle.gptp_bmca_machine.specs.Network.{Network}
 use Rattle.gptp_bmca_machine.specs.RestLaws.{SameWiring}
 use Rattle.gptp_bmca_machine.specs.SoundLaws.{AllAreNear}
 use Rattle.gptp_bmca_machine.specs.Station.{Station as SeenStation}
-use Rattle.gptp_invariants.specs.ChoiceCalm.{delay_in}
 use Rattle.gptp_invariants.specs.ChoiceSettlesAsMachine.{IsWorld}
 use Rattle.gptp_invariants.specs.ChoiceView.{lanes_view, says_announce, view}
 use Rattle.gptp_invariants.specs.WorldStanding.{snapshot_of}
@@ -43,8 +42,7 @@ module _ (p : SettlingParams) (w : WorldState) (is : IsWorld p w) (place : ℕ) 
     (next x : ℕ)
     (stays : (way : Direction) → (sender way channel).clock ≢ x
     → IsUnmoved (snapshot_of w) (snapshot_of w') (sender way channel).clock
-    × NearerStay (snapshot_of w) (snapshot_of w') (sender way channel).clock)
-    (delay : delay_in w' ≡ delay_in w) where
+    × NearerStay (snapshot_of w) (snapshot_of w') (sender way channel).clock) where
   abbrev taken : WorldState
   taken = record w { net = taken_down place channel w.net; last_change = w.time }
 
@@ -52,7 +50,7 @@ module _ (p : SettlingParams) (w : WorldState) (is : IsWorld p w) (place : ℕ) 
   n = left_network p next w'
 
   pub wired : SameWiring seen.n n
-  wired = wires p w is place channel here draws w' is' k seen near n delay refl
+  wired = wires p w is place channel here draws w' is' k seen near n refl
 
   placed : (i : ℕ) (m : SeenStation) → slice_get (view w).stations i ≡ Some m → i ≡ n.place m.clock
   placed i m at = seen.calm.placed i m at ∙ sym (wired.place m.clock)

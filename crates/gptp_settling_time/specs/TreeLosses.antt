@@ -42,7 +42,7 @@ CutsTreeFrom n before event top other = (g g' : Snapshot) → StandsAfter n befo
     → (best : System) × (next : System) × (base : ℕ) × (depth : ℕ → ℕ) × IsCutTree g g' top other best next base depth
 
 -- After these events this one takes down a link in use and so cuts off a tree, the top of which is at one of its ends.
--- The greatest delay of a link in use stays, and no path gets longer. None had more than 255 systems.
+-- The greatest delay of a link in use gets no greater, and no path longer. None had more than 255 systems.
 pub record LowersTree (n : NetworkState) (before : List Timed) (event : Timed) : Type 0 where
   pub clock : ℕ
   pub port : ℕ
@@ -57,6 +57,6 @@ pub record LowersTree (n : NetworkState) (before : List Timed) (event : Timed) :
       → (((link_after before v).a.clock ≡ top) × ((link_after before v).b.clock ≡ other))
       ⊎ (((link_after before v).b.clock ≡ top) × ((link_after before v).a.clock ≡ other))
   pub cuts : CutsTreeFrom n before event top other
-  pub delay : (sync_paths n (before ++ event ∷ [])).delay ≡ (sync_paths n before).delay
+  pub delay : (sync_paths n (before ++ event ∷ [])).delay ≤ (sync_paths n before).delay
   pub paths : (sync_paths n (before ++ event ∷ [])).systems ≤ (sync_paths n before).systems
   pub few : (sync_paths n before).systems ≤ 255
