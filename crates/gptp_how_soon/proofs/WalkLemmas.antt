@@ -22,6 +22,7 @@ use Rattle.gptp_how_soon.specs.Kinds.{sets_bounds, takes_one, told_by}
 use Rattle.gptp_how_soon.specs.Links.{delay_set, longest_delay, longest_set, lost_among, new_among}
 use Rattle.gptp_how_soon.specs.Times.{last_set, moves_at, told_at, told_of, view_at}
 use Rattle.gptp_how_soon.specs.Rest.{has_rested_for}
+use Rattle.gptp_how_soon.specs.Silent.{held_among}
 use Rattle.gptp_how_soon.specs.Tree.{cuts_tree_after}
 use Rattle.gptp_how_soon.specs.Turned.{turns_one_after}
 use Rattle.gptp_how_soon.specs.Walk.{IsFirstWalk, WalkGoesOn, WalkPasses, moves_seen, view_seen}
@@ -157,6 +158,7 @@ module _ (n : NetworkState) (network : IsNetwork n) where
         before = w.before;
         paths_before = so.paths i;
         used_before = so.all_used i;
+        held = held_among n (so.used i) (so.tables.standings i);
         new = new i;
         told = so.told i;
         moves = moves_are made now w at so i;
