@@ -303,7 +303,7 @@ fails = record {
 }
 
 lost : IsLossBoundAfter ring_network far_document.events (0 ∷ []) 30000000000 0 11000000000
-lost = (
+lost = inl (
   omega arith,
   none_between far_document.events 0 30000000000 ((λ later. omega arith), tt),
   record { links = failure_rests 0x80e1fffe00000c; lapses = inl refl },

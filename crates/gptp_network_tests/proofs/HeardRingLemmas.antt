@@ -134,7 +134,7 @@ fails = record {
 }
 
 lost : IsLossBoundAfter ring_network heard_document.events (0 ∷ []) 30000000000 3000000410 11000000000
-lost = (
+lost = inl (
   omega arith,
   none_between heard_document.events 0 30000000000 ((λ later. omega arith), tt),
   record { links = failure_rests 0x80e1fffe00000b; lapses = inl refl },

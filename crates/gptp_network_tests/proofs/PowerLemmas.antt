@@ -187,7 +187,7 @@ used =
 -- ---- the bounds
 
 lost : IsLossBoundAfter ring_network dark_document.events (0 ∷ []) 30000000000 0 0
-lost = (
+lost = inl (
   omega arith,
   none_between dark_document.events 0 30000000000
       ((λ later. omega arith), ((λ later. omega arith), ((λ later. omega arith), tt))),

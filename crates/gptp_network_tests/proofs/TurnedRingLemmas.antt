@@ -274,7 +274,7 @@ turns = record {
 -- ---- the bounds
 
 lost : IsLossBoundAfter ring_network ring_document.events (0 ∷ []) 30000000000 2460 2460
-lost = (
+lost = inl (
   omega arith,
   none_between ring_document.events 0 30000000000 ((λ later. omega arith), tt),
   record { links = links_rest; lapses = inl refl },
