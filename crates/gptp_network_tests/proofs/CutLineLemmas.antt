@@ -1,7 +1,7 @@
 -- Both links of the root go down, one long after the other, and so the three other bridges are cut off in a line. The
 -- one that lost its link tells the next that the root is gone, and so on; then the best of them passes down the line.
 -- Choice and roles stand later by twice the greatest delay of two links.
-use Rattle.std.proofs.Common.{◌≡◌, ◌⊎◌, ◌<◌, ◌≤◌, ◌+◌, ◌*◌, ℕ, zero, suc, false, true, List, [], ◌∷◌, Option, Some, None, slice_get, refl, sym, ap, subst, ◌∙◌, inl, inr, arith}
+use Rattle.std.proofs.Common.{◌≡◌, ◌⊎◌, ◌<◌, ◌≤◌, ◌+◌, ◌*◌, ℕ, zero, suc, false, List, [], ◌∷◌, Option, Some, None, slice_get, refl, sym, ap, subst, ◌∙◌, inl, inr, arith}
 use Rattle.std.specs.Prelude.{◌==◌, if◌then◌else◌}
 use Rattle.std.proofs.lemmas.List.Sorted.{IsPermutation-refl}
 use native.Mathlib.Decide.{ℕ_discrete, dec_le, dec_lt}
@@ -41,14 +41,15 @@ use Rattle.gptp_network.proofs.LawLemmas.{one_snapshot}
 use Rattle.gptp_invariants.specs.WorldEncodableLaws.{SetsAnOctet}
 use Rattle.gptp_theorem.specs.PlayedLaws.{IsPlayable}
 use Rattle.gptp_theorem.proofs.SettlingInvariantLemmas.{each_there}
-use Rattle.gptp_settling_time.specs.HowSoon.{IsChoiceAloneBound, IsChoiceBound, IsLossBoundAfter, IsRestBoundAfter, NoneBetween}
+use Rattle.gptp_settling_time.specs.HowSoon.{IsChoiceAloneBound, IsChoiceBound, IsLossBoundAfter, IsRestBoundAfter}
 use Rattle.gptp_settling_time.specs.Losses.{IsUnmoved}
 use Rattle.gptp_settling_time.specs.TreeLosses.{CutsTreeFrom, IsCutTree, LowersTree}
 use Rattle.gptp_network_tests.specs.Ring.{bridge, cut_document, fibre, ring_network, ring_paths}
 use Rattle.gptp_network_tests.proofs.FarLemmas.{cable, first, fourth, parent, ring_stands, second, states, third}
-use Rattle.gptp_network_tests.proofs.RingLemmas.{pace_is, paths_are, ring_begun}
+use Rattle.gptp_network_tests.proofs.RingLemmas.{pace_is, ring_begun}
 use Rattle.gptp_network_tests.proofs.TurnedRingLemmas.{chain, chain_stands, chain_well, event, first_is_best, first_then, fourth_then, paths_left, second_then, third_then, turns}
 use Rattle.gptp_network_tests.proofs.TurnedRingLemmas as turned
+use Rattle.gptp_network_tests.proofs.DocumentLemmas.{none_between}
 
 -- ---- the document
 
@@ -336,23 +337,12 @@ lowers = record {
 
 -- ---- the bounds
 
-none_before : NoneBetween cut_document.events 0 30000000000
-none_before t (inl same) later = subst (λ (x : Timed). 30000000000 ≤ x.at) (sym same) (omega arith)
-none_before t (inr (inl same)) later = subst (λ (x : Timed). 30000000000 ≤ x.at) (sym same) (omega arith)
-none_before t (inr (inr none)) later = absurd none
-
-none_between : NoneBetween cut_document.events 30000000000 60000000000
-none_between t (inl same) later =
-    let at : t.at ≡ 30000000000 = ap (λ (x : Timed). x.at) same in absurd (omega (arith, at, later))
-none_between t (inr (inl same)) later = subst (λ (x : Timed). 60000000000 ≤ x.at) (sym same) (omega arith)
-none_between t (inr (inr none)) later = absurd none
-
 -- by then what turned first has come to rest
 rested : IsRestBoundAfter ring_network cut_document.events (0 ∷ []) 30000000000 3000003690
 rested =
     inr (
       omega arith,
-      none_before,
+      none_between cut_document.events 0 30000000000 ((λ later. omega arith), ((λ later. omega arith), tt)),
       record { links = turned.links_rest; lapses = inl refl },
       refl,
       (1000003050, (refl, ring_begun), omega arith),
@@ -371,7 +361,8 @@ lost : IsLossBoundAfter ring_network cut_document.events (30000000000 ∷ 0 ∷ 
 lost =
     inr (
       omega arith,
-      none_between,
+      none_between cut_document.events 30000000000 60000000000
+          ((λ later. absurd (omega (arith, later))), ((λ later. omega arith), tt)),
       record { links = links_rest; lapses = inl refl },
       refl,
       (3000003690, rested, later),

@@ -1,3 +1,4 @@
+mod DocumentLemmas
 mod ExactLemmas
 mod ReadingLemmas
 mod HeardLemmas

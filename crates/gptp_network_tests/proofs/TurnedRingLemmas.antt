@@ -32,11 +32,12 @@ use Rattle.gptp_model.specs.World.{port_id}
 use Rattle.gptp_network.specs.Snapshot.{StandsAfter}
 use Rattle.gptp_network.proofs.LawLemmas.{one_snapshot}
 use Rattle.gptp_theorem.proofs.SettlingInvariantLemmas.{each_there}
-use Rattle.gptp_settling_time.specs.HowSoon.{IsChoiceAloneBound, IsChoiceBound, IsLossBoundAfter, NoneBetween}
+use Rattle.gptp_settling_time.specs.HowSoon.{IsChoiceAloneBound, IsChoiceBound, IsLossBoundAfter}
 use Rattle.gptp_settling_time.specs.Losses.{IsFarEnd, IsTurned, IsUnmoved, TurnsLink, TurnsSystem}
 use Rattle.gptp_network_tests.specs.Ring.{bridge, fibre, ring_document, ring_network, ring_paths}
 use Rattle.gptp_network_tests.proofs.FarLemmas.{cable, first, first_identity, fourth, fourth_line, is_far, is_first, parent, ring, ring_choice, ring_stands, ring_well, second, second_line, states, third, third_line, unmoved_by}
 use Rattle.gptp_network_tests.proofs.RingLemmas.{paths_are, ring_begun}
+use Rattle.gptp_network_tests.proofs.DocumentLemmas.{none_between}
 
 -- ---- the document
 
@@ -273,15 +274,10 @@ turns = record {
 
 -- ---- the bounds
 
--- its event is the first behind the start
-none_between : NoneBetween ring_document.events 0 30000000000
-none_between t (inl same) later = subst (λ (x : Timed). 30000000000 ≤ x.at) (sym same) (omega arith)
-none_between t (inr none) later = absurd none
-
 lost : IsLossBoundAfter ring_network ring_document.events (0 ∷ []) 30000000000 2460 2460
 lost = inl (
   omega arith,
-  none_between,
+  none_between ring_document.events 0 30000000000 ((λ later. omega arith), tt),
   record { links = links_rest; lapses = inl refl },
   refl,
   (1000003050, (refl, ring_begun), omega arith),
