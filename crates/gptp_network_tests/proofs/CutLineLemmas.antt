@@ -45,7 +45,7 @@ use Rattle.gptp_settling_time.specs.HowSoon.{IsChoiceAloneBound, IsChoiceBound, 
 use Rattle.gptp_settling_time.specs.Losses.{IsUnmoved}
 use Rattle.gptp_settling_time.specs.TreeLosses.{CutsTreeFrom, IsCutTree, LowersTree}
 use Rattle.gptp_network_tests.specs.Ring.{bridge, cut_document, fibre, ring_network, ring_paths}
-use Rattle.gptp_network_tests.proofs.FarLemmas.{cable, first, fourth, parent, ring_stands, second, states, third}
+use Rattle.gptp_network_tests.proofs.FarLemmas.{cable, first, fourth, left_paths, parent, ring_stands, second, states, third}
 use Rattle.gptp_network_tests.proofs.RingLemmas.{pace_is, ring_begun}
 use Rattle.gptp_network_tests.proofs.TurnedRingLemmas.{chain, chain_stands, chain_well, event, first_is_best, first_then, fourth_then, paths_left, second_then, third_then, turns}
 use Rattle.gptp_network_tests.proofs.TurnedRingLemmas as turned
@@ -84,10 +84,7 @@ links_rest (suc (suc (suc zero))) x early = λ used. record { lossless = refl; g
 links_rest (suc (suc (suc (suc i)))) x early = absurd (omega (arith, early))
 
 -- a path has three systems then
-abbrev cut_paths : SyncPaths
-cut_paths = record { systems = 3; delay = 410 }
-
-paths_cut : sync_paths ring_network both ≡ cut_paths
+paths_cut : sync_paths ring_network both ≡ left_paths
 unfolding path_systems
 paths_cut = refl
 
