@@ -62,26 +62,28 @@ ages n (u ∷ us) (s ∷ ss) = by (is_silent u s) refl (ages n us ss)
             absurd cc
         others (suc place) v t here there is = rest.each place v t here there is
 
-pub held_for : (n : NetworkState) (made now : List Timed) → HeldFor n made now (held_after n made (made ++ now))
-held_for n made now = (x.span, within, x.held)
-  where
-    abbrev after : List Timed
-    after = made ++ now
+-- after these events and more of them
+module _ (n : NetworkState) (made now : List Timed) where
+  abbrev after : List Timed
+  after = made ++ now
 
-    x : Ages n (map cable_is_used (standings_after n made)) (standings_after n after)
-    x = ages n (map cable_is_used (standings_after n made)) (standings_after n after)
+  each_ages : Ages n (map cable_is_used (standings_after n made)) (standings_after n after)
+  each_ages = ages n (map cable_is_used (standings_after n made)) (standings_after n after)
 
-    within : AgesWithin n made after x.span
-    within place v there (used, up, unused) =
-        let was = mapped_there (standing_then n made) n.links place v there in
-        let off : cable_is_used (standing_then n after v) ≡ false =
-        false_from_ne_true (cable_is_used (standing_then n after v)) (λ on. unused (cable_used n after v on)) in
-        let less =
-        x.each place (cable_is_used (standing_then n made v)) (standing_then n after v)
-        (mapped_there cable_is_used (standings_after n made) place (standing_then n made v) was)
-        (mapped_there (standing_then n after) n.links place v there)
-        (and_from (cable_is_used (standing_then n made v) && (link_after after v).up)
-        (not (cable_is_used (standing_then n after v)))
-        (and_from (cable_is_used (standing_then n made v)) (link_after after v).up (used_cable n made v used) up)
-        (ap not off)) in
-        omega (arith, less)
+  within : AgesWithin n made after each_ages.span
+  within place v there (used, up, unused) =
+      let was = mapped_there (standing_then n made) n.links place v there in
+      let off : cable_is_used (standing_then n after v) ≡ false =
+      false_from_ne_true (cable_is_used (standing_then n after v)) (λ on. unused (cable_used n after v on)) in
+      let less =
+      each_ages.each place (cable_is_used (standing_then n made v)) (standing_then n after v)
+      (mapped_there cable_is_used (standings_after n made) place (standing_then n made v) was)
+      (mapped_there (standing_then n after) n.links place v there)
+      (and_from (cable_is_used (standing_then n made v) && (link_after after v).up)
+      (not (cable_is_used (standing_then n after v)))
+      (and_from (cable_is_used (standing_then n made v)) (link_after after v).up (used_cable n made v used) up)
+      (ap not off)) in
+      omega (arith, less)
+
+  pub held_for : HeldFor n made now (held_after n made after)
+  held_for = (each_ages.span, within, each_ages.held)
