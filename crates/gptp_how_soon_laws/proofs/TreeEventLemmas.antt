@@ -1,5 +1,5 @@
 -- A link that goes down by the one event of a time, and so cuts off a tree, does so as its event is told.
-use Rattle.std.proofs.Common.{◌≡◌, ◌≤◌, ◌⊎◌, inl, inr, ◌+◌, ℕ, true, List, [], ◌∷◌, ◌++◌, Some, slice_get, refl, ap, subst, ◌∙◌, append-nil}
+use Rattle.std.proofs.Common.{◌≡◌, ◌≤◌, ◌⊎◌, inl, inr, ℕ, true, List, [], ◌∷◌, ◌++◌, Some, slice_get, refl, ap, subst, ◌∙◌, append-nil}
 use Rattle.gptp_lists.specs.Members.{In}
 use Rattle.gptp_network.proofs.ExistenceLemmas.{stands_after}
 use Rattle.gptp_scenario.specs.Change.{link_after, system_after}
