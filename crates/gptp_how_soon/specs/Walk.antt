@@ -1,8 +1,9 @@
 -- How a document stands at each time, as its events come (profile).
-use Rattle.std.specs.Prelude.{◌≡◌, ◌≤◌, ℕ, Bool, ◌++◌, ◌∷◌, [], ◌==◌, not, max, if◌then◌else◌, map, List, Some, None, IsTrue}
+use Rattle.std.specs.Prelude.{◌≡◌, ◌≤◌, ℕ, Bool, ◌++◌, ◌∷◌, [], ◌==◌, ◌&&◌, ◌||◌, not, max, if◌then◌else◌, map, List, Some, None, IsTrue}
 use Rattle.std.specs.List.{find}
 use Rattle.std.specs.Option.{is_some}
-use Rattle.gptp_scenario.specs.Network.{NetworkState}
+use Rattle.gptp_setup.specs.SettlingParams.{largest_interval}
+use Rattle.gptp_scenario.specs.Network.{NetworkState, pace_of}
 use Rattle.gptp_scenario.specs.declared.change.Act.{Act}
 use Rattle.gptp_topology.specs.After.{Stand}
 use Rattle.gptp_topology.specs.Course.{cable_is_used, named}
@@ -12,7 +13,9 @@ use Rattle.gptp_how_soon.specs.Chosen.{any_counted, any_moved, chosen_over, ends
 use Rattle.gptp_how_soon.specs.Far.{all_cut_far_ends, are_far, up_is_used}
 use Rattle.gptp_how_soon.specs.Kinds.{sets_bounds, takes_one, told_by}
 use Rattle.gptp_how_soon.specs.Links.{delay_set, longest_among, lost_among, new_among}
+use Rattle.gptp_how_soon.specs.Rest.{has_rested_for}
 use Rattle.gptp_how_soon.specs.Times.{View, settling_time}
+use Rattle.gptp_how_soon.specs.Tree.{cuts_tree}
 use Rattle.gptp_how_soon.specs.Turned.{turns_one}
 use Rattle.gptp_how_soon.specs.declared.bounds.SettlingTime.{SettlingTime}
 use Rattle.gptp_how_soon.specs.declared.chosen.Chosen.{Chosen}
@@ -88,9 +91,9 @@ cuts_seen w =
     (ends_in_use w.ends.items
     (lost_among w.used_before.items (map cable_is_used w.tables.standings.items)))
 
--- whether one is moved alone, and turns
-abbrev pub turns_seen : Walk → Bool
-turns_seen w =
+-- whether one is moved alone, and turns, or a tree is cut off an announce interval after all came to rest
+abbrev pub turns_alone_seen : Walk → Bool
+turns_alone_seen w =
     turns_one (systems_in w.tables.nodes.items)
     (ends_in_use w.ends.items
     (lost_among w.used_before.items (map cable_is_used w.tables.standings.items)))
@@ -98,6 +101,19 @@ turns_seen w =
     (ends_in_use w.ends.items (map cable_is_used w.tables.standings.items))
     (chosen_in w w.systems_before.items w.used_before.items)
     (chosen_in w (systems_in w.tables.nodes.items) (map cable_is_used w.tables.standings.items))
+
+abbrev pub cuts_tree_seen : Walk → Bool
+cuts_tree_seen w =
+    cuts_tree (systems_in w.tables.nodes.items)
+    (ends_in_use w.ends.items
+    (lost_among w.used_before.items (map cable_is_used w.tables.standings.items)))
+    (ends_in_use w.ends.items (map cable_is_used w.tables.standings.items))
+    (chosen_in w w.systems_before.items w.used_before.items)
+    (chosen_in w (systems_in w.tables.nodes.items) (map cable_is_used w.tables.standings.items))
+
+abbrev pub turns_seen : NetworkState → Walk → ℕ → Bool
+turns_seen n w at =
+    turns_alone_seen w || (has_rested_for (largest_interval (pace_of n)) w.before at && cuts_tree_seen w)
 
 -- whether those that its events name were far ends
 abbrev pub far_seen : Walk → Bool
@@ -119,7 +135,7 @@ view_seen n w at = record {
   moved = moves_seen w;
   moves_any = moves_any_seen w;
   cut = cuts_seen w;
-  turned = turns_seen w;
+  turned = turns_seen n w at;
   far = far_seen w;
   used = up_is_used w.tables.standings.items;
   paths = marked_paths w.tables.marks.items w.tables.nodes.items;

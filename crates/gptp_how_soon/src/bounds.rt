@@ -3,6 +3,7 @@
 ghost use Rattle.std.specs.Prelude.{◌≡◌, ◌≤◌, ◌+◌, IfSome};
 ghost use Rattle.std.specs.List.{list_any};
 ghost use Rattle.gptp_network.specs.declared.keys.TheConstants.{LATEST_EVENT};
+ghost use Rattle.gptp_setup.specs.SettlingParams.{largest_interval};
 ghost use Rattle.gptp_scenario.specs.Network.{pace_of};
 ghost use Rattle.gptp_scenario.specs.SettlingAtOnce.{settling_span_at_once};
 ghost use Rattle.gptp_scenario.specs.SettlingTime.{capability_span};
@@ -66,6 +67,7 @@ pub enum Row {
     /// So it is, but systems are moved, all of which are cut off.
     FailureCutsOff,
     /// By its one event a link goes down that moves one system alone. That keeps its root, and turns to others for it.
+    /// Or it cuts off a tree, whose systems have a worse root then.
     OneTurned,
     /// Some of its events are losses, the others make nothing of what stands, and no other row of a loss is so.
     AnyLosses,
@@ -147,16 +149,24 @@ fn any_hard_to_hear(told: &[Told], new: &[Cable]) -> bool
     new.iter().any(|cable| is_hard_to_hear(told, cable))
 }
 
+/// The largest announce interval, in ns.
+pub(crate) fn announce_interval(network: &Network) -> u64
+    ensures is { result ≡ largest_interval (pace_of network.now) }
+    ensures bound { result ≤ 16000000000 }
+{
+    network.well_formed();
+    interval_of(network.largest())
+}
+
 /// How much longer it takes where something may not be heard at once, in ns: an announce interval.
 pub(crate) fn heard(network: &Network, followed: bool, told: &[Told], new: &[Cable]) -> u64
     ensures is { result ≡ heard_by network.now followed told.now new.now }
     ensures bound { result ≤ 16000000000 }
 {
-    network.well_formed();
     if followed && !any_hard_to_hear(told, new) {
         0
     } else {
-        interval_of(network.largest())
+        announce_interval(network)
     }
 }
 

@@ -103,7 +103,8 @@ module _ (n : NetworkState) (made : List Timed) (event : Timed) (number : ℕ)
       (λ port until. ByLink w.time Stays (OverWay w) port until × In port.clock (clocks (snapshot_of w')))
       (AgesOver n made (made ++ event ∷ []) w.time) (view w')
       (λ port until unlinked (came, lives).
-      over_begins n made event number act w w' stands is.sound stands' sound' Stays short port until unlinked lives came)
+      over_begins n made event number act w w' stands is.sound stands' sound' Stays short port until unlinked lives
+      came)
       (by_live (pace_of n) (ByLink w.time Stays (OverWay w)) w' by quiet)
 
   pub ages_over : AgesByLink (pace_of n) w w' → WorldAgesBy (pace_of n) (AgesOver n made (made ++ event ∷ []) w.time) w'

@@ -14,7 +14,7 @@ use Rattle.gptp_scenario.specs.declared.change.Change.TheVariants.{LinkDown, Lin
 use Rattle.gptp_scenario.specs.declared.change.Timed.{Timed}
 use Rattle.gptp_scenario.specs.declared.sync_wait.SyncPaths.{SyncPaths}
 use Rattle.gptp_settling_time.specs.HowSoon.{AfterIdleEvents, AreGainEvents, AreHeardEvents, AreWiderEvents, EachEvent, IsGainEvent, IsGainToo, IsHeardEvent, IsHeardToo, IsIdleEvent, IsStillEvent, TurnsUnused, way_span}
-use Rattle.gptp_settling_time.specs.InTurn.{Aging, AnyPast, Cleared, EventLeads, Gained, HasSettledAnyhow, HasSettledHeard, HasSettledSince, Heard, IsTakenAs, LeadOn, LeavesSettled, Left, Lost, MakesNothing, Past, RestsAs, SettlesAfter, Starting, Turned, TurnsInVain, WidensLink}
+use Rattle.gptp_settling_time.specs.InTurn.{Aging, AnyPast, Cleared, EventLeads, Fallen, Gained, HasSettledAnyhow, HasSettledHeard, HasSettledSince, Heard, IsTakenAs, LeadOn, LeavesSettled, Left, Lost, MakesNothing, Past, RestsAs, SettlesAfter, Starting, Turned, TurnsInVain, WidensLink}
 use Rattle.gptp_settling_time.specs.Losses.{LeavesChoice}
 use Rattle.gptp_settling_time.proofs.MadeLemmas.{adds_later}
 use Rattle.gptp_settling_time.proofs.SamePathsLemmas.{idle_paths, priority_paths, turned_paths}
@@ -50,6 +50,7 @@ HasSettled n events (Gained start) time = HasSettledSince n events start time
 HasSettled n events (Heard start) time = HasSettledHeard n events start time
 HasSettled n events (Left start) time = ⊥
 HasSettled n events (Turned silent now) time = ⊥
+HasSettled n events (Fallen silent now) time = ⊥
 HasSettled n events (Cleared begun silent right old) time = ⊥
 HasSettled n events (Aging ago aged silent) time = ⊥
 HasSettled n events (Lost since most silent) time = ⊥
@@ -63,6 +64,7 @@ settled_later n events (Gained start) time later less is = omega (arith, is, les
 settled_later n events (Heard start) time later less is = omega (arith, is, less)
 settled_later n events (Left start) time later less is = absurd is
 settled_later n events (Turned silent now) time later less is = absurd is
+settled_later n events (Fallen silent now) time later less is = absurd is
 settled_later n events (Cleared begun silent right old) time later less is = absurd is
 settled_later n events (Aging ago aged silent) time later less is = absurd is
 settled_later n events (Lost since most silent) time later less is = absurd is
@@ -97,9 +99,11 @@ taken_later n events past seen time later less (inr rests) = inr (by past seen r
         }
     by (Turned silent now) (Left start) none = absurd none
     by (Turned silent now) (Turned start was) none = absurd none
+    by (Turned silent now) (Fallen start was) none = absurd none
     by (Turned silent now) (Cleared start dark clean last) none = absurd none
     by (Turned silent now) (Aging ago gone start) none = absurd none
     by (Turned silent now) (Lost begun most start) none = absurd none
+    by (Fallen silent now) seen none = absurd none
     by (Cleared begun silent right old) AnyPast none = absurd none
     by (Cleared begun silent right old) Starting none = absurd none
     by (Cleared begun silent right old) (Gained start) none = absurd none
@@ -116,6 +120,7 @@ taken_later n events past seen time later less (inr rests) = inr (by past seen r
         }
     by (Cleared begun silent right old) (Left start) none = absurd none
     by (Cleared begun silent right old) (Turned start now) none = absurd none
+    by (Cleared begun silent right old) (Fallen start now) none = absurd none
     by (Cleared begun silent right old) (Cleared start dark clean last) none = absurd none
     by (Cleared begun silent right old) (Aging ago gone start) none = absurd none
     by (Cleared begun silent right old) (Lost since most start) none = absurd none
@@ -141,6 +146,7 @@ taken_later n events past seen time later less (inr rests) = inr (by past seen r
         }
     by (Aging ago aged silent) (Left start) none = absurd none
     by (Aging ago aged silent) (Turned start now) none = absurd none
+    by (Aging ago aged silent) (Fallen start now) none = absurd none
     by (Aging ago aged silent) (Cleared start dark clean last) none = absurd none
     by (Aging ago aged silent) (Aging once gone start) none = absurd none
     by (Aging ago aged silent) (Lost since most start) none = absurd none
@@ -159,6 +165,7 @@ taken_later n events past seen time later less (inr rests) = inr (by past seen r
         }
     by (Lost since most silent) (Left start) none = absurd none
     by (Lost since most silent) (Turned start now) none = absurd none
+    by (Lost since most silent) (Fallen start now) none = absurd none
     by (Lost since most silent) (Cleared start dark clean last) none = absurd none
     by (Lost since most silent) (Aging ago gone start) none = absurd none
     by (Lost since most silent) (Lost begun more start) none = absurd none
@@ -183,15 +190,18 @@ taken_on n events past seen other time (inr rests) (inr again) = absurd (by past
     by (Turned silent now) (Heard start) rests again = again
     by (Turned silent now) (Left start) none again = none
     by (Turned silent now) (Turned start was) none again = none
+    by (Turned silent now) (Fallen start was) none again = none
     by (Turned silent now) (Cleared start dark clean last) none again = none
     by (Turned silent now) (Aging ago gone start) none again = none
     by (Turned silent now) (Lost begun most start) none again = none
+    by (Fallen silent now) seen none again = none
     by (Cleared begun silent right old) AnyPast none again = none
     by (Cleared begun silent right old) Starting none again = none
     by (Cleared begun silent right old) (Gained start) none again = none
     by (Cleared begun silent right old) (Heard start) rests again = again
     by (Cleared begun silent right old) (Left start) none again = none
     by (Cleared begun silent right old) (Turned start now) none again = none
+    by (Cleared begun silent right old) (Fallen start now) none again = none
     by (Cleared begun silent right old) (Cleared start dark clean last) none again = none
     by (Cleared begun silent right old) (Aging ago gone start) none again = none
     by (Cleared begun silent right old) (Lost since most start) none again = none
@@ -201,6 +211,7 @@ taken_on n events past seen other time (inr rests) (inr again) = absurd (by past
     by (Aging ago aged silent) (Heard start) rests again = again
     by (Aging ago aged silent) (Left start) none again = none
     by (Aging ago aged silent) (Turned start now) none again = none
+    by (Aging ago aged silent) (Fallen start now) none again = none
     by (Aging ago aged silent) (Cleared start dark clean last) none again = none
     by (Aging ago aged silent) (Aging once gone start) none again = none
     by (Aging ago aged silent) (Lost since most start) none again = none
@@ -210,6 +221,7 @@ taken_on n events past seen other time (inr rests) (inr again) = absurd (by past
     by (Lost since most silent) (Heard start) rests again = again
     by (Lost since most silent) (Left start) none again = none
     by (Lost since most silent) (Turned start now) none again = none
+    by (Lost since most silent) (Fallen start now) none again = none
     by (Lost since most silent) (Cleared start dark clean last) none again = none
     by (Lost since most silent) (Aging ago gone start) none again = none
     by (Lost since most silent) (Lost begun more start) none again = none
@@ -222,6 +234,7 @@ settled_so n events (Gained start) time off is = inl (off, is)
 settled_so n events (Heard start) time off is = (off, is)
 settled_so n events (Left start) time off is = absurd is
 settled_so n events (Turned silent now) time off is = absurd is
+settled_so n events (Fallen silent now) time off is = absurd is
 settled_so n events (Cleared begun silent right old) time off is = absurd is
 settled_so n events (Aging ago aged silent) time off is = absurd is
 settled_so n events (Lost since most silent) time off is = absurd is
@@ -245,15 +258,18 @@ rested_so n events past time off (seen, inr rests, is) = by past seen rests
     by (Turned silent now) (Heard start) rest = let told = rest.told in (off, omega (arith, told))
     by (Turned silent now) (Left start) none = absurd none
     by (Turned silent now) (Turned start was) none = absurd none
+    by (Turned silent now) (Fallen start was) none = absurd none
     by (Turned silent now) (Cleared start dark clean last) none = absurd none
     by (Turned silent now) (Aging ago gone start) none = absurd none
     by (Turned silent now) (Lost begun most start) none = absurd none
+    by (Fallen silent now) seen none = absurd none
     by (Cleared begun silent right old) AnyPast none = absurd none
     by (Cleared begun silent right old) Starting none = absurd none
     by (Cleared begun silent right old) (Gained start) none = absurd none
     by (Cleared begun silent right old) (Heard start) rest = (off, rest.unlinked)
     by (Cleared begun silent right old) (Left start) none = absurd none
     by (Cleared begun silent right old) (Turned start now) none = absurd none
+    by (Cleared begun silent right old) (Fallen start now) none = absurd none
     by (Cleared begun silent right old) (Cleared start dark clean last) none = absurd none
     by (Cleared begun silent right old) (Aging ago gone start) none = absurd none
     by (Cleared begun silent right old) (Lost since most start) none = absurd none
@@ -263,6 +279,7 @@ rested_so n events past time off (seen, inr rests, is) = by past seen rests
     by (Aging ago aged silent) (Heard start) rest = (off, inl rest.unlinked)
     by (Aging ago aged silent) (Left start) none = absurd none
     by (Aging ago aged silent) (Turned start now) none = absurd none
+    by (Aging ago aged silent) (Fallen start now) none = absurd none
     by (Aging ago aged silent) (Cleared start dark clean last) none = absurd none
     by (Aging ago aged silent) (Aging once gone start) none = absurd none
     by (Aging ago aged silent) (Lost since most start) none = absurd none
@@ -272,6 +289,7 @@ rested_so n events past time off (seen, inr rests, is) = by past seen rests
     by (Lost since most silent) (Heard start) rest = (off, rest.told, rest.unlinked)
     by (Lost since most silent) (Left start) none = absurd none
     by (Lost since most silent) (Turned start now) none = absurd none
+    by (Lost since most silent) (Fallen start now) none = absurd none
     by (Lost since most silent) (Cleared start dark clean last) none = absurd none
     by (Lost since most silent) (Aging ago gone start) none = absurd none
     by (Lost since most silent) (Lost begun more start) none = absurd none
@@ -328,6 +346,7 @@ module _ (n : NetworkState) (made : List Timed) (event : Timed) where
       inl (takes, inl (inr (omega (arith, settled, less), leaves)))
   gain_leads (Left start) next settled less gain = absurd settled
   gain_leads (Turned silent now) next settled less gain = absurd settled
+  gain_leads (Fallen silent now) next settled less gain = absurd settled
   gain_leads (Cleared begun silent right old) next settled less gain = absurd settled
   gain_leads (Aging ago aged silent) next settled less gain = absurd settled
   gain_leads (Lost since most silent) next settled less gain = absurd settled
@@ -344,6 +363,7 @@ module _ (n : NetworkState) (made : List Timed) (event : Timed) where
   heard_leads (Heard start) next settled (inr better) = inr (inl (settled, inl better))
   heard_leads (Left start) next settled heard = absurd settled
   heard_leads (Turned silent now) next settled heard = absurd settled
+  heard_leads (Fallen silent now) next settled heard = absurd settled
   heard_leads (Cleared begun silent right old) next settled heard = absurd settled
   heard_leads (Aging ago aged silent) next settled heard = absurd settled
   heard_leads (Lost since most silent) next settled heard = absurd settled
@@ -367,6 +387,7 @@ module _ (n : NetworkState) (made : List Timed) (event : Timed) where
     way_over (Heard start) settled = omega (arith, settled)
     way_over (Left start) settled = absurd settled
     way_over (Turned silent now) settled = absurd settled
+    way_over (Fallen silent now) settled = absurd settled
     way_over (Cleared begun silent right old) settled = absurd settled
     way_over (Aging ago aged silent) settled = absurd settled
     way_over (Lost begun most silent) settled = absurd settled
@@ -391,6 +412,7 @@ module _ (n : NetworkState) (made : List Timed) (event : Timed) where
       idle_leads (Heard start) settled = inr (inl (settled, inr (inl (leaves_so (way_over (Heard start) settled)))))
       idle_leads (Left start) settled = absurd settled
       idle_leads (Turned silent now) settled = absurd settled
+      idle_leads (Fallen silent now) settled = absurd settled
       idle_leads (Cleared begun silent right old) settled = absurd settled
       idle_leads (Aging ago aged silent) settled = absurd settled
       idle_leads (Lost begun most silent) settled = absurd settled
@@ -558,6 +580,7 @@ module _ (n : NetworkState) (network : IsNetwork n) where
     )
     widens_leads made event (Left start) settled by here calm is late widens soon = absurd is
     widens_leads made event (Turned silent now) settled by here calm is late widens soon = absurd is
+    widens_leads made event (Fallen silent now) settled by here calm is late widens soon = absurd is
     widens_leads made event (Cleared begun silent right old) settled by here calm is late widens soon = absurd is
     widens_leads made event (Aging ago aged silent) settled by here calm is late widens soon = absurd is
     widens_leads made event (Lost begun most silent) settled by here calm is late widens soon = absurd is

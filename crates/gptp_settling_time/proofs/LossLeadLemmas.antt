@@ -1,5 +1,5 @@
 -- A loss leads a network that has settled to what is left, or in which a system turns, or that is cleared.
-use Rattle.std.proofs.Common.{List, [], ap, append-nil, append_assoc, arith, inl, inr, max, min, pred, refl, subst, suc, sym, zero, ℕ, ◌*◌, ◌++◌, ◌+◌, ◌∙◌, ◌∷◌, ◌≡◌, ◌≤◌, ◌⊎◌}
+use Rattle.std.proofs.Common.{List, [], ap, append-nil, append_assoc, arith, inl, inr, max, min, pred, refl, subst, suc, sym, zero, ℕ, ◌*◌, ◌++◌, ◌+◌, ◌<◌, ◌∙◌, ◌∷◌, ◌≡◌, ◌≤◌, ◌⊎◌}
 use Rattle.std.specs.List.{AllByRecursion}
 use Rattle.std.proofs.Math.Nat.{le-max_left, le-max_right, mul-le-mul_left}
 use Rattle.gptp_setup.specs.SettlingParams.{largest_interval, longest_span}
@@ -12,7 +12,7 @@ use Rattle.gptp_scenario.specs.declared.change.Timed.{Timed}
 use Rattle.gptp_scenario.specs.declared.sync_wait.SyncPaths.{SyncPaths}
 use Rattle.gptp_theorem.proofs.EventLemmas.{last_behind}
 use Rattle.gptp_settling_time.specs.HowSoon.{CutsOneEnd, EachEvent, FailsEndFirst, FailsHeardFirst, LowersOneLink, RestsAfterOneLoss, RestsOnceTold, TurnsOneLink, TurnsUnused, way_span}
-use Rattle.gptp_settling_time.specs.InTurn.{AgesSooner, Aging, AnyPast, ChoosesAfter, Cleared, CutsCalm, EventLeads, FailsCalm, FailsNow, FlightIsGone, Gained, Heard, LeadOn, Left, LosesNow, Lost, LowersCalm, Past, SettlesAfter, Starting, Turned, TurnsCalm, echo_span, nearer_echo_span, turned_echo_span}
+use Rattle.gptp_settling_time.specs.InTurn.{AgesSooner, Aging, AnyPast, ChoosesAfter, Cleared, CutsCalm, EventLeads, FailsCalm, FailsNow, Fallen, FallsCalm, FlightIsGone, Gained, Heard, LeadOn, Left, LosesNow, Lost, LowersCalm, Past, SettlesAfter, Starting, Turned, TurnsCalm, echo_span, nearer_echo_span, turned_echo_span}
 use Rattle.gptp_settling_time.specs.Losses.{AgesWithin, CutsFarEnd, FailsFarEnd, FailsHeard, LowersLink, LowersUnused, TurnsLink, UpIsUsed, aging_span}
 use Rattle.gptp_settling_time.proofs.CalmLessLemmas.{failure_calm, fails_calm, lowers_calm}
 use Rattle.gptp_settling_time.proofs.SamePathsLemmas.{turned_paths}
@@ -64,9 +64,27 @@ module _ (n : NetworkState) (made : List Timed) (event : Timed) (roles : ℕ) wh
   }
   loss_leads (Left silent) settled loses = absurd settled
   loss_leads (Turned silent now) settled loses = absurd settled
+  loss_leads (Fallen silent now) settled loses = absurd settled
   loss_leads (Cleared begun silent right old) settled loses = absurd settled
   loss_leads (Aging ago aged silent) settled loses = absurd settled
   loss_leads (Lost since most silent) settled loses = absurd settled
+
+-- after one by which a tree is cut off it falls back, where the choice had stood for an announce interval
+module _ (n : NetworkState) (made : List Timed) (event : Timed) (stood : ℕ) (later : last_change made < stood)
+    (quiet : stood + largest_interval (pace_of n) ≤ event.at) where
+  pub fall_leads : (past : Past) → HasSettled n made past stood → FallsCalm n made event
+      → (silent : ℕ) × EventLeads n made past event (Fallen silent event.at)
+  fall_leads AnyPast settled falls =
+      (last_change made + capability_span (pace_of n), (stood, settled, (later, quiet, falls, refl, refl)))
+  fall_leads Starting settled falls = absurd settled
+  fall_leads (Gained start) settled falls = (start, (stood, settled, (later, quiet, falls, refl, refl)))
+  fall_leads (Heard start) settled falls = (start, (stood, settled, (later, quiet, falls, refl, refl)))
+  fall_leads (Left silent) settled falls = absurd settled
+  fall_leads (Turned silent now) settled falls = absurd settled
+  fall_leads (Fallen silent now) settled falls = absurd settled
+  fall_leads (Cleared begun silent right old) settled falls = absurd settled
+  fall_leads (Aging ago aged silent) settled falls = absurd settled
+  fall_leads (Lost since most silent) settled falls = absurd settled
 
 -- after one by which a system turns it has turned
 module _ (n : NetworkState) (made : List Timed) (event : Timed) where
@@ -92,6 +110,7 @@ module _ (n : NetworkState) (made : List Timed) (event : Timed) where
       record { silent = start; leads = (settled, (turns, refl, refl)); early = omega (arith, settled) }
   turn_leads (Left silent) settled turns = absurd settled
   turn_leads (Turned silent now) settled turns = absurd settled
+  turn_leads (Fallen silent now) settled turns = absurd settled
   turn_leads (Cleared begun silent right old) settled turns = absurd settled
   turn_leads (Aging ago aged silent) settled turns = absurd settled
   turn_leads (Lost since most silent) settled turns = absurd settled
@@ -105,6 +124,7 @@ module _ (n : NetworkState) (made : List Timed) (event : Timed) where
   ages_leads (Heard start) aged silent settled now = (settled, refl, now)
   ages_leads (Left start) aged silent settled now = absurd settled
   ages_leads (Turned start was) aged silent settled now = absurd settled
+  ages_leads (Fallen start was) aged silent settled now = absurd settled
   ages_leads (Cleared begun start right old) aged silent settled now = absurd settled
   ages_leads (Aging ago gone start) aged silent settled now = absurd settled
   ages_leads (Lost since most start) aged silent settled now = absurd settled
@@ -118,6 +138,7 @@ module _ (n : NetworkState) (made : List Timed) (event : Timed) where
   loses_leads (Heard start) since most silent settled now = (settled, now)
   loses_leads (Left start) since most silent settled now = absurd settled
   loses_leads (Turned start was) since most silent settled now = absurd settled
+  loses_leads (Fallen start was) since most silent settled now = absurd settled
   loses_leads (Cleared begun start right old) since most silent settled now = absurd settled
   loses_leads (Aging ago aged start) since most silent settled now = absurd settled
   loses_leads (Lost begun delay start) since most silent settled now = absurd settled
@@ -131,6 +152,7 @@ settles_chooses n events (Gained start) settled is = is
 settles_chooses n events (Heard start) settled is = is
 settles_chooses n events (Left silent) settled (off, late) = off
 settles_chooses n events (Turned silent now) settled so = so
+settles_chooses n events (Fallen silent now) settled so = so
 settles_chooses n events (Cleared begun silent right old) settled (off, late) = off
 settles_chooses n events (Aging ago aged silent) settled (off, late) = (off, inr late)
 settles_chooses n events (Lost since most silent) settled (off, passed, late) = (off, passed)
@@ -237,7 +259,8 @@ heard_lead n made event (other ∷ now) past span off calm settled fails lowers 
             event.at,
             span,
             refl,
-            subst (λ es. AgesWithin n made es event.at span) (sym (append_assoc made (event ∷ []) (other ∷ now))) within,
+            subst (λ es. AgesWithin n made es event.at span) (sym (append_assoc made (event ∷ []) (other ∷ now)))
+                within,
             refl,
           ),
     )
@@ -282,6 +305,7 @@ module _ (n : NetworkState) (made : List Timed) (event : Timed) (gone : ℕ) whe
   }
   cut_leads flight (Left silent) settled cuts = absurd settled
   cut_leads flight (Turned silent now) settled cuts = absurd settled
+  cut_leads flight (Fallen silent now) settled cuts = absurd settled
   cut_leads flight (Cleared begun silent right last) settled cuts = absurd settled
   cut_leads flight (Aging ago aged silent) settled cuts = absurd settled
   cut_leads flight (Lost since most silent) settled cuts = absurd settled
@@ -317,6 +341,7 @@ module _ (n : NetworkState) (made : List Timed) (event : Timed) (gone : ℕ) whe
   }
   fail_leads flight (Left silent) settled fails = absurd settled
   fail_leads flight (Turned silent now) settled fails = absurd settled
+  fail_leads flight (Fallen silent now) settled fails = absurd settled
   fail_leads flight (Cleared begun silent right last) settled fails = absurd settled
   fail_leads flight (Aging ago aged silent) settled fails = absurd settled
   fail_leads flight (Lost since most silent) settled fails = absurd settled
@@ -355,6 +380,7 @@ module _ (n : NetworkState) (made : List Timed) (event : Timed) (gone : ℕ)
   }
   right_leads (Left silent) settled lowers = absurd settled
   right_leads (Turned silent now) settled lowers = absurd settled
+  right_leads (Fallen silent now) settled lowers = absurd settled
   right_leads (Cleared begun silent right last) settled lowers = absurd settled
   right_leads (Aging ago aged silent) settled lowers = absurd settled
   right_leads (Lost since most silent) settled lowers = absurd settled
@@ -374,6 +400,7 @@ module _ (n : NetworkState) (made : List Timed) (event : Timed) (aged silent : �
   power_leads (Heard start) settled = (settled, inr (aged, now, (used, refl, refl, refl)))
   power_leads (Left start) settled = absurd settled
   power_leads (Turned start was) settled = absurd settled
+  power_leads (Fallen start was) settled = absurd settled
   power_leads (Cleared begun start right last) settled = absurd settled
   power_leads (Aging ago gone start) settled = absurd settled
   power_leads (Lost since most start) settled = absurd settled

@@ -51,6 +51,7 @@ use Rattle.gptp_settling_time.specs.Gains.{ChangesNothing, EndHasFailed, LeavesC
 use Rattle.gptp_invariants.specs.FailedUnanswered.{silence_span}
 use Rattle.gptp_settling_time.specs.InTurn.{AddsHeard, BettersClock, FlightIsGone, MakesNothing, NoneUsed, TellsNothing, UsedVaryLittle, WidensLink, echo_span, turned_echo_span}
 use Rattle.gptp_settling_time.specs.Losses.{AgesWithin, CutsFarEnd, FailsFarEnd, FailsHeard, LeavesChoice, LosesAny, LowersLink, LowersUnused, TurnsLink, UpIsUsed, loss_span}
+use Rattle.gptp_settling_time.specs.TreeLosses.{LowersTree}
 
 -- ---- times
 
@@ -338,6 +339,20 @@ LosesNext n events Then last time Asks =
     × ((then : ℕ) × Then then × (last + then < time))
     × Asks (events_by last events) (events_at time events)
 
+-- By the one event of a time a tree is cut off, in a calm network where nothing lapses for want of Sync. The event
+-- comes an announce interval after the time before has come to rest, by one of its bounds. The tree drops the best of
+-- before within a way, and settles within another.
+abbrev pub BoundsTree : NetworkState → List Timed → (ℕ → Type 0) → ℕ → ℕ → ℕ → ℕ → Type 0
+BoundsTree n events Then last time choice roles =
+    (last < time)
+    × NoneBetween events last time
+    × IsCalm n (events_by time events)
+    × NothingLapses n.params
+    × ((then : ℕ) × Then then × (last + then + largest_interval (pace_of n) < time))
+    × OneEvent (LowersTree n) (events_by last events) (events_at time events)
+    × (choice ≡ 2 * way_span (sync_paths n (events_by time events)))
+    × (roles ≡ choice)
+
 -- ---- rest
 
 -- How much later a network has come to rest after a system failed that others hear. At once right traces are told where
@@ -397,6 +412,7 @@ IsLossBoundAfter n events [] time choice roles = ⊥
 IsLossBoundAfter n events (last ∷ earlier) time choice roles =
     LosesNext n events (λ then. IsRestBoundAfter n events earlier last then) last time
     (λ made now. BoundsLoss n made now choice roles)
+    ⊎ BoundsTree n events (λ then. IsRestBoundAfter n events earlier last then) last time choice roles
 
 -- a choice bound of a document at a time: by then the choice stands, and the roles do
 abbrev pub IsChoiceBound : DocumentState → ℕ → ℕ → Type 0

@@ -14,6 +14,8 @@
 --   went down that moved none, or a system that others heard lost its power, and right traces have been told by distance
 --   since. When what was in flight is gone, and ports without a link aren't capable, the network has come to rest as if
 --   all had been heard.
+-- - Fallen: a link went down and so cut a tree off. The network settles 1 ns and twice the greatest delay for each
+--   system of a path but one later.
 -- - Aging: a system failed that others heard. What they hold of it ages, and the choice stands once that is gone. The
 --   network has come to rest, as if all had been heard, once right traces have been told by distance since, what was in
 --   flight is gone, and ports without a link aren't capable.
@@ -35,7 +37,8 @@
 -- A settled network is left where a link goes down by which no system is moved but such as are cut off. It is left,
 -- too, where a system fails that is the far end of each of its links. Then roles stand once the ports beside it aren't
 -- capable any more, or at once where each link that is up is in use. A network that is left stays so where a link goes
--- down of which an end has failed.
+-- down of which an end has failed. A tree that a link cuts off falls back where what is in flight names the best: where
+-- the choice had stood for an announce interval.
 use Rattle.std.specs.Prelude.{◌≡◌, ◌<◌, ◌≤◌, ◌⊎◌, ◌+◌, ◌*◌, ℕ, ⊤, pred, suc, List, [], ◌∷◌, ◌++◌, Option, Some, slice_get}
 use Rattle.gptp_lists.specs.Members.{In}
 use Rattle.gptp_vector.specs.declared.port.PortId.{PortId}
@@ -63,6 +66,7 @@ use Rattle.gptp_settling_time.specs.Exactly.{SettlesBy}
 use Rattle.gptp_settling_time.specs.Gains.{AreCapableAnyway, AreCapableNext, AreCapableStill, ChangesNothing, EndHasFailed, HasRested, IsDownAfter, IsNoWorse, JoinsLive, LeavesCapable, TakesNothing, UsesNoLink, exchanged_from}
 use Rattle.gptp_invariants.specs.FailedUnanswered.{silence_span}
 use Rattle.gptp_settling_time.specs.Losses.{AgesWithin, AreSilentAfter, CutsFarEnd, FailsFarEnd, FailsHeard, LeavesChoice, LosesAny, LowersLink, LowersUnused, TurnsLink, UpIsUsed, loss_span}
+use Rattle.gptp_settling_time.specs.TreeLosses.{LowersTree}
 
 -- What a network came from. The numbers are times, but for the second of a loss.
 pub data Past : Type 0 where
@@ -75,6 +79,8 @@ pub data Past : Type 0 where
   Left : ℕ → Past
   -- from the first on ports without a link aren't capable; at the second a system turned
   Turned : ℕ → ℕ → Past
+  -- from the first on ports without a link aren't capable; at the second a tree was cut off
+  Fallen : ℕ → ℕ → Past
   -- from the first on its ports are capable; from the second on those without a link aren't; from the third on what is
   -- held is right; and by the fourth what was in flight is gone
   Cleared : ℕ → ℕ → ℕ → ℕ → Past
@@ -220,6 +226,12 @@ pub record TurnsCalm (n : NetworkState) (before : List Timed) (event : Timed) : 
   pub calm : IsCalm n before
   pub off : NothingLapses n.params
 
+-- a link goes down that so cuts a tree off, in such a network
+pub record FallsCalm (n : NetworkState) (before : List Timed) (event : Timed) : Type 0 where
+  pub lowers : LowersTree n before event
+  pub calm : IsCalm n before
+  pub off : NothingLapses n.params
+
 -- a system fails that is the far end of each of its links, in such a network
 pub record FailsCalm (n : NetworkState) (before : List Timed) (event : Timed) : Type 0 where
   pub fails : FailsFarEnd n before event
@@ -338,6 +350,7 @@ LeadsToGain n before (Gained start) event next = AreCapableStill n before start 
 LeadsToGain n before (Heard start) event next = AreCapableStill n before start event next
 LeadsToGain n before (Left silent) event next = ⊥
 LeadsToGain n before (Turned silent time) event next = ⊥
+LeadsToGain n before (Fallen silent time) event next = ⊥
 LeadsToGain n before (Cleared since silent right old) event next = ⊥
 LeadsToGain n before (Aging ago aged silent) event next = ⊥
 LeadsToGain n before (Lost since most silent) event next = ⊥
@@ -362,6 +375,7 @@ LeadsToHeard n before (Heard start) event next =
     ⊎ (MakesNothing n before event start × (next ≡ start)))
 LeadsToHeard n before (Left silent) event next = ⊥
 LeadsToHeard n before (Turned silent time) event next = ⊥
+LeadsToHeard n before (Fallen silent time) event next = ⊥
 LeadsToHeard n before (Cleared since silent right old) event next = ⊥
 LeadsToHeard n before (Aging ago aged silent) event next = ⊥
 LeadsToHeard n before (Lost since most silent) event next = ⊥
@@ -378,6 +392,7 @@ LeadsToLeft n before (Heard start) event next =
     HasSettledHeard n before start event.at × LeavesStanding n before event start next
 LeadsToLeft n before (Left silent) event next = LowersUnusedCalm n before event × (next ≡ silent)
 LeadsToLeft n before (Turned silent time) event next = ⊥
+LeadsToLeft n before (Fallen silent time) event next = ⊥
 LeadsToLeft n before (Cleared since silent right old) event next = ⊥
 LeadsToLeft n before (Aging ago aged silent) event next = ⊥
 LeadsToLeft n before (Lost since most silent) event next = ⊥
@@ -397,9 +412,32 @@ LeadsToTurned n before (Heard start) event silent time =
     HasSettledHeard n before start event.at × TurnsNow n before event start silent time
 LeadsToTurned n before (Left start) event silent time = ⊥
 LeadsToTurned n before (Turned start now) event silent time = ⊥
+LeadsToTurned n before (Fallen start now) event silent time = ⊥
 LeadsToTurned n before (Cleared since start right old) event silent time = ⊥
 LeadsToTurned n before (Aging ago aged start) event silent time = ⊥
 LeadsToTurned n before (Lost since most start) event silent time = ⊥
+
+-- in a network whose choice had stood for an announce interval a tree is cut off by it now
+abbrev pub FallsNow : NetworkState → List Timed → Timed → ℕ → ℕ → ℕ → ℕ → Type 0
+FallsNow n before event start stood silent time =
+    (last_change before < stood) × (stood + largest_interval (pace_of n) ≤ event.at)
+    × FallsCalm n before event × (silent ≡ start) × (time ≡ event.at)
+
+abbrev pub LeadsToFallen : NetworkState → List Timed → Past → Timed → ℕ → ℕ → Type 0
+LeadsToFallen n before AnyPast event silent time =
+    (stood : ℕ) × HasSettledAnyhow n before stood
+    × FallsNow n before event (last_change before + capability_span (pace_of n)) stood silent time
+LeadsToFallen n before Starting event silent time = ⊥
+LeadsToFallen n before (Gained start) event silent time =
+    (stood : ℕ) × HasSettledSince n before start stood × FallsNow n before event start stood silent time
+LeadsToFallen n before (Heard start) event silent time =
+    (stood : ℕ) × HasSettledHeard n before start stood × FallsNow n before event start stood silent time
+LeadsToFallen n before (Left start) event silent time = ⊥
+LeadsToFallen n before (Turned start now) event silent time = ⊥
+LeadsToFallen n before (Fallen start now) event silent time = ⊥
+LeadsToFallen n before (Cleared since start right old) event silent time = ⊥
+LeadsToFallen n before (Aging ago aged start) event silent time = ⊥
+LeadsToFallen n before (Lost since most start) event silent time = ⊥
 
 -- A network that had settled is cleared, and one that is so stays so. One in which something ages is cleared as the last
 -- link goes down of which an end has failed.
@@ -414,6 +452,7 @@ LeadsToCleared n before (Heard start) event since silent right old =
     HasSettledHeard n before start event.at × ClearsBy n before event start since silent right old
 LeadsToCleared n before (Left start) event since silent right old = ⊥
 LeadsToCleared n before (Turned start now) event since silent right old = ⊥
+LeadsToCleared n before (Fallen start now) event since silent right old = ⊥
 LeadsToCleared n before (Cleared start dark clean last) event since silent right old =
     LowersUnusedCalm n before event × (clean ≤ event.at)
     × ((since ≡ start) × (silent ≡ dark) × (right ≡ clean) × (old ≡ last))
@@ -440,6 +479,7 @@ LeadsToAging n before (Heard start) event ago aged silent =
     HasSettledHeard n before start event.at × (ago ≡ before) × FailsNow n before event aged silent
 LeadsToAging n before (Left start) event ago aged silent = ⊥
 LeadsToAging n before (Turned start now) event ago aged silent = ⊥
+LeadsToAging n before (Fallen start now) event ago aged silent = ⊥
 LeadsToAging n before (Cleared since start right old) event ago aged silent = ⊥
 LeadsToAging n before (Aging old gone start) event ago aged silent =
     LowersUnusedCalm n before event × (ago ≡ old) × (silent ≡ start)
@@ -471,6 +511,7 @@ LeadsToLost n before (Heard start) event since most silent =
     HasSettledHeard n before start event.at × LosesNow n before event since most silent
 LeadsToLost n before (Left start) event since most silent = ⊥
 LeadsToLost n before (Turned start now) event since most silent = ⊥
+LeadsToLost n before (Fallen start now) event since most silent = ⊥
 LeadsToLost n before (Cleared begun start right old) event since most silent = ⊥
 LeadsToLost n before (Aging ago aged start) event since most silent = ⊥
 LeadsToLost n before (Lost begun delay start) event since most silent =
@@ -484,6 +525,7 @@ StaysFrom (Gained start) next = next ≡ start
 StaysFrom (Heard start) next = next ≡ start
 StaysFrom (Left silent) next = ⊥
 StaysFrom (Turned silent time) next = ⊥
+StaysFrom (Fallen silent time) next = ⊥
 StaysFrom (Cleared since silent right old) next = ⊥
 StaysFrom (Aging ago aged silent) next = ⊥
 StaysFrom (Lost since most silent) next = ⊥
@@ -496,6 +538,7 @@ StartsFrom n before (Gained start) event next = ⊥
 StartsFrom n before (Heard start) event next = ⊥
 StartsFrom n before (Left silent) event next = ⊥
 StartsFrom n before (Turned silent time) event next = ⊥
+StartsFrom n before (Fallen silent time) event next = ⊥
 StartsFrom n before (Cleared since silent right old) event next = ⊥
 StartsFrom n before (Aging ago aged silent) event next = ⊥
 StartsFrom n before (Lost since most silent) event next = ⊥
@@ -508,6 +551,7 @@ StartsStill (Gained start) event = ⊥
 StartsStill (Heard start) event = ⊥
 StartsStill (Left silent) event = ⊥
 StartsStill (Turned silent time) event = ⊥
+StartsStill (Fallen silent time) event = ⊥
 StartsStill (Cleared since silent right old) event = ⊥
 StartsStill (Aging ago aged silent) event = ⊥
 StartsStill (Lost since most silent) event = ⊥
@@ -521,6 +565,7 @@ EventLeads n before past event (Gained next) =
 EventLeads n before past event (Heard next) = LeadsToHeard n before past event next
 EventLeads n before past event (Left next) = LeadsToLeft n before past event next
 EventLeads n before past event (Turned silent time) = LeadsToTurned n before past event silent time
+EventLeads n before past event (Fallen silent time) = LeadsToFallen n before past event silent time
 EventLeads n before past event (Cleared since silent right old) = LeadsToCleared n before past event since silent right
     old
 EventLeads n before past event (Aging ago aged silent) = LeadsToAging n before past event ago aged silent
@@ -613,6 +658,7 @@ BeginsBy n (Gained start) = AreCapableSoon n [] start
 BeginsBy n (Heard start) = UsedVaryLittle n [] × AreCapableSoon n [] start
 BeginsBy n (Left silent) = ⊥
 BeginsBy n (Turned silent time) = ⊥
+BeginsBy n (Fallen silent time) = ⊥
 BeginsBy n (Cleared since silent right old) = ⊥
 BeginsBy n (Aging ago aged silent) = ⊥
 BeginsBy n (Lost since most silent) = ⊥
@@ -636,6 +682,9 @@ SettlesAfter n events (Left silent) settled = NothingLapses n.params × ((silent
 SettlesAfter n events (Turned silent time) settled =
     NothingLapses n.params
     × (time + 1 + pred (sync_paths n events).systems * (sync_paths n events).delay ≤ settled)
+SettlesAfter n events (Fallen silent time) settled =
+    NothingLapses n.params
+    × (time + 1 + 2 * (pred (sync_paths n events).systems * (sync_paths n events).delay) ≤ settled)
 SettlesAfter n events (Cleared since silent right old) settled = NothingLapses n.params ×
     ((silent ≤ settled) ⊎ UpIsUsed n events)
 SettlesAfter n events (Aging ago aged silent) settled = NothingLapses n.params × ((silent ≤ settled) ⊎ UpIsUsed n events)
@@ -653,6 +702,7 @@ ChoosesAfter n events (Gained start) settled = SettlesAfter n events (Gained sta
 ChoosesAfter n events (Heard start) settled = SettlesAfter n events (Heard start) settled
 ChoosesAfter n events (Left silent) settled = NothingLapses n.params
 ChoosesAfter n events (Turned silent time) settled = SettlesAfter n events (Turned silent time) settled
+ChoosesAfter n events (Fallen silent time) settled = SettlesAfter n events (Fallen silent time) settled
 ChoosesAfter n events (Cleared since silent right old) settled = NothingLapses n.params
 ChoosesAfter n events (Aging ago aged silent) settled =
     NothingLapses n.params × ((aged ≤ settled) ⊎ ((silent ≤ settled) ⊎ UpIsUsed n events))

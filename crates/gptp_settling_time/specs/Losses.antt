@@ -153,17 +153,17 @@ pub record AnnouncesAt (n : NetworkState) (port : PortId) (log : ℤ) : Type 0 w
   pub clock : clock_of system.identity ≡ port.clock
   pub interval : number system.intervals.items port.port ≡ Some log
 
--- So long is held at most what a port told before its system failed at this time: for the longest receipt timeout. Or it
--- is held for that of the port's own interval, where an announce interval and the longest timeout have passed since the
--- change before. By then what was held at that change, or in flight, is gone, and all since names that interval.
+-- So long is held at most what a port told before its system failed at this time: for the longest receipt timeout. Or
+-- it is held for that of the port's own interval, where an announce interval and the longest timeout have passed since
+-- the change before. By then what was held at that change, or in flight, is gone, and all since names that interval.
 abbrev pub IsHoldSpan : NetworkState → List Timed → ℕ → PortId → ℕ → Type 0
 IsHoldSpan n made time port span =
     (span ≡ longest_span (pace_of n))
     ⊎ ((last_change made + largest_interval (pace_of n) + longest_span (pace_of n) < time)
     × ((log : ℤ) × AnnouncesAt n port log × (span ≡ n.params.timeout * interval_of log)))
 
--- What came over silent links has aged by so much later than their ends failed at this time: it came within the greatest
--- delay of the link, and is held for such a span.
+-- What came over silent links has aged by so much later than their ends failed at this time: it came within the
+-- greatest delay of the link, and is held for such a span.
 abbrev pub AgesWithin : NetworkState → List Timed → List Timed → ℕ → ℕ → Type 0
 AgesWithin n made events time span = (place : ℕ) (v : LinkSpec) (failed : PortId) → slice_get n.links place ≡ Some v
     → IsSilent n made events v failed

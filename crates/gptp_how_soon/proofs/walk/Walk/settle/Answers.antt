@@ -23,7 +23,7 @@ returns-clause-is c =
     (c.in_ok-moves.ensures.cut
     ∙ ap (λ asked. asked && cuts_seen c.args.self.now) c.asks_who_is_moved-asked.ensures)
     (c.in_ok-moves.ensures.turned
-    ∙ ap (λ asked. asked && turns_seen c.args.self.now) c.asks_who_is_moved-asked.ensures)
+    ∙ ap (λ asked. asked && turns_seen c.args.network.now c.args.self.now c.args.at) c.asks_who_is_moved-asked.ensures)
     c.is_from_rest-from_rest.ensures c.way_span.ensures.is c.heard.ensures.is
     c.heard_at_once-followed.ensures c.ready-ready.ensures.is c.sets_link.ensures c.is_calm.ensures
     (c.as_slice-new.ensures.value ∙ c.in_ok-new.ensures)
