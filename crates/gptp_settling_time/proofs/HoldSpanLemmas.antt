@@ -1,5 +1,5 @@
 -- How long what a port told is held where its system fails: no longer than the network says.
-use Rattle.std.proofs.Common.{◌≡◌, ◌≤◌, ◌∙◌, ◌∷◌, ◌++◌, ℕ, ℤ, zero, suc, pos, List, [], Some, refl, sym, ap, subst, inl, inr, arith}
+use Rattle.std.proofs.Common.{◌≡◌, ◌≤◌, ◌∙◌, ◌∷◌, ◌++◌, ℕ, ℤ, zero, suc, pos, List, [], Some, refl, sym, ap, inl, inr, arith}
 use Rattle.std.specs.Option.{option_map_or}
 use Rattle.arrayvec.specs.ArrayVec.{ArrayVec}
 use Rattle.gptp_lists.specs.Members.{In}
@@ -7,8 +7,7 @@ use Rattle.gptp_lists.proofs.MappedLemmas.{alike}
 use Rattle.gptp_lists.proofs.SystemSpecLemmas.{In-slice_get}
 use Rattle.gptp_graph.specs.Snapshot.{PortIdentity, clocks, port_of}
 use Rattle.gptp_vector.specs.declared.port.PortId.{PortId}
-use Rattle.gptp_setup.specs.Intervals.{IsLog, IsLogUpTo, interval_of}
-use Rattle.gptp_setup.specs.SettlingParams.{longest_span}
+use Rattle.gptp_setup.specs.Intervals.{IsLog, IsLogUpTo}
 use Rattle.gptp_setup.proofs.SettlingParamsLemmas.{span_longest, span_same}
 use Rattle.gptp_scenario.specs.Network.{NetworkState, largest_of, pace_of}
 use Rattle.gptp_scenario.specs.declared.change.Act.TheVariants.{Change as Changing}
