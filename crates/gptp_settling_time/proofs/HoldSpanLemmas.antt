@@ -1,7 +1,6 @@
 -- How long what a port told is held where its system fails: no longer than the network says.
 use Rattle.std.proofs.Common.{◌≡◌, ◌≤◌, ◌∙◌, ◌∷◌, ◌++◌, ℕ, ℤ, zero, suc, pos, List, [], Some, refl, sym, ap, inl, inr, arith}
 use Rattle.std.specs.Option.{option_map_or}
-use Rattle.arrayvec.specs.ArrayVec.{ArrayVec}
 use Rattle.gptp_lists.specs.Members.{In}
 use Rattle.gptp_lists.proofs.MappedLemmas.{alike}
 use Rattle.gptp_lists.proofs.SystemSpecLemmas.{In-slice_get}
@@ -52,9 +51,8 @@ module _ (n : NetworkState) (made : List Timed) (w : WorldState) (is : IsWorld (
       sym (named_as n made w stands is.sound x.place (clock station.system) station
       (record { here = here; named = refl }) (record { member = x.system; there = x.there; is = sym same }))
       ∙ x.clock in
-      let logs : station.setup.intervals ≡ x.system.intervals = ap (λ (s : Shape). s.setup.intervals) same in
       let there : number station.setup.intervals.items port.port ≡ Some log =
-      ap (λ (xs : ArrayVec ℤ). number xs.items port.port) logs ∙ x.interval in
+      ap (λ (s : Shape). number s.setup.intervals.items port.port) same ∙ x.interval in
       record {
         named = ap (λ c. log_of w.stations (port_of c port.port)) (sym own)
             ∙ log_is w is.sound.wired.clocks x.place station here port.port
