@@ -108,8 +108,8 @@ delay_within p w time is way = elim (delay_used (live_stations w.stations) w.net
 
 -- ---- the failure
 
--- What others hold of a failed system ages by the link over which it came. It is held as long as the interval of its port
--- says, once all that was held or in flight at the last change has aged; before that for the longest span.
+-- What others hold of a failed system ages by the link over which it came. It is held as long as the interval of its
+-- port says, once all that was held or in flight at the last change has aged; before that for the longest span.
 abbrev pub AgesByLink : SettlingParams → WorldState → WorldState → Type 0
 AgesByLink p w w' =
     WorldAgesBy p (ByLink w.time (StaysNamed p w) (OverWay w)) w'
