@@ -6,7 +6,7 @@ use Rattle.std.proofs.lemmas.Option.{same_Some}
 use Rattle.gptp_vector.specs.declared.port.PortId.{PortId}
 use Rattle.gptp_roles.specs.Selection.{clock_of}
 use Rattle.gptp_setup.specs.SettlingParams.{longest_span}
-use Rattle.gptp_scenario.specs.Calm.{IsLive, IsUsed}
+use Rattle.gptp_scenario.specs.Calm.{IsLive, IsUsed, last_change}
 use Rattle.gptp_scenario.specs.Change.{is_at, link_acted, link_after, system_after, with_up}
 use Rattle.gptp_scenario.specs.InUse.{greatest_delay, is_used, lives}
 use Rattle.gptp_scenario.specs.Network.{IsEnd, NetworkState, pace_of}
@@ -94,11 +94,11 @@ lowers_stay n made (event ∷ now) (lowers, others) v =
     by true u = refl
     by false u = refl
 
-pub failures_within : (n : NetworkState) (made now : List Timed) (time : ℕ) → FailsHeardFirst n made now
-    → AgesWithin n made (made ++ now) time (aging_span (pace_of n) (sync_paths n made))
-failures_within n made [] time none = absurd none
-failures_within n made (event ∷ now) time (fails, lowers) =
-    within_delay n made (made ++ event ∷ now) time (λ v.
+pub failures_within : (n : NetworkState) (made now : List Timed) → FailsHeardFirst n made now
+    → AgesWithin n made (made ++ now) (last_change (made ++ now)) (aging_span (pace_of n) (sync_paths n made))
+failures_within n made [] none = absurd none
+failures_within n made (event ∷ now) (fails, lowers) =
+    within_delay n made (made ++ event ∷ now) (last_change (made ++ event ∷ now)) (λ v.
     ap (λ es. (link_after es v).bounds.max) (sym (append_assoc made (event ∷ []) now))
     ∙ lowers_stay n (made ++ event ∷ []) now lowers v
     ∙ ap (λ (u : LinkSpec). u.bounds.max)
