@@ -303,7 +303,8 @@ module _ (d : DocumentState) (playable : IsPlayable d) (made : List Timed) (even
         → ClearsFarEnd n made event start silent right old ⊎ ClearsTraces n made event start silent right old
         → IsClearedTo d more since silent right old w'
     ends_to since silent right old begun (inl (zero, inl (cuts, same, (gone, flight, is)))) =
-        cleared_so start 0 since silent right old begun same zero (cut_to gone old cuts (goes_by gone flight) is)
+        cleared_so start 0 since silent right old begun same zero
+        (cut_to gone old cuts (goes_to d playable more w' after gone flight) is)
     ends_to since silent right old begun (inl (zero, inr (fails, same, (gone, flight, is)))) =
         cleared_so silent 0 since silent right old begun refl zero
         (failed_cleared fails silent (omega (arith, same)) old
