@@ -1,6 +1,6 @@
 -- What came over silent links has aged within the longest receipt timeout and the greatest delay of the links that were
 -- in use. Where no link is silent it has at once.
-use Rattle.std.proofs.Common.{◌≡◌, ◌≤◌, ◌+◌, ◌==◌, ◌&&◌, ◌∷◌, ◌++◌, max, cond, ℕ, zero, suc, Bool, true, false, List, [], Some, slice_get, append-nil, append_assoc, refl, sym, ap, subst, ◌∙◌, inl, inr, arith}
+use Rattle.std.proofs.Common.{◌≡◌, ◌≤◌, ◌==◌, ◌&&◌, ◌∷◌, ◌++◌, max, cond, ℕ, zero, suc, Bool, true, false, List, [], Some, slice_get, append-nil, append_assoc, refl, sym, ap, subst, ◌∙◌, inl, inr, arith}
 use Rattle.std.proofs.lemmas.Bool.{eq-eqb}
 use Rattle.std.proofs.lemmas.Option.{same_Some}
 use Rattle.gptp_vector.specs.declared.port.PortId.{PortId}
