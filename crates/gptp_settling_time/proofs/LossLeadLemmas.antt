@@ -481,14 +481,18 @@ module _ (n : NetworkState) (off : NothingLapses n.params) (time : ℕ) (made no
           (past, inl refl, Cleared since silent right old, leads, lead);
       settles = (
         Heard since,
-        inr (since, refl, record {
-          calm = calm;
-          off = off;
-          gone = omega (arith, less);
-          later = omega arith;
-          unlinked = unlinked;
-          over = over;
-        }),
+        inr (
+          since,
+          refl,
+          record {
+            calm = calm;
+            off = off;
+            gone = omega (arith, less);
+            later = omega arith;
+            unlinked = unlinked;
+            over = over;
+          },
+        ),
         over,
       );
     }
@@ -609,14 +613,18 @@ module _ (n : NetworkState) (off : NothingLapses n.params) (time : ℕ) (made no
               (past, inl refl, last, x.leads, refl);
           settles = (
             Heard (suc event.at),
-            inr (suc event.at, refl, record {
-              calm = calm;
-              off = off;
-              told = omega (arith, before, is);
-              later = omega arith;
-              unlinked = omega (arith, early);
-              over = over;
-            }),
+            inr (
+              suc event.at,
+              refl,
+              record {
+                calm = calm;
+                off = off;
+                told = omega (arith, before, is);
+                later = omega arith;
+                unlinked = omega (arith, early);
+                over = over;
+              },
+            ),
             over,
           );
         }
@@ -667,14 +675,18 @@ module _ (n : NetworkState) (off : NothingLapses n.params) (time : ℕ) (made no
               lead = lead;
               settles = (
                 Heard time,
-                inr (time, refl, record {
-                  calm = calm;
-                  off = off;
-                  gone = omega (arith, within);
-                  later = omega arith;
-                  unlinked = inr used;
-                  over = over;
-                }),
+                inr (
+                  time,
+                  refl,
+                  record {
+                    calm = calm;
+                    off = off;
+                    gone = omega (arith, within);
+                    later = omega arith;
+                    unlinked = inr used;
+                    over = over;
+                  },
+                ),
                 over,
               );
             }
@@ -728,22 +740,26 @@ module _ (n : NetworkState) (off : NothingLapses n.params) (time : ℕ) (made no
           (subst (λ es. AgesWithin n made (made ++ es) span) same within));
       settles = (
         Heard (suc (time + min span b)),
-        inr (suc (time + min span b), refl, record {
-          calm = calm;
-          off = off;
-          by = suc (time + min span b);
-          since = omega (arith, last);
-          gone = elim (dec_le span b) [
-            | yes less ↦ inl (omega (arith, before, less))
-            | no over ↦ inr (omega (arith, before, over))
-          ];
-          flight = gone;
-          is_gone = flight;
-          told = let within = gone_within gone flight in omega (arith, long, within, told_most, is);
-          later = omega arith;
-          unlinked = omega (arith, before, long, silent_most);
-          over = over_way;
-        }),
+        inr (
+          suc (time + min span b),
+          refl,
+          record {
+            calm = calm;
+            off = off;
+            by = suc (time + min span b);
+            since = omega (arith, last);
+            gone = elim (dec_le span b) [
+              | yes less ↦ inl (omega (arith, before, less))
+              | no over ↦ inr (omega (arith, before, over))
+            ];
+            flight = gone;
+            is_gone = flight;
+            told = let within = gone_within gone flight in omega (arith, long, within, told_most, is);
+            later = omega arith;
+            unlinked = omega (arith, before, long, silent_most);
+            over = over_way;
+          },
+        ),
         over_way,
       );
     }
