@@ -1,13 +1,17 @@
 -- What came over silent links has aged, or the ports beside them aren't capable, by so much later as is computed.
-use Rattle.std.proofs.Common.{◌≡◌, ◌≤◌, max, ℕ, zero, suc, Bool, true, false, List, [], ◌∷◌, ◌++◌, map, Some, slice_get, refl, sym, ap, ap₂, subst, ◌∙◌, arith}
+use Rattle.std.proofs.Common.{◌≡◌, ◌≤◌, ◌⊎◌, inl, inr, ◌+◌, max, ℕ, zero, suc, Bool, true, false, List, [], ◌∷◌, ◌++◌, map, Some, slice_get, refl, sym, ap, ap₂, subst, ◌∙◌, arith}
 use Rattle.std.specs.Prelude.{◌&&◌, min, not, if◌then◌else◌}
 use Rattle.std.proofs.lemmas.Bool.{and_from, false_from_ne_true}
 use Rattle.std.proofs.lemmas.Option.{same_Some}
 use Rattle.gptp_lists.proofs.MappedLemmas.{mapped_there}
+use Rattle.gptp_vector.specs.declared.port.PortId.{PortId}
+use Rattle.gptp_setup.specs.SettlingParams.{longest_span}
+use Rattle.gptp_scenario.specs.Calm.{IsLive, last_change}
 use Rattle.gptp_scenario.specs.Change.{link_after}
-use Rattle.gptp_scenario.specs.Network.{NetworkState, pace_of}
+use Rattle.gptp_scenario.specs.Network.{IsEnd, NetworkState, pace_of}
 use Rattle.gptp_scenario.specs.SettlingTime.{silence_span}
 use Rattle.gptp_scenario.specs.declared.change.Timed.{Timed}
+use Rattle.gptp_scenario.specs.declared.network.LinkSpec.{LinkSpec}
 use Rattle.gptp_topology.specs.After.{standing_then, standings_after}
 use Rattle.gptp_topology.specs.Course.{cable_is_used}
 use Rattle.gptp_topology.specs.declared.course.Standing.{Standing}
@@ -70,11 +74,20 @@ module _ (n : NetworkState) (made now : List Timed) where
   each_ages : Ages n (map cable_is_used (standings_after n made)) (standings_after n after)
   each_ages = ages n (map cable_is_used (standings_after n made)) (standings_after n after)
 
-  within : AgesWithin n made after each_ages.span
-  within place v there (used, up, unused) =
+  -- a link with a failed end isn't in use
+  off : (v : LinkSpec) (failed : PortId) → IsEnd failed (link_after after v) → (IsLive n.systems after failed.clock → ⊥)
+      → cable_is_used (standing_then n after v) ≡ false
+  off v failed end dead =
+      false_from_ne_true (cable_is_used (standing_then n after v)) (λ on.
+      let used = cable_used n after v on in
+      elim end [
+        | inl same ↦ dead (subst (λ (p : PortId). IsLive n.systems after p.clock) same used.a)
+        | inr same ↦ dead (subst (λ (p : PortId). IsLive n.systems after p.clock) same used.b)
+      ])
+
+  within : AgesWithin n made after (last_change after) each_ages.span
+  within place v failed there (used, up, end, dead) =
       let was = mapped_there (standing_then n made) n.links place v there in
-      let off : cable_is_used (standing_then n after v) ≡ false =
-      false_from_ne_true (cable_is_used (standing_then n after v)) (λ on. unused (cable_used n after v on)) in
       let less =
       each_ages.each place (cable_is_used (standing_then n made v)) (standing_then n after v)
       (mapped_there cable_is_used (standings_after n made) place (standing_then n made v) was)
@@ -82,8 +95,8 @@ module _ (n : NetworkState) (made now : List Timed) where
       (and_from (cable_is_used (standing_then n made v) && (link_after after v).up)
       (not (cable_is_used (standing_then n after v)))
       (and_from (cable_is_used (standing_then n made v)) (link_after after v).up (used_cable n made v used) up)
-      (ap not off)) in
-      omega (arith, less)
+      (ap not (off v failed end dead))) in
+      (longest_span (pace_of n), inl refl, omega (arith, less))
 
   pub held_for : HeldFor n made now (held_after n made after)
   held_for = (each_ages.span, within, each_ages.held)
