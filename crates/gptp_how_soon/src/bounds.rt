@@ -67,8 +67,9 @@ pub enum Row {
     /// So it is, but systems are moved, all of which are cut off.
     FailureCutsOff,
     /// By its one event a link goes down that moves one system alone. That keeps its root, and turns to others for it.
-    /// Or it cuts off a tree, whose systems have a worse root then.
     OneTurned,
+    /// By its one event a link goes down that cuts off a tree, whose systems have a worse root then.
+    TreeCutOff,
     /// Some of its events are losses, the others make nothing of what stands, and no other row of a loss is so.
     AnyLosses,
     /// None of its events is a loss.
@@ -260,7 +261,7 @@ fn choice_by(network: &Network, before: SyncPaths, paths: SyncPaths, row: Row, g
         Row::Unchanged | Row::Lowered | Row::LostEnd | Row::FailedEnd | Row::LostPower => 0,
         Row::FailedHeard => held_span(network, before),
         Row::FailureCutsOff => held_span(network, before) + 2 * way_span(paths),
-        Row::CutOff | Row::PowerCutsOff | Row::OneTurned => 2 * way_span(paths),
+        Row::CutOff | Row::PowerCutsOff | Row::OneTurned | Row::TreeCutOff => 2 * way_span(paths),
         Row::AnyLosses => loss_span(network, before, paths),
         Row::Gained => gained,
     }
@@ -308,7 +309,7 @@ fn roles_by(
         Row::FailureCutsOff => {
             (held_span(network, before) + 2 * way_span(paths)).max(silence_span(network))
         }
-        Row::CutOff | Row::PowerCutsOff | Row::OneTurned => 2 * way_span(paths),
+        Row::CutOff | Row::PowerCutsOff | Row::OneTurned | Row::TreeCutOff => 2 * way_span(paths),
         Row::AnyLosses => roles_after_losses(network, before, paths, silent),
         Row::Gained => gained,
     }
@@ -374,7 +375,7 @@ fn sound_by(
         return network.settling_span_with(paths);
     }
     match row {
-        Row::AnyPast => settling_span_at_once(network, paths),
+        Row::AnyPast | Row::TreeCutOff => settling_span_at_once(network, paths),
         Row::Unchanged => 0,
         Row::Lowered => echo_span(network, paths).max(gone_by(network, paths, used_before)),
         Row::CutOff => (2 * way_span(paths)).max(gone_by(network, paths, used_before)),
