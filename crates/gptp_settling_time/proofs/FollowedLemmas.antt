@@ -7,23 +7,22 @@ use Rattle.gptp_setup.specs.SettlingParams.{largest_interval}
 use Rattle.gptp_scenario.specs.Calm.{IsCalm, NothingLapses}
 use Rattle.gptp_scenario.specs.Network.{IsNetwork, NetworkState, pace_of}
 use Rattle.gptp_scenario.specs.SettlingAtOnce.{settling_span_at_once}
-use Rattle.gptp_scenario.specs.SettlingTime.{settling_span_with}
+use Rattle.gptp_scenario.specs.SettlingTime.{loss_span, settling_span_with, silence_span, way_span}
 use Rattle.gptp_scenario.specs.SyncWait.{sync_paths}
 use Rattle.gptp_scenario.specs.declared.change.Timed.{Timed}
 use Rattle.gptp_network.specs.Document.{DocumentState}
 use Rattle.gptp_network.specs.Events.{AreInOrder}
 use Rattle.gptp_network.specs.Snapshot.{events_by}
-use Rattle.gptp_settling_time.specs.HowSoon.{AreGainEvents, AreHeardEvents, AreReadyAtStart, AreStartEvents, BoundsAging, BoundsAnyLoss, BoundsEvents, BoundsLoss, BoundsStart, IsChoiceAloneBound, IsChoiceBound, IsChoiceBoundAfter, IsLossBoundAfter, IsRestBoundAfter, EachEvent, NoneBetween, OneEvent, RestsAfterLoss, events_at, way_span}
+use Rattle.gptp_settling_time.specs.HowSoon.{AreGainEvents, AreHeardEvents, AreReadyAtStart, AreStartEvents, BoundsAging, BoundsAnyLoss, BoundsEvents, BoundsLoss, BoundsStart, IsChoiceAloneBound, IsChoiceBound, IsChoiceBoundAfter, IsLossBoundAfter, IsRestBoundAfter, EachEvent, NoneBetween, OneEvent, RestsAfterLoss, events_at}
 use Rattle.gptp_settling_time.specs.InTurn.{Aging, AnyPast, AreCapableSoon, BeginsBy, ChoosesAfter, ChoosesByEvents, ComesByEvents, EventLeads, Fallen, Gained, Heard, LeadOn, Left, Lost, Past, SettlesAfter, SettlesByEvents, Starting, StartsWith, TellsNothing, Turned, UsedVaryLittle}
 use Rattle.gptp_settling_time.specs.TreeLosses.{LowersTree}
-use Rattle.gptp_settling_time.specs.Losses.{AgesWithin, FailsHeard, LowersLink, LowersUnused, TurnsLink, UpIsUsed, loss_span}
+use Rattle.gptp_settling_time.specs.Losses.{AgesWithin, FailsHeard, LowersLink, LowersUnused, TurnsLink, UpIsUsed}
 use Rattle.gptp_settling_time.proofs.CalmLessLemmas.{fails_calm}
 use Rattle.gptp_settling_time.proofs.CutLemmas.{IsBy, all_by}
 use Rattle.gptp_settling_time.proofs.MomentLemmas.{all_at, last_by, parted}
 use Rattle.gptp_settling_time.proofs.LeadOnLemmas.{HasRested, HasSettled, IsLed, after_idle, any_leads, gains_led, heard_led, idle_led, lead_as, leads_on, led_as, next, rested_so, settled_later, taken_later, wider_led}
 use Rattle.gptp_settling_time.proofs.LosesLeadLemmas.{LosesBy, any_rests, loses_by}
 use Rattle.gptp_settling_time.proofs.LossLeadLemmas.{IsLeftBy, cleared_led, dead_lead, fall_leads, heard_lead, loss_leads, settles_chooses, turn_leads}
-use Rattle.gptp_invariants.specs.FailedUnanswered.{silence_span}
 
 -- ---- a document
 

@@ -586,7 +586,8 @@ module _ {F : Type 0} (answers : Bounds → ℕ → F → Option ℕ → F → T
         (λ port until. AgesOver n ago made then_so.failed port until × IsUpAt w' port)
         (AgesOver n ago more then_so.failed) (view w')
         (λ port until unlinked (is_over, is_up).
-        over_down n ago made event x w' after.stands world'.sound world'.encodable then_so.failed port until is_over is_up)
+        over_down n ago made event x w' after.stands world'.sound world'.encodable then_so.failed port until is_over
+        is_up)
         (by_up p w' world' (AgesOver n ago made then_so.failed) by_down links) in
         record {
           keeps = after;
