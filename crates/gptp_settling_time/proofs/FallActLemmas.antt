@@ -183,6 +183,8 @@ module _ (p : SettlingParams) (w : WorldState) (is : IsWorld p w) (place : ℕ) 
     fallen_begins = record {
       standing = standing';
       asked = asked';
+      last = (told_keeps channel (record w { net = taken_down place channel w.net; last_change = w.time }) draws w'
+          k).change;
       n = n;
       same = refl;
       top = top;

@@ -89,6 +89,7 @@ IsGoneBy p start old w = (start + largest_interval p ≤ old) ⊎ (UpIsInUse w �
 pub record IsFallenAlways (p : SettlingParams) (g : Snapshot) (silent start : ℕ) (w : WorldState) : Type 0 where
   pub standing : IsStanding p silent w
   pub asked : HaveAskedLong w
+  pub last : w.last_change ≡ start
   pub n : Network
   pub same : left_network p silent w ≡ n
   pub top : ℕ
@@ -260,6 +261,7 @@ module _ (p : SettlingParams) (g : Snapshot) (silent start : ℕ) (w w' : WorldS
   fallen_step = record {
     standing = standing';
     asked = asked';
+    last = keeps.change ∙ is.last;
     n = is.n;
     same = same';
     top = is.top;

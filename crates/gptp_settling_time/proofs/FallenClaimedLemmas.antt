@@ -137,12 +137,12 @@ module _ (p : SettlingParams) (g : Snapshot) (silent start flight : ℕ) (w : Wo
       left_so' links none = left_so
 
   -- claims are made of all links always, from each time on by which ports at links are capable
-  pub fallen_claimed : (begin : ℕ) → w.last_change ≤ begin → IsClaimedAlways p begin w
+  pub fallen_claimed : (begin : ℕ) → start ≤ begin → IsClaimedAlways p begin w
   fallen_claimed begin later =
       becomes_claimed p (snapshot_of w) w.last_change silent 0 0 w (left_is_now p (snapshot_of w) silent w left)
       is.asked
       (λ links none. inl (record {
         lanes = λ j l f a at among said. inl (sound.lanes j l at f a among said);
         stations = sound.stations;
-      })) quiet off (omega (arith, gone)) begin later
+      })) quiet off (omega (arith, gone)) begin (let last = is.last in omega (arith, later, last))
       (silent_from_now p begin silent w world is.standing.silent is.past)
