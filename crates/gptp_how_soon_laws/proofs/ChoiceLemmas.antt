@@ -7,7 +7,7 @@ use Rattle.std.proofs.lemmas.Bool.Decides.{nat_tests}
 use Rattle.gptp_lists.specs.Members.{In}
 use Rattle.gptp_lists.proofs.SystemSpecLemmas.{In-left, In-parts}
 use Rattle.gptp_setup.specs.SettlingParams.{largest_interval}
-use Rattle.gptp_scenario.specs.Calm.{NothingLapses}
+use Rattle.gptp_scenario.specs.Calm.{IsCalm, NothingLapses}
 use Rattle.gptp_scenario.specs.Network.{NetworkState, pace_of}
 use Rattle.gptp_scenario.specs.SettlingTime.{echo_span, silence_span, way_span, window_span}
 use Rattle.gptp_scenario.specs.SyncWait.{sync_paths}
@@ -23,7 +23,7 @@ use Rattle.gptp_how_soon.specs.declared.bounds.Row.{Row}
 use Rattle.gptp_how_soon.specs.declared.bounds.Row.TheVariants.{AnyLosses, AnyPast, CutOff, FailedEnd, FailedHeard, FailureCutsOff, Gained, LostEnd, LostPower, Lowered, OneTurned, PowerCutsOff, TreeCutOff, Unchanged}
 use Rattle.gptp_how_soon.specs.declared.bounds.Settling.{Settling}
 use Rattle.gptp_how_soon.specs.declared.bounds.SettlingTime.{SettlingTime}
-use Rattle.gptp_settling_time.specs.HowSoon.{BoundsAging, BoundsAnyLoss, BoundsChoice, BoundsEvents, BoundsLoss, BoundsStart, IsChoiceBoundAfter, IsLossBoundAfter, IsRestBoundAfter, NoneBetween, RestsAfterLoss}
+use Rattle.gptp_settling_time.specs.HowSoon.{BoundsAging, BoundsAnyLoss, BoundsChoice, BoundsEvents, BoundsLoss, BoundsStart, FallsNext, IsChoiceBoundAfter, IsLossBoundAfter, IsRestBoundAfter, NoneBetween, RestsAfterLoss}
 use Rattle.gptp_settling_time.specs.InTurn.{FlightIsGone}
 use Rattle.gptp_settling_time.proofs.MomentLemmas.{parted}
 use Rattle.gptp_settling_time.proofs.WellFormedLemmas.{after_well}
@@ -177,61 +177,97 @@ module _ (d : DocumentState) (playable : IsPlayable d) where
               (sym (parted all b.at at playable.events.in_order late between)) bound,
         )
 
-    -- it has come to rest by that, or sooner after a loss by which no system is moved
+    -- a tree is cut off, an announce interval after the time before has come to rest, and all events ask for this
+    falls : (Asks : List Timed → Type 0) → IsCalm n (events_by at all) → NothingLapses n.params
+        → (rest : HasComeToRest b at) → CutsLate n playable.network all b at late rest → Asks (made ++ now)
+        → FallsNext n all (λ then. IsRestBoundAfter n all earlier b.at then) b.at at Asks
+    falls Asks calm off rest tree asks =
+        let bound = (sound_before rest).0 in
+        let then = so rest.settling rest.is in
+        let less = then.rest in
+        let passed = tree.longer in (
+          late,
+          between,
+          calm,
+          off,
+          (rest.settling.sound, bound, omega (arith, less, passed)),
+          tree.lowers,
+          subst Asks (sym (parted all b.at at playable.events.in_order late between)) asks,
+        )
+
+    -- it comes to rest so after a loss, or after a tree is cut off
+    abbrev Rests : ℕ → Type 0
+    Rests sound =
+        (HasComeToRest b at × RestsAfterLoss n made now sound)
+        ⊎ ((rest : HasComeToRest b at) × CutsLate n playable.network all b at late rest
+        × (sound ≡ max (2 * way_span v.paths) (gone_by n v.paths v.used_before)))
+
+    rests : (sound : ℕ) → IsCalm n (events_by at all) → NothingLapses n.params → Rests sound
+        → IsRestBoundAfter n all (b.at ∷ earlier) at sound
+    rests sound calm off (inl (rest, loses)) =
+        let (bound, past) = sound_before rest in
+        inr (inl (late, between, calm, off, (rest.settling.sound, bound, past), loses))
+    rests sound calm off (inr (rest, tree, is)) =
+        inr (inr (falls (λ es. (gone : ℕ) × FlightIsGone n es gone
+        × (sound ≡ max (2 * way_span (sync_paths n es)) gone)) calm off rest tree
+        (gone_by n v.paths v.used_before, tree.flight, is)))
+
+    -- it has come to rest by what the row of this loss says
+    rests_by : (sound : ℕ) → sound ≡ sound_by n loss v.paths (row_at v) (gained_at n v)
+        → IsSoundSooner n loss v.paths (row_at v) (sound_by n loss v.paths (row_at v) (gained_at n v)) → Rests sound
+    rests_by sound told (inl (row, is)) =
+        let x = lost_end n playable.network all b at late well row in
+        let flight = subst (FlightIsGone n made) (sym (told ∙ is)) x.flight in
+        inl (x.rested, inl (inr (inl (x.fails, inl (x.used, flight)))))
+    rests_by sound told (inr (inl (row, is))) =
+        let (rest, fails, flight) = failed n playable.network all b at late well row in
+        inl (rest, inl (inr (inl (fails, inr (gone_by n v.paths_before v.used_before, flight, told ∙ is)))))
+    rests_by sound told (inr (inr (inl (row, is)))) =
+        let (rest, lowers, flight) = lowered n playable.network all b at late well row in
+        inl (rest, inl (inr (inr (inl (lowers, (gone_by n v.paths v.used_before, flight, told ∙ is))))))
+    rests_by sound told (inr (inr (inr (inl (row, is))))) =
+        let x = cut_off n playable.network all b at late well row in
+        inl (x.rested, inl (inl (x.cuts, (gone_by n v.paths v.used_before, x.flight, told ∙ is))))
+    rests_by sound told (inr (inr (inr (inr (inl (row, is)))))) =
+        let (rest, turns) = turned n playable.network all b at late well row in
+        inl (rest, inl (inr (inr (inr (inl (turns, told ∙ is))))))
+    rests_by sound told (inr (inr (inr (inr (inr (inl (row, long))))))) =
+        let (rest, fails, used) = lost_power n playable.network all b at late well row in
+        let late : max (echo_span (pace_of n) v.paths) v.paths.delay ≤ sound =
+        subst (λ t. max (echo_span (pace_of n) v.paths) v.paths.delay ≤ t) (sym told) long in
+        inl (rest, inl (inr (inr (inr (inr (fails, inl (used, late)))))))
+    rests_by sound told (inr (inr (inr (inr (inr (inr (inl (row, long)))))))) =
+        let (rest, fails) = heard n playable.network all b at late well row in
+        let late : aged_echo_span n loss v.paths ≤ sound =
+        subst (λ t. aged_echo_span n loss v.paths ≤ t) (sym told) long in
+        inl (
+          rest,
+          inl (inr (inr (inr (inr (
+            fails,
+            inr (largest_interval (pace_of n), inr refl, (v.held, held_for n made now, late)),
+          ))))),
+        )
+    rests_by sound told (inr (inr (inr (inr (inr (inr (inr (inl (row, is))))))))) =
+        let (rest, loses, roles) = any_losses n playable.network all b at late row in
+        inl (
+          rest,
+          inr (
+            any_loss_span n loss v.paths,
+            subst (λ t. BoundsAnyLoss n made now (any_loss_span n loss v.paths) t) (sym (told ∙ is))
+                (loses, refl, roles (any_loss_span n loss v.paths)),
+          ),
+        )
+    rests_by sound told (inr (inr (inr (inr (inr (inr (inr (inr (row, is))))))))) =
+        let (rest, tree) = tree_cut n playable.network all b at late well row in inr (rest, tree, told ∙ is)
+
+    -- it has come to rest as soon as it settles from any past, or sooner after a loss
     rest_so : (s : Settling) → IsTelling n v s → IsChoiceBoundAfter n all (b.at ∷ earlier) at settled_by
         → IsRestBoundAfter n all (b.at ∷ earlier) at s.sound
     rest_so s it settles =
         elim (sound_or_sooner n loss v.paths (row_at v) (gained_at n v)) [
           | inl same ↦ inl (subst (IsChoiceBoundAfter n all (b.at ∷ earlier) at) (sym (it.sound ∙ same)) settles)
-          | inr (off, which) ↦
-              let (rest, loses) = by which in
-              let (bound, past) = sound_before rest in
-              inr (late, between, settles.2.0, off, (rest.settling.sound, bound, past), loses)
+          | inr (off, which) ↦ rests s.sound settles.2.0 off (rests_by s.sound it.sound which)
         ]
-      where
-        by : IsSoundSooner n loss v.paths (row_at v)
-            (sound_by n loss v.paths (row_at v) (gained_at n v))
-            → HasComeToRest b at × RestsAfterLoss n made now s.sound
-        by (inl (row, is)) =
-            let x = lost_end n playable.network all b at late well row in
-            let flight = subst (FlightIsGone n made) (sym (it.sound ∙ is)) x.flight in
-            (x.rested, inl (inr (inl (x.fails, inl (x.used, flight)))))
-        by (inr (inl (row, is))) =
-            let (rest, fails, flight) = failed n playable.network all b at late well row in
-            (rest, inl (inr (inl (fails, inr (gone_by n v.paths_before v.used_before, flight, it.sound ∙ is)))))
-        by (inr (inr (inl (row, is)))) =
-            let (rest, lowers, flight) = lowered n playable.network all b at late well row in
-            (rest, inl (inr (inr (inl (lowers, (gone_by n v.paths v.used_before, flight, it.sound ∙ is))))))
-        by (inr (inr (inr (inl (row, is))))) =
-            let x = cut_off n playable.network all b at late well row in
-            (x.rested, inl (inl (x.cuts, (gone_by n v.paths v.used_before, x.flight, it.sound ∙ is))))
-        by (inr (inr (inr (inr (inl (row, is)))))) =
-            let (rest, turns) = turned n playable.network all b at late well row in
-            (rest, inl (inr (inr (inr (inl (turns, it.sound ∙ is))))))
-        by (inr (inr (inr (inr (inr (inl (row, long))))))) =
-            let (rest, fails, used) = lost_power n playable.network all b at late well row in
-            let late : max (echo_span (pace_of n) v.paths) v.paths.delay ≤ s.sound =
-            subst (λ t. max (echo_span (pace_of n) v.paths) v.paths.delay ≤ t) (sym it.sound) long in
-            (rest, inl (inr (inr (inr (inr (fails, inl (used, late)))))))
-        by (inr (inr (inr (inr (inr (inr (inl (row, long)))))))) =
-            let (rest, fails) = heard n playable.network all b at late well row in
-            let late : aged_echo_span n loss v.paths ≤ s.sound =
-            subst (λ t. aged_echo_span n loss v.paths ≤ t) (sym it.sound) long in (
-              rest,
-              inl (inr (inr (inr (inr (
-                fails,
-                inr (largest_interval (pace_of n), inr refl, (v.held, held_for n made now, late)),
-              ))))),
-            )
-        by (inr (inr (inr (inr (inr (inr (inr (row, is)))))))) =
-            let (rest, loses, roles) = any_losses n playable.network all b at late row in (
-              rest,
-              inr (
-                any_loss_span n loss v.paths,
-                subst (λ t. BoundsAnyLoss n made now (any_loss_span n loss v.paths) t) (sym (it.sound ∙ is))
-                    (loses, refl, roles (any_loss_span n loss v.paths)),
-              ),
-            )
 
     -- the choice and the roles stand by then, or sooner after a loss
     record IsSooner (s : Settling) : Type 0 where
@@ -255,22 +291,8 @@ module _ (d : DocumentState) (playable : IsPlayable d) where
         let (bound, past) = sound_before rest in
         inl (late, between, settles.2.0, off, (rest.settling.sound, bound, past), loses)
     lost s settles off (inr (rest, tree, choice, roles)) =
-        let bound = (sound_before rest).0 in
-        let then = so rest.settling rest.is in
-        let less = then.rest in
-        let passed = tree.longer in
-        inr (
-          late,
-          between,
-          settles.2.0,
-          off,
-          (rest.settling.sound, bound, omega (arith, less, passed)),
-          tree.lowers,
-          choice
-              ∙ ap (λ es. 2 * way_span (sync_paths n es))
-              (sym (parted all b.at at playable.events.in_order late between)),
-          roles,
-        )
+        inr (falls (λ es. (s.choice ≡ 2 * way_span (sync_paths n es)) × (s.roles ≡ s.choice)) settles.2.0 off rest tree
+        (choice, roles))
 
     -- what ages does no later than ports beside a failed system are off
     ages_first : (aged quiet : ℕ) → BoundsAging n made now aged quiet → aged ≤ quiet

@@ -135,7 +135,8 @@ IsSoundSooner n loss paths row sound =
     ⊎ (((row ≡ OneTurned) × (sound ≡ 2 * way_span paths + echo_span (pace_of n) paths))
     ⊎ ((((row ≡ LostPower) ⊎ (row ≡ PowerCutsOff)) × (max (echo_span (pace_of n) paths) paths.delay ≤ sound))
     ⊎ ((((row ≡ FailedHeard) ⊎ (row ≡ FailureCutsOff)) × (aged_echo_span n loss paths ≤ sound))
-    ⊎ ((row ≡ AnyLosses) × (sound ≡ roles_after_losses n loss paths))))))))
+    ⊎ (((row ≡ AnyLosses) × (sound ≡ roles_after_losses n loss paths))
+    ⊎ ((row ≡ TreeCutOff) × (sound ≡ max (2 * way_span paths) (gone_by n paths loss.used_before))))))))))
 
 pub sound_or_sooner : (n : NetworkState) (loss : Loss) (paths : SyncPaths) (row : Row)
     (gained : ℕ)
@@ -157,7 +158,6 @@ sound_or_sooner n loss paths row gained = by (n.params.sync_timeout == 0) refl r
     by true is AnyPast = inl refl
     by true is Unchanged = inl refl
     by true is Gained = inl refl
-    by true is TreeCutOff = inl refl
     by true is LostEnd = inr (eqb-true n.params.sync_timeout 0 is, inl (refl, refl))
     by true is FailedEnd = inr (eqb-true n.params.sync_timeout 0 is, inr (inl (refl, refl)))
     by true is Lowered = inr (eqb-true n.params.sync_timeout 0 is, inr (inr (inl (refl, refl))))
@@ -172,7 +172,9 @@ sound_or_sooner n loss paths row gained = by (n.params.sync_timeout == 0) refl r
     by true is FailureCutsOff =
         inr (eqb-true n.params.sync_timeout 0 is, inr (inr (inr (inr (inr (inr (inl (inr refl, omega arith))))))))
     by true is AnyLosses =
-        inr (eqb-true n.params.sync_timeout 0 is, inr (inr (inr (inr (inr (inr (inr (refl, refl))))))))
+        inr (eqb-true n.params.sync_timeout 0 is, inr (inr (inr (inr (inr (inr (inr (inl (refl, refl)))))))))
+    by true is TreeCutOff =
+        inr (eqb-true n.params.sync_timeout 0 is, inr (inr (inr (inr (inr (inr (inr (inr (refl, refl)))))))))
 
 -- what is told of a calm network
 pub record IsTelling (n : NetworkState) (v : View) (s : Settling) : Type 0 where
