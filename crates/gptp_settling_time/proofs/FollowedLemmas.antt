@@ -531,7 +531,8 @@ module _ (d : DocumentState) (network : IsNetwork d.network) (order : AreInOrder
 
     lost_after : (earlier : List ℕ) → IsLossBoundAfter d.network d.events earlier time choice roles → IsLost
     lost_after [] none = absurd none
-    lost_after (last ∷ earlier) (inr (less, between, calm, off, (choice_then, bound, soon), lowers, is_choice, same)) =
+    lost_after (last ∷ earlier)
+        (inr (less, between, calm, off, (choice_then, bound, soon), lowers, (is_choice, same))) =
         tree_by last choice_then less between off
         (bound_calm d.network network off d.events order earlier last choice_then bound) calm
         (followed d.network network off d.events order earlier last choice_then bound) soon lowers is_choice same
