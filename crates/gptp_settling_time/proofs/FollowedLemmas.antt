@@ -231,7 +231,8 @@ module _ (n : NetworkState) (network : IsNetwork n) (off : NothingLapses n.param
               (sym (parted all last time order less between ∙ ap (λ es. before_now ++ es) same))
               (leads_on n [] before.first before.last past before_now (event ∷ []) before.lead (
                 seen,
-                taken_later n before_now before.last seen (suc (last + then)) event.at (omega (arith, soon, here)) taken,
+                taken_later n before_now before.last seen (suc (last + then)) event.at (omega (arith, soon, here))
+                    taken,
                 past,
                 leads,
                 refl,
@@ -258,15 +259,19 @@ module _ (n : NetworkState) (network : IsNetwork n) (off : NothingLapses n.param
           lead = lead;
           settles = (
             Heard start,
-            inr (start, refl, record {
-              calm = calm;
-              off = off;
-              later = omega arith;
-              flight = gone;
-              is_gone = flight;
-              gone = omega (arith, is, flown);
-              over = over;
-            }),
+            inr (
+              start,
+              refl,
+              record {
+                calm = calm;
+                off = off;
+                later = omega arith;
+                flight = gone;
+                is_gone = flight;
+                gone = omega (arith, is, flown);
+                over = over;
+              },
+            ),
             over,
           );
         }

@@ -337,7 +337,7 @@ LosesNext n events Then last time Asks =
     × Asks (events_by last events) (events_at time events)
 
 -- By the one event of a time a tree is cut off, and all events up to it ask for what `Asks` says. Nothing lapses for
--- want of Sync. The network is calm, and the event comes an announce interval after the time before has come to rest, by
+-- want of Sync. The network is calm. The event comes an announce interval after the time before has come to rest, by
 -- one of its bounds.
 abbrev pub FallsNext : NetworkState → List Timed → (ℕ → Type 0) → ℕ → ℕ → (List Timed → Type 0) → Type 0
 FallsNext n events Then last time Asks =
