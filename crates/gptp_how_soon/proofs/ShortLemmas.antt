@@ -1,5 +1,5 @@
 -- Each time of a document is watched shortly.
-use Rattle.std.proofs.Common.{◌≡◌, ◌≤◌, ◌+◌, ◌-◌, ◌*◌, ◌++◌, ◌==◌, max, not, pred, ℕ, zero, suc, Bool, true, false, if◌then◌else◌, List, [], ◌∷◌, length, nat_le, filter, Option, Some, None, IfSome, refl, inl, inr, arith}
+use Rattle.std.proofs.Common.{◌≡◌, ◌≤◌, ◌+◌, ◌-◌, ◌*◌, ◌++◌, ◌==◌, max, not, pred, ℕ, zero, suc, Bool, true, false, if◌then◌else◌, List, [], ◌∷◌, length, map, nat_le, filter, Option, Some, None, IfSome, refl, inl, inr, arith}
 use Rattle.std.specs.Prelude.{⊤}
 use Rattle.std.specs.List.{AllByRecursion, list_any}
 use Rattle.std.proofs.lemmas.Bool.Decides.{nat_tests}
@@ -30,18 +30,20 @@ use Rattle.gptp_network.specs.declared.keys.TheConstants.{LATEST_EVENT}
 use Rattle.gptp_setup.specs.Intervals.{interval_of}
 use Rattle.gptp_setup.specs.SettlingParams.{largest_interval, longest_span}
 use Rattle.gptp_setup.proofs.IntervalLemmas.{interval_most}
+use Rattle.gptp_topology.specs.After.{standings_after}
+use Rattle.gptp_topology.specs.Course.{cable_is_used}
 use Rattle.gptp_topology.specs.Times.{times_from, times_of}
 use Rattle.gptp_topology.specs.declared.course.Cable.{Cable}
-use Rattle.gptp_topology.specs.declared.course.Standing.{Standing}
 use Rattle.gptp_how_soon.specs.Bounds.{aged_echo_span, any_loss_span, asked_again, choice_of_row, echo_of_row, exact_span, gone_by, is_again, needed_watch, ready, retold_by, roles_after_losses, roles_by, roles_of_row, set_span, settling_by, sound_by, sound_of_row, two_exchanges, watch}
 use Rattle.gptp_how_soon.specs.Kinds.{sets_bounds, sets_link}
-use Rattle.gptp_how_soon.specs.Silent.{held_after, held_among, held_one, is_silent}
+use Rattle.gptp_how_soon.specs.Silent.{own_intervals}
 use Rattle.gptp_how_soon.specs.Times.{IsWatchedShortly, View, events_at, events_before, gained_at, heard_at, last_set, loss_at, row_at, settling_time, settling_times, settling_times_from, time_at, view_at}
 use Rattle.gptp_how_soon.specs.declared.bounds.Loss.{Loss}
 use Rattle.gptp_how_soon.specs.declared.bounds.Row.{Row}
 use Rattle.gptp_how_soon.specs.declared.bounds.Row.TheVariants.{AnyLosses, AnyPast, CutOff, FailedEnd, FailedHeard, FailureCutsOff, Gained, LostEnd, LostPower, Lowered, OneTurned, PowerCutsOff, TreeCutOff, Unchanged}
 use Rattle.gptp_how_soon.specs.declared.bounds.SettlingTime.{SettlingTime}
 use Rattle.gptp_how_soon.specs.declared.kinds.Told.{Told}
+use Rattle.gptp_how_soon.proofs.SilentLemmas.{held_within}
 
 either_most : (test : Bool) (x y most : ℕ) → x ≤ most → y ≤ most → (if test then x else y) ≤ most
 either_most true x y most a b = a
@@ -232,22 +234,6 @@ module _ (n : NetworkState) (network : IsNetwork n) (paths : SyncPaths) (few : p
         → watch n at paths (settling_by n at last_set loss paths calm sets row gained) ≤ 200000000000000
     watch_most calm = let needed = needed_most calm in let i = sync in omega (arith, needed, i)
 
--- ---- what others hold
-
-held_among_most : (n : NetworkState) → IsNetwork n → (us : List Bool) (ss : List Standing)
-    → held_among n us ss ≤ 4112000000000
-held_among_most n network [] ss = omega arith
-held_among_most n network (u ∷ us) [] = omega arith
-held_among_most n network (u ∷ us) (s ∷ ss) =
-    let rest = held_among_most n network us ss in
-    let most = silence_short n network in
-    let one : held_one n u s ≤ 4112000000000 =
-    either_most (is_silent u s) _ 0 4112000000000 (omega (arith, most)) (omega arith) in
-    omega (arith, rest, one)
-
-held_most : (n : NetworkState) → IsNetwork n → (made events : List Timed) → held_after n made events ≤ 4112000000000
-held_most n network made events = held_among_most n network _ _
-
 -- ---- paths
 
 few_paths : (systems : List SystemSpec) (links : List LinkSpec) (events : List Timed) → length systems ≤ 512
@@ -361,9 +347,12 @@ module _ (d : DocumentState) (network : IsNetwork d.network) (events : AreEvents
       let set : last_set all ≤ at =
       last_change_most at (filter (λ (t : Timed). sets_bounds t.act) all)
       (λ t member. (there_then before at t is (from_filter (λ (e : Timed). sets_bounds e.act) t all member).0).1) in
+      let held = held_within n (own_intervals n before at) (map cable_is_used
+      (standings_after n (events_before before d.events))) (standings_after n all) in
+      let silence = silence_short n network in
       let most : (settling_time n v).watch ≤ 200000000000000 =
       watch_most n network paths few short (loss_at v) (short_before before at is)
-      (held_most n network (events_before before d.events) all) at (last_set all) set (sets_link v.told) (row_at v)
+      (omega (arith, held, silence)) at (last_set all) set (sets_link v.told) (row_at v)
       (gained_at n v) (omega (arith, r, h, w)) v.calm in
       record { span = most; until = omega (arith, most, early) }
 

@@ -1,6 +1,6 @@
 -- A time is watched for longer than its choice.
 use Rattle.std.proofs.Common.{◌≡◌, ◌<◌, ◌≤◌, ℕ, Bool, true, false, cond, List, [], ◌∷◌, Option, Some, sym, subst, inl, inr, arith}
-use Rattle.std.specs.Prelude.{◌+◌, ◌==◌, max, not, if◌then◌else◌}
+use Rattle.std.specs.Prelude.{◌==◌, max, not, if◌then◌else◌}
 use Rattle.std.proofs.lemmas.Option.{same_Some}
 use Rattle.gptp_setup.proofs.IntervalLemmas.{interval_positive}
 use Rattle.gptp_lists.specs.Members.{In}
@@ -10,17 +10,20 @@ use Rattle.gptp_scenario.specs.SettlingTime.{settling_span_with, silence_span}
 use Rattle.gptp_scenario.specs.declared.sync_wait.SyncPaths.{SyncPaths}
 use Rattle.gptp_how_soon.specs.Bounds.{any_loss_span, choice_by, choice_of_row, roles_by, roles_of_row, settled, settling_by, watch}
 use Rattle.gptp_how_soon.specs.Kinds.{sets_link}
+use Rattle.gptp_how_soon.specs.Silent.{own_intervals}
 use Rattle.gptp_how_soon.specs.Times.{View, events_at, events_before, gained_at, loss_at, row_at, settling_times, settling_times_from, time_at, view_at}
 use Rattle.gptp_how_soon.specs.declared.bounds.Loss.{Loss}
 use Rattle.gptp_how_soon.specs.declared.bounds.Row.{Row}
 use Rattle.gptp_how_soon.specs.declared.bounds.Row.TheVariants.{AnyLosses, AnyPast, CutOff, FailedEnd, FailedHeard, FailureCutsOff, Gained, LostEnd, LostPower, Lowered, OneTurned, PowerCutsOff, TreeCutOff, Unchanged}
 use Rattle.gptp_how_soon.specs.declared.bounds.Settling.{Settling}
 use Rattle.gptp_how_soon.specs.declared.bounds.SettlingTime.{SettlingTime}
+use Rattle.gptp_how_soon.proofs.SilentLemmas.{held_within}
 
 -- the roles stand no sooner than the choice
 roles_later : (n : NetworkState) (loss : Loss) (paths : SyncPaths) (row : Row) (gained : ℕ)
+    → loss.held ≤ silence_span (pace_of n)
     → choice_by n loss paths row gained ≤ roles_by n loss paths row gained
-roles_later n loss paths row gained = by (n.params.sync_timeout == 0) row
+roles_later n loss paths row gained held = by (n.params.sync_timeout == 0) row
   where
     span : ℕ
     span = settling_span_with (pace_of n) paths paths.systems
@@ -41,7 +44,7 @@ roles_later n loss paths row gained = by (n.params.sync_timeout == 0) row
     by true LostPower = omega arith
     by true FailedEnd = omega arith
     by true PowerCutsOff = omega arith
-    by true FailedHeard = omega arith
+    by true FailedHeard = held
     by true FailureCutsOff = omega arith
     by true OneTurned = omega arith
     by true TreeCutOff = omega arith
@@ -49,12 +52,12 @@ roles_later n loss paths row gained = by (n.params.sync_timeout == 0) row
     by true Gained = omega arith
 
 watched_longer : (n : NetworkState) → IsNetwork n → (at last_set : ℕ) (loss : Loss) (paths : SyncPaths)
-    (calm sets : Bool) (row : Row) (gained : ℕ) (s : Settling)
+    (calm sets : Bool) (row : Row) (gained : ℕ) (s : Settling) → loss.held ≤ silence_span (pace_of n)
     → settling_by n at last_set loss paths calm sets row gained ≡ Some s
     → s.choice < watch n at paths (settling_by n at last_set loss paths calm sets row gained)
-watched_longer n network at last_set loss paths false sets row gained s is = absurd cc
-watched_longer n network at last_set loss paths true sets row gained s is =
-    let later = roles_later n loss paths row gained in
+watched_longer n network at last_set loss paths false sets row gained s held is = absurd cc
+watched_longer n network at last_set loss paths true sets row gained s held is =
+    let later = roles_later n loss paths row gained held in
     let some = interval_positive n.params.sync network.params.ranges.params.sync in
     let told : Settling = settled n at last_set loss paths sets row gained in
     let same : told ≡ s = same_Some told s is in
@@ -65,7 +68,8 @@ watched_longer_then : (d : DocumentState) → IsNetwork d.network → (before : 
 watched_longer_then d network before at s is =
     let n = d.network in
     let v : View = view_at n (events_before before d.events) (events_at at d.events) before at in
-    watched_longer n network at v.last_set (loss_at v) v.paths v.calm (sets_link v.told) (row_at v) (gained_at n v) s is
+    watched_longer n network at v.last_set (loss_at v) v.paths v.calm (sets_link v.told) (row_at v) (gained_at n v) s
+    (held_within n (own_intervals n before at) _ _) is
 
 watched_longer_from : (d : DocumentState) → IsNetwork d.network → (before : Option SettlingTime) (ats : List ℕ)
     (t : SettlingTime)

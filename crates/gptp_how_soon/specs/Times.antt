@@ -2,7 +2,7 @@
 --
 -- What stands *before* a time stands after the events up to the time before, at 0 before all events; what stands *at*
 -- it after its own too.
-use Rattle.std.specs.Prelude.{ℕ, ◌+◌, ◌≤◌, ◌<◌, ⊤, ◌==◌, ◌&&◌, ◌||◌, not, Bool, List, [], ◌∷◌, ◌++◌, filter, Option, Some, None}
+use Rattle.std.specs.Prelude.{ℕ, ◌+◌, ◌≤◌, ◌<◌, ⊤, ◌==◌, ◌&&◌, not, Bool, List, [], ◌∷◌, ◌++◌, filter, Option, Some, None}
 use Rattle.std.specs.List.{AllByRecursion, find}
 use Rattle.std.specs.Option.{is_some}
 use Rattle.gptp_setup.specs.Intervals.{IsMoment}
@@ -28,7 +28,7 @@ use Rattle.gptp_how_soon.specs.Far.{are_far_after, cut_far_ends_after, up_is_use
 use Rattle.gptp_how_soon.specs.Kinds.{sets_bounds, sets_link, takes_one, told_by}
 use Rattle.gptp_how_soon.specs.Links.{longest_delay, new_links}
 use Rattle.gptp_how_soon.specs.Rest.{has_rested_for, heard_at_once, is_from_rest, leaves_silent, row_of}
-use Rattle.gptp_how_soon.specs.Silent.{held_after}
+use Rattle.gptp_how_soon.specs.Silent.{held_after, own_intervals}
 use Rattle.gptp_how_soon.specs.Tree.{cuts_tree_after}
 use Rattle.gptp_how_soon.specs.Turned.{turns_one_after}
 use Rattle.gptp_how_soon.specs.declared.bounds.Loss.{Loss}
@@ -131,7 +131,7 @@ view_at n made now before at = record {
   before = before;
   paths_before = sync_paths n made;
   used_before = up_is_used (standings_after n made);
-  held = held_after n made (made ++ now);
+  held = held_after n (own_intervals n before at) made (made ++ now);
   new = new_links n made (made ++ now) (not (is_some before));
   told = told_of n made now;
   moves = moves_at n made now before at;

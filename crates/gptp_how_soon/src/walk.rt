@@ -17,7 +17,7 @@ use crate::links::{delay_set, longest_among, lost_among, mark_used, new_links};
 use crate::rest::{
     Moves, asks_who_is_moved, has_rested_for, heard_at_once, is_from_rest, leaves_silent, row_of,
 };
-use crate::silent::held_among;
+use crate::silent::{held_among, own_intervals};
 use crate::tree::cuts_tree;
 use crate::turned::turns_one;
 use gptp_scenario::{Act, Network, SyncPaths};
@@ -187,11 +187,12 @@ impl Walk {
         let asked = asks_who_is_moved(from_rest, paths_before, paths, told);
         let moves = self.moves_if(alloc, network, at, asked)?;
         let all_used = up_is_used(standings);
+        let own = own_intervals(network, self.before, at);
         let loss = Loss {
             paths_before,
             used_before: self.all_used_before,
             silent: leaves_silent(all_used, told),
-            held: held_among(network, used, standings),
+            held: held_among(network, own, used, standings),
         };
         Ok(times_by(
             network,

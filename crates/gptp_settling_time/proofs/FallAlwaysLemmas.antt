@@ -79,13 +79,13 @@ within deep (suc reach) most less = mul-le-mul_right most (omega (arith, less))
 pub falls_within : (n : Network) (start deep : ℕ) → deep < n.reach → falls_by n start deep ≤ fallen_by n start
 falls_within n start deep short = let less = within deep n.reach n.most short in omega (arith, less)
 
--- What was in flight at the start is gone by then: an announce interval later, or a greatest delay later where each link
--- that is up is in use.
+-- What was in flight at the start is gone by then: an announce interval later, or a greatest delay later where each
+-- link that is up is in use.
 abbrev pub IsGoneBy : SettlingParams → ℕ → ℕ → WorldState → Type 0
 IsGoneBy p start old w = (start + largest_interval p ≤ old) ⊎ (UpIsInUse w × (start + delay_in w ≤ old))
 
--- What is claimed of a world since a link went down at a time that cut a tree off. What others hold is sound always, and
--- so is what is in flight once that is gone which was so at the start, and what the tree told before it fell back.
+-- What is claimed of a world since a link went down at a time that cut a tree off. What others hold is sound. What is
+-- in flight is too, but for what was so at the start, and for what the tree told before it fell back.
 pub record IsFallenAlways (p : SettlingParams) (g : Snapshot) (silent start : ℕ) (w : WorldState) : Type 0 where
   pub standing : IsStanding p silent w
   pub asked : HaveAskedLong w

@@ -231,7 +231,8 @@ module _ (n : NetworkState) (network : IsNetwork n) (off : NothingLapses n.param
               (sym (parted all last time order less between ∙ ap (λ es. before_now ++ es) same))
               (leads_on n [] before.first before.last past before_now (event ∷ []) before.lead (
                 seen,
-                taken_later n before_now before.last seen (suc (last + then)) event.at (omega (arith, soon, here)) taken,
+                taken_later n before_now before.last seen (suc (last + then)) event.at (omega (arith, soon, here))
+                    taken,
                 past,
                 leads,
                 refl,
@@ -258,15 +259,19 @@ module _ (n : NetworkState) (network : IsNetwork n) (off : NothingLapses n.param
           lead = lead;
           settles = (
             Heard start,
-            inr (start, refl, record {
-              calm = calm;
-              off = off;
-              later = omega arith;
-              flight = gone;
-              is_gone = flight;
-              gone = omega (arith, is, flown);
-              over = over;
-            }),
+            inr (
+              start,
+              refl,
+              record {
+                calm = calm;
+                off = off;
+                later = omega arith;
+                flight = gone;
+                is_gone = flight;
+                gone = omega (arith, is, flown);
+                over = over;
+              },
+            ),
             over,
           );
         }
@@ -531,7 +536,8 @@ module _ (d : DocumentState) (network : IsNetwork d.network) (order : AreInOrder
 
     lost_after : (earlier : List ℕ) → IsLossBoundAfter d.network d.events earlier time choice roles → IsLost
     lost_after [] none = absurd none
-    lost_after (last ∷ earlier) (inr (less, between, calm, off, (choice_then, bound, soon), lowers, is_choice, same)) =
+    lost_after (last ∷ earlier)
+        (inr (less, between, calm, off, (choice_then, bound, soon), lowers, (is_choice, same))) =
         tree_by last choice_then less between off
         (bound_calm d.network network off d.events order earlier last choice_then bound) calm
         (followed d.network network off d.events order earlier last choice_then bound) soon lowers is_choice same

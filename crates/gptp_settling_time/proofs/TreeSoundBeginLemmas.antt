@@ -1,9 +1,9 @@
--- A link goes down that cuts a tree off. What others hold is sound at once, and so is what is in flight, but for what is
--- due soon.
-use Rattle.std.proofs.Common.{◌≡◌, ◌⊎◌, ◌<◌, ◌≤◌, ◌+◌, ℕ, suc, true, Some, slice_get, sym, subst, ◌∙◌, inl, inr}
+-- A link goes down that cuts a tree off. What others hold is sound at once, and so is what is in flight, but for what
+-- is due soon.
+use Rattle.std.proofs.Common.{◌≡◌, ◌⊎◌, ◌≤◌, ◌+◌, ℕ, suc, true, Some, slice_get, sym, subst, ◌∙◌, inl, inr}
 use Rattle.gptp_lists.specs.Members.{In}
 use Rattle.gptp_graph.specs.Best.{IsBest}
-use Rattle.gptp_graph.specs.Snapshot.{IsLinked, Joins, PortIdentity, Snapshot, System, clocks, port_of}
+use Rattle.gptp_graph.specs.Snapshot.{IsLinked, PortIdentity, Snapshot, System, clocks, port_of}
 use Rattle.gptp_graph.proofs.LinkDecisions.{Joins-dec}
 use Rattle.gptp_graph.proofs.LinkLemmas.{Joins-clock, Joins-sym}
 use Rattle.gptp_bmca_machine.specs.Calm.{Calm}

@@ -115,12 +115,12 @@ module _ (says : Spelling) (g : Snapshot) (n : Network) (top : ℕ) (best next :
           (may_say (network_setting n) w.time s (calm.facts.stations i s at live)) (held out) own))
       by_tree (yes in_s) = elim (ℕ_discrete s.root best.identity) [
         | no not ↦ inl (sent (record {
-            sender = known_at;
-            source = own.source;
-            sound = inr (says_whole says g n top best next base depth t start w b.after s.clock in_s s there
-                (holds_in_tree says g n top best next base depth t start w b.after b.falling s.clock in_s) not port a
-                own);
-          }))
+          sender = known_at;
+          source = own.source;
+          sound = inr (says_whole says g n top best next base depth t start w b.after s.clock in_s s there
+              (holds_in_tree says g n top best next base depth t start w b.after b.falling s.clock in_s) not port a
+              own);
+        }))
         | yes root ↦
             let late = old_in_time says g n top best next base depth t start w b.after b.falling (depth s.clock)
             s.clock refl in_s
@@ -191,7 +191,8 @@ module _ (says : Spelling) (g : Snapshot) (n : Network) (top : ℕ) (best next :
       held' out' place r (q, at_q, holds) =
           subst (λ c. CameSound n.graph c (suc place) r) (sym call.reacts.clock)
           (elim (held_from says call.s call.s' touch mid.time call.sends call.reacts place r (q, at_q, holds)) [
-            | inl before ↦ is.stations call.place call.s (stood call.place call.s call.here) call.live out place r before
+            | inl before ↦
+                is.stations call.place call.s (stood call.place call.s call.here) call.live out place r before
             | inr just ↦ came just (linked_at w' b' call.place call.s' call.there live' place q at_q
                 (λ off. let both : Received r ≡ Disabled = sym holds ∙ off in absurd cc))
           ])

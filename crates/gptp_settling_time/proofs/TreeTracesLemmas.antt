@@ -1,6 +1,6 @@
--- A link goes down that cuts a tree off. No way between two others leads through it: that would pass the same end of the
--- link twice. So what others say is sound still.
-use Rattle.std.proofs.Common.{◌≡◌, ◌⊎◌, ◌<◌, ◌≤◌, ℕ, List, [], ◌∷◌, sym, ap, subst, inl, inr, arith}
+-- A link goes down that cuts a tree off. No way between two others leads through it: that would pass the same end of
+-- the link twice. So what others say is sound still.
+use Rattle.std.proofs.Common.{◌≡◌, ◌⊎◌, ◌≤◌, ℕ, List, [], ◌∷◌, sym, ap, subst, inl, inr, arith}
 use Rattle.gptp_lists.specs.Members.{Different, In}
 use Rattle.gptp_graph.specs.Best.{IsBest}
 use Rattle.gptp_graph.specs.Path.{Route}

@@ -337,7 +337,7 @@ LosesNext n events Then last time Asks =
     × Asks (events_by last events) (events_at time events)
 
 -- By the one event of a time a tree is cut off, and all events up to it ask for what `Asks` says. Nothing lapses for
--- want of Sync. The network is calm, and the event comes an announce interval after the time before has come to rest, by
+-- want of Sync. The network is calm. The event comes an announce interval after the time before has come to rest, by
 -- one of its bounds.
 abbrev pub FallsNext : NetworkState → List Timed → (ℕ → Type 0) → ℕ → ℕ → (List Timed → Type 0) → Type 0
 FallsNext n events Then last time Asks =
@@ -350,9 +350,8 @@ FallsNext n events Then last time Asks =
     × Asks (events_by time events)
 
 -- The tree drops the best of before within a way, and settles within another.
-abbrev pub BoundsTree : NetworkState → List Timed → (ℕ → Type 0) → ℕ → ℕ → ℕ → ℕ → Type 0
-BoundsTree n events Then last time choice roles =
-    FallsNext n events Then last time (λ all. (choice ≡ 2 * way_span (sync_paths n all)) × (roles ≡ choice))
+abbrev pub BoundsTree : NetworkState → ℕ → ℕ → List Timed → Type 0
+BoundsTree n choice roles events = (choice ≡ 2 * way_span (sync_paths n events)) × (roles ≡ choice)
 
 -- ---- rest
 
@@ -394,10 +393,9 @@ abbrev pub RestsAfterLoss : NetworkState → List Timed → List Timed → ℕ �
 RestsAfterLoss n made now rest = RestsAfterOneLoss n made now rest ⊎ RestsAfterAnyLoss n made now rest
 
 -- After a tree was cut off it has come to rest once the tree has settled and what was in flight is gone.
-abbrev pub RestsTree : NetworkState → List Timed → (ℕ → Type 0) → ℕ → ℕ → ℕ → Type 0
-RestsTree n events Then last time rest =
-    FallsNext n events Then last time
-    (λ all. (gone : ℕ) × FlightIsGone n all gone × (rest ≡ max (2 * way_span (sync_paths n all)) gone))
+abbrev pub RestsTree : NetworkState → ℕ → List Timed → Type 0
+RestsTree n rest events =
+    (gone : ℕ) × FlightIsGone n events gone × (rest ≡ max (2 * way_span (sync_paths n events)) gone)
 
 -- By so much later than a time the network has come to rest, by the times before it, the latest first: it has settled,
 -- and nothing that is held, or in flight, names what is gone. The first time of all is 0.
@@ -407,7 +405,7 @@ IsRestBoundAfter n events (last ∷ earlier) time rest =
     BoundsNext n events (λ then. IsRestBoundAfter n events earlier last then) last time rest
     ⊎ (LosesNext n events (λ then. IsRestBoundAfter n events earlier last then) last time
     (λ made now. RestsAfterLoss n made now rest)
-    ⊎ RestsTree n events (λ then. IsRestBoundAfter n events earlier last then) last time rest)
+    ⊎ FallsNext n events (λ then. IsRestBoundAfter n events earlier last then) last time (RestsTree n rest))
 
 -- ---- bounds
 
@@ -423,7 +421,7 @@ IsLossBoundAfter n events [] time choice roles = ⊥
 IsLossBoundAfter n events (last ∷ earlier) time choice roles =
     LosesNext n events (λ then. IsRestBoundAfter n events earlier last then) last time
     (λ made now. BoundsLoss n made now choice roles)
-    ⊎ BoundsTree n events (λ then. IsRestBoundAfter n events earlier last then) last time choice roles
+    ⊎ FallsNext n events (λ then. IsRestBoundAfter n events earlier last then) last time (BoundsTree n choice roles)
 
 -- a choice bound of a document at a time: by then the choice stands, and the roles do
 abbrev pub IsChoiceBound : DocumentState → ℕ → ℕ → Type 0
