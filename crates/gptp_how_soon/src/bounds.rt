@@ -356,10 +356,10 @@ fn sound_by(network: &Network, loss: Loss, paths: SyncPaths, row: Row, gained: u
     let gone = gone_by(network, paths, loss.used_before);
     let gone_before = gone_by(network, loss.paths_before, loss.used_before);
     match row {
-        Row::AnyPast | Row::TreeCutOff => settling_span_at_once(network, paths),
+        Row::AnyPast => settling_span_at_once(network, paths),
         Row::Unchanged => 0,
         Row::Lowered => echo_span(network, paths).max(gone),
-        Row::CutOff => (2 * way_span(paths)).max(gone),
+        Row::CutOff | Row::TreeCutOff => (2 * way_span(paths)).max(gone),
         Row::LostEnd => gone_before,
         Row::FailedEnd => silence_span(network).max(gone_before),
         Row::LostPower => echo_span(network, paths).max(paths.delay),
