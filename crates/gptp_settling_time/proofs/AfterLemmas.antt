@@ -32,7 +32,7 @@ use Rattle.gptp_theorem.proofs.CalmLemmas.{pace_stands, quiet_stands}
 use Rattle.gptp_theorem.proofs.SyncPathLemmas.{paths_stand}
 use Rattle.gptp_settling_time.specs.ChoiceAlone.{ChoiceStands}
 use Rattle.gptp_settling_time.specs.Exactly.{SettlesBy}
-use Rattle.gptp_settling_time.specs.InTurn.{Aging, AnyPast, BeginsBy, ChoosesAfter, Cleared, Fallen, Gained, Heard, IsTakenAs, Left, Lost, Past, RestsAs, SettlesAfter, Starting, Turned}
+use Rattle.gptp_settling_time.specs.InTurn.{Aging, AnyPast, BeginsBy, ChoosesAfter, Cleared, Fallen, Gained, Heard, IsTakenAs, Left, Lost, Past, RestsFrom, SettlesAfter, Starting, Turned}
 use Rattle.gptp_settling_time.proofs.AgingToLemmas.{IsAgingTo, aging_to_act, aging_to_chooses, aging_to_claimed, aging_to_later, aging_to_settled}
 use Rattle.gptp_settling_time.proofs.BegunLemmas.{begun_keeps}
 use Rattle.gptp_settling_time.proofs.ClaimedToLemmas.{IsClaimedTo, claimed_act, claimed_later, claimed_settled}
@@ -82,7 +82,8 @@ module _ (d : DocumentState) (events : List Timed) where
   after_later (Fallen silent now) w time later first so = fallen_to_later d events silent now w time later first so
   after_later (Cleared since silent right old) w time later first so = cleared_to_later d events since silent right old
       w time later first so
-  after_later (Aging ago aged silent) w time later first so = aging_to_later d ago events aged silent w time later first so
+  after_later (Aging ago aged silent) w time later first so =
+      aging_to_later d ago events aged silent w time later first so
   after_later (Lost since most silent) w time later first so =
       lost_to_later d events since most silent w time later first so
 
@@ -113,62 +114,27 @@ module _ (d : DocumentState) (events : List Timed) where
 
 -- what is so of a world is so of it as it may be taken
 module _ (d : DocumentState) (playable : IsPlayable d) (events : List Timed) (w : WorldState) where
-  rests_as : (past seen : Past) → RestsAs d.network events past w.time seen → IsAfter d events past w
-      → IsAfter d events seen w
-  rests_as AnyPast seen none so = absurd none
-  rests_as Starting seen none so = absurd none
-  rests_as (Gained start) seen none so = absurd none
-  rests_as (Heard start) seen none so = absurd none
-  rests_as (Left silent) seen none so = absurd none
-  rests_as (Turned silent now) AnyPast none so = absurd none
-  rests_as (Turned silent now) Starting none so = absurd none
-  rests_as (Turned silent now) (Gained start) none so = absurd none
-  rests_as (Turned silent now) (Heard start) rest so = turned_to_claimed d events silent now w start so playable rest
-  rests_as (Turned silent now) (Left start) none so = absurd none
-  rests_as (Turned silent now) (Turned start was) none so = absurd none
-  rests_as (Turned silent now) (Fallen start was) none so = absurd none
-  rests_as (Turned silent now) (Cleared start dark clean last) none so = absurd none
-  rests_as (Turned silent now) (Aging ago gone start) none so = absurd none
-  rests_as (Turned silent now) (Lost begun most start) none so = absurd none
-  rests_as (Fallen silent now) seen none so = absurd none
-  rests_as (Cleared since silent right old) AnyPast none so = absurd none
-  rests_as (Cleared since silent right old) Starting none so = absurd none
-  rests_as (Cleared since silent right old) (Gained start) none so = absurd none
-  rests_as (Cleared since silent right old) (Heard start) rest so = cleared_to_claimed d events since silent right old
-      w start so playable rest
-  rests_as (Cleared since silent right old) (Left start) none so = absurd none
-  rests_as (Cleared since silent right old) (Turned start now) none so = absurd none
-  rests_as (Cleared since silent right old) (Fallen start now) none so = absurd none
-  rests_as (Cleared since silent right old) (Cleared start dark clean last) none so = absurd none
-  rests_as (Cleared since silent right old) (Aging ago gone start) none so = absurd none
-  rests_as (Cleared since silent right old) (Lost begun most start) none so = absurd none
-  rests_as (Aging ago aged silent) AnyPast none so = absurd none
-  rests_as (Aging ago aged silent) Starting none so = absurd none
-  rests_as (Aging ago aged silent) (Gained start) none so = absurd none
-  rests_as (Aging ago aged silent) (Heard start) rest so =
+  rests_from : (past : Past) (start : ℕ) → RestsFrom d.network events past w.time start → IsAfter d events past w
+      → IsClaimedTo d events start w
+  rests_from AnyPast start none so = absurd none
+  rests_from Starting start none so = absurd none
+  rests_from (Gained since) start none so = absurd none
+  rests_from (Heard since) start none so = absurd none
+  rests_from (Left silent) start none so = absurd none
+  rests_from (Turned silent now) start rest so = turned_to_claimed d events silent now w start so playable rest
+  rests_from (Fallen silent now) start none so = absurd none
+  rests_from (Cleared since silent right old) start rest so =
+      cleared_to_claimed d events since silent right old w start so playable rest
+  rests_from (Aging ago aged silent) start rest so =
       aging_to_claimed d ago events aged silent w start so playable rest
-  rests_as (Aging ago aged silent) (Left start) none so = absurd none
-  rests_as (Aging ago aged silent) (Turned start now) none so = absurd none
-  rests_as (Aging ago aged silent) (Fallen start now) none so = absurd none
-  rests_as (Aging ago aged silent) (Cleared start dark clean last) none so = absurd none
-  rests_as (Aging ago aged silent) (Aging once gone start) none so = absurd none
-  rests_as (Aging ago aged silent) (Lost since most start) none so = absurd none
-  rests_as (Lost since most silent) AnyPast none so = absurd none
-  rests_as (Lost since most silent) Starting none so = absurd none
-  rests_as (Lost since most silent) (Gained start) none so = absurd none
-  rests_as (Lost since most silent) (Heard start) rest so =
+  rests_from (Lost since most silent) start rest so =
       lost_to_claimed d events since most silent w start so playable rest
-  rests_as (Lost since most silent) (Left start) none so = absurd none
-  rests_as (Lost since most silent) (Turned start now) none so = absurd none
-  rests_as (Lost since most silent) (Fallen start now) none so = absurd none
-  rests_as (Lost since most silent) (Cleared start dark clean last) none so = absurd none
-  rests_as (Lost since most silent) (Aging ago gone start) none so = absurd none
-  rests_as (Lost since most silent) (Lost begun more start) none so = absurd none
 
   pub taken_as : (past seen : Past) → IsTakenAs d.network events past w.time seen → IsAfter d events past w
       → IsAfter d events seen w
   taken_as past seen (inl same) so = subst (λ x. IsAfter d events x w) (sym same) so
-  taken_as past seen (inr rests) so = rests_as past seen rests so
+  taken_as past seen (inr (start, same, rest)) so =
+      subst (λ x. IsAfter d events x w) (sym same) (rests_from past start rest so)
 
 -- ---- it begins
 

@@ -1,5 +1,5 @@
 -- A link goes down that cuts a tree off, in a world of a document whose choice had stood: the tree falls back.
-use Rattle.std.proofs.Common.{List, [], ap, arith, inl, inr, subst, sym, true, ℕ, ◌++◌, ◌+◌, ◌∙◌, ◌∷◌, ◌≡◌, ◌≤◌, ◌⊎◌, slice_get, Some}
+use Rattle.std.proofs.Common.{List, [], arith, inl, inr, subst, sym, true, ℕ, ◌++◌, ◌+◌, ◌∷◌, ◌≡◌, ◌≤◌, ◌⊎◌, slice_get, Some}
 use Rattle.gptp_lists.proofs.MappedLemmas.{alike}
 use Rattle.gptp_graph.specs.Best.{IsBest}
 use Rattle.gptp_graph.specs.PathBound.{path_bound}

@@ -6,20 +6,19 @@ use Rattle.gptp_setup.specs.SettlingParams.{largest_interval, longest_span}
 use native.Mathlib.Decide.{dec_le}
 use Rattle.gptp_scenario.specs.Calm.{IsCalm, NothingLapses, last_change}
 use Rattle.gptp_scenario.specs.Network.{NetworkState, pace_of}
-use Rattle.gptp_scenario.specs.SettlingTime.{capability_span}
+use Rattle.gptp_scenario.specs.SettlingTime.{aging_span, capability_span, echo_span, silence_span, way_span}
 use Rattle.gptp_scenario.specs.SyncWait.{sync_paths}
 use Rattle.gptp_scenario.specs.declared.change.Timed.{Timed}
 use Rattle.gptp_scenario.specs.declared.sync_wait.SyncPaths.{SyncPaths}
 use Rattle.gptp_theorem.proofs.EventLemmas.{last_behind}
-use Rattle.gptp_settling_time.specs.HowSoon.{CutsOneEnd, EachEvent, FailsEndFirst, FailsHeardFirst, LowersOneLink, RestsAfterOneLoss, RestsOnceTold, TurnsOneLink, TurnsUnused, way_span}
-use Rattle.gptp_settling_time.specs.InTurn.{AgesSooner, Aging, AnyPast, ChoosesAfter, Cleared, CutsCalm, EventLeads, FailsCalm, FailsNow, Fallen, FallsCalm, FlightIsGone, Gained, Heard, LeadOn, Left, LosesNow, Lost, LowersCalm, Past, SettlesAfter, Starting, Turned, TurnsCalm, echo_span, nearer_echo_span, turned_echo_span}
-use Rattle.gptp_settling_time.specs.Losses.{AgesWithin, CutsFarEnd, FailsFarEnd, FailsHeard, LowersLink, LowersUnused, TurnsLink, UpIsUsed, aging_span}
+use Rattle.gptp_settling_time.specs.HowSoon.{CutsOneEnd, EachEvent, FailsEndFirst, FailsHeardFirst, LowersOneLink, RestsAfterOneLoss, RestsOnceTold, TurnsOneLink, TurnsUnused}
+use Rattle.gptp_settling_time.specs.InTurn.{AgesSooner, Aging, AnyPast, ChoosesAfter, Cleared, CutsCalm, EventLeads, FailsCalm, FailsNow, Fallen, FallsCalm, FlightIsGone, Gained, Heard, LeadOn, Left, LosesNow, Lost, LowersCalm, Past, SettlesAfter, Starting, Turned, TurnsCalm, nearer_echo_span, turned_echo_span}
+use Rattle.gptp_settling_time.specs.Losses.{AgesWithin, CutsFarEnd, FailsFarEnd, FailsHeard, LowersLink, LowersUnused, TurnsLink, UpIsUsed}
 use Rattle.gptp_settling_time.proofs.CalmLessLemmas.{failure_calm, fails_calm, lowers_calm}
 use Rattle.gptp_settling_time.proofs.SamePathsLemmas.{turned_paths}
 use Rattle.gptp_settling_time.proofs.LeftToLemmas.{less_way}
 use Rattle.gptp_settling_time.proofs.LeadOnLemmas.{HasSettled, IsLed}
 use Rattle.gptp_settling_time.proofs.SilentSpanLemmas.{failure_within}
-use Rattle.gptp_invariants.specs.FailedUnanswered.{silence_span}
 
 module _ (n : NetworkState) (made : List Timed) (event : Timed) (roles : ℕ) where
   -- after a loss by which no system is moved the network is left so that its choice stands
@@ -213,11 +212,11 @@ aging_lead n ago made (event ∷ now) other gone aged silent off calm (lowers, o
       (subst (λ es. AgesSooner n ago es aged silent) (sym (append_assoc made (other ∷ []) (event ∷ now))) sooner),
 )
 
--- So it does from when a system fails that others hear, as long as what came over the links that are silent after all of
--- the events.
+-- So it does from when a system fails that others hear, as long as what came over the links that are silent after all
+-- of the events.
 pub heard_lead : (n : NetworkState) (made : List Timed) (event : Timed) (now : List Timed) (past : Past) (span : ℕ)
     → NothingLapses n.params → IsCalm n made → HasSettled n made past event.at → FailsHeard n made event
-    → EachEvent (LowersUnused n) (made ++ event ∷ []) now → AgesWithin n made (made ++ event ∷ now) span
+    → EachEvent (LowersUnused n) (made ++ event ∷ []) now → AgesWithin n made (made ++ event ∷ now) event.at span
     → LeadOn n made past (event ∷ now)
     (Aging made (suc (event.at + span)) (suc (event.at + silence_span (pace_of n))))
 heard_lead n made event [] past span off calm settled fails lowers within =
@@ -259,7 +258,8 @@ heard_lead n made event (other ∷ now) past span off calm settled fails lowers 
             event.at,
             span,
             refl,
-            subst (λ es. AgesWithin n made es span) (sym (append_assoc made (event ∷ []) (other ∷ now))) within,
+            subst (λ es. AgesWithin n made es event.at span) (sym (append_assoc made (event ∷ []) (other ∷ now)))
+                within,
             refl,
           ),
     )
@@ -405,7 +405,8 @@ module _ (n : NetworkState) (made : List Timed) (event : Timed) (aged silent : �
   power_leads (Lost since most start) settled = absurd settled
 
 -- Else it goes on to age until the last link goes down of which an end has failed, at this time.
-power_lead : (n : NetworkState) (ago made now : List Timed) (other : Timed) (time aged silent : ℕ) → NothingLapses n.params
+power_lead : (n : NetworkState) (ago made now : List Timed) (other : Timed) (time aged silent : ℕ)
+    → NothingLapses n.params
     → IsCalm n made → AllByRecursion (λ (t : Timed). t.at ≡ time) (other ∷ now)
     → EachEvent (LowersUnused n) made (other ∷ now) → UpIsUsed n (made ++ other ∷ now)
     → LeadOn n made (Aging ago aged silent) (other ∷ now)
@@ -444,7 +445,7 @@ power_lead n ago made (event ∷ now) other time aged silent off calm (at, later
     )
 
 -- the last of events of one time is of that time
-last_at : (made : List Timed) (event : Timed) (now : List Timed) (time : ℕ)
+pub last_at : (made : List Timed) (event : Timed) (now : List Timed) (time : ℕ)
     → AllByRecursion (λ (t : Timed). t.at ≡ time) (event ∷ now) → last_change (made ++ event ∷ now) ≡ time
 last_at made event [] time (here, at) = last_behind made event ∙ here
 last_at made event (next ∷ now) time (here, at) =
@@ -481,14 +482,18 @@ module _ (n : NetworkState) (off : NothingLapses n.params) (time : ℕ) (made no
           (past, inl refl, Cleared since silent right old, leads, lead);
       settles = (
         Heard since,
-        inr (record {
-          calm = calm;
-          off = off;
-          gone = omega (arith, less);
-          later = omega arith;
-          unlinked = unlinked;
-          over = over;
-        }),
+        inr (
+          since,
+          refl,
+          record {
+            calm = calm;
+            off = off;
+            gone = omega (arith, less);
+            later = omega arith;
+            unlinked = unlinked;
+            over = over;
+          },
+        ),
         over,
       );
     }
@@ -527,22 +532,24 @@ module _ (n : NetworkState) (off : NothingLapses n.params) (time : ℕ) (made no
 
     -- what was in flight is gone as right traces are told
     gone_within : (gone : ℕ) → FlightIsGone n (made ++ now) gone
-        → nearer_echo_span n (made ++ now) + gone ≤ max (echo_span n (made ++ now)) gone
+        → nearer_echo_span n (made ++ now) + gone ≤ max (echo_span (pace_of n) (sync_paths n (made ++ now))) gone
     gone_within gone flight =
         nearer_within (sync_paths n (made ++ now)).systems
         (largest_interval (pace_of n) + (sync_paths n (made ++ now)).delay) gone (soon flight)
       where
-        soon : FlightIsGone n (made ++ now) gone → gone ≤ largest_interval (pace_of n) + (sync_paths n (made ++ now)).delay
+        soon : FlightIsGone n (made ++ now) gone
+            → gone ≤ largest_interval (pace_of n) + (sync_paths n (made ++ now)).delay
         soon (inl (used, delay)) = omega (arith, delay)
         soon (inr interval) = omega (arith, interval)
 
     -- the way is part of what they take
-    way_short : way_span (sync_paths n (made ++ now)) ≤ echo_span n (made ++ now)
+    way_short : way_span (sync_paths n (made ++ now)) ≤ echo_span (pace_of n) (sync_paths n (made ++ now))
     way_short = mul-le-mul_left (pred (sync_paths n (made ++ now)).systems) (omega arith)
 
     -- another such link goes down
     right_led : LowersLink n made event → others ≡ [] → (gone : ℕ) → FlightIsGone n (made ++ now) gone
-        → rest ≡ max (echo_span n (made ++ now)) gone → IsLed n made now past (suc (time + rest))
+        → rest ≡ max (echo_span (pace_of n) (sync_paths n (made ++ now))) gone
+        → IsLed n made now past (suc (time + rest))
     right_led lowers alone gone flight is =
         let one : made ++ now ≡ made ++ event ∷ [] =
         ap (λ es. made ++ es) (same ∙ ap (λ es. event ∷ es) alone) in
@@ -552,8 +559,9 @@ module _ (n : NetworkState) (off : NothingLapses n.params) (time : ℕ) (made no
         lowers.paths in
         let last : Past = Cleared x.since x.since (event.at + 1 + nearer_echo_span n (made ++ event ∷ []))
         (event.at + nearer_echo_span n (made ++ event ∷ []) + gone) in
-        let within : nearer_echo_span n (made ++ event ∷ []) + gone ≤ max (echo_span n (made ++ now)) gone =
-        subst (λ es. nearer_echo_span n es + gone ≤ max (echo_span n (made ++ now)) gone) one (gone_within gone flight) in
+        let echo = echo_span (pace_of n) (sync_paths n (made ++ now)) in
+        let within : nearer_echo_span n (made ++ event ∷ []) + gone ≤ max echo gone =
+        subst (λ es. nearer_echo_span n es + gone ≤ max echo gone) one (gone_within gone flight) in
         let before = here in
         let early = x.early in
         led x.since x.since (event.at + 1 + nearer_echo_span n (made ++ event ∷ []))
@@ -597,29 +605,35 @@ module _ (n : NetworkState) (off : NothingLapses n.params) (time : ℕ) (made no
         let x = turn_leads n made event past settled_then (record { turns = turns; calm = calm_then; off = off }) in
         let last : Past = Turned x.silent event.at in
         let before = here in
-        let over : event.at + way_span (sync_paths n (made ++ now)) ≤ suc (time + rest) =
+        let early = x.early in
+        let over : suc event.at + way_span (sync_paths n (made ++ now)) ≤ suc (time + rest) =
         omega (arith, before, is) in
         record {
           last = last;
           lead = subst (λ es. LeadOn n made past es last) (sym (same ∙ ap (λ es. event ∷ es) alone))
               (past, inl refl, last, x.leads, refl);
           settles = (
-            Heard event.at,
-            inr (record {
-              calm = calm;
-              off = off;
-              told = omega (arith, before, is);
-              later = omega arith;
-              unlinked = x.early;
-              over = over;
-            }),
+            Heard (suc event.at),
+            inr (
+              suc event.at,
+              refl,
+              record {
+                calm = calm;
+                off = off;
+                told = omega (arith, before, is);
+                later = omega arith;
+                unlinked = omega (arith, early);
+                over = over;
+              },
+            ),
             over,
           );
         }
 
     -- a system fails that others hear
     power_led : FailsHeard n made event → EachEvent (LowersUnused n) (made ++ event ∷ []) others
-        → UpIsUsed n (made ++ now) → max (echo_span n (made ++ now)) (sync_paths n (made ++ now)).delay ≤ rest
+        → UpIsUsed n (made ++ now)
+        → max (echo_span (pace_of n) (sync_paths n (made ++ now))) (sync_paths n (made ++ now)).delay ≤ rest
         → IsLed n made now past (suc (time + rest))
     power_led fails lowers used long = by others refl
       where
@@ -662,14 +676,18 @@ module _ (n : NetworkState) (off : NothingLapses n.params) (time : ℕ) (made no
               lead = lead;
               settles = (
                 Heard time,
-                inr (record {
-                  calm = calm;
-                  off = off;
-                  gone = omega (arith, within);
-                  later = omega arith;
-                  unlinked = inr used;
-                  over = over;
-                }),
+                inr (
+                  time,
+                  refl,
+                  record {
+                    calm = calm;
+                    off = off;
+                    gone = omega (arith, within);
+                    later = omega arith;
+                    unlinked = inr used;
+                    over = over;
+                  },
+                ),
                 over,
               );
             }
@@ -686,7 +704,8 @@ module _ (n : NetworkState) (off : NothingLapses n.params) (time : ℕ) (made no
               last,
               subst (λ t. EventLeads n made past event (Cleared t silent (t + 1 + nearer_echo_span n (made ++ now))
                   (t + nearer_echo_span n (made ++ now) + (sync_paths n (made ++ now)).delay))) here
-                  (subst (λ es. EventLeads n made past event (Cleared event.at silent (event.at + 1 + nearer_echo_span n es)
+                  (subst (λ es. EventLeads n made past event
+                  (Cleared event.at silent (event.at + 1 + nearer_echo_span n es)
                   (event.at + nearer_echo_span n es + (sync_paths n es).delay))) (sym one) leads),
               refl,
             ))
@@ -719,25 +738,30 @@ module _ (n : NetworkState) (off : NothingLapses n.params) (time : ℕ) (made no
       last = Aging made aged silent;
       lead = subst (λ es. LeadOn n made past es (Aging made aged silent)) (sym same)
           (heard_lead n made event others past span off calm_then settled_then fails lowers
-          (subst (λ es. AgesWithin n made (made ++ es) span) same within));
+          (subst (λ es. AgesWithin n made (made ++ es) event.at span) same
+          (subst (λ t. AgesWithin n made (made ++ now) t span) (last ∙ sym before) within)));
       settles = (
-        Heard time,
-        inr (record {
-          calm = calm;
-          off = off;
-          by = suc (time + min span b);
-          since = omega (arith, last);
-          gone = elim (dec_le span b) [
-            | yes less ↦ inl (omega (arith, before, less))
-            | no over ↦ inr (omega (arith, before, over))
-          ];
-          flight = gone;
-          is_gone = flight;
-          told = let within = gone_within gone flight in omega (arith, long, within, told_most, is);
-          later = omega (arith, last);
-          unlinked = omega (arith, before, long, silent_most);
-          over = over_way;
-        }),
+        Heard (suc (time + min span b)),
+        inr (
+          suc (time + min span b),
+          refl,
+          record {
+            calm = calm;
+            off = off;
+            by = suc (time + min span b);
+            since = omega (arith, last);
+            gone = elim (dec_le span b) [
+              | yes less ↦ inl (omega (arith, before, less))
+              | no over ↦ inr (omega (arith, before, over))
+            ];
+            flight = gone;
+            is_gone = flight;
+            told = let within = gone_within gone flight in omega (arith, long, within, told_most, is);
+            later = omega arith;
+            unlinked = omega (arith, before, long, silent_most);
+            over = over_way;
+          },
+        ),
         over_way,
       );
     }
@@ -760,7 +784,7 @@ module _ (n : NetworkState) (off : NothingLapses n.params) (time : ℕ) (made no
             ∙ last_at made event others time (subst (AllByRecursion (λ (t : Timed). t.at ≡ time)) same at)
 
         more : ℕ
-        more = held + 1 + max (echo_span n (made ++ now)) gone
+        more = held + 1 + max (echo_span (pace_of n) (sync_paths n (made ++ now))) gone
 
         silent_most : b ≤ max b more
         silent_most = le-max_left b more
@@ -768,12 +792,12 @@ module _ (n : NetworkState) (off : NothingLapses n.params) (time : ℕ) (made no
         told_most : more ≤ max b more
         told_most = le-max_right b more
 
-        over_way : time + way_span (sync_paths n (made ++ now)) ≤ suc (time + rest)
+        over_way : suc (time + min span b) + way_span (sync_paths n (made ++ now)) ≤ suc (time + rest)
         over_way =
             let way = way_short in
-            let echo = le-max_left (echo_span n (made ++ now)) gone in
+            let echo = le-max_left (echo_span (pace_of n) (sync_paths n (made ++ now))) gone in
             let most = told_most in
-            omega (arith, way, echo, most, long)
+            omega (arith, way, echo, most, long, is)
 
   lost_led : (es : List Timed) → now ≡ es
       → (CutsOneEnd n made es
@@ -783,7 +807,8 @@ module _ (n : NetworkState) (off : NothingLapses n.params) (time : ℕ) (made no
       × ((UpIsUsed n (made ++ now) × FlightIsGone n made rest)
       ⊎ ((gone : ℕ) × FlightIsGone n made gone × (rest ≡ max (silence_span (pace_of n)) gone))))
       ⊎ ((LowersOneLink n made es
-      × ((gone : ℕ) × FlightIsGone n (made ++ now) gone × (rest ≡ max (echo_span n (made ++ now)) gone)))
+      × ((gone : ℕ) × FlightIsGone n (made ++ now) gone
+      × (rest ≡ max (echo_span (pace_of n) (sync_paths n (made ++ now))) gone)))
       ⊎ ((TurnsOneLink n made es × (rest ≡ turned_echo_span n (made ++ now)))
       ⊎ (FailsHeardFirst n made es × RestsOnceTold n made now rest))))
       → IsLed n made now past (suc (time + rest))

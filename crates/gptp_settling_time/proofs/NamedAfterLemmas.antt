@@ -2,7 +2,7 @@
 use Rattle.std.proofs.Common.{◌≡◌, ◌<◌, ◌≤◌, ℕ, List, Option, refl, sym, subst, inl, inr, arith}
 use Rattle.gptp_links.specs.declared.bounds.Bounds.{Bounds}
 use Rattle.gptp_scenario.specs.Calm.{IsCalm, last_change}
-use Rattle.gptp_scenario.specs.Network.{pace_of}
+use Rattle.gptp_scenario.specs.Network.{NetworkState, pace_of}
 use Rattle.gptp_scenario.specs.SyncWait.{sync_paths}
 use Rattle.gptp_scenario.specs.declared.change.Timed.{Timed}
 use Rattle.gptp_setup.specs.SettlingParams.{SettlingParams}
@@ -20,7 +20,7 @@ use Rattle.gptp_invariants.proofs.ChoiceSeenActLemmas.{acts_seen}
 use Rattle.gptp_invariants.proofs.WorldNewsCourseLemmas.{later_keeps}
 use Rattle.gptp_theorem.specs.PlayedLaws.{IsPlayable}
 use Rattle.gptp_theorem.proofs.PlayedLemmas.{no_change}
-use Rattle.gptp_settling_time.specs.InTurn.{Aging, AnyPast, ChoosesAfter, Cleared, Fallen, Gained, Heard, IsTakenAs, Left, Past, RestsAs, Starting, Turned}
+use Rattle.gptp_settling_time.specs.InTurn.{Aging, AnyPast, ChoosesAfter, Cleared, Fallen, Gained, Heard, IsTakenAs, Left, Lost, Past, RestsFrom, Starting, Turned}
 use Rattle.gptp_settling_time.proofs.AfterLemmas.{IsAfter, after_act, after_chooses, after_keeps, after_later}
 use Rattle.gptp_settling_time.proofs.KeptToLemmas.{KeepsTo}
 use Rattle.gptp_settling_time.proofs.NamedLemmas.{IsNamedFrom, named_before, named_step}
@@ -102,29 +102,35 @@ module _ (d : DocumentState) (playable : IsPlayable d) (events : List Timed) (pa
       keeps' : KeepsTo d events t.after
       keeps' = after_keeps d events past t.after so'
 
+-- a choice that stands as what the past is taken as stands by the past itself
+chooses_as : (n : NetworkState) (events : List Timed) (past : Past) (time start stood : ℕ)
+    → RestsFrom n events past time start → ChoosesAfter n events (Heard start) stood
+    → ChoosesAfter n events past stood
+chooses_as n events AnyPast time start stood none (off, over) = absurd none
+chooses_as n events Starting time start stood none (off, over) = absurd none
+chooses_as n events (Gained since) time start stood none (off, over) = absurd none
+chooses_as n events (Heard since) time start stood none (off, over) = absurd none
+chooses_as n events (Left silent) time start stood none (off, over) = absurd none
+chooses_as n events (Turned silent now) time start stood rest (off, over) =
+    let later = rest.later in (off, omega (arith, later, over))
+chooses_as n events (Fallen silent now) time start stood none (off, over) = absurd none
+chooses_as n events (Cleared since silent right old) time start stood rest (off, over) = off
+chooses_as n events (Aging ago aged silent) time start stood rest (off, over) =
+    let later = rest.later in (
+      off,
+      elim rest.gone [
+        | inl gone ↦ inl (omega (arith, gone, later, over))
+        | inr quiet ↦ inr (inl (omega (arith, quiet, later, over)))
+      ],
+    )
+chooses_as n events (Lost since most silent) time start stood rest (off, over) =
+    let later = rest.later in (off, omega (arith, later, over))
+
 -- it is so however the past is taken
 pub named_as : (d : DocumentState) (events : List Timed) (w : WorldState) (time : ℕ) (past seen : Past)
     → IsTakenAs d.network events past time seen → NamesAfter d events past w → NamesAfter d events seen w
 named_as d events w time past seen (inl same) named = subst (λ x. NamesAfter d events x w) (sym same) named
-named_as d events w time past seen (inr rests) named = by past seen rests named
-  where
-    by : (past seen : Past) → RestsAs d.network events past time seen → NamesAfter d events past w
-        → NamesAfter d events seen w
-    by AnyPast seen none named = absurd none
-    by Starting seen none named = absurd none
-    by (Gained start) seen none named = absurd none
-    by (Heard start) seen none named = absurd none
-    by (Left silent) seen none named = absurd none
-    by (Turned silent now) seen none named = absurd none
-    by (Fallen silent now) seen none named = absurd none
-    by (Aging aged silent) seen none named = absurd none
-    by (Cleared since silent right old) AnyPast none named = absurd none
-    by (Cleared since silent right old) Starting none named = absurd none
-    by (Cleared since silent right old) (Gained start) none named = absurd none
-    by (Cleared since silent right old) (Heard start) rest named =
-        (λ stood calm few chooses later. named stood calm few chooses.0 later)
-    by (Cleared since silent right old) (Left start) none named = absurd none
-    by (Cleared since silent right old) (Turned start now) none named = absurd none
-    by (Cleared since silent right old) (Fallen start now) none named = absurd none
-    by (Cleared since silent right old) (Cleared start dark clean last) none named = absurd none
-    by (Cleared since silent right old) (Aging gone start) none named = absurd none
+named_as d events w time past seen (inr (start, same, rests)) named =
+    subst (λ x. NamesAfter d events x w) (sym same)
+    (λ stood calm few chooses later.
+    named stood calm few (chooses_as d.network events past time start stood rests chooses) later)

@@ -14,7 +14,7 @@ use Rattle.gptp_bmca_machine.specs.LinkStage.{AllFinal, FrameSaysAnnounce, IsFin
 use Rattle.gptp_bmca_machine.specs.Network.{Network}
 use Rattle.gptp_bmca_machine.specs.Reacts.{PortStep}
 use Rattle.gptp_bmca_machine.specs.Station.{Held, HoldsAt, MachineState, Mine, Port, Received, Reception, Station}
-use Rattle.gptp_bmca_machine.specs.Touch.{Disable, Enable, Grow, Hear, HeldInTouch, IsUsable, Other, Replaces, StationTouch, Tick}
+use Rattle.gptp_bmca_machine.specs.Touch.{Grow, Hear, HeldInTouch, IsUsable, Replaces, StationTouch}
 use Rattle.gptp_bmca_machine.specs.Vectors.{master, message}
 use Rattle.gptp_bmca_machine.proofs.HearingLemmas.{final_kept, final_taken, mid_on, mid_stays}
 use Rattle.gptp_bmca_machine.proofs.LinkLemmas.{is_hear}

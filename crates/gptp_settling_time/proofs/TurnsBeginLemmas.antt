@@ -233,8 +233,8 @@ module _ (p : SettlingParams) (next owner port : ℕ) (w : WorldState) (draws : 
     begins_so : (lost other : ℕ) → EndAnswers says_announce (left_network p next w') x lost other (view w) (view w')
         → IsMovedAlways p (snapshot_of w) next w.time w'
     begins_so lost other a =
-        turned_begins p w is place channel here draws w' is' told seen near next x d e best turns lost other a pace measured'
-        past way sound still_ready silent
+        turned_begins p w is place channel here draws w' is' told seen near next x d e best turns lost other a pace
+        measured' past way sound still_ready silent
 
     by_a : channel.a.clock ≡ x → (n : ℕ) → channel.a.port ≡ n → HasPortNumber told.station_a.system n
         → IsMovedAlways p (snapshot_of w) next w.time w'

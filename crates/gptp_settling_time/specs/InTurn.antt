@@ -11,9 +11,9 @@
 --   system of a path but one later. It has come to rest, as if all had been heard, once right traces have been told by
 --   distance since.
 -- - Cleared: a system was lost that was the far end of its links, so that nobody holds what names it. Or another link
---   went down that moved none, or a system that others heard lost its power, and right traces have been told by distance
---   since. When what was in flight is gone, and ports without a link aren't capable, the network has come to rest as if
---   all had been heard.
+--   went down that moved none, or a system that others heard lost its power, and right traces have been told by
+--   distance since. When what was in flight is gone, and ports without a link aren't capable, the network has come to
+--   rest as if all had been heard.
 -- - Fallen: a link went down and so cut a tree off. The network settles 1 ns and twice the greatest delay for each
 --   system of a path but one later.
 -- - Aging: a system failed that others heard. What they hold of it ages, and the choice stands once that is gone. The
@@ -48,7 +48,7 @@ use Rattle.gptp_scenario.specs.Calm.{IsCalm, IsUsed, NothingLapses, last_change}
 use Rattle.gptp_scenario.specs.Change.{link_after}
 use Rattle.gptp_scenario.specs.Network.{IsEnd, NetworkState, pace_of}
 use Rattle.gptp_scenario.specs.SettlingAtOnce.{settling_span_at_once}
-use Rattle.gptp_scenario.specs.SettlingTime.{capability_span, settling_span_with}
+use Rattle.gptp_scenario.specs.SettlingTime.{capability_span, echo_span, loss_span, settling_span_with, silence_span, way_span}
 use Rattle.gptp_scenario.specs.SyncWait.{sync_paths}
 use Rattle.gptp_scenario.specs.declared.change.Act.{Act}
 use Rattle.gptp_scenario.specs.declared.change.Act.TheVariants.{Change as Changing}
@@ -64,8 +64,7 @@ use Rattle.gptp_settling_time.specs.ChoiceAlone.{ChoiceStandsAs}
 use Rattle.gptp_settling_time.specs.Documents.{IsSettledAs}
 use Rattle.gptp_settling_time.specs.Exactly.{SettlesBy}
 use Rattle.gptp_settling_time.specs.Gains.{AreCapableAnyway, AreCapableNext, AreCapableStill, ChangesNothing, EndHasFailed, HasRested, IsDownAfter, IsNoWorse, JoinsLive, LeavesCapable, TakesNothing, UsesNoLink, exchanged_from}
-use Rattle.gptp_invariants.specs.FailedUnanswered.{silence_span}
-use Rattle.gptp_settling_time.specs.Losses.{AgesWithin, AreSilentAfter, CutsFarEnd, FailsFarEnd, FailsHeard, LeavesChoice, LosesAny, LowersLink, LowersUnused, TurnsLink, UpIsUsed, loss_span}
+use Rattle.gptp_settling_time.specs.Losses.{AgesWithin, AreSilentAfter, CutsFarEnd, FailsFarEnd, FailsHeard, LeavesChoice, LosesAny, LowersLink, LowersUnused, TurnsLink, UpIsUsed}
 use Rattle.gptp_settling_time.specs.TreeLosses.{LowersTree}
 
 -- What a network came from. The numbers are times, but for the second of a loss.
@@ -276,12 +275,6 @@ ClearsFarEnd n before event start silent right old =
     ⊎ (FailsCalm n before event × (silent ≡ suc (event.at + silence_span (pace_of n)))
     × FlightIsGoneBy n before event.at old))
 
--- An announce interval and the greatest delay for each system of a path but one: so much later who is told a right
--- trace holds it, and tells it.
-abbrev pub echo_span : NetworkState → List Timed → ℕ
-echo_span n events =
-    pred (sync_paths n events).systems * (largest_interval (pace_of n) + (sync_paths n events).delay)
-
 -- The best always tells a right trace, so that its neighbours do at once. All others do so much later.
 abbrev pub nearer_echo_span : NetworkState → List Timed → ℕ
 nearer_echo_span n events =
@@ -302,7 +295,7 @@ pub record FailsNow (n : NetworkState) (before : List Timed) (event : Timed) (ag
   pub calm : IsCalm n before
   pub off : NothingLapses n.params
   pub span : ℕ
-  pub within : AgesWithin n before (before ++ event ∷ []) span
+  pub within : AgesWithin n before (before ++ event ∷ []) event.at span
   pub gone : aged ≡ suc (event.at + span)
   pub unanswered : silent ≡ suc (event.at + silence_span (pace_of n))
 
@@ -439,8 +432,8 @@ LeadsToFallen n before (Cleared since start right old) event silent time = ⊥
 LeadsToFallen n before (Aging ago aged start) event silent time = ⊥
 LeadsToFallen n before (Lost since most start) event silent time = ⊥
 
--- A network that had settled is cleared, and one that is so stays so. One in which something ages is cleared as the last
--- link goes down of which an end has failed.
+-- A network that had settled is cleared, and one that is so stays so. One in which something ages is cleared as the
+-- last link goes down of which an end has failed.
 abbrev pub LeadsToCleared : NetworkState → List Timed → Past → Timed → ℕ → ℕ → ℕ → ℕ → Type 0
 LeadsToCleared n before AnyPast event since silent right old =
     HasSettledAnyhow n before event.at
@@ -465,7 +458,7 @@ LeadsToCleared n before (Lost start most dark) event since silent right old = �
 abbrev pub AgesSooner : NetworkState → List Timed → List Timed → ℕ → ℕ → Type 0
 AgesSooner n ago events aged silent = (failed : ℕ) × (span : ℕ)
     × (silent ≡ suc (failed + silence_span (pace_of n)))
-    × AgesWithin n ago events span
+    × AgesWithin n ago events failed span
     × (aged ≡ suc (failed + span))
 
 -- It goes on to age where a link goes down of which an end has failed.
@@ -588,23 +581,23 @@ pub record HasCleared (n : NetworkState) (events : List Timed) (since silent old
 -- delay for each system of a path but one, and then they are by distance.
 abbrev pub turned_echo_span : NetworkState → List Timed → ℕ
 turned_echo_span n events =
-    2 * (pred (sync_paths n events).systems * (sync_paths n events).delay) + echo_span n events
+    2 * way_span (sync_paths n events) + echo_span (pace_of n) (sync_paths n events)
 
--- A network in which a system turned at a time has come to rest by another, as one whose ports are capable from a start
--- on. Traces are told anew, and what was in flight is gone by then. Ports without a link aren't capable from the start
--- on. And the greatest delay has passed for each system of a path but one.
+-- A network in which a system turned at a time has come to rest by another, as one whose ports are capable from a later
+-- start on. Traces are told anew, and what was in flight is gone by then. Ports without a link aren't capable from the
+-- start on. And the greatest delay has passed since the start for each system of a path but one.
 pub record HasToldAnew (n : NetworkState) (events : List Timed) (silent turned start time : ℕ) : Type 0 where
   pub calm : IsCalm n events
   pub off : NothingLapses n.params
   pub told : turned + turned_echo_span n events < time
-  pub later : turned ≤ start
+  pub later : turned < start
   pub unlinked : silent ≤ start
   pub over : HasSettledHeard n events start time
 
--- A network in which a system failed that others heard has come to rest by a time, as one whose ports are capable from a
--- start on. What they held of it had aged by a moment, or ports without a link weren't capable. Right traces have been
--- told by distance since then, and what was in flight is gone. Ports without a link aren't capable. And the greatest
--- delay has passed since the start for each system of a path but one.
+-- A network in which a system failed that others heard has come to rest by a time, as one whose ports are capable from
+-- a start on. What they held of it had aged by a moment, no later than that start, or ports without a link weren't
+-- capable. Right traces have been told by distance since the moment, and what was in flight is gone. Ports without a
+-- link aren't capable. And the greatest delay has passed since the start for each system of a path but one.
 pub record HasAged (n : NetworkState) (events : List Timed) (aged silent start time : ℕ) : Type 0 where
   pub calm : IsCalm n events
   pub off : NothingLapses n.params
@@ -614,31 +607,32 @@ pub record HasAged (n : NetworkState) (events : List Timed) (aged silent start t
   pub flight : ℕ
   pub is_gone : FlightIsGone n events flight
   pub told : by + nearer_echo_span n events + flight < time
-  pub later : last_change events ≤ start
+  pub later : by ≤ start
   pub unlinked : silent ≤ time
   pub over : HasSettledHeard n events start time
 
--- A network that has lost at a time has come to rest by another, as one whose ports are capable from a start on: its
--- choice stands. Ports without a link aren't capable then, or no link is up that isn't in use. And the greatest delay
--- has passed since the start for each system of a path but one.
+-- A network that has lost at a time has come to rest by another, as one whose ports are capable from a start on. The
+-- greatest delay has passed since the start for each system of a path but one, and by then the choice stands. Ports
+-- without a link aren't capable by the other time, or no link is up that isn't in use.
 pub record HasToldAll (n : NetworkState) (events : List Timed) (since most silent start time : ℕ) : Type 0 where
   pub off : NothingLapses n.params
-  pub told : suc (since + loss_span (pace_of n) (sync_paths n events) most) ≤ time
-  pub later : since ≤ start
+  pub later : since + loss_span (pace_of n) (sync_paths n events) most < start + way_span (sync_paths n events)
   pub unlinked : (silent ≤ time) ⊎ UpIsUsed n events
   pub over : HasSettledHeard n events start time
 
--- then it is as if all had been heard from that start on
-abbrev pub RestsAs : NetworkState → List Timed → Past → ℕ → Past → Type 0
-RestsAs n events (Turned silent turned) time (Heard start) = HasToldAnew n events silent turned start time
-RestsAs n events (Cleared since silent right old) time (Heard start) = HasCleared n events since silent old start time
-RestsAs n events (Aging ago aged silent) time (Heard start) = HasAged n events aged silent start time
-RestsAs n events (Lost since most silent) time (Heard start) = HasToldAll n events since most silent start time
-RestsAs n events past time seen = ⊥
+-- by this time it has come to rest, as one whose ports are capable from this start on
+abbrev pub RestsFrom : NetworkState → List Timed → Past → ℕ → ℕ → Type 0
+RestsFrom n events (Turned silent turned) time start = HasToldAnew n events silent turned start time
+RestsFrom n events (Cleared since silent right old) time start = HasCleared n events since silent old start time
+RestsFrom n events (Aging ago aged silent) time start = HasAged n events aged silent start time
+RestsFrom n events (Lost since most silent) time start = HasToldAll n events since most silent start time
+RestsFrom n events past time start = ⊥
 
--- what the network is taken to come from as an event comes at this time
+-- What the network is taken to come from as an event comes at this time: what it came from, or, once it has come to
+-- rest, it is as if all had been heard.
 abbrev pub IsTakenAs : NetworkState → List Timed → Past → ℕ → Past → Type 0
-IsTakenAs n events past time seen = (seen ≡ past) ⊎ RestsAs n events past time seen
+IsTakenAs n events past time seen =
+    (seen ≡ past) ⊎ ((start : ℕ) × (seen ≡ Heard start) × RestsFrom n events past time start)
 
 -- each event leads from one to the next
 abbrev pub LeadOn : NetworkState → List Timed → Past → List Timed → Past → Type 0
@@ -681,13 +675,14 @@ SettlesAfter n events (Heard start) settled =
 SettlesAfter n events (Left silent) settled = NothingLapses n.params × ((silent ≤ settled) ⊎ UpIsUsed n events)
 SettlesAfter n events (Turned silent time) settled =
     NothingLapses n.params
-    × (time + 1 + pred (sync_paths n events).systems * (sync_paths n events).delay ≤ settled)
+    × (time + 1 + way_span (sync_paths n events) ≤ settled)
 SettlesAfter n events (Fallen silent time) settled =
     NothingLapses n.params
-    × (time + 1 + 2 * (pred (sync_paths n events).systems * (sync_paths n events).delay) ≤ settled)
+    × (time + 1 + 2 * way_span (sync_paths n events) ≤ settled)
 SettlesAfter n events (Cleared since silent right old) settled = NothingLapses n.params ×
     ((silent ≤ settled) ⊎ UpIsUsed n events)
-SettlesAfter n events (Aging ago aged silent) settled = NothingLapses n.params × ((silent ≤ settled) ⊎ UpIsUsed n events)
+SettlesAfter n events (Aging ago aged silent) settled =
+    NothingLapses n.params × ((silent ≤ settled) ⊎ UpIsUsed n events)
 SettlesAfter n events (Lost since most silent) settled =
     NothingLapses n.params
     × (suc (since + loss_span (pace_of n) (sync_paths n events) most) ≤ settled)
