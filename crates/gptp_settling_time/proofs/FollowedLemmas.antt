@@ -22,7 +22,8 @@ use Rattle.gptp_settling_time.proofs.CutLemmas.{IsBy, all_by}
 use Rattle.gptp_settling_time.proofs.MomentLemmas.{all_at, last_by, parted}
 use Rattle.gptp_settling_time.proofs.LeadOnLemmas.{HasRested, HasSettled, IsLed, after_idle, any_leads, gains_led, heard_led, idle_led, lead_as, leads_on, led_as, next, rested_so, settled_later, taken_later, wider_led}
 use Rattle.gptp_settling_time.proofs.LosesLeadLemmas.{LosesBy, any_rests, loses_by}
-use Rattle.gptp_settling_time.proofs.LossLeadLemmas.{IsLeftBy, cleared_led, dead_lead, fall_leads, heard_lead, loss_leads, settles_chooses, turn_leads}
+use Rattle.gptp_settling_time.proofs.LossLeadLemmas.{IsLeftBy, cleared_led, dead_lead, fall_leads, heard_lead, last_at, loss_leads, settles_chooses, turn_leads}
+use Rattle.gptp_settling_time.proofs.SilentSpanLemmas.{none_silent}
 
 -- ---- a document
 
@@ -341,7 +342,7 @@ module _ (d : DocumentState) (network : IsNetwork d.network) (order : AreInOrder
 
         -- by the first a system fails that others hear, and what they hold of it ages on
         aging : (span : ℕ) → FailsHeard n earlier event → EachEvent (LowersUnused n) (earlier ++ event ∷ []) now
-            → AgesWithin n earlier (earlier ++ event ∷ now) span
+            → AgesWithin n earlier (earlier ++ event ∷ now) event.at span
             → LeadOn n [] before.first (events_by time d.events)
             (Aging earlier (suc (event.at + span)) (suc (event.at + silence_span (pace_of n))))
         aging span fails others within =
@@ -362,7 +363,7 @@ module _ (d : DocumentState) (network : IsNetwork d.network) (order : AreInOrder
               first = before.first;
               begins = before.begins;
               last = Aging earlier (suc (event.at + 0)) (suc (event.at + silence_span (pace_of n)));
-              lead = aging 0 fails others (λ place v there (was, up, unused). absurd (unused (used place v there up)));
+              lead = aging 0 fails others (none_silent n earlier (earlier ++ event ∷ now) event.at 0 used);
               calm = calm;
               settles = λ settled late. (off, inr used_so);
               chooses = λ settled late. (off, inr (inr used_so));
@@ -371,7 +372,9 @@ module _ (d : DocumentState) (network : IsNetwork d.network) (order : AreInOrder
           first = before.first;
           begins = before.begins;
           last = Aging earlier (suc (event.at + span)) (suc (event.at + silence_span (pace_of n)));
-          lead = aging span fails others within;
+          lead = aging span fails others (subst (λ t. AgesWithin n earlier (earlier ++ event ∷ now) t span)
+              (last_at earlier event now time
+              (subst (AllByRecursion (λ (t : Timed). t.at ≡ time)) is (all_at time d.events)) ∙ sym here) within);
           calm = calm;
           settles = λ settled late. (off, inl (omega (arith, here, is_roles, late, quiet_less)));
           chooses = λ settled late. (

@@ -143,6 +143,7 @@ pub mod NamedWorldLemmas
 pub mod AgingDownLemmas
 pub mod AgingToLemmas
 pub mod FailedHeardLemmas
+pub mod HoldSpanLemmas
 pub mod SilentLinksLemmas
 pub mod UpPortsLemmas
 pub mod SilentDownLemmas

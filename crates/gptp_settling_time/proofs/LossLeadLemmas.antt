@@ -216,7 +216,7 @@ aging_lead n ago made (event ∷ now) other gone aged silent off calm (lowers, o
 -- of the events.
 pub heard_lead : (n : NetworkState) (made : List Timed) (event : Timed) (now : List Timed) (past : Past) (span : ℕ)
     → NothingLapses n.params → IsCalm n made → HasSettled n made past event.at → FailsHeard n made event
-    → EachEvent (LowersUnused n) (made ++ event ∷ []) now → AgesWithin n made (made ++ event ∷ now) span
+    → EachEvent (LowersUnused n) (made ++ event ∷ []) now → AgesWithin n made (made ++ event ∷ now) event.at span
     → LeadOn n made past (event ∷ now)
     (Aging made (suc (event.at + span)) (suc (event.at + silence_span (pace_of n))))
 heard_lead n made event [] past span off calm settled fails lowers within =
@@ -258,7 +258,8 @@ heard_lead n made event (other ∷ now) past span off calm settled fails lowers 
             event.at,
             span,
             refl,
-            subst (λ es. AgesWithin n made es span) (sym (append_assoc made (event ∷ []) (other ∷ now))) within,
+            subst (λ es. AgesWithin n made es event.at span) (sym (append_assoc made (event ∷ []) (other ∷ now)))
+                within,
             refl,
           ),
     )
@@ -444,7 +445,7 @@ power_lead n ago made (event ∷ now) other time aged silent off calm (at, later
     )
 
 -- the last of events of one time is of that time
-last_at : (made : List Timed) (event : Timed) (now : List Timed) (time : ℕ)
+pub last_at : (made : List Timed) (event : Timed) (now : List Timed) (time : ℕ)
     → AllByRecursion (λ (t : Timed). t.at ≡ time) (event ∷ now) → last_change (made ++ event ∷ now) ≡ time
 last_at made event [] time (here, at) = last_behind made event ∙ here
 last_at made event (next ∷ now) time (here, at) =
@@ -737,7 +738,8 @@ module _ (n : NetworkState) (off : NothingLapses n.params) (time : ℕ) (made no
       last = Aging made aged silent;
       lead = subst (λ es. LeadOn n made past es (Aging made aged silent)) (sym same)
           (heard_lead n made event others past span off calm_then settled_then fails lowers
-          (subst (λ es. AgesWithin n made (made ++ es) span) same within));
+          (subst (λ es. AgesWithin n made (made ++ es) event.at span) same
+          (subst (λ t. AgesWithin n made (made ++ now) t span) (last ∙ sym before) within)));
       settles = (
         Heard (suc (time + min span b)),
         inr (

@@ -36,7 +36,7 @@ use Rattle.std.specs.Prelude.{◌≡◌, ◌<◌, ◌≤◌, ◌⊎◌, ◌+◌,
 use Rattle.gptp_lists.specs.Members.{In}
 use Rattle.gptp_setup.specs.Intervals.{interval_of}
 use Rattle.gptp_setup.specs.SettlingParams.{SettlingParams, largest_interval}
-use Rattle.gptp_scenario.specs.Calm.{IsCalm, IsLive, NothingLapses}
+use Rattle.gptp_scenario.specs.Calm.{IsCalm, IsLive, NothingLapses, last_change}
 use Rattle.gptp_scenario.specs.Network.{NetworkState, pace_of}
 use Rattle.gptp_scenario.specs.SettlingAtOnce.{settling_span_at_once}
 use Rattle.gptp_scenario.specs.SettlingTime.{echo_span, loss_span, settling_span_with, silence_span, way_span}
@@ -240,7 +240,7 @@ FailsHeardFirst n made (event ∷ events) =
 
 -- What others hold of it has aged so much later, or no port beside it is capable, whichever is sooner.
 abbrev pub HeldFor : NetworkState → List Timed → List Timed → ℕ → Type 0
-HeldFor n made now held = (span : ℕ) × AgesWithin n made (made ++ now) span
+HeldFor n made now held = (span : ℕ) × AgesWithin n made (made ++ now) (last_change (made ++ now)) span
     × (held ≡ min span (silence_span (pace_of n)))
 
 -- How soon the choice and the roles stand after them: at once where each link that is up is in use. Else the choice

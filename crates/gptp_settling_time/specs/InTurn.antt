@@ -295,7 +295,7 @@ pub record FailsNow (n : NetworkState) (before : List Timed) (event : Timed) (ag
   pub calm : IsCalm n before
   pub off : NothingLapses n.params
   pub span : ℕ
-  pub within : AgesWithin n before (before ++ event ∷ []) span
+  pub within : AgesWithin n before (before ++ event ∷ []) event.at span
   pub gone : aged ≡ suc (event.at + span)
   pub unanswered : silent ≡ suc (event.at + silence_span (pace_of n))
 
@@ -458,7 +458,7 @@ LeadsToCleared n before (Lost start most dark) event since silent right old = �
 abbrev pub AgesSooner : NetworkState → List Timed → List Timed → ℕ → ℕ → Type 0
 AgesSooner n ago events aged silent = (failed : ℕ) × (span : ℕ)
     × (silent ≡ suc (failed + silence_span (pace_of n)))
-    × AgesWithin n ago events span
+    × AgesWithin n ago events failed span
     × (aged ≡ suc (failed + span))
 
 -- It goes on to age where a link goes down of which an end has failed.
