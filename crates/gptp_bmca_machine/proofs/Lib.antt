@@ -30,6 +30,7 @@ pub mod LinkEndsLemmas
 pub mod TimedLinkLemmas
 pub mod ToldLemmas
 pub mod CutTreeLemmas
+pub mod TurnTreeLemmas
 pub mod MovedTreeLemmas
 pub mod FallLemmas
 pub mod FallStepLemmas
