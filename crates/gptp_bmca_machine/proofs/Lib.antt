@@ -30,6 +30,8 @@ pub mod LinkEndsLemmas
 pub mod TimedLinkLemmas
 pub mod ToldLemmas
 pub mod CutTreeLemmas
+pub mod TurnTreeLemmas
+pub mod MovedTreeLemmas
 pub mod FallLemmas
 pub mod FallStepLemmas
 pub mod FallLeaveLemmas
