@@ -1,10 +1,10 @@
 -- A link of a network at rest goes down, which cuts a tree off: its top answers, and the tree begins to fall back.
-use Rattle.std.proofs.Common.{◌≡◌, ◌≢◌, ◌<◌, ◌≤◌, ◌+◌, ℕ, suc, true, false, Some, slice_get, refl, sym, ap, subst, ◌∙◌, inl, inr, arith}
+use Rattle.std.proofs.Common.{◌≡◌, ◌≢◌, ◌⊎◌, ◌<◌, ◌≤◌, ◌+◌, ℕ, suc, true, false, Some, slice_get, refl, sym, ap, subst, ◌∙◌, inl, inr, arith}
 use Rattle.gptp_lists.specs.Members.{In}
 use Rattle.gptp_graph.specs.Best.{IsBest}
-use Rattle.gptp_graph.specs.Snapshot.{Joins, PortIdentity, Snapshot, System}
+use Rattle.gptp_graph.specs.Snapshot.{Joins, PortIdentity, Snapshot, System, port_of}
 use Rattle.gptp_graph.proofs.ExistenceLemmas.{best_exists}
-use Rattle.gptp_graph.proofs.LinkLemmas.{Joins-clock}
+use Rattle.gptp_graph.proofs.LinkLemmas.{Joins-clock, Joins-sym}
 use Rattle.gptp_bmca_machine.specs.Acts.{LaneStep}
 use Rattle.gptp_bmca_machine.specs.Calm.{Calm}
 use Rattle.gptp_bmca_machine.specs.Clean.{Whole}
@@ -19,13 +19,27 @@ use Rattle.gptp_bmca_machine.specs.SoundLaws.{UnlinkedAreOff}
 use Rattle.gptp_bmca_machine.specs.Station.{MachineState, Station}
 use Rattle.gptp_bmca_machine.specs.Touch.{Disable, Hear}
 use Rattle.gptp_bmca_machine.proofs.FallBeginLemmas.{falling_begins, settles_begin}
+use Rattle.gptp_bmca_machine.proofs.CutTreeLemmas.{IsCutOff, LeadsNowhere, cut_whole, moves_tree}
 use Rattle.gptp_bmca_machine.proofs.FallEndLemmas.{FallsBack}
 use Rattle.gptp_bmca_machine.proofs.FallLeaveLemmas.{TreeAnswers}
 use Rattle.gptp_bmca_machine.proofs.FallLemmas.{IsAftermath}
 use Rattle.gptp_bmca_machine.proofs.FallLevelLemmas.{TreeSettles}
+use Rattle.gptp_bmca_machine.proofs.MovedTreeLemmas.{Around}
 use Rattle.gptp_bmca_machine.proofs.LinkStepLemmas.{lives_at}
 use Rattle.gptp_bmca_machine.proofs.PlaceLemmas.{same_there}
 use Rattle.gptp_settling_time.proofs.EndAnswersLemmas.{EndAnswers, fits', levels'}
+
+-- a tree that is cut off falls back
+module _ (says : Spelling) (g : Snapshot) (n : Network) (top : ℕ) (best next : System) (base : ℕ) (depth : ℕ → ℕ)
+    (t : CutsTree g n top best next base depth) (start : ℕ) where
+  abbrev pub FallsOff : MachineState → Type 0
+  FallsOff = FallsBack says g n (IsCutOff n next) LeadsNowhere top best next base depth
+      (moves_tree g n top best next base depth t) start
+
+  -- and settles
+  abbrev pub OffSettles : (ℕ → ℕ) → MachineState → Type 0
+  OffSettles = TreeSettles says g n (IsCutOff n next) LeadsNowhere top best next base depth
+      (moves_tree g n top best next base depth t) start
 
 -- what is in flight names the best of its sender
 abbrev pub FlightNames : Spelling → Snapshot → MachineState → Type 0
@@ -55,6 +69,24 @@ module _ (says : Spelling) (n0 n : Network) (top : ℕ) (best next : System) (ba
         | inr whole ↦ whole
       ]
 
+  -- what comes up the tree is of what is left, or names whoever hears it
+  came0 : (v p u q : ℕ) (l : Lane) (f : AnnounceFrame) (c : Announce) → IsBest n.graph v next → IsBest n.graph u next
+      → Joins n.graph (port_of v (suc p)) (port_of u (suc q)) → depth v ≡ suc (depth u)
+      → slice_get w.lanes (n.lane (port_of v (suc p))) ≡ Some l → In f l.frames → says f.octets c
+      → Whole n.graph v c ⊎ In u c.path
+  came0 v p u q l f c in_v in_u joins higher at among said =
+      let before = t.left.links (port_of v (suc p)) (port_of u (suc q)) joins in
+      let has = calm0.lanes (port_of v (suc p)) (port_of u (suc q)) before in
+      let one = same_there w.lanes (n.lane (port_of v (suc p))) has.lane l
+      (subst (λ i. slice_get w.lanes i ≡ Some has.lane) (sym (same.lane (port_of v (suc p)))) has.there) at in
+      let from = sym has.from ∙ ap (λ (k : Lane). k.from) one in
+      let to = sym has.to ∙ ap (λ (k : Lane). k.to) one in
+      cut_whole g n top best next base depth t v u c in_v in_u
+      (suc q, suc p, Joins-sym n.graph (port_of v (suc p)) (port_of u (suc q)) joins) higher
+      (subst (λ (k : PortIdentity). Whole g k.clock c) (sym from)
+      (whole0 (n.lane (port_of v (suc p))) l f c at among said
+      (subst (λ k. Joins g k l.to) from (subst (Joins g (port_of v (suc p))) to before))))
+
   -- it hears nothing
   not_heard : (i : ℕ) (c : Announce) → Disable (suc lost) ≡ Hear (suc i) c → ⊥
   not_heard i c touched = absurd cc
@@ -79,7 +111,7 @@ module _ (says : Spelling) (n0 n : Network) (top : ℕ) (best next : System) (ba
       (subst (λ i. slice_get w'.stations i ≡ Some m) same_place at) a.there in
       apart (sym clock ∙ ap (λ (z : Station). z.clock) one ∙ clock_top)
 
-  abbrev answers : TreeAnswers says n next top w w'
+  abbrev answers : TreeAnswers says n (Around (IsCutOff n next) LeadsNowhere) top w w'
   answers = record {
     touch = Disable (suc lost);
     s = a.s;
@@ -89,7 +121,10 @@ module _ (says : Spelling) (n0 n : Network) (top : ℕ) (best next : System) (ba
     here = a.here;
     there = a.there;
     reacts = a.reacts;
-    others = λ c m in_c apart at. a.stood (n.place c) m at (place_apart c m in_c apart at) (outside c m in_c at);
+    others = λ c m known around apart at. elim around [
+      | inl in_c ↦ a.stood (n.place c) m at (place_apart c m in_c apart at) (outside c m in_c at)
+      | inr (v, none) ↦ absurd none
+    ];
     lanes = λ p q l' joins apart at. lanes_then p q l' joins at;
     heard = λ i c touched. absurd (not_heard i c touched);
   }
@@ -101,17 +136,19 @@ module _ (says : Spelling) (n0 n : Network) (top : ℕ) (best next : System) (ba
     dark = dark';
   }
 
-  pub tree_falls : FallsBack says g n top best next base depth t w.time w'
+  pub tree_falls : FallsOff says g n top best next base depth t w.time w'
   tree_falls = record {
     after = after;
     still = levels' says n0 n top t.well t.left moved_top net0 w calm0 invariant0 late0 sound0 same w' lost other a
         kept';
-    falling = falling_begins says n0 n top best next base depth t net0 w calm0 invariant0 late0 whole0 same w' in_top
-        answers lost refl lanes_then after;
+    falling = falling_begins says n0 n (IsCutOff n next) LeadsNowhere top best next base depth
+        (moves_tree g n top best next base depth t) net0 w calm0 invariant0 late0 came0 same w' in_top answers lost refl
+        lanes_then after (λ v p u q none joins. absurd none);
   }
 
-  pub tree_settles : (last : ℕ) (before : ℕ → ℕ) (room : (f : ℕ) → last + n.most < before f) → w'.time ≤ last
-      → TreeSettles says g n top best next base depth t w.time last before room w'
-  tree_settles last before room late =
-      settles_begin says n0 n top best next base depth t net0 w calm0 invariant0 late0 whole0 same w' in_top answers
-      lost refl lanes_then after last before room late
+  pub tree_settles : (before : ℕ → ℕ) → ((f : ℕ) → w'.time + n.most < before f)
+      → OffSettles says g n top best next base depth t w.time before w'
+  tree_settles before room =
+      settles_begin says n0 n (IsCutOff n next) LeadsNowhere top best next base depth
+      (moves_tree g n top best next base depth t) net0 w calm0 invariant0 late0 came0 same w' in_top answers lost refl
+      lanes_then after (λ v p u q none joins. absurd none) before room
