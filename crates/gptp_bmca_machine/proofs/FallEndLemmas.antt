@@ -80,7 +80,7 @@ module _ (says : Spelling) (g : Snapshot) (n : Network) (top : ℕ) (best next :
   abbrev m : MovesTree g n (IsCutOff n next) LeadsNowhere top best next base depth
   m = moves_tree g n top best next base depth t
 
-  abbrev FallsOff : MachineState → Type 0
+  abbrev pub FallsOff : MachineState → Type 0
   FallsOff w = FallsBack says g n (IsCutOff n next) LeadsNowhere top best next base depth m start w
 
   -- ---- systems that aren't of the tree

@@ -31,6 +31,7 @@ use Rattle.gptp_bmca_machine.specs.RestLaws.{SameWiring}
 use Rattle.gptp_bmca_machine.specs.SoundEverywhere.{IsSoundEverywhere}
 use Rattle.gptp_bmca_machine.specs.SoundLaws.{AllAreNear, UnlinkedAreOff}
 use Rattle.gptp_bmca_machine.specs.Station.{Station as SeenStation}
+use Rattle.gptp_bmca_machine.proofs.FallEndLemmas.{FallsOff}
 use Rattle.gptp_bmca_machine.proofs.LinkStepLemmas.{lives_at}
 use Rattle.gptp_bmca_machine.proofs.PlaceLemmas.{same_there as machine_there}
 use Rattle.gptp_invariants.specs.ChoiceCalm.{HaveQuietLinks, delay_in}
@@ -51,7 +52,7 @@ use Rattle.gptp_settling_time.proofs.CutDeepLemmas.{deep_within}
 use Rattle.gptp_settling_time.proofs.DueLemmas.{AreDueBy, due_by_interval, in_use_joins}
 use Rattle.gptp_settling_time.proofs.EndAnswersLemmas.{EndAnswers}
 use Rattle.gptp_settling_time.proofs.FallAlwaysLemmas.{IsFallenAlways, IsGoneBy, fallen_by, falls_within, settles_by, settles_later}
-use Rattle.gptp_settling_time.proofs.FallDownLemmas.{FallsOff, FlightNames, OffSettles, tree_falls, tree_settles}
+use Rattle.gptp_settling_time.proofs.FallDownLemmas.{FlightNames, OffSettles, tree_falls, tree_settles}
 use Rattle.gptp_settling_time.proofs.LeftClaimedLemmas.{HaveAskedLong, left_network}
 use Rattle.gptp_settling_time.proofs.LoweredLemmas.{ends, known, less_then, ready_on, still_joins, wires}
 use Rattle.gptp_settling_time.proofs.MovedAlwaysLemmas.{after_loss, dark_now}
@@ -167,7 +168,7 @@ module _ (p : SettlingParams) (w : WorldState) (is : IsWorld p w) (place : ℕ) 
     sound_begins quiet' off old gone fits =
         subst (λ h. (t : CutsTree h n top best next base depth) → HasAllButLink h n.graph top peer
         → (Unmoved h n top → ⊥) → IsSoundEverywhere says_announce h (view w)
-        → FallsBack says_announce h n top best next base depth t w.time (view w')
+        → FallsOff says_announce h n top best next base depth t w.time (view w')
         → IsSoundOutside says_announce n.graph next old (view w')) seen.graph
         (λ t has0 moved sound0 back.
         outside_begins says_announce seen.n n top peer best next base depth t has0 in_top peer_out moved seen.net (view

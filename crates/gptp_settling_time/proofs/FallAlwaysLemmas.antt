@@ -24,7 +24,7 @@ use Rattle.gptp_bmca_machine.specs.LossLaws.{IsAfterLoss}
 use Rattle.gptp_bmca_machine.specs.Network.{IsSettlingNetwork, Network, settled_from, since}
 use Rattle.gptp_bmca_machine.specs.SoundLaws.{UnlinkedAreOff}
 use Rattle.gptp_bmca_machine.proofs.CutTreeLemmas.{IsCutOff, LeadsNowhere, moves_tree}
-use Rattle.gptp_bmca_machine.proofs.FallEndLemmas.{fallen_back, falls_on, received_then}
+use Rattle.gptp_bmca_machine.proofs.FallEndLemmas.{FallsOff, fallen_back, falls_on, received_then}
 use Rattle.gptp_bmca_machine.proofs.FallLemmas.{falls_by}
 use Rattle.gptp_bmca_machine.proofs.FallLevelLemmas.{tree_settles_on}
 use Rattle.gptp_bmca_machine.proofs.LevelLemmas.{invariant_kept, no_early_ports}
@@ -50,7 +50,7 @@ use Rattle.gptp_invariants.proofs.WorldOutlineLemmas.{acts_time}
 use Rattle.gptp_invariants.proofs.WorldStandsLemmas.{stands_well}
 use Rattle.gptp_settling_time.proofs.AlwaysClaimedLemmas.{IsStanding, calm_timed}
 use Rattle.gptp_settling_time.proofs.DueLemmas.{UpIsInUse, use_kept}
-use Rattle.gptp_settling_time.proofs.FallDownLemmas.{FallsOff, OffSettles}
+use Rattle.gptp_settling_time.proofs.FallDownLemmas.{OffSettles}
 use Rattle.gptp_settling_time.proofs.LeftClaimedLemmas.{HaveAskedBy, HaveAskedLong, asked_acts, asked_later, asked_ready, left_network, same_left, standing_acts, standing_later}
 use Rattle.gptp_settling_time.proofs.MovedAlwaysLemmas.{after_loss, calm_now, dark_now}
 use Rattle.gptp_settling_time.proofs.NewsMeasuredLemmas.{ready_measures}

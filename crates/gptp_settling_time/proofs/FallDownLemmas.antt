@@ -20,7 +20,7 @@ use Rattle.gptp_bmca_machine.specs.Station.{MachineState, Station}
 use Rattle.gptp_bmca_machine.specs.Touch.{Disable, Hear}
 use Rattle.gptp_bmca_machine.proofs.FallBeginLemmas.{falling_begins, settles_begin}
 use Rattle.gptp_bmca_machine.proofs.CutTreeLemmas.{IsCutOff, LeadsNowhere, cut_whole, moves_tree}
-use Rattle.gptp_bmca_machine.proofs.FallEndLemmas.{FallsBack}
+use Rattle.gptp_bmca_machine.proofs.FallEndLemmas.{FallsOff}
 use Rattle.gptp_bmca_machine.proofs.FallLeaveLemmas.{TreeAnswers}
 use Rattle.gptp_bmca_machine.proofs.FallLemmas.{IsAftermath}
 use Rattle.gptp_bmca_machine.proofs.FallLevelLemmas.{TreeSettles}
@@ -29,14 +29,9 @@ use Rattle.gptp_bmca_machine.proofs.LinkStepLemmas.{lives_at}
 use Rattle.gptp_bmca_machine.proofs.PlaceLemmas.{same_there}
 use Rattle.gptp_settling_time.proofs.EndAnswersLemmas.{EndAnswers, fits', levels'}
 
--- a tree that is cut off falls back
+-- each link of a tree that is cut off, and leads farther from its best, is at a stage
 module _ (says : Spelling) (g : Snapshot) (n : Network) (top : ℕ) (best next : System) (base : ℕ) (depth : ℕ → ℕ)
     (t : CutsTree g n top best next base depth) (start : ℕ) where
-  abbrev pub FallsOff : MachineState → Type 0
-  FallsOff = FallsBack says g n (IsCutOff n next) LeadsNowhere top best next base depth
-      (moves_tree g n top best next base depth t) start
-
-  -- and settles
   abbrev pub OffSettles : (ℕ → ℕ) → MachineState → Type 0
   OffSettles = TreeSettles says g n (IsCutOff n next) LeadsNowhere top best next base depth
       (moves_tree g n top best next base depth t) start

@@ -17,7 +17,7 @@ use Rattle.gptp_bmca_machine.specs.RestLaws.{SameWiring}
 use Rattle.gptp_bmca_machine.specs.SoundEverywhere.{IsSoundEverywhere, IsSoundSent, StationIsSound}
 use Rattle.gptp_bmca_machine.specs.Station.{Disabled, MachineState, Received, Station}
 use Rattle.gptp_bmca_machine.proofs.CutTreeLemmas.{beside, tree_dec}
-use Rattle.gptp_bmca_machine.proofs.FallEndLemmas.{FallsBack}
+use Rattle.gptp_bmca_machine.proofs.FallEndLemmas.{FallsOff}
 use Rattle.gptp_bmca_machine.proofs.FallLemmas.{falls_by}
 use Rattle.gptp_settling_time.proofs.EndAnswersLemmas.{EndAnswers, HeldBefore, flew, held_before}
 use Rattle.gptp_settling_time.proofs.TreeSoundLemmas.{IsOldInTree, IsSoundOutside, LanesBeginApart, linked_at, tells_outside}
@@ -30,7 +30,7 @@ module _ (says : Spelling) (n0 n : Network) (top other : ℕ) (best next : Syste
     (invariant0 : Invariant says n0 w) (late0 : settled_from n0 ≤ w.time)
     (sound0 : IsSoundEverywhere says n0.graph w) (same : SameWiring n0 n) (w' : MachineState) (lost place : ℕ)
     (a : EndAnswers says n top lost place w w') (start : ℕ)
-    (b' : FallsBack says n0.graph n top best next base depth t start w') (apart' : LanesBeginApart w') (old : ℕ)
+    (b' : FallsOff says n0.graph n top best next base depth t start w') (apart' : LanesBeginApart w') (old : ℕ)
     (deep : (v : ℕ) → IsBest n.graph v next → falls_by n start (depth v) + n.most ≤ old)
     (due : (j : ℕ) (l : Lane) (f : AnnounceFrame) (c : Announce) → slice_get w'.lanes j ≡ Some l → In f l.frames
     → says f.octets c → f.due ≤ old) where

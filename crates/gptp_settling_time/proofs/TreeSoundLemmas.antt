@@ -1,7 +1,6 @@
 -- A tree that is cut off falls back. What others hold stays sound, and so does what is in flight, but for what the tree
 -- told before it dropped the best of before. Once that is gone all is sound.
 use Rattle.std.proofs.Common.{◌≡◌, ◌⊎◌, ◌<◌, ◌≤◌, ◌+◌, ℕ, suc, true, List, Some, slice_get, refl, sym, ap, subst, ◌∙◌, inl, inr, arith}
-use native.Mathlib.Decide.{ℕ_discrete}
 use Rattle.gptp_lists.specs.Members.{In}
 use Rattle.gptp_lists.proofs.SystemSpecLemmas.{In-parts}
 use Rattle.gptp_graph.specs.Best.{IsBest}
@@ -20,9 +19,10 @@ use Rattle.gptp_bmca_machine.specs.Reacts.{IsMasterAt, IsOwn}
 use Rattle.gptp_bmca_machine.specs.SoundEverywhere.{IsSoundEverywhere, IsSoundSent, StationIsSound}
 use Rattle.gptp_bmca_machine.specs.Station.{Disabled, HoldsAt, MachineState, Mine, Port, Received, Reception, Station}
 use Rattle.gptp_bmca_machine.specs.Touch.{Hear, StationTouch}
-use Rattle.gptp_bmca_machine.proofs.CutTreeLemmas.{beside, tree_dec}
-use Rattle.gptp_bmca_machine.proofs.FallEndLemmas.{FallsBack}
-use Rattle.gptp_bmca_machine.proofs.FallLemmas.{HeldInTree, falls_by, free_holds, holds_in_tree, old_in_time, says_whole}
+use Rattle.gptp_bmca_machine.proofs.CutTreeLemmas.{IsCutOff, LeadsNowhere, beside, moves_tree, tree_dec}
+use Rattle.gptp_bmca_machine.proofs.FallEndLemmas.{FallsOff}
+use Rattle.gptp_bmca_machine.proofs.FallLemmas.{HasChoice, HeldInTree, choice_dec, falls_by, free_holds, holds_in_tree, old_in_time, says_whole}
+use Rattle.gptp_bmca_machine.proofs.MovedTreeLemmas.{MovesTree}
 use Rattle.gptp_bmca_machine.proofs.PlaceLemmas.{same_there}
 use Rattle.gptp_bmca_machine.proofs.ReactsLemmas.{JustHeard, held_from}
 use Rattle.gptp_bmca_machine.proofs.SoundEverywhereLemmas.{may_say}
@@ -50,7 +50,10 @@ pub record IsSoundOutside (says : Spelling) (g : Snapshot) (next : System) (old 
 module _ (says : Spelling) (g : Snapshot) (n : Network) (top : ℕ) (best next : System) (base : ℕ) (depth : ℕ → ℕ)
     (t : CutsTree g n top best next base depth) (start : ℕ) where
   abbrev IsFallingBack : MachineState → Type 0
-  IsFallingBack = FallsBack says g n top best next base depth t start
+  IsFallingBack = FallsOff says g n top best next base depth t start
+
+  abbrev m : MovesTree g n (IsCutOff n next) LeadsNowhere top best next base depth
+  m = moves_tree g n top best next base depth t
 
   -- ---- what is told
 
@@ -113,18 +116,19 @@ module _ (says : Spelling) (g : Snapshot) (n : Network) (top : ℕ) (best next :
       by_tree (no out) =
           inl (sent (says_sound n.graph s port a t.well
           (may_say (network_setting n) w.time s (calm.facts.stations i s at live)) (held out) own))
-      by_tree (yes in_s) = elim (ℕ_discrete s.root best.identity) [
+      by_tree (yes in_s) = elim (choice_dec s best (base + depth s.clock)) [
         | no not ↦ inl (sent (record {
           sender = known_at;
           source = own.source;
-          sound = inr (says_whole says g n top best next base depth t start w b.after s.clock in_s s there
-              (holds_in_tree says g n top best next base depth t start w b.after b.falling s.clock in_s) not port a
+          sound = inr (says_whole says g n (IsCutOff n next) LeadsNowhere top best next base depth m start w b.after s.clock in_s s there
+              (holds_in_tree says g n (IsCutOff n next) LeadsNowhere top best next base depth m start w b.after b.falling s.clock in_s) not port a
               own);
         }))
-        | yes root ↦
-            let late = old_in_time says g n top best next base depth t start w b.after b.falling (depth s.clock)
+        | yes choice ↦
+            let late = old_in_time says g n (IsCutOff n next) LeadsNowhere top best next base depth m start w b.after b.falling (depth s.clock)
             s.clock refl in_s
-            (λ x at_x. ap (λ (y : Station). y.root) (same_there w.stations (n.place s.clock) x s at_x there) ∙ root) in
+            (λ x at_x. subst (λ y. HasChoice y best (base + depth s.clock))
+            (same_there w.stations (n.place s.clock) s x there at_x) choice) in
             let most = deep s.clock in_s in
             let due = soon in
             inr (record {
@@ -288,7 +292,7 @@ module _ (says : Spelling) (g : Snapshot) (n : Network) (top : ℕ) (best next :
       from = port_of h.v (suc h.p);
       joins = h.joins;
       source = h.source;
-      sound = inr (free_holds says g n top best next base depth t start w b.after s.clock in_s s at_place holds_in not
+      sound = inr (free_holds says g n (IsCutOff n next) LeadsNowhere top best next base depth m start w b.after s.clock in_s s at_place holds_in not
           place r holds);
     }
       where
@@ -296,18 +300,19 @@ module _ (says : Spelling) (g : Snapshot) (n : Network) (top : ℕ) (best next :
         at_place = there w b i s at live
 
         holds_in : (x : Station) (i : ℕ) (r : Reception) → slice_get w.stations (n.place s.clock) ≡ Some x
-            → HoldsAt x i r → HeldInTree says g n top best next base depth t start s.clock i r
-        holds_in = holds_in_tree says g n top best next base depth t start w b.after b.falling s.clock in_s
+            → HoldsAt x i r → HeldInTree says g n (IsCutOff n next) LeadsNowhere top best next base depth m start s.clock i r
+        holds_in = holds_in_tree says g n (IsCutOff n next) LeadsNowhere top best next base depth m start w b.after b.falling s.clock in_s
 
-        h : HeldInTree says g n top best next base depth t start s.clock place r
+        h : HeldInTree says g n (IsCutOff n next) LeadsNowhere top best next base depth m start s.clock place r
         h = holds_in s place r at_place holds
 
-        -- nobody has the root of before
-        not : s.root ≡ best.identity → ⊥
-        not root =
-            let late = old_in_time says g n top best next base depth t start w b.after b.falling (depth s.clock)
+        -- nobody has its old choice
+        not : HasChoice s best (base + depth s.clock) → ⊥
+        not choice =
+            let late = old_in_time says g n (IsCutOff n next) LeadsNowhere top best next base depth m start w b.after b.falling (depth s.clock)
             s.clock refl in_s (λ x at_x.
-            ap (λ (y : Station). y.root) (same_there w.stations (n.place s.clock) x s at_x at_place) ∙ root) in
+            subst (λ y. HasChoice y best (base + depth s.clock))
+            (same_there w.stations (n.place s.clock) s x at_place at_x) choice) in
             let by = fallen s.clock in_s in
             omega (arith, late, by)
 
