@@ -15,6 +15,7 @@ pub mod RestLemmas
 pub mod ClearLemmas
 pub mod EndsLemmas
 pub mod LevelLemmas
+pub mod PortsSettledLemmas
 pub mod SettledLemmas
 pub mod TimesLemmas
 pub mod SoundLemmas
