@@ -12,7 +12,7 @@ use Rattle.gptp_bmca_machine.specs.Calm.{Calm, IsCalmPort}
 use Rattle.gptp_bmca_machine.specs.Clean.{Whole}
 use Rattle.gptp_bmca_machine.specs.Frame.{Announce, AnnounceFrame, Lane, Spelling}
 use Rattle.gptp_bmca_machine.specs.Levels.{Invariant, LeadsFarther}
-use Rattle.gptp_bmca_machine.specs.Link.{LinkSettles, TellerIsSettled}
+use Rattle.gptp_bmca_machine.specs.Link.{LinkSettles, TellerIsReady, TellerIsSettled}
 use Rattle.gptp_bmca_machine.specs.LinkStage.{AllFinal, FinalAnnounceStays, LinkStage, Wiring}
 use Rattle.gptp_bmca_machine.specs.Network.{IsSettlingNetwork, Network, settled_from}
 use Rattle.gptp_bmca_machine.specs.Reacts.{PortStep}
@@ -32,6 +32,7 @@ use Rattle.gptp_bmca_machine.proofs.ReactsLemmas.{held_from}
 use Rattle.gptp_bmca_machine.proofs.RestLemmas.{Chooses, is_master}
 use Rattle.gptp_bmca_machine.proofs.RestingLemmas.{all_choose, by_then_at, links_stay, stays_so}
 use Rattle.gptp_bmca_machine.proofs.StillLemmas.{live_before, port_there, still, still_stays}
+use Rattle.gptp_bmca_machine.proofs.TellsLemmas.{news_final}
 
 module _ (says : Spelling) (n0 n : Network) (Tree : ℕ → Type 0) (Out : ℕ → ℕ → Type 0) (top : ℕ)
     (best next : System) (base : ℕ) (depth : ℕ → ℕ) (t : MovesTree n0.graph n Tree Out top best next base depth) (net0 : IsSettlingNetwork n0) (w : MachineState)
@@ -392,36 +393,16 @@ module _ (says : Spelling) (n0 n : Network) (Tree : ℕ → Type 0) (Out : ℕ �
               (begins says k pv'.announce pu.held l.frames step.news f' news among said
               (omega (arith, soon, more, now)))
             where
+              from_top : l.from ≡ port_of top (suc p)
+              from_top = (from_then top p u q leads.joins l l' stand.lane step).0
+
               news : AllFinal says k step.news
-              news h a among said =
-                  let (y, sent, over, octets) = step.sent h among in
-                  let (own, master) = z.reacts.tells y a sent (subst (λ o. says o a) octets said) in
-                  let (from, to) = from_then top p u q leads.joins l l' stand.lane step in
-                  let ends : port_of top (suc p) ≡ port_of z.s.clock y.port = sym from ∙ over in
-                  let number : y.port ≡ suc p = ap (λ (x : PortIdentity). x.port) (sym ends) in
-                  let lives = lives_at n w' m'.kept.calm top (t.lives top in_top) z.s' z.there in
-                  let source : a.source ≡ port_of top (suc p) =
-                  own.source ∙ (λ i. port_of (lives.1 i) (number i)) in
-                  let is_port : IsCalmPort n w'.time (port_of z.s'.clock (suc p)) pv' =
-                  (m'.kept.calm.stations (n.place top) z.s' z.there lives.0).ports p pv' there' in
-                  record {
-                    root = own.root ∙ ap (λ (x : Station). x.root) (sym one) ∙ ready.0.0;
-                    steps = own.steps ∙ ap (λ (x : Station). x.steps) (sym one) ∙ ready.0.1;
-                    source = source;
-                    log = own.log p pv' number there' ∙ is_port.log
-                        ∙ ap (λ c. n.log_of (port_of c (suc p))) lives.1;
-                    qualified = record {
-                      foreign = λ is.
-                          t.well.apart (port_of top (suc p)) (port_of u (suc q)) leads.joins
-                          (ap (λ (x : PortIdentity). x.clock) (sym source) ∙ is);
-                      near = subst (λ x. x < 255)
-                          (sym (own.steps ∙ ap (λ (x : Station). x.steps) (sym one) ∙ ready.0.1)) tells.near;
-                      no_loop = λ names.
-                          tells.foreign (subst (In u) (own.path ∙ ap (λ (x : Station). x.trace) (sym one)) names);
-                      short = subst (λ (xs : List ℕ). length xs ≤ 255)
-                          (sym (own.path ∙ ap (λ (x : Station). x.trace) (sym one))) tells.short;
-                    };
-                  }
+              news =
+                  news_final says g n t.well t.left (before f) f next top p u q leads.joins (delay f) w' m'.kept
+                  m'.fits.stations z.s' z.there pv' there'
+                  (subst (λ (y : Station). TellerIsReady k y pv') one ready)
+                  (subst (λ (y : Station). TellerIsSettled k y pv') one tells) z.sends z.reacts.tells z.s.clock l l'
+                  from_top step
 
     pub settles_begin : TreeSettles says g n Tree Out top best next base depth t w.time before w'
     settles_begin f v p u q close in_v in_u leads = elim (ℕ_discrete v top) [

@@ -27,7 +27,7 @@ use Rattle.gptp_bmca_machine.proofs.CutTreeLemmas.{IsCutOff, LeadsNowhere, moves
 use Rattle.gptp_bmca_machine.proofs.MovedTreeLemmas.{MovesTree}
 use Rattle.gptp_bmca_machine.proofs.FallStepLemmas.{SaysSo}
 use Rattle.gptp_bmca_machine.proofs.FallKeptLemmas.{falling_kept}
-use Rattle.gptp_bmca_machine.proofs.FallLemmas.{HasChoice, HasLeft, IsAftermath, IsFalling, falls_by, free_clear, holds_in_tree, old_in_time}
+use Rattle.gptp_bmca_machine.proofs.FallLemmas.{HasChoice, HasLeft, IsAftermath, IsFalling, falls_by, free_fits, holds_in_tree, old_in_time}
 use Rattle.gptp_bmca_machine.proofs.FallLevelLemmas.{TreeSettles}
 use Rattle.gptp_bmca_machine.proofs.LossLemmas.{fits_kept}
 use Rattle.gptp_bmca_machine.proofs.PlaceLemmas.{same_there}
@@ -166,9 +166,9 @@ module _ (says : Spelling) (g : Snapshot) (n : Network) (top : ℕ) (best next :
         by : Dec (IsBest n.graph s.clock next) → CameFits n.graph s.clock (suc place) r
         by (no out) = out_fits s.clock place r out (is.after.fits.stations i s place r at live holds)
         by (yes in_s) =
-            (free_clear says g n (IsCutOff n next) LeadsNowhere top best next base depth m start w is.after s.clock in_s s there
+            (free_fits says g n (IsCutOff n next) LeadsNowhere top best next base depth m start w is.after s.clock in_s s there
             (holds_in_tree says g n (IsCutOff n next) LeadsNowhere top best next base depth m start w is.after is.falling s.clock in_s)
-            (none_old s.clock in_s s there)).held place r holds
+            (none_old s.clock in_s s there) place r holds)
 
     module _ (before : ℕ → ℕ)
         (settles : TreeSettles says g n (IsCutOff n next) LeadsNowhere top best next base depth m start before w) (slack : ℕ)

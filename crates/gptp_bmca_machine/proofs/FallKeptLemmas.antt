@@ -61,7 +61,8 @@ module _ (says : Spelling) (g : Snapshot) (n : Network) (Tree : ℕ → Type 0) 
         settled = λ s pv at there ready.
             let (live, clock) = lives_at n w m.kept.calm v (t.lives v in_v) s at in
             tells_clear g t.left.graph k best refl leads.far best_u leads.there leads.farther s
-            (was_clear says g n Tree Out top best next base depth t start w m v in_v s at) clock (t.was_best v in_v)
+            (was_clear says g n Tree Out top best next base depth t start w m v in_v s at)
+            (λ place r holds. (m.fits.stations (n.place v) s place r at live holds).fits) clock (t.was_best v in_v)
             (port_of u (suc q)) (t.left.links (port_of v (suc p)) (port_of u (suc q)) joins) refl
             (t.well.apart (port_of v (suc p)) (port_of u (suc q)) joins) (t.near v in_v)
             (m.kept.calm.facts.stations (n.place v) s at live).follows pv there ready;

@@ -15,7 +15,7 @@ use Rattle.gptp_graph.proofs.LinkLemmas.{Adjacent-clock, Adjacent-sym, Joins-sym
 use Rattle.gptp_graph.proofs.PathLemmas.{Reaches-self}
 use Rattle.gptp_graph.proofs.SystemLemmas.{same_identity}
 use Rattle.gptp_bmca_machine.specs.AtRest.{StationIsAtRest}
-use Rattle.gptp_bmca_machine.specs.Clean.{Whole}
+use Rattle.gptp_bmca_machine.specs.Clean.{CameFits, Whole}
 use Rattle.gptp_bmca_machine.specs.Facts.{FollowsItself, FollowsPort, station_system}
 use Rattle.gptp_bmca_machine.specs.Frame.{Announce, AnnounceFrame, Lane, Spelling}
 use Rattle.gptp_bmca_machine.specs.LossLaws.{EverythingFits, IsAfterLoss}
@@ -32,7 +32,7 @@ use Rattle.gptp_bmca_machine.proofs.LinkEndsLemmas.{source_at}
 use Rattle.gptp_bmca_machine.proofs.LinkStepLemmas.{AtLink, lives_at}
 use Rattle.gptp_bmca_machine.proofs.NearestLemmas.{came_fits, path_length, root_not_better, steps_not_fewer}
 use Rattle.gptp_bmca_machine.proofs.PlaceLemmas.{received_injective, same_there}
-use Rattle.gptp_bmca_machine.proofs.RestLemmas.{IsClear, root_above, steps_above}
+use Rattle.gptp_bmca_machine.proofs.RestLemmas.{IsClear, bounded, root_above, steps_above}
 use Rattle.gptp_bmca_machine.proofs.StillLemmas.{clear_at, port_there, station_of, still}
 use Rattle.gptp_bmca_machine.proofs.ToldLemmas.{AllSay, HoldsTold, told_due}
 use Rattle.gptp_bmca_machine.proofs.TraceLemmas.{whole_on, whole_own}
@@ -259,18 +259,23 @@ module _ (says : Spelling) (g : Snapshot) (n : Network) (Tree : ℕ → Type 0) 
         | inr (in_v, deeper, told) ↦ absurd (not (old_by_held i (holds_in s i r at holds).v r holds deeper told))
       ]
 
+      -- it fits
+      pub free_fits : (HasChoice s best (base + depth x) → ⊥) → (i : ℕ) (r : Reception) → HoldsAt s i r
+          → CameFits n.graph s.clock (suc i) r
+      free_fits not i r holds =
+          let h = holds_in s i r at holds in
+          came_fits n.graph s.clock (suc i) r t.well (record {
+            from = port_of h.v (suc h.p);
+            joins = subst (λ c. Joins n.graph (port_of h.v (suc h.p)) (port_of c (suc i))) (sym is_x.1) h.joins;
+            source = h.source;
+            sound = inr (free_holds not i r holds);
+          })
+
       pub free_clear : (HasChoice s best (base + depth x) → ⊥) → IsClear n.graph s
       free_clear not = record {
         rest = rest;
         known = known;
-        held = λ i r holds.
-            let h = holds_in s i r at holds in
-            came_fits n.graph s.clock (suc i) r t.well (record {
-              from = port_of h.v (suc h.p);
-              joins = subst (λ c. Joins n.graph (port_of h.v (suc h.p)) (port_of c (suc i))) (sym is_x.1) h.joins;
-              source = h.source;
-              sound = inr (free_holds not i r holds);
-            });
+        held = λ i r holds. bounded n.graph s.clock (suc i) r (free_fits not i r holds);
       }
 
       -- ---- who has its old choice

@@ -14,7 +14,7 @@ use Rattle.gptp_bmca_machine.specs.Network.{Network}
 use Rattle.gptp_bmca_machine.specs.Station.{MachineState, Mine, Port, Received, Station}
 use Rattle.gptp_bmca_machine.proofs.MovedTreeLemmas.{MovesTree, child_leads}
 use Rattle.gptp_bmca_machine.proofs.FallKeptLemmas.{hearer_old, led_next, led_old, left_old}
-use Rattle.gptp_bmca_machine.proofs.FallLemmas.{DownStage, HasChoice, HasLeft, IsAftermath, IsFalling, IsOld, choice_dec, falls_by, follows_old, free_clear, holds_in_tree}
+use Rattle.gptp_bmca_machine.proofs.FallLemmas.{DownStage, HasChoice, HasLeft, IsAftermath, IsFalling, IsOld, choice_dec, falls_by, follows_old, free_clear, free_fits, holds_in_tree}
 use Rattle.gptp_bmca_machine.proofs.ClearLemmas.{tells_clear, weaker_clear}
 use Rattle.gptp_bmca_machine.proofs.LinkEndsLemmas.{ShowEnds, telling, telling_kept}
 use Rattle.gptp_bmca_machine.proofs.LinkStepLemmas.{lives_at}
@@ -62,7 +62,10 @@ module _ (says : Spelling) (g : Snapshot) (n : Network) (Tree : ℕ → Type 0) 
           tells_clear n.graph t.well k next refl leads.far best_u leads.there leads.farther s
           (free_clear says g n Tree Out top best next base depth t start w m v in_v s at
           (holds_in_tree says g n Tree Out top best next base depth t start w m falling v in_v)
-          (settled_left s ready.0)) clock leads.is_best (port_of u (suc q)) leads.joins refl
+          (settled_left s ready.0))
+          (λ place r holds. (free_fits says g n Tree Out top best next base depth t start w m v in_v s at
+          (holds_in_tree says g n Tree Out top best next base depth t start w m falling v in_v) (settled_left s ready.0)
+          place r holds).fits) clock leads.is_best (port_of u (suc q)) leads.joins refl
           (t.well.apart (port_of v (suc p)) (port_of u (suc q)) leads.joins) close
           (m.kept.calm.facts.stations (n.place v) s at live).follows pv there ready;
       early = early;

@@ -15,6 +15,7 @@ pub mod RestLemmas
 pub mod ClearLemmas
 pub mod EndsLemmas
 pub mod LevelLemmas
+pub mod PortsSettledLemmas
 pub mod SettledLemmas
 pub mod TimesLemmas
 pub mod SoundLemmas
@@ -29,6 +30,7 @@ pub mod LinkStepLemmas
 pub mod LinkEndsLemmas
 pub mod TimedLinkLemmas
 pub mod ToldLemmas
+pub mod TellsLemmas
 pub mod CutTreeLemmas
 pub mod TurnTreeLemmas
 pub mod MovedTreeLemmas
@@ -39,6 +41,8 @@ pub mod FallKeptLemmas
 pub mod FallLevelLemmas
 pub mod FallEndLemmas
 pub mod FallBeginLemmas
+pub mod TurnLemmas
+pub mod TurnOutLemmas
 pub mod RunLemmas
 pub mod MatchingLemmas
 pub mod SyncStepLemmas

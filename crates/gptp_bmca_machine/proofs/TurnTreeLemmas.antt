@@ -1,6 +1,6 @@
 -- A tree that turns by its one way out: it is moved, and the shortest ways of before from outside that don't pass it are
 -- left.
-use Rattle.std.proofs.Common.{◌≡◌, ◌≢◌, ◌⊎◌, ◌<◌, ◌≤◌, ◌+◌, ℕ, zero, suc, List, [], ◌∷◌, length, sym, ap, subst, ◌∙◌, inl, inr, arith}
+use Rattle.std.proofs.Common.{◌≡◌, ◌⊎◌, ◌<◌, ◌≤◌, ◌+◌, ℕ, zero, suc, List, [], ◌∷◌, sym, ap, subst, ◌∙◌, inl, inr, arith}
 use Rattle.gptp_lists.specs.Members.{In, Different}
 use Rattle.gptp_graph.specs.Best.{IsBest}
 use Rattle.gptp_graph.specs.Distance.{IsDistance}
@@ -8,11 +8,10 @@ use Rattle.gptp_graph.specs.Path.{Route}
 use Rattle.gptp_graph.specs.Snapshot.{System, PortIdentity, Snapshot, clocks, port_of, Joins, Adjacent}
 use Rattle.gptp_graph.proofs.BestLemmas.{IsBest-neighbour}
 use Rattle.gptp_graph.proofs.DecisionLemmas.{in_dec}
-use Rattle.gptp_graph.proofs.DistanceLemmas.{IsDistance-best, IsDistance-clock, IsDistance-neighbour, IsDistance-unique, best_at_zero, distance_from, least_route, nearer_neighbour}
+use Rattle.gptp_graph.proofs.DistanceLemmas.{IsDistance-best, IsDistance-unique, nearer_neighbour}
 use Rattle.gptp_graph.proofs.ExistenceLemmas.{distance_exists}
-use Rattle.gptp_graph.proofs.LinkLemmas.{Adjacent-clock, Adjacent-sym, Joins-clock, Joins-sym}
+use Rattle.gptp_graph.proofs.LinkLemmas.{Adjacent-clock, Adjacent-sym}
 use Rattle.gptp_graph.proofs.PathBoundLemmas.{IsDistance-within}
-use Rattle.gptp_graph.proofs.PathLemmas.{Route-reverse}
 use Rattle.gptp_graph.proofs.SystemLemmas.{same_identity}
 use Rattle.gptp_bmca_machine.specs.Clean.{Whole}
 use Rattle.gptp_bmca_machine.specs.Frame.{Announce}
@@ -20,7 +19,6 @@ use Rattle.gptp_bmca_machine.specs.LossLaws.{Unmoved}
 use Rattle.gptp_bmca_machine.specs.Network.{Network}
 use Rattle.gptp_bmca_machine.specs.TurnTree.{TurnsTree}
 use Rattle.gptp_bmca_machine.proofs.MovedTreeLemmas.{MovesTree, named, whole_left, whole_or_named}
-use Rattle.gptp_bmca_machine.proofs.StillLemmas.{live_before}
 
 -- it is one of these systems
 abbrev pub IsOf : List ℕ → ℕ → Type 0
