@@ -6,7 +6,7 @@ use Rattle.gptp_lists.specs.Members.{In}
 use Rattle.gptp_lists.proofs.ReverseLemmas.{In-reverse}
 use Rattle.gptp_lists.proofs.SystemSpecLemmas.{In-left, In-parts}
 use Rattle.gptp_graph.specs.Best.{IsBest}
-use Rattle.gptp_graph.specs.Snapshot.{Joins, PortIdentity, Snapshot, System, port_of}
+use Rattle.gptp_graph.specs.Snapshot.{IsLinked, Joins, PortIdentity, Snapshot, System, port_of}
 use Rattle.gptp_graph.proofs.DecisionLemmas.{in_dec}
 use Rattle.gptp_graph.proofs.LinkLemmas.{Joins-sym}
 use Rattle.gptp_graph.proofs.PathBoundLemmas.{IsDistance-within}
@@ -48,7 +48,8 @@ module _ (says : Spelling) (n0 n : Network) (top : ℕ) (best next : System) (ba
     (z : TreeAnswers says n next top w w') (lost : ℕ) (touch_is : z.touch ≡ Disable (suc lost))
     (lanes_then : (p q : PortIdentity) (l' : Lane) → Joins n.graph p q → slice_get w'.lanes (n.lane p) ≡ Some l'
     → (l : Lane) × (slice_get w.lanes (n.lane p) ≡ Some l) × LaneStep z.s.clock z.sends l l')
-    (m' : IsAftermath says n0.graph n w') where
+    (m' : IsAftermath says n0.graph n w')
+    (holds_none : (i : ℕ) (r : Reception) → (IsLinked n.graph (port_of top (suc i)) → ⊥) → HoldsAt z.s' i r → ⊥) where
   abbrev g : Snapshot
   g = n0.graph
 
@@ -282,9 +283,10 @@ module _ (says : Spelling) (n0 n : Network) (top : ℕ) (best next : System) (ba
   not_top : z.s'.root ≢ best.identity
   not_top root =
       let old = follows_old says g n top best next base depth t w.time w' m' top in_top z.s' z.there holds_top root in
-      let deeper = old.deeper in
-      let none = t.first in
-      omega (arith, deeper, none)
+      elim old.told [
+        | inl above ↦ let deeper = above.deeper in let none = t.first in absurd (omega (arith, deeper, none))
+        | inr lost ↦ absurd (holds_none old.i old.r lost.bare old.holds)
+      ]
 
   root_not : RootIsNot n w' top best
   root_not s at root =
@@ -365,7 +367,11 @@ module _ (says : Spelling) (n0 n : Network) (top : ℕ) (best next : System) (ba
   ]
 
   pub falling_begins : IsFalling says g n top best next base depth t w.time w'
-  falling_begins = record { down = begins_down; up = up_free }
+  falling_begins = record {
+    sooner = λ root. absurd (not_top (root z.s' z.there));
+    down = begins_down;
+    up = up_free;
+  }
 
   -- ---- the top may have settled already
 

@@ -17,7 +17,7 @@ use Rattle.gptp_bmca_machine.specs.Station.{MachineState, Mine, Port, Received, 
 use Rattle.gptp_bmca_machine.specs.Touch.{Hear, IsUsable, Replaces}
 use Rattle.gptp_bmca_machine.proofs.CutTreeLemmas.{beside}
 use Rattle.gptp_bmca_machine.proofs.FallLeaveLemmas.{TreeAnswers, answers_or_stands, leaves_old, tells_new}
-use Rattle.gptp_bmca_machine.proofs.FallLemmas.{DownStage, FollowsOld, HoldsInTree, HoldsLeft, IsAftermath, IsFalling, IsFreeAt, IsLed, IsLeft, IsNewTold, RootIs, RootIsNot, falls_by, follows_old, holds_by, holds_in_tree, old_in_time, root_by_held, says_whole, was_clear, whole_root}
+use Rattle.gptp_bmca_machine.proofs.FallLemmas.{DownStage, FollowsOld, HoldsInTree, HoldsLeft, IsAftermath, IsFalling, IsFreeAt, IsLed, IsLeft, IsNewTold, IsToldAtTop, IsToldByNearer, RootIs, RootIsNot, UnlinkedDrop, falls_by, follows_old, holds_by, holds_in_tree, old_in_time, root_by_held, says_whole, told_nearer, was_clear, whole_root}
 use Rattle.gptp_bmca_machine.proofs.FallStepLemmas.{SaysSo, free_held, free_kept, old_kept, old_or_free}
 use Rattle.gptp_bmca_machine.proofs.ClearLemmas.{tells_clear, weaker_clear}
 use Rattle.gptp_bmca_machine.proofs.LinkEndsLemmas.{ShowEnds, ends_by, telling_kept, teller_on}
@@ -129,7 +129,8 @@ module _ (says : Spelling) (g : Snapshot) (n : Network) (top : ℕ) (best next :
     hearer_root far last (inr (inr free)) = inr free
 
   module _ (w w' : MachineState) (m : IsAftermath says g n w) (m' : IsAftermath says g n w')
-      (step : MachineSteps says w w') (falling : IsFalling says g n top best next base depth t start w) where
+      (step : MachineSteps says w w') (drops : UnlinkedDrop n w w')
+      (falling : IsFalling says g n top best next base depth t start w) where
     holds_w : (x : ℕ) → IsBest n.graph x next → HoldsInTree says g n top best next base depth t start x w
     holds_w x in_x = holds_in_tree says g n top best next base depth t start w m falling x in_x
 
@@ -161,25 +162,42 @@ module _ (says : Spelling) (g : Snapshot) (n : Network) (top : ℕ) (best next :
 
       -- who has left the root of before doesn't come back to it
       root_stays : RootIsNot n w v best → RootIsNot n w' v best
-      root_stays not s' at' root' = by (hearer_root w m old.v old.p v old.i old.in_v in_v old.joins
-          (base + depth old.v) (falls_by n start (suc (depth old.v)))
-          (falling.down old.v old.p v old.i old.in_v old.joins old.deeper))
+      root_stays not s' at' root' = elim old.told [ inl above ↦ by_nearer above | inr lost ↦ by_lost lost ]
         where
           old : FollowsOld says g n top best next base depth t start w' m' v in_v s' at' holds'
           old = follows_old says g n top best next base depth t start w' m' v in_v s' at' holds' root'
 
-          by : RootIs n w v best ⊎ (RootIsNot n w old.v best × IsFreeAt says n old.v old.p v old.i w) → ⊥
-          by (inl root) =
-              let (s, at, live, clock) = station_of g n t.well t.left w m.kept m.fits.stations v
-              in_v.reached.1.begins in
-              not s at (root s at)
-          by (inr free) =
-              let (not_then, free_then) = (above old.v old.p old.i old.in_v old.joins old.deeper).1 free in
-              let has = m'.kept.calm.lanes (port_of old.v (suc old.p)) (port_of v (suc old.i)) old.joins in
-              let whole = (free_then s' old.holds.0 has.lane at' old.holds.1 has.there).hears old.r old.holds.2 in
-              let over = whole_root says g n top best next base depth t start old.v old.r.said old.in_v whole in
-              let root_is = old.root in
-              absurd (omega (arith, over, root_is))
+          has : (s : Station) × (slice_get w.stations (n.place v) ≡ Some s) × (s.live ≡ true) × (s.clock ≡ v)
+          has = station_of g n t.well t.left w m.kept m.fits.stations v in_v.reached.1.begins
+
+          -- what is held over the lost link was held
+          by_lost : IsToldAtTop says g n top best next base depth t start v old.i → ⊥
+          by_lost lost =
+              let (s, at, live, clock) = has in
+              let is = lives_at n w' m'.kept.calm v in_v.reached.1.begins s' at' in
+              let (r, holds) = drops v s s' old.i old.r at at' is.0 is.1 lost.bare old.holds in
+              elim (holds_w v in_v s old.i r at holds) [
+                | inr still ↦ not s at
+                    (root_by_held says g n top best next base depth t start w m v in_v s at old.i r holds still.root)
+                | inl h ↦ absurd (lost.bare (
+                  port_of h.v (suc h.p),
+                  Joins-sym n.graph (port_of h.v (suc h.p)) (port_of v (suc old.i)) h.joins,
+                ))
+              ]
+
+          by_nearer : IsToldByNearer says g n top best next base depth t start v old.i → ⊥
+          by_nearer a = by (hearer_root w m a.v a.p v old.i a.in_v in_v a.joins (base + depth a.v)
+              (falls_by n start (suc (depth a.v))) (falling.down a.v a.p v old.i a.in_v a.joins a.deeper))
+            where
+              by : RootIs n w v best ⊎ (RootIsNot n w a.v best × IsFreeAt says n a.v a.p v old.i w) → ⊥
+              by (inl root) = let (s, at, live, clock) = has in not s at (root s at)
+              by (inr free) =
+                  let (not_then, free_then) = (above a.v a.p old.i a.in_v a.joins a.deeper).1 free in
+                  let lane = m'.kept.calm.lanes (port_of a.v (suc a.p)) (port_of v (suc old.i)) a.joins in
+                  let whole = (free_then s' old.holds.0 lane.lane at' old.holds.1 lane.there).hears old.r old.holds.2 in
+                  let over = whole_root says g n top best next base depth t start a.v old.r.said a.in_v whole in
+                  let root_is = old.root in
+                  absurd (omega (arith, over, root_is))
 
       -- what it says then
       new_then : RootIsNot n w' v best
@@ -340,8 +358,9 @@ module _ (says : Spelling) (g : Snapshot) (n : Network) (top : ℕ) (best next :
                   z.port a own)
               | yes root ↦
                   let old = follows_old says g n top best next base depth t start w' m' v in_v call.s' at holds' root in
-                  let port = t.single v (suc old.i) (suc p) (port_of old.v (suc old.p)) (port_of u (suc q))
-                  (Joins-sym n.graph (port_of old.v (suc old.p)) (port_of v (suc old.i)) old.joins) joins old.deeper
+                  let a = told_nearer says g n top best next base depth t start v old.i (depth u) higher old.told in
+                  let port = t.single v (suc old.i) (suc p) (port_of a.v (suc a.p)) (port_of u (suc q))
+                  (Joins-sym n.graph (port_of a.v (suc a.p)) (port_of v (suc old.i)) a.joins) joins a.deeper
                   higher in
                   let one : old.i ≡ i = let both = sym place ∙ number in omega (arith, port, both) in
                   let same = same_there call.s'.ports i old.holds.0 pv
@@ -359,8 +378,10 @@ module _ (says : Spelling) (g : Snapshot) (n : Network) (top : ℕ) (best next :
         led_then v p u q in_v joins deeper (λ v0 p0 i in0 joined below.
         then_below (depth v) v0 p0 v i in0 joined below (omega (arith, below))) led
 
-    pub falling_kept : IsFalling says g n top best next base depth t start w'
-    falling_kept = record {
+    pub falling_kept : (RootIs n w' top best → w'.time ≤ start)
+        → IsFalling says g n top best next base depth t start w'
+    falling_kept sooner' = record {
+      sooner = sooner';
       down = λ v p u q in_v joins deeper.
           (then_below (suc (depth v)) v p u q in_v joins deeper (omega arith)).0;
       up = up_then;

@@ -4,9 +4,11 @@ use native.Mathlib.Decide.{dec_le}
 use Rattle.gptp_lists.specs.Members.{In}
 use Rattle.gptp_lists.proofs.SystemSpecLemmas.{In-parts}
 use Rattle.gptp_graph.specs.Best.{IsBest}
+use Rattle.gptp_graph.specs.Distance.{IsDistance}
 use Rattle.gptp_graph.specs.Order.{IsLower}
 use Rattle.gptp_graph.specs.Path.{Reaches}
-use Rattle.gptp_graph.specs.Snapshot.{Joins, PortIdentity, Snapshot, System, clocks, port_of}
+use Rattle.gptp_graph.specs.Snapshot.{Adjacent, IsLinked, Joins, PortIdentity, Snapshot, System, clocks, port_of}
+use Rattle.gptp_graph.proofs.BestLemmas.{IsBest-unique}
 use Rattle.gptp_graph.proofs.LinkDecisions.{IsLinked-dec}
 use Rattle.gptp_graph.proofs.LinkLemmas.{Joins-sym}
 use Rattle.gptp_graph.proofs.PathLemmas.{Reaches-self}
@@ -82,16 +84,52 @@ DownStage says n best far last v p u q w =
     IsLed says n best far v p u q w
     ⊎ (IsLeft says n best far last v p u q w ⊎ (RootIsNot n w v best × IsFreeAt says n v p u q w))
 
--- What is known of each state since: it is calm, all fits the snapshot of before, and ports without a link are off.
+-- What a port without a link holds was told by a system that isn't beside this one any more. Where this one is moved, it
+-- had its root and steps by that.
+pub record IsHeldStill (g : Snapshot) (n : Network) (v : ℕ) (r : Reception) : Type 0 where
+  pub from : ℕ
+  pub beside : Adjacent g v from
+  pub gone : Adjacent n.graph v from → ⊥
+  pub old : (b : System) (d : ℕ) → IsBest g v b → (IsBest n.graph v b → ⊥) → IsDistance g v d
+      → (r.said.root ≡ b.identity) × (suc r.said.steps ≡ d)
+
+abbrev pub UnlinkedHoldOld : Snapshot → Network → MachineState → Type 0
+UnlinkedHoldOld g n w = (i : ℕ) (s : Station) (place : ℕ) (r : Reception) → slice_get w.stations i ≡ Some s
+    → s.live ≡ true → HoldsAt s place r → (IsLinked n.graph (port_of s.clock (suc place)) → ⊥)
+    → IsHeldStill g n s.clock r
+
+-- so it is where such ports are off
+pub off_hold_none : (g : Snapshot) (n : Network) (w : MachineState) → UnlinkedAreOff n.graph w → UnlinkedHoldOld g n w
+off_hold_none g n w dark i s place r at live (q, there, holds) none =
+    let off = dark i s place q at live there none in
+    absurd (let both : Received r ≡ Disabled = sym holds ∙ off in cc)
+
+-- In a step a port without a link doesn't come to hold something where it held nothing.
+abbrev pub UnlinkedDrop : Network → MachineState → MachineState → Type 0
+UnlinkedDrop n w w' = (v : ℕ) (s s' : Station) (place : ℕ) (r' : Reception) → slice_get w.stations (n.place v) ≡ Some s
+    → slice_get w'.stations (n.place v) ≡ Some s' → s'.live ≡ true → s'.clock ≡ v
+    → (IsLinked n.graph (port_of v (suc place)) → ⊥) → HoldsAt s' place r'
+    → (r : Reception) × HoldsAt s place r
+
+pub off_drop : (n : Network) (w w' : MachineState) → UnlinkedAreOff n.graph w' → UnlinkedDrop n w w'
+off_drop n w w' dark v s s' place r' at at' live clock none (q, there, holds) =
+    let off = dark (n.place v) s' place q at' live there
+    (λ linked. none (subst (λ c. IsLinked n.graph (port_of c (suc place))) clock linked)) in
+    absurd (let both : Received r' ≡ Disabled = sym holds ∙ off in cc)
+
+-- What is known of each state since: it is calm, and all fits the snapshot of before. What a port without a link holds
+-- was told before.
 pub record IsAftermath (says : Spelling) (g : Snapshot) (n : Network) (w : MachineState) : Type 0 where
   pub kept : IsAfterLoss n w
   pub fits : EverythingFits says g n w
-  pub dark : UnlinkedAreOff n.graph w
+  pub dark : UnlinkedHoldOld g n w
 
 module _ (says : Spelling) (g : Snapshot) (n : Network) (top : ℕ) (best next : System) (base : ℕ) (depth : ℕ → ℕ)
     (t : CutsTree g n top best next base depth) (start : ℕ) where
-  -- Each link down the tree is at one of its stages, and over each link up comes what is of what is left.
+  -- Each link down the tree is at one of its stages, and over each link up comes what is of what is left. The system at
+  -- the top has the root of before until that time at most.
   pub record IsFalling (w : MachineState) : Type 0 where
+    pub sooner : RootIs n w top best → w.time ≤ start
     pub down : (v p u q : ℕ) → IsBest n.graph v next → Joins n.graph (port_of v (suc p)) (port_of u (suc q))
         → depth u ≡ suc (depth v)
         → DownStage says n best (base + depth v) (falls_by n start (suc (depth v))) v p u q w
@@ -101,13 +139,50 @@ module _ (says : Spelling) (g : Snapshot) (n : Network) (top : ℕ) (best next :
   -- ---- what one system holds
 
   -- what a port of the system received came over its link: it is of what is left, or what was told before
-  pub record HeldInTree (x i : ℕ) (r : Reception) : Type 0 where
+  pub record HeldOverLink (x i : ℕ) (r : Reception) : Type 0 where
     pub v : ℕ
     pub p : ℕ
     pub joins : Joins n.graph (port_of v (suc p)) (port_of x (suc i))
     pub source : r.said.source ≡ port_of v (suc p)
     pub said : Whole n.graph v r.said
         ⊎ ((depth x ≡ suc (depth v)) × (r.said.root ≡ best.identity) × (r.said.steps ≡ base + depth v))
+
+  -- or it came over a link that is lost to the system at the top, and was told before
+  pub record HeldAtTop (x i : ℕ) (r : Reception) : Type 0 where
+    pub is_top : x ≡ top
+    pub bare : IsLinked n.graph (port_of x (suc i)) → ⊥
+    pub root : r.said.root ≡ best.identity
+    pub steps : suc r.said.steps ≡ base + depth x
+
+  abbrev pub HeldInTree : ℕ → ℕ → Reception → Type 0
+  HeldInTree x i r = HeldOverLink x i r ⊎ HeldAtTop x i r
+
+  -- it came over its link and is of what is left
+  pub record HeldFree (x i : ℕ) (r : Reception) : Type 0 where
+    pub v : ℕ
+    pub p : ℕ
+    pub joins : Joins n.graph (port_of v (suc p)) (port_of x (suc i))
+    pub source : r.said.source ≡ port_of v (suc p)
+    pub whole : Whole n.graph v r.said
+
+  -- a nearer system tells it over the link at this port
+  pub record IsToldByNearer (x i : ℕ) : Type 0 where
+    pub v : ℕ
+    pub p : ℕ
+    pub joins : Joins n.graph (port_of v (suc p)) (port_of x (suc i))
+    pub in_v : IsBest n.graph v next
+    pub deeper : depth x ≡ suc (depth v)
+
+  -- or it is at the top, and the link at this port is lost
+  pub record IsToldAtTop (x i : ℕ) : Type 0 where
+    pub is_top : x ≡ top
+    pub bare : IsLinked n.graph (port_of x (suc i)) → ⊥
+
+  -- it isn't at the top
+  pub told_nearer : (x i d : ℕ) → depth x ≡ suc d → IsToldByNearer x i ⊎ IsToldAtTop x i → IsToldByNearer x i
+  told_nearer x i d deep (inl above) = above
+  told_nearer x i d deep (inr lost) =
+      let none = ap depth lost.is_top ∙ t.first in absurd (omega (arith, none, deep))
 
   abbrev pub HoldsInTree : ℕ → MachineState → Type 0
   HoldsInTree x w = (s : Station) (i : ℕ) (r : Reception) → slice_get w.stations (n.place x) ≡ Some s
@@ -122,6 +197,13 @@ module _ (says : Spelling) (g : Snapshot) (n : Network) (top : ℕ) (best next :
 
   pub in_left : (x : ℕ) → IsBest n.graph x next → In x (clocks n.graph)
   in_left x in_x = in_x.reached.1.begins
+
+  -- the best of before isn't that of a system of the tree
+  pub not_best : (x : ℕ) → IsBest n.graph x next → IsBest n.graph x best → ⊥
+  not_best x in_x is =
+      let one = ap (λ (b : System). b.identity) (IsBest-unique n.graph x best next t.well is in_x) in
+      let worse = t.worse in
+      omega (arith, one, worse)
 
   module _ (w : MachineState) (m : IsAftermath says g n w) (x : ℕ) (in_x : IsBest n.graph x next) (s : Station)
       (at : slice_get w.stations (n.place x) ≡ Some s) where
@@ -164,11 +246,13 @@ module _ (says : Spelling) (g : Snapshot) (n : Network) (top : ℕ) (best next :
 
     module _ (holds_in : HoldsInTree x w) where
       -- who has left the root of before holds what is of what is left alone
-      pub free_holds : s.root ≢ best.identity → (i : ℕ) (r : Reception) → (holds : HoldsAt s i r)
-          → Whole n.graph (holds_in s i r at holds).v r.said
-      free_holds not i r holds = elim (holds_in s i r at holds).said [
-        | inl whole ↦ whole
-        | inr (deeper, root, steps) ↦ absurd (not (root_by_held i r holds root))
+      pub free_holds : s.root ≢ best.identity → (i : ℕ) (r : Reception) → HoldsAt s i r → HeldFree x i r
+      free_holds not i r holds = elim (holds_in s i r at holds) [
+        | inr lost ↦ absurd (not (root_by_held i r holds lost.root))
+        | inl h ↦ elim h.said [
+          | inl whole ↦ record { v = h.v; p = h.p; joins = h.joins; source = h.source; whole = whole }
+          | inr (deeper, root, steps) ↦ absurd (not (root_by_held i r holds root))
+        ]
       ]
 
       pub free_clear : s.root ≢ best.identity → IsClear n.graph s
@@ -176,30 +260,26 @@ module _ (says : Spelling) (g : Snapshot) (n : Network) (top : ℕ) (best next :
         rest = rest;
         known = known;
         held = λ i r holds.
-            let h = holds_in s i r at holds in
+            let h = free_holds not i r holds in
             came_fits n.graph s.clock (suc i) r t.well (record {
               from = port_of h.v (suc h.p);
               joins = subst (λ c. Joins n.graph (port_of h.v (suc h.p)) (port_of c (suc i))) (sym is_x.1) h.joins;
               source = h.source;
-              sound = inr (free_holds not i r holds);
+              sound = inr h.whole;
             });
       }
 
       -- ---- who has the root of before
 
-      -- it follows what a nearer system told before
+      -- it follows what was told before
       pub record FollowsOld : Type 0 where
         pub i : ℕ
         pub r : Reception
         pub holds : HoldsAt s i r
         pub slave : s.slave ≡ Some (suc i)
-        pub v : ℕ
-        pub p : ℕ
-        pub joins : Joins n.graph (port_of v (suc p)) (port_of x (suc i))
-        pub in_v : IsBest n.graph v next
-        pub deeper : depth x ≡ suc (depth v)
         pub root : r.said.root ≡ best.identity
         pub steps : s.steps ≡ base + depth x
+        pub told : IsToldByNearer x i ⊎ IsToldAtTop x i
 
       pub follows_old : s.root ≡ best.identity → FollowsOld
       follows_old root = elim rest.chosen [
@@ -212,28 +292,33 @@ module _ (says : Spelling) (g : Snapshot) (n : Network) (top : ℕ) (best next :
         where
           by : (i : ℕ) (r : Reception) → HoldsAt s i r → rest.vector ≡ path_vector r.said (suc i)
               → s.slave ≡ Some (suc i) → FollowsOld
-          by i r holds path slave = elim h.said [
-            | inl whole ↦ absurd (let over = whole_root h.v r.said in_v whole in omega (arith, over, root_r, root))
-            | inr (deeper, root_is, steps_are) ↦ record {
+          by i r holds path slave = elim (holds_in s i r at holds) [
+            | inr lost ↦ record {
               i = i;
               r = r;
               holds = holds;
               slave = slave;
-              v = h.v;
-              p = h.p;
-              joins = h.joins;
-              in_v = in_v;
-              deeper = deeper;
-              root = root_is;
-              steps = omega (arith, steps_r, steps_are, deeper);
+              root = lost.root;
+              steps = let steps_are = lost.steps in omega (arith, steps_r, steps_are);
+              told = inr (record { is_top = lost.is_top; bare = lost.bare });
             }
+            | inl h ↦ elim h.said [
+              | inl whole ↦ absurd (
+                  let over = whole_root h.v r.said (in_v h) whole in omega (arith, over, root_r, root))
+              | inr (deeper, root_is, steps_are) ↦ record {
+                i = i;
+                r = r;
+                holds = holds;
+                slave = slave;
+                root = root_is;
+                steps = omega (arith, steps_r, steps_are, deeper);
+                told = inl (record { v = h.v; p = h.p; joins = h.joins; in_v = in_v h; deeper = deeper });
+              }
+            ]
           ]
             where
-              h : HeldInTree x i r
-              h = holds_in s i r at holds
-
-              in_v : IsBest n.graph h.v next
-              in_v =
+              in_v : (h : HeldOverLink x i r) → IsBest n.graph h.v next
+              in_v h =
                   beside g n top best next base depth t x h.v
                   (suc i, suc h.p, Joins-sym n.graph (port_of h.v (suc h.p)) (port_of x (suc i)) h.joins) in_x
 
@@ -264,8 +349,8 @@ module _ (says : Spelling) (g : Snapshot) (n : Network) (top : ℕ) (best next :
                 (whole_own n.graph (station_system s) a known (own.root ∙ itself.root) (own.steps ∙ itself.steps)
                 (own.path ∙ itself.trace))
             by (inr port) =
-                let h = holds_in s port.place port.r at port.holds in
-                whole_on n.graph x h.v port.r.said a (free_holds not port.place port.r port.holds) (in_left x in_x) (
+                let h = free_holds not port.place port.r port.holds in
+                whole_on n.graph x h.v port.r.said a h.whole (in_left x in_x) (
                   suc port.place,
                   suc h.p,
                   Joins-sym n.graph (port_of h.v (suc h.p)) (port_of x (suc port.place))
@@ -282,9 +367,9 @@ module _ (says : Spelling) (g : Snapshot) (n : Network) (top : ℕ) (best next :
           apart = t.well.apart (port_of x (suc p)) (port_of u (suc q)) joins
 
           -- what it follows came from another
-          not_from : (port : FollowsPort s) → (holds_in s port.place port.r at port.holds).v ≢ u
+          not_from : (port : FollowsPort s) → (free_holds not port.place port.r port.holds).v ≢ u
           not_from port same =
-              let h = holds_in s port.place port.r at port.holds in
+              let h = free_holds not port.place port.r port.holds in
               let back : Joins n.graph (port_of u (suc h.p)) (port_of x (suc port.place)) =
               subst (λ c. Joins n.graph (port_of c (suc h.p)) (port_of x (suc port.place))) same h.joins in
               let over = Joins-sym n.graph (port_of x (suc p)) (port_of u (suc q)) joins in
@@ -308,13 +393,13 @@ module _ (says : Spelling) (g : Snapshot) (n : Network) (top : ℕ) (best next :
           names_not (inr port) names =
               elim (In-parts u port.r.said.path (s.clock ∷ []) (subst (In u) (own.path ∙ port.trace) names)) [
                 | inl among ↦
-                    let h = holds_in s port.place port.r at port.holds in
+                    let h = free_holds not port.place port.r port.holds in
                     names_none g n top best next base depth t x u (suc p, suc q, joins) in_x deeper h.v port.r.said (
                       suc port.place,
                       suc h.p,
                       Joins-sym n.graph (port_of h.v (suc h.p)) (port_of x (suc port.place)) h.joins,
                     ) (not_from port)
-                    (free_holds not port.place port.r port.holds) (no_loop port.place port.r port.holds) among
+                    h.whole (no_loop port.place port.r port.holds) among
                 | inr (inl same) ↦ apart (sym is_x.1 ∙ sym same)
                 | inr (inr none) ↦ none
               ]
@@ -356,14 +441,25 @@ module _ (says : Spelling) (g : Snapshot) (n : Network) (top : ℕ) (best next :
 
         by_link : Dec ((to : PortIdentity) × Joins n.graph (port_of s.clock (suc i)) to) → HeldInTree x i r
         by_link (no none) =
-            let off = m.dark (n.place x) s i q at is.0 there none in
-            absurd (let both : Received r ≡ Disabled = sym holds ∙ off in cc)
+            let h = m.dark (n.place x) s i r at is.0 (q, there, holds) none in
+            let (root, steps) = h.old best (base + depth x) (was_best w m x in_x s at)
+            (subst (λ c. IsBest n.graph c best → ⊥) (sym is.1) (not_best x in_x))
+            (subst (λ c. IsDistance g c (base + depth x)) (sym is.1) (t.was x in_x)) in
+            inr (record {
+              is_top = elim (t.lost x h.from in_x (subst (λ c. Adjacent g c h.from) is.1 h.beside)) [
+                | inr top_is ↦ top_is
+                | inl stays ↦ absurd (h.gone (subst (λ c. Adjacent n.graph c h.from) (sym is.1) stays))
+              ];
+              bare = subst (λ c. IsLinked n.graph (port_of c (suc i)) → ⊥) is.1 none;
+              root = root;
+              steps = steps;
+            })
         by_link (yes (to, joined)) =
             let here = subst (λ c. Joins n.graph (port_of c (suc i)) to) is.1 joined in
-            over to here (places_of n.graph x (suc i) to.clock to.port t.well here)
+            inl (over to here (places_of n.graph x (suc i) to.clock to.port t.well here))
           where
             over : (to : PortIdentity) → Joins n.graph (port_of x (suc i)) to
-                → ((a : ℕ) × (p : ℕ) × (suc i ≡ suc a) × (to.port ≡ suc p)) → HeldInTree x i r
+                → ((a : ℕ) × (p : ℕ) × (suc i ≡ suc a) × (to.port ≡ suc p)) → HeldOverLink x i r
             over to here (a, p, first, second) = record {
               v = to.clock;
               p = p;
@@ -438,15 +534,17 @@ module _ (says : Spelling) (g : Snapshot) (n : Network) (top : ℕ) (best next :
       -- who has the root of before has it for a way at most
       pub old_in_time : (d x : ℕ) → depth x ≡ d → IsBest n.graph x next → RootIs n w x best
           → w.time ≤ falls_by n start d
-      old_in_time zero x deep in_x root = none (station_of g n t.well t.left w m.kept m.fits.stations x (in_left x
+      old_in_time zero x deep in_x root = here (station_of g n t.well t.left w m.kept m.fits.stations x (in_left x
           in_x))
         where
-          none : ((s : Station) × (slice_get w.stations (n.place x) ≡ Some s) × (s.live ≡ true) × (s.clock ≡ x))
+          here : ((s : Station) × (slice_get w.stations (n.place x) ≡ Some s) × (s.live ≡ true) × (s.clock ≡ x))
               → w.time ≤ falls_by n start 0
-          none (s, at, live, clock) =
-              let old = follows_old w m x in_x s at (holds_in_tree x in_x) (root s at) in
-              let deeper = old.deeper in
-              absurd (omega (arith, deeper, deep))
+          here (s, at, live, clock) =
+              elim (follows_old w m x in_x s at (holds_in_tree x in_x) (root s at)).told [
+                | inl above ↦ let deeper = above.deeper in absurd (omega (arith, deeper, deep))
+                | inr lost ↦
+                    let by = falling.sooner (subst (λ c. RootIs n w c best) lost.is_top root) in omega (arith, by)
+              ]
       old_in_time (suc d) x deep in_x root =
           go (λ v up in_v root_v. old_in_time d v up in_v root_v)
           (station_of g n t.well t.left w m.kept m.fits.stations x (in_left x in_x))
@@ -454,34 +552,38 @@ module _ (says : Spelling) (g : Snapshot) (n : Network) (top : ℕ) (best next :
           go : ((v : ℕ) → depth v ≡ d → IsBest n.graph v next → RootIs n w v best → w.time ≤ falls_by n start d)
               → ((s : Station) × (slice_get w.stations (n.place x) ≡ Some s) × (s.live ≡ true) × (s.clock ≡ x))
               → w.time ≤ falls_by n start (suc d)
-          go sooner (s, at, live, clock) = by (falling.down old.v old.p x old.i old.in_v old.joins old.deeper)
+          go sooner (s, at, live, clock) = over (told_nearer x old.i d deep old.told)
             where
               old : FollowsOld w m x in_x s at (holds_in_tree x in_x)
               old = follows_old w m x in_x s at (holds_in_tree x in_x) (root s at)
 
-              up : depth old.v ≡ d
-              up = let deeper = old.deeper in omega (arith, deeper, deep)
+              over : IsToldByNearer x old.i → w.time ≤ falls_by n start (suc d)
+              over above = by (falling.down above.v above.p x old.i above.in_v above.joins above.deeper)
+                where
+                  up : depth above.v ≡ d
+                  up = let deeper = above.deeper in omega (arith, deeper, deep)
 
-              lane : (l : Lane) × (slice_get w.lanes (n.lane (port_of old.v (suc old.p))) ≡ Some l)
-              lane = lane_there old.v old.p x old.i old.joins
+                  lane : (l : Lane) × (slice_get w.lanes (n.lane (port_of above.v (suc above.p))) ≡ Some l)
+                  lane = lane_there above.v above.p x old.i above.joins
 
-              by : DownStage says n best (base + depth old.v) (falls_by n start (suc (depth old.v))) old.v old.p x
-                  old.i w
-                  → w.time ≤ falls_by n start (suc d)
-              by (inl (root_v, stays)) =
-                  let before : w.time ≤ falls_by n start d = sooner old.v up old.in_v root_v in
-                  omega (arith, before)
-              by (inr (inl (not, told))) =
-                  let left = told s old.holds.0 lane.0 at old.holds.1 lane.1 in
-                  let (h, among, said, due) = told_due says (still n (base + depth old.v) best old.v old.p x old.i)
-                  (IsNewTold n.graph (port_of old.v (suc old.p)) x) (falls_by n start (suc (depth old.v))) lane.0.frames
-                  left.told in
-                  let now = m.kept.calm.left (n.lane (port_of old.v (suc old.p))) lane.0 h lane.1 among in
-                  let late : h.due ≤ falls_by n start (suc d) =
-                  subst (λ k. h.due ≤ falls_by n start (suc k)) up due in
-                  omega (arith, now, late)
-              by (inr (inr (not, free))) =
-                  let whole = (free s old.holds.0 lane.0 at old.holds.1 lane.1).hears old.r old.holds.2 in
-                  let over = whole_root old.v old.r.said old.in_v whole in
-                  let root_is = old.root in
-                  absurd (omega (arith, over, root_is))
+                  by : DownStage says n best (base + depth above.v) (falls_by n start (suc (depth above.v))) above.v
+                      above.p x old.i w
+                      → w.time ≤ falls_by n start (suc d)
+                  by (inl (root_v, stays)) =
+                      let before : w.time ≤ falls_by n start d = sooner above.v up above.in_v root_v in
+                      omega (arith, before)
+                  by (inr (inl (not, told))) =
+                      let left = told s old.holds.0 lane.0 at old.holds.1 lane.1 in
+                      let (h, among, said, due) = told_due says
+                      (still n (base + depth above.v) best above.v above.p x old.i)
+                      (IsNewTold n.graph (port_of above.v (suc above.p)) x) (falls_by n start (suc (depth above.v)))
+                      lane.0.frames left.told in
+                      let now = m.kept.calm.left (n.lane (port_of above.v (suc above.p))) lane.0 h lane.1 among in
+                      let late : h.due ≤ falls_by n start (suc d) =
+                      subst (λ k. h.due ≤ falls_by n start (suc k)) up due in
+                      omega (arith, now, late)
+                  by (inr (inr (not, free))) =
+                      let whole = (free s old.holds.0 lane.0 at old.holds.1 lane.1).hears old.r old.holds.2 in
+                      let over = whole_root above.v old.r.said above.in_v whole in
+                      let root_is = old.root in
+                      absurd (omega (arith, over, root_is))

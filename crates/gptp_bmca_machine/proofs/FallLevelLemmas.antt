@@ -16,7 +16,7 @@ use Rattle.gptp_bmca_machine.specs.Network.{Network}
 use Rattle.gptp_bmca_machine.specs.Station.{MachineState, Mine, Port, Received, Station}
 use Rattle.gptp_bmca_machine.proofs.CutTreeLemmas.{beside}
 use Rattle.gptp_bmca_machine.proofs.FallKeptLemmas.{hearer_root, led_next, led_root, left_root}
-use Rattle.gptp_bmca_machine.proofs.FallLemmas.{DownStage, IsAftermath, IsFalling, RootIs, RootIsNot, falls_by, follows_old, free_clear, holds_in_tree}
+use Rattle.gptp_bmca_machine.proofs.FallLemmas.{DownStage, IsAftermath, IsFalling, RootIs, RootIsNot, UnlinkedDrop, falls_by, follows_old, free_clear, holds_in_tree, told_nearer}
 use Rattle.gptp_bmca_machine.proofs.ClearLemmas.{tells_clear, weaker_clear}
 use Rattle.gptp_bmca_machine.proofs.LinkEndsLemmas.{ShowEnds, telling, telling_kept}
 use Rattle.gptp_bmca_machine.proofs.LinkStepLemmas.{lives_at}
@@ -80,8 +80,9 @@ module _ (says : Spelling) (g : Snapshot) (n : Network) (top : ℕ) (best next :
           | inl deeper ↦
               let old = follows_old says g n top best next base depth t start w m u in_u s at
               (holds_in_tree says g n top best next base depth t start w m falling u in_u) root in
-              let port = t.single u (suc old.i) (suc q) (port_of old.v (suc old.p)) (port_of v (suc p))
-              (Joins-sym n.graph (port_of old.v (suc old.p)) (port_of u (suc old.i)) old.joins) back old.deeper deeper
+              let a = told_nearer says g n top best next base depth t start u old.i (depth v) deeper old.told in
+              let port = t.single u (suc old.i) (suc q) (port_of a.v (suc a.p)) (port_of v (suc p))
+              (Joins-sym n.graph (port_of a.v (suc a.p)) (port_of u (suc old.i)) a.joins) back a.deeper deeper
               in
               let one : old.i ≡ q = omega (arith, port) in
               let same = same_there s.ports q old.holds.0 pu
@@ -99,7 +100,8 @@ module _ (says : Spelling) (g : Snapshot) (n : Network) (top : ℕ) (best next :
         absurd (omega (arith, is, has, worse))
 
     module _ (w w' : MachineState) (m : IsAftermath says g n w) (m' : IsAftermath says g n w')
-        (step : MachineSteps says w w') (falling : IsFalling says g n top best next base depth t start w)
+        (step : MachineSteps says w w') (drops : UnlinkedDrop n w w')
+        (falling : IsFalling says g n top best next base depth t start w)
         (falling' : IsFalling says g n top best next base depth t start w') (in_time : w.time ≤ last)
         (in_time' : w'.time ≤ last) (link : LinkSettles says (telling n (before f) f next v p u q) w) where
       kept_by : ((depth u ≡ suc (depth v)) ⊎ RootIsNot n w u best)
@@ -126,7 +128,8 @@ module _ (says : Spelling) (g : Snapshot) (n : Network) (top : ℕ) (best next :
 
           by : DownStage says n best (base + depth u) (falls_by n start (suc (depth u))) u q v p w
               → LinkSettles says (telling n (before f) f next v p u q) w'
-          by (inl led) = not_ready w' (elim (led_next says g n top best next base depth t start w w' m m' step falling u
+          by (inl led) = not_ready w' (elim (led_next says g n top best next base depth t start w w' m m' step drops
+              falling u
               q v p in_u back higher led) [
                 | inl on ↦ led_root says g n top best next base depth t start w' m' u q v p in_u in_v back
                     (base + depth u) on
@@ -165,11 +168,11 @@ module _ (says : Spelling) (g : Snapshot) (n : Network) (top : ℕ) (best next :
 
   -- so every step keeps them, until that time
   pub tree_settles_on : (w w' : MachineState) (m : IsAftermath says g n w) (m' : IsAftermath says g n w')
-      → MachineSteps says w w' → IsFalling says g n top best next base depth t start w
+      → MachineSteps says w w' → UnlinkedDrop n w w' → IsFalling says g n top best next base depth t start w
       → IsFalling says g n top best next base depth t start w' → w.time ≤ last → TreeSettles w → TreeSettles w'
-  tree_settles_on w w' m m' (inl wait) falling falling' in_time all f v p u q close leads =
+  tree_settles_on w w' m m' (inl wait) drops falling falling' in_time all f v p u q close leads =
       subst (LinkSettles says (telling n (before f) f next v p u q)) (sym wait.is)
       (level_waits f v p u q close leads w wait.time (all f v p u q close leads))
-  tree_settles_on w w' m m' (inr act) falling falling' in_time all f v p u q close leads =
-      level_kept f v p u q close leads w w' m m' (inr act) falling falling' in_time
+  tree_settles_on w w' m m' (inr act) drops falling falling' in_time all f v p u q close leads =
+      level_kept f v p u q close leads w w' m m' (inr act) drops falling falling' in_time
       (let same = acts_now w w' act in omega (arith, same, in_time)) (all f v p u q close leads)
